@@ -1,0 +1,16 @@
+-- What each fault says.
+use Rattle.world.specs.declared.history.Refusal.{Refusal}
+use Rattle.engine_core.specs.declared.answers.CallFault.{CallFault}
+use Rattle.engine_core.specs.declared.answers.CallFault.TheVariants.{OutOfMemory, Refused}
+use Rattle.engine_core.specs.declared.answers.ReleaseFault.{ReleaseFault}
+use Rattle.engine_core.specs.declared.answers.ReleaseFault.TheVariants.{NotHeld, OutOfMemory as release_memory}
+
+-- want of memory, or the refusal that is recorded
+abbrev pub FaultIs : CallFault → Type 0 → (Refusal → Type 0) → Type 0
+FaultIs OutOfMemory memory recorded = memory
+FaultIs (Refused refusal) memory recorded = recorded refusal
+
+-- the fact holds, unless the fault tells that it does not
+abbrev pub HoldsUnlessTold : ReleaseFault → Type 0 → Type 0
+HoldsUnlessTold NotHeld fact = fact → ⊥
+HoldsUnlessTold release_memory fact = fact

@@ -1,0 +1,10 @@
+pub use Rattle.world.specs.World
+pub use Rattle.world.specs.Step
+pub use Rattle.world.specs.Run
+pub use Rattle.world.specs.Flat
+pub use Rattle.world.specs.TotalsOf
+pub use Rattle.world.specs.Headline
+pub mod Lawful
+pub mod State
+pub mod Invariant
+pub mod Faults

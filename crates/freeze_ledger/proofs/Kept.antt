@@ -1,0 +1,94 @@
+-- What a ledger keeps is kept by a freeze at the end and by a removal.
+use Rattle.std.proofs.Common.{◌≡◌, ℕ, suc, ◌+◌, ◌-◌, ◌<◌, ◌≤◌, List, [], ◌∷◌, ◌++◌, length, take, drop, get_or, set, refl, arith, length-append, eqb, cond, inl, inr, ◌∙◌, ap, sym, subst}
+use Rattle.std.proofs.lemmas.Grind.{common_steps}
+use Rattle.std.proofs.lemmas.Bool.{cases_eq, eq-eqb, ne_eqb}
+use Rattle.std.proofs.lemmas.List.Elements.{All-push, All-append, All-take, All-drop}
+use Rattle.std.proofs.lemmas.List.Sums.{sum_by-append, sum_by-remove}
+use Rattle.std.proofs.lemmas.List.Edits.{length-remove}
+use Rattle.std.proofs.lemmas.List.{get_or-set_same, get_or-set_other}
+use Rattle.std.proofs.Math.ListN.{length-set}
+use Rattle.std.specs.List.{remove, All}
+use Rattle.std.specs.Vec.{vec_capacity}
+use Rattle.std.specs.declared.vec.Vec.{Vec}
+use Rattle.std.specs.declared.alloc.Global.{Global}
+use Rattle.freeze_ledger.specs.declared.entries.Freeze.{Freeze}
+use Rattle.freeze_ledger.specs.Freezes.{frozen}
+use Rattle.freeze_ledger.specs.Invariant.{IsKept}
+use Rattle.freeze_ledger.proofs.Numbered.{numbered_push, numbered_remove}
+
+-- the count of a queue after one more freeze
+frozen_push : (q : ℕ) (fs : List Freeze) (f : Freeze) → frozen q (fs ++ f ∷ []) ≡ frozen q fs + cond (eqb f.queue.0 q) 1 0
+frozen_push q fs f = sum_by-append (λ (x : Freeze). cond (eqb x.queue.0 q) 1 0) fs (f ∷ []) ∙ omega arith
+
+-- each stored count is the number of entries, one freeze later
+counted_push : (fs : List Freeze) (counts : List ℕ) (f : Freeze) → ((q : ℕ) → q < length counts → get_or counts q 0 ≡ frozen q fs) → f.queue.0 < length counts → (q : ℕ) → q < length counts → get_or (set counts f.queue.0 (get_or counts f.queue.0 0 + 1)) q 0 ≡ frozen q (fs ++ f ∷ [])
+counted_push fs counts f counted known q below =
+    let now = counted q below in
+    let more = frozen_push q fs f in
+    elim (cases_eq q f.queue.0) [
+      | inl same ↦
+          let here : get_or (set counts f.queue.0 (get_or counts f.queue.0 0 + 1)) f.queue.0 0 ≡ get_or counts f.queue.0 0 + 1 = rw get_or-set_same refl in
+          let one : cond {A = ℕ} (eqb f.queue.0 q) 1 0 ≡ 1 = rw (eq-eqb f.queue.0 q (sym same)) refl in
+          let there : get_or counts f.queue.0 0 ≡ frozen q fs = rw (← same) now in
+          let moved : get_or (set counts f.queue.0 (get_or counts f.queue.0 0 + 1)) q 0 ≡ get_or counts f.queue.0 0 + 1 = subst (λ (x : ℕ). get_or (set counts f.queue.0 (get_or counts f.queue.0 0 + 1)) x 0 ≡ get_or counts f.queue.0 0 + 1) (sym same) here in
+          omega (arith, moved, there, one, more)
+      | inr other ↦
+          let kept : get_or (set counts f.queue.0 (get_or counts f.queue.0 0 + 1)) q 0 ≡ get_or counts q 0 = rw get_or-set_other refl in
+          let none : cond {A = ℕ} (eqb f.queue.0 q) 1 0 ≡ 0 = rw (ne_eqb f.queue.0 q (λ e. other (sym e))) refl in
+          omega (arith, kept, none, more, now)
+    ]
+
+pub kept_push : (v w : Vec Freeze Global) (counts : List ℕ) (greatest : ℕ) (f : Freeze) → IsKept v counts greatest → w.items ≡ v.items ++ f ∷ [] → vec_capacity w ≡ vec_capacity v → f.number ≡ greatest + 1 → f.queue.0 < length counts → length v.items < 1024 → IsKept w (set counts f.queue.0 (get_or counts f.queue.0 0 + 1)) (greatest + 1)
+kept_push v w counts greatest f k items capacity number known room =
+    let n = length-set counts f.queue.0 (get_or counts f.queue.0 0 + 1) in
+    record {
+      counted = λ q below. rw items (counted_push v.items counts f k.counted known q (omega (arith, n, below)));
+      numbered = rw items (numbered_push 0 v.items greatest f k.numbered number);
+      known = rw (items, n) (All-push (λ (x : Freeze). x.queue.0 < length counts) v.items f k.known known);
+      within = rw items (omega (arith, length-append v.items (f ∷ [])));
+      room = rw capacity k.room;
+      few = rw n k.few;
+    }
+
+-- the count of a queue after one freeze fewer
+frozen_remove : (q : ℕ) (fs : List Freeze) (f : Freeze) (k : ℕ) → k < length fs → get_or fs k f ≡ f → frozen q (remove fs k) + cond (eqb f.queue.0 q) 1 0 ≡ frozen q fs
+frozen_remove q fs f k within at = subst (λ (x : Freeze). frozen q (remove fs k) + cond (eqb x.queue.0 q) 1 0 ≡ frozen q fs) at (sum_by-remove (λ (x : Freeze). cond (eqb x.queue.0 q) 1 0) fs k f within)
+
+-- a queue with an entry has a count above 0
+pub counted_above : (v : Vec Freeze Global) (counts : List ℕ) (greatest k : ℕ) (f : Freeze) → IsKept v counts greatest → k < length v.items → get_or v.items k f ≡ f → (f.queue.0 < length counts) × (1 ≤ get_or counts f.queue.0 0)
+counted_above v counts greatest k f kept within at =
+    let known : f.queue.0 < length counts = subst (λ (x : Freeze). x.queue.0 < length counts) at (kept.known k f within) in
+    let fewer = frozen_remove f.queue.0 v.items f k within at in
+    let one : cond {A = ℕ} (eqb f.queue.0 f.queue.0) 1 0 ≡ 1 = rw (eq-eqb f.queue.0 f.queue.0 refl) refl in
+    (known, omega (arith, kept.counted f.queue.0 known, fewer, one))
+
+-- each stored count is the number of entries, one freeze fewer
+counted_remove : (fs : List Freeze) (counts : List ℕ) (f : Freeze) (k : ℕ) → ((q : ℕ) → q < length counts → get_or counts q 0 ≡ frozen q fs) → f.queue.0 < length counts → k < length fs → get_or fs k f ≡ f → (q : ℕ) → q < length counts → get_or (set counts f.queue.0 (get_or counts f.queue.0 0 - 1)) q 0 ≡ frozen q (remove fs k)
+counted_remove fs counts f k counted known within at q below =
+    let now = counted q below in
+    let fewer = frozen_remove q fs f k within at in
+    elim (cases_eq q f.queue.0) [
+      | inl same ↦
+          let here : get_or (set counts f.queue.0 (get_or counts f.queue.0 0 - 1)) f.queue.0 0 ≡ get_or counts f.queue.0 0 - 1 = rw get_or-set_same refl in
+          let one : cond {A = ℕ} (eqb f.queue.0 q) 1 0 ≡ 1 = rw (eq-eqb f.queue.0 q (sym same)) refl in
+          let there : get_or counts f.queue.0 0 ≡ frozen q fs = rw (← same) now in
+          let moved : get_or (set counts f.queue.0 (get_or counts f.queue.0 0 - 1)) q 0 ≡ get_or counts f.queue.0 0 - 1 = subst (λ (x : ℕ). get_or (set counts f.queue.0 (get_or counts f.queue.0 0 - 1)) x 0 ≡ get_or counts f.queue.0 0 - 1) (sym same) here in
+          omega (arith, moved, there, one, fewer)
+      | inr other ↦
+          let kept : get_or (set counts f.queue.0 (get_or counts f.queue.0 0 - 1)) q 0 ≡ get_or counts q 0 = rw get_or-set_other refl in
+          let none : cond {A = ℕ} (eqb f.queue.0 q) 1 0 ≡ 0 = rw (ne_eqb f.queue.0 q (λ e. other (sym e))) refl in
+          omega (arith, kept, none, fewer, now)
+    ]
+
+pub kept_remove : (v w : Vec Freeze Global) (counts : List ℕ) (greatest k : ℕ) (f : Freeze) → IsKept v counts greatest → k < length v.items → get_or v.items k f ≡ f → w.items ≡ remove v.items k → vec_capacity w ≡ vec_capacity v → IsKept w (set counts f.queue.0 (get_or counts f.queue.0 0 - 1)) greatest
+kept_remove v w counts greatest k f kept within at items capacity =
+    let n = length-set counts f.queue.0 (get_or counts f.queue.0 0 - 1) in
+    let known = counted_above v counts greatest k f kept within at in
+    record {
+      counted = λ q below. rw items (counted_remove v.items counts f k kept.counted known.0 within at q (omega (arith, n, below)));
+      numbered = rw items (numbered_remove 0 v.items greatest k within kept.numbered);
+      known = rw (items, n) (All-append (λ (x : Freeze). x.queue.0 < length counts) (take k v.items) (drop (suc k) v.items) (All-take (λ (x : Freeze). x.queue.0 < length counts) k v.items kept.known) (All-drop (λ (x : Freeze). x.queue.0 < length counts) (suc k) v.items kept.known));
+      within = rw items (omega (arith, length-remove v.items k within, kept.within));
+      room = rw capacity kept.room;
+      few = rw n kept.few;
+    }

@@ -1,0 +1,57 @@
+-- Lists of freezes whose numbers rise: what a freeze at the end and a removal leave.
+use Rattle.std.proofs.Common.{◌≡◌, ℕ, zero, suc, ◌+◌, ◌<◌, ◌≤◌, List, [], ◌∷◌, ◌++◌, length, get_or, Bool, true, false, not, cond, eqb, Some, refl, ap, sym, ◌∙◌, arith}
+use Rattle.std.proofs.lemmas.Bool.{eq-eqb, ne_eqb, cond-true, cond-false, not_from_true, not_from_false}
+use Rattle.std.specs.List.{remove, find, filter}
+use Rattle.freeze_ledger.specs.declared.entries.Freeze.{Freeze}
+use Rattle.freeze_ledger.specs.Freezes.{entry_of, without}
+use Rattle.freeze_ledger.specs.Invariant.{AreNumbered}
+
+-- above a lower number, too
+pub lowered : (low lower : ℕ) (fs : List Freeze) (high : ℕ) → lower ≤ low → AreNumbered low fs high → AreNumbered lower fs high
+lowered low lower [] high le h = omega arith
+lowered low lower (f ∷ fs) high le h = (omega arith, h.1)
+
+-- one more at the end, whose number is the next
+pub numbered_push : (low : ℕ) (fs : List Freeze) (high : ℕ) (f : Freeze) → AreNumbered low fs high → f.number ≡ high + 1 → AreNumbered low (fs ++ f ∷ []) (high + 1)
+numbered_push low [] high f h e = (omega arith, omega arith)
+numbered_push low (g ∷ fs) high f h e = (h.0, numbered_push g.number fs high f h.1 e)
+
+-- one fewer
+pub numbered_remove : (low : ℕ) (fs : List Freeze) (high k : ℕ) → k < length fs → AreNumbered low fs high → AreNumbered low (remove fs k) high
+numbered_remove low [] high k l h = absurd (omega arith)
+numbered_remove low (g ∷ fs) high zero l h = lowered g.number low fs high (omega arith) h.1
+numbered_remove low (g ∷ fs) high (suc k) l h = (h.0, numbered_remove g.number fs high k (omega arith) h.1)
+
+-- what stands in the list has a number above the lowest
+pub above : (low : ℕ) (fs : List Freeze) (high k : ℕ) (d : Freeze) → k < length fs → AreNumbered low fs high → low < (get_or fs k d).number
+above low [] high k d l h = absurd (omega arith)
+above low (g ∷ fs) high zero d l h = h.0
+above low (g ∷ fs) high (suc k) d l h = omega (arith, above g.number fs high k d (omega arith) h.1, h.0)
+
+-- no freeze has a number that all are above
+pub without_lower : (n low : ℕ) (fs : List Freeze) (high : ℕ) → n ≤ low → AreNumbered low fs high → without n fs ≡ fs
+without_lower n low [] high le h = refl
+without_lower n low (g ∷ fs) high le h =
+    let lower : n ≤ g.number = omega (arith, h.0) in
+    cond-true (not (eqb g.number n)) _ _ (not_from_false _ (ne_eqb g.number n (λ e. omega (arith, h.0, e)))) ∙ ap (λ gs. g ∷ gs) (without_lower n g.number fs high lower h.1)
+
+-- numbers tell freezes apart: the one at a place is the one of its number
+pub entry_at : (low : ℕ) (fs : List Freeze) (high k : ℕ) (f : Freeze) → k < length fs → AreNumbered low fs high → get_or fs k f ≡ f → entry_of f.number fs ≡ Some f
+entry_at low [] high k f l h e = absurd (omega arith)
+entry_at low (g ∷ fs) high zero f l h e = cond-true (eqb g.number f.number) _ _ (eq-eqb _ _ (ap (λ (x : Freeze). x.number) e)) ∙ ap Some e
+entry_at low (g ∷ fs) high (suc k) f l h e =
+    let up : g.number < (get_or fs k f).number = above g.number fs high k f (omega arith) h.1 in
+    let same = ap (λ (x : Freeze). x.number) e in
+    cond-false (eqb g.number f.number) _ _ (ne_eqb _ _ (λ q. omega (arith, up, same, q))) ∙ entry_at g.number fs high k f (omega arith) h.1 e
+
+-- so a removal by place is one by number
+pub remove_at : (low : ℕ) (fs : List Freeze) (high k : ℕ) (f : Freeze) → k < length fs → AreNumbered low fs high → get_or fs k f ≡ f → remove fs k ≡ without f.number fs
+remove_at low [] high k f l h e = absurd (omega arith)
+remove_at low (g ∷ fs) high zero f l h e =
+    let same : g.number ≡ f.number = ap (λ (x : Freeze). x.number) e in
+    sym (cond-false (not (eqb g.number f.number)) _ _ (not_from_true _ (eq-eqb _ _ same)) ∙ without_lower f.number g.number fs high (omega arith) h.1)
+remove_at low (g ∷ fs) high (suc k) f l h e =
+    let up : g.number < (get_or fs k f).number = above g.number fs high k f (omega arith) h.1 in
+    let same = ap (λ (x : Freeze). x.number) e in
+    ap (λ gs. g ∷ gs) (remove_at g.number fs high k f (omega arith) h.1 e)
+    ∙ sym (cond-true (not (eqb g.number f.number)) _ _ (not_from_false _ (ne_eqb _ _ (λ q. omega (arith, up, same, q)))))

@@ -1,0 +1,19 @@
+-- What a ledger keeps: each stored count is the number of the queue's entries, numbers rise, and there is room.
+use Rattle.std.specs.Prelude.{◌≡◌, ℕ, ◌<◌, ◌≤◌, ◌^◌, List, [], ◌∷◌, length, slice_index, vec_capacity, All}
+use Rattle.std.specs.declared.vec.Vec.{Vec}
+use Rattle.std.specs.declared.alloc.Global.{Global}
+use Rattle.freeze_ledger.specs.declared.entries.Freeze.{Freeze}
+use Rattle.freeze_ledger.specs.Freezes.{frozen}
+
+-- each number is above `low` and above the one before, and none is above `high`
+abbrev pub AreNumbered : ℕ → List Freeze → ℕ → Type 0
+AreNumbered low [] high = low ≤ high
+AreNumbered low (freeze ∷ freezes) high = (low < freeze.number) × AreNumbered freeze.number freezes high
+
+pub record IsKept (freezes : Vec Freeze Global) (counts : List ℕ) (greatest : ℕ) : Type 0 where
+  pub counted : (queue : ℕ) → queue < length counts → slice_index counts queue ≡ frozen queue freezes.items
+  pub numbered : AreNumbered 0 freezes.items greatest
+  pub known : All (λ freeze. freeze.queue.0 < length counts) freezes.items
+  pub within : length freezes.items ≤ 1024
+  pub room : 1024 ≤ vec_capacity freezes
+  pub few : length counts < 2 ^ 32

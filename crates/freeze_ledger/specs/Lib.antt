@@ -1,0 +1,3 @@
+pub mod Freezes
+pub mod State
+pub mod Invariant

@@ -1,0 +1,28 @@
+-- What contracts see of a ledger.
+use Rattle.std.specs.Prelude.{ℕ, ◌+◌, List, [], ◌∷◌, ◌++◌}
+use Rattle.ccb.specs.declared.QueueId.{QueueId}
+use Rattle.freeze_ledger.specs.declared.entries.Holder.{Holder}
+use Rattle.freeze_ledger.specs.declared.entries.Freeze.{Freeze}
+
+pub record LedgerState : Type 0 where
+  pub queues : ℕ
+  -- the greatest number that was given
+  pub greatest : ℕ
+  -- in the order of their numbers
+  pub freezes : List Freeze
+
+abbrev pub empty_ledger : ℕ → LedgerState
+empty_ledger queues = record { queues = queues; greatest = 0; freezes = [] }
+
+-- the freeze that is entered next: it bears the number after the greatest given
+abbrev pub next_freeze : LedgerState → QueueId → Holder → Freeze
+next_freeze state queue holder = record { number = state.greatest + 1; queue = queue; holder = holder }
+
+-- with one freeze more, whose number is now the greatest given
+abbrev pub with_entry : LedgerState → Freeze → LedgerState
+with_entry state freeze =
+    record { queues = state.queues; greatest = freeze.number; freezes = state.freezes ++ freeze ∷ [] }
+
+-- with these freezes
+abbrev pub with_freezes : LedgerState → List Freeze → LedgerState
+with_freezes state freezes = record { queues = state.queues; greatest = state.greatest; freezes = freezes }

@@ -1,0 +1,23 @@
+// What one entry of the ledger is. It relies on the queue's name alone.
+
+use ccb::QueueId;
+
+/// Who keeps a queue frozen.
+#[derive(Clone, Copy, Debug, PartialEq, Eq)]
+pub enum Holder {
+    /// The run of that number.
+    Run(u32),
+    /// A timer that lets the freeze go at that clock reading, in milliseconds.
+    Timer(u64),
+    /// A guest outside the transport, by the number that it chose.
+    Guest(u32),
+}
+
+/// One freeze of a device queue: an entry of the ledger.
+#[derive(Clone, Copy, Debug, PartialEq, Eq)]
+pub struct Freeze {
+    /// From 1 to 4,294,967,295, never used again.
+    pub number: u32,
+    pub queue: QueueId,
+    pub holder: Holder,
+}

@@ -1,0 +1,159 @@
+// The ledger as a plain list of entries in the order of their numbers, beside a stored count a queue.
+// It relies on `entries` for what an entry is and on `token` for the right to give one back.
+
+ghost use Rattle.std.specs.Prelude.{◌≡◌, ◌+◌, ◌<◌, ◌≤◌, ◌^◌, ◌++◌, ◌∷◌, ◌↔◌, [], length, IsTrue, IsSome, IsOk, IsNone, IfSome, IfNone, IfOk, IfErr, OnOk, Contains, slice_index_or};
+ghost use Rattle.freeze_ledger.specs.Freezes.{frozen, meets_limit, entry_of, without, holders_of};
+ghost use Rattle.freeze_ledger.specs.State.{LedgerState, empty_ledger, next_freeze, with_entry, with_freezes};
+
+use crate::entries::{Freeze, Holder};
+use crate::iter::Holders;
+use crate::token::FreezeToken;
+use ccb::QueueId;
+use std::alloc::{AllocError, Global};
+use std::marker::Model;
+
+/// How many freezes the ledger holds in all.
+const ROOM: usize = 1024;
+
+/// The freezes of a fixed number of device queues. Contracts see the number of queues, the greatest
+/// number given so far, and the freezes in the order of their numbers.
+#[derive(Drop)]
+pub struct Ledger {
+    freezes: Vec<Freeze>,
+    counts: Vec<u8>,
+    greatest: u32,
+}
+
+impl Model for Ledger {
+    ghost use Rattle.std.specs.Prelude.{length};
+    ghost use Rattle.freeze_ledger.specs.State.{LedgerState};
+
+    ghost Value = { LedgerState };
+
+    ghost use Rattle.freeze_ledger.specs.Invariant.{IsKept};
+
+    ghost view = { λ l. record { queues = length l.counts.items; greatest = l.greatest; freezes = l.freezes.items } };
+
+    ghost invariant = { λ l. IsKept l.freezes l.counts.items l.greatest };
+}
+
+// Where this very freeze stands.
+fn place_of(freezes: &[Freeze], freeze: Freeze) -> Option<usize>
+    ensures within { IfSome result (λ place. place < length freezes.now) }
+    ensures found { IfSome result (λ place. slice_index_or freezes.now place freeze ≡ freeze) }
+    ensures held { IsSome result ↔ Contains freezes.now freeze }
+{
+    freezes.iter().position(|held| *held == freeze)
+}
+
+impl Ledger {
+    /// An empty ledger for the queues from 0 to `queues` - 1, with room for all 1024 entries: no later
+    /// call takes memory.
+    pub fn with_room(alloc: Global, queues: u32) -> Result<Self, AllocError>
+        ensures { IfOk result (λ ledger. ledger ≡ empty_ledger queues) }
+    {
+        let freezes = Vec::with_capacity(alloc, ROOM)?;
+        let counts = vec![in alloc; 0u8; queues as usize]?;
+        Ok(Ledger {
+            freezes,
+            counts,
+            greatest: 0,
+        })
+    }
+
+    /// Freezes a queue once more for this holder, under the number after the greatest given. `None`,
+    /// which changes nothing, exactly at a limit: the queue has 255 freezes, the ledger 1024, or the
+    /// numbers up to 4,294,967,295 are used up.
+    pub fn take(&mut self, queue: QueueId, holder: Holder) -> Option<FreezeToken>
+        requires { queue.0 < self.old.queues }
+        ensures limit { IsNone result ↔ IsTrue (meets_limit queue.0 self.old.freezes self.old.greatest) }
+        ensures token { IfSome result (λ token. token ≡ next_freeze self.old queue holder) }
+        ensures entered { IfSome result (λ token. self.new ≡ with_entry self.old token) }
+        ensures none { IfNone result (self.new ≡ self.old) }
+    {
+        let place = queue.0 as usize;
+        let count = self.counts[place];
+        if count == u8::MAX || self.freezes.len() == ROOM || self.greatest == u32::MAX {
+            return None;
+        }
+        let freeze = Freeze {
+            number: self.greatest + 1,
+            queue,
+            holder,
+        };
+        self.freezes.push_reserved(freeze);
+        self.counts[place] = count + 1;
+        self.greatest = freeze.number;
+        Some(FreezeToken::new(freeze))
+    }
+
+    /// Removes the token's entry, and answers how many freezes its queue has left, at most 254. The
+    /// token comes back, and nothing changes, exactly where no entry has its number, queue and holder.
+    pub fn give_back(&mut self, token: FreezeToken) -> Result<u32, FreezeToken>
+        ensures held { IsOk result ↔ Contains self.old.freezes token }
+        ensures number { OnOk result (entry_of token.number self.old.freezes ≡ Some token) }
+        ensures removed { OnOk result (self.new ≡ with_freezes self.old (without token.number self.old.freezes)) }
+        ensures count { IfOk result (λ count. count ≡ frozen token.queue.0 self.new.freezes) }
+        ensures refused { IfErr result (λ back. (back ≡ token) × (self.new ≡ self.old)) }
+    {
+        let freeze = token.freeze();
+        let Some(entry) = place_of(&self.freezes, freeze) else {
+            return Err(token);
+        };
+        token.forfeit();
+        self.freezes.remove(entry);
+        let place = freeze.queue.0 as usize;
+        let count = self.counts[place] - 1;
+        self.counts[place] = count;
+        Ok(u32::from(count))
+    }
+
+    /// Whether an entry has the token's number, queue and holder.
+    pub fn holds(&self, token: &FreezeToken) -> bool
+        ensures { IsTrue result ↔ Contains self.now.freezes token.now }
+    {
+        self.freezes.contains(&token.freeze())
+    }
+
+    /// How many freezes the queue has, at most 255. It is a stored number.
+    pub fn count(&self, queue: QueueId) -> u32
+        requires { queue.0 < self.now.queues }
+        ensures entries { result ≡ frozen queue.0 self.now.freezes }
+        ensures bound { result ≤ 255 }
+    {
+        u32::from(self.counts[queue.0 as usize])
+    }
+
+    /// How many freezes there are in all, at most 1024.
+    pub fn len(&self) -> usize
+        ensures entries { result ≡ length self.now.freezes }
+        ensures bound { result ≤ 1024 }
+    {
+        self.freezes.len()
+    }
+
+    /// Whether no queue is frozen.
+    pub fn is_empty(&self) -> bool
+        ensures { IsTrue result ↔ (self.now.freezes ≡ []) }
+    {
+        self.freezes.is_empty()
+    }
+
+    /// How many queues the ledger was made for.
+    pub fn queues(&self) -> u32
+        ensures { result ≡ self.now.queues }
+    {
+        self.counts.len() as u32
+    }
+
+    /// The number and the holder of each freeze of the queue, by rising number.
+    pub fn holders(&self, queue: QueueId) -> Holders<'_>
+        requires { queue.0 < self.now.queues }
+        ensures { result ≡ holders_of queue.0 self.now.freezes }
+    {
+        Holders {
+            queue,
+            freezes: &self.freezes,
+        }
+    }
+}

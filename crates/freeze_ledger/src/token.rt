@@ -1,0 +1,62 @@
+// The right to give one freeze back. It relies on `entries`.
+
+ghost use Rattle.std.specs.Prelude.{◌≡◌};
+
+use crate::entries::{Freeze, Holder};
+use ccb::QueueId;
+use std::marker::Model;
+
+/// Stands for one freeze that was taken. It is neither copied nor dropped: it is given back to a
+/// ledger, or forfeited. Contracts see it as its freeze.
+pub struct FreezeToken {
+    freeze: Freeze,
+}
+
+impl Model for FreezeToken {
+    ghost use Rattle.freeze_ledger.specs.declared.entries.Freeze.{Freeze};
+
+    ghost Value = { Freeze };
+
+    ghost view = { λ t. t.freeze };
+}
+
+impl FreezeToken {
+    /// Only the ledger makes one, for a freeze that it has just entered.
+    pub(crate) fn new(freeze: Freeze) -> Self
+        ensures { result ≡ freeze }
+    {
+        FreezeToken { freeze }
+    }
+
+    /// The number of the freeze, from 1.
+    pub fn number(&self) -> u32
+        ensures { result ≡ self.now.number }
+    {
+        self.freeze.number
+    }
+
+    /// The queue that it freezes.
+    pub fn queue(&self) -> QueueId
+        ensures { result ≡ self.now.queue }
+    {
+        self.freeze.queue
+    }
+
+    /// Who held it when it was taken.
+    pub fn holder(&self) -> Holder
+        ensures { result ≡ self.now.holder }
+    {
+        self.freeze.holder
+    }
+
+    /// Spends the token and leaves its entry where it is: the queue stays frozen.
+    pub fn forfeit(self) {
+        let FreezeToken { freeze: _ } = self;
+    }
+
+    pub(crate) fn freeze(&self) -> Freeze
+        ensures { result ≡ self.now }
+    {
+        self.freeze
+    }
+}

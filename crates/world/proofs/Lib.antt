@@ -1,0 +1,4 @@
+pub mod Rows
+pub mod Entries
+pub mod Steps
+pub mod Laws

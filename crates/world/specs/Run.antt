@@ -1,0 +1,14 @@
+-- Runs of the world: lists of events with their replies, one step after another.
+use Rattle.std.specs.Prelude.{◌≡◌, List, [], ◌∷◌}
+use Rattle.world.specs.World.{Setup, World, opening}
+use Rattle.world.specs.Event.{Event, Reply}
+use Rattle.world.specs.Step.{WorldStep}
+
+-- the events with these replies lead from one world to the other
+abbrev pub Leads : Setup → World → List (Event × Reply) → World → Type 0
+Leads setup before [] after = before ≡ after
+Leads setup before (x ∷ xs) after = (between : World) × WorldStep setup before x.0 x.1 between × Leads setup between xs after
+
+-- a run: it begins in the opening world
+abbrev pub WorldRun : Setup → List (Event × Reply) → World → Type 0
+WorldRun setup xs after = Leads setup (opening setup) xs after

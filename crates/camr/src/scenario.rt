@@ -1,0 +1,86 @@
+// The scenario: what happens, one command a line. It relies on nothing but text.
+
+use ccb::QueueId;
+use std::alloc::{AllocError, Global};
+
+/// What a line asks for.
+#[derive(Clone, Copy, Debug, PartialEq, Eq)]
+pub enum Command {
+    /// `gfreeze Q G`: the guest G freezes queue Q.
+    GuestFreeze { queue: QueueId, guest: u32 },
+    /// `grelease F`: the guest that holds freeze F gives it back.
+    GuestRelease { freeze: u32 },
+}
+
+/// A command with its line, the first being 1.
+#[derive(Clone, Copy, Debug, PartialEq, Eq)]
+pub struct Step {
+    pub line: usize,
+    pub command: Command,
+}
+
+/// Why a scenario was not read.
+#[derive(Clone, Copy, Debug, PartialEq, Eq)]
+pub enum ScenarioError {
+    OutOfMemory,
+    /// N1: that line is not of the form.
+    Line(usize),
+}
+
+impl From<AllocError> for ScenarioError {
+    fn from(_: AllocError) -> Self {
+        ScenarioError::OutOfMemory
+    }
+}
+
+/// Reads the whole scenario. Empty lines and those that begin with `#` are skipped.
+pub fn read(alloc: Global, text: &str) -> Result<Vec<Step>, ScenarioError> {
+    let mut steps = Vec::new(alloc);
+    let mut number = 0usize;
+    for line in text.split('\n') {
+        number = number.saturating_add(1);
+        if line.is_empty() || line.starts_with('#') {
+            continue;
+        }
+        match command_of(line) {
+            Some(command) => steps
+                .push(Step {
+                    line: number,
+                    command,
+                })
+                .map_err(AllocError::from)?,
+            None => return Err(ScenarioError::Line(number)),
+        }
+    }
+    Ok(steps)
+}
+
+// A line's words are parted by one blank.
+fn command_of(line: &str) -> Option<Command> {
+    let mut words = line.split(' ');
+    let command = match words.next()? {
+        "gfreeze" => Command::GuestFreeze {
+            queue: QueueId(number(words.next()?)?),
+            guest: number(words.next()?)?,
+        },
+        "grelease" => Command::GuestRelease {
+            freeze: number(words.next()?)?,
+        },
+        _ => return None,
+    };
+    if words.next().is_none() {
+        Some(command)
+    } else {
+        None
+    }
+}
+
+// A number below 2^32 in decimal digits, without a sign and without leading zeros.
+fn number(word: &str) -> Option<u32> {
+    let is_spelled = word == "0" || !word.starts_with('0');
+    if is_spelled && word.bytes().all(|byte| byte.is_ascii_digit()) {
+        word.parse().ok()
+    } else {
+        None
+    }
+}

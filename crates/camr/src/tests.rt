@@ -1,0 +1,70 @@
+// Rows of the program, on `carry`. Expected texts are worked out by hand.
+
+use crate::carry::carry;
+use crate::command_line::plan;
+use crate::plans::Plan;
+use std::alloc::{AllocError, Global};
+use std::process::Abort;
+use std::test::Fail;
+
+const ONE_QUEUE: &str =
+    "version = 1\n[[queue]]\nopenings = 2\nprogram = \"p1\"\n[[program]]\nname = \"p1\"\ncode = \"95 00 00 00 00 00 00 00\"\n";
+
+// What carrying out a run answers and writes.
+struct Outcome {
+    status: u8,
+    out: Vec<u8>,
+    err: Vec<u8>,
+}
+
+fn run(alloc: Global, manifest: &[u8], scenario: &[u8]) -> Result<Outcome, AllocError> {
+    let plan = Plan::Run(
+        1,
+        String::from_str(alloc, "m.toml")?,
+        String::from_str(alloc, "s.txt")?,
+    );
+    let inputs = vec![in alloc; manifest.to_vec(alloc)?, scenario.to_vec(alloc)?]?;
+    let mut out = Vec::new(alloc);
+    let mut err = Vec::new(alloc);
+    let status = if inputs.len() == 2 {
+        carry(alloc, &plan, &inputs, &mut out, &mut err)
+    } else {
+        2
+    };
+    Ok(Outcome { status, out, err })
+}
+
+fn expect(rt: &impl Abort, outcome: Outcome, status: u8, out: &str, err: &str) {
+    let Outcome {
+        status: was,
+        out: text,
+        err: line,
+    } = outcome;
+    assert_eq!(rt; text.as_slice(), out.as_bytes());
+    assert_eq!(rt; line.as_slice(), err.as_bytes());
+    assert_eq!(rt; was, status);
+}
+
+#[test]
+fn first_rows(rt: HostRuntime) -> Result<(), Fail> {
+    for (scenario, text) in [
+        (
+            "gfreeze 0 7\ngrelease 1\n",
+            "camr-trace 1\ngfreeze 0 7 = freeze 1\ngrelease 1 = 0\nend 2 0 0 0\n",
+        ),
+        (
+            "gfreeze 1 7\n",
+            "camr-trace 1\ngfreeze 1 7 = C1\nend 1 0 0 0\n",
+        ),
+        ("", "camr-trace 1\nend 0 0 0 0\n"),
+        // Comments and empty lines are skipped; the last line needs no line feed; a token may stay out.
+        (
+            "# a comment\n\ngfreeze 0 4294967295",
+            "camr-trace 1\ngfreeze 0 4294967295 = freeze 1\nend 1 1 0 0\n",
+        ),
+    ] {
+        let outcome = run(rt.alloc(), ONE_QUEUE.as_bytes(), scenario.as_bytes())?;
+        expect(&rt, outcome, 0, text, "");
+    }
+    Ok(())
+}

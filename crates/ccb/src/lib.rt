@@ -1,6 +1,15 @@
-// The numbers by which a CCB (CAM Control Block, ANSI X3.232) and a device queue are named.
-// It relies on nothing.
+// What a CAM Control Block (CCB, ANSI X3.232) is to the recovery engine: the numbers that name CCBs
+// and device queues, CAM status codes, and the completion that a device answers a CCB with.
+// It relies on nothing but the standard library.
 #![tactic(auto)]
+
+mod completion;
+mod sense_bytes;
+mod status;
+
+pub use crate::completion::Completion;
+pub use crate::sense_bytes::SenseBytes;
+pub use crate::status::CamStatus;
 
 /// The number of a CCB. Numbers are given from 1 upward and never used again.
 #[derive(Clone, Copy, Debug, PartialEq, Eq, Hash, PartialOrd, Ord)]

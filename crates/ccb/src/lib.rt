@@ -1,14 +1,21 @@
 // What a CAM Control Block (CCB, ANSI X3.232) is to the recovery engine: the numbers that name CCBs
-// and device queues, CAM status codes, and the completion that a device answers a CCB with.
-// It relies on nothing but the standard library.
+// and device queues, status codes and flags, the CCB itself, the completion that a device answers it
+// with, and the context in which a recovery program reads it.
+// It relies on `sense_record` for the sense fields, `bitflags` for flags, `byteorder` for words.
 #![tactic(auto)]
 
 mod completion;
+mod context_bytes;
+mod control_block;
+mod flags;
 mod sense_bytes;
 mod status;
 
 pub use crate::completion::Completion;
-pub use crate::sense_bytes::SenseBytes;
+pub use crate::context_bytes::{CONTEXT_BYTES, context};
+pub use crate::control_block::Ccb;
+pub use crate::flags::CcbFlags;
+pub use crate::sense_bytes::{MAX_SENSE_BYTES, SenseBytes};
 pub use crate::status::CamStatus;
 
 /// The number of a CCB. Numbers are given from 1 upward and never used again.

@@ -14,7 +14,9 @@ use bitflags::Flags;
 /// and again once it is requeued, its status says that it is in progress and nothing has come.
 #[derive(Clone, Copy, Debug, PartialEq, Eq)]
 pub struct Ccb {
+    /// Its number, from 1.
     pub number: CcbId,
+    /// The device queue that it was submitted to.
     pub queue: QueueId,
     /// The CCB of the lowest priority number starts first.
     pub priority: u32,
@@ -22,9 +24,11 @@ pub struct Ccb {
     pub retries: u32,
     /// How often it was started, up to the largest u32.
     pub attempts: u32,
+    /// What the last completion said, or that the CCB is in progress.
     pub status: CamStatus,
-    /// The SCSI status byte.
+    /// The SCSI status byte of the last completion, or 0.
     pub scsi: u8,
+    /// The sense bytes of the last completion, or none.
     pub sense: SenseBytes,
     /// Whether a freeze of the queue was taken for the last completion.
     pub freeze_taken: bool,

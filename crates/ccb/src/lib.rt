@@ -1,6 +1,5 @@
-// What a CAM Control Block (CCB, ANSI X3.232) is to the recovery engine: the numbers that name CCBs
-// and device queues, status codes and flags, the CCB itself, the completion that a device answers it
-// with, and the context in which a recovery program reads it.
+// What a CAM Control Block (CCB, ANSI X3.232) is to the recovery engine: its number and queue, status
+// and flags, the completion that a device answers it with, and the context that a program reads.
 // It relies on `sense_record` for the sense fields, `bitflags` for flags, `byteorder` for words.
 #![tactic(auto)]
 

@@ -23,8 +23,8 @@ impl Model for TableStore {
 }
 
 impl TableStore {
-    /// One table of each of these lengths, in this order, with all words 0. Nothing else takes
-    /// memory.
+    /// One table of each of these lengths in words, numbered from 0 in this order, with all words 0.
+    /// Only this call takes memory; where it is refused, nothing is kept.
     pub fn with_lengths(alloc: Global, lengths: &[u16]) -> Result<Self, AllocError>
         ensures { IfOk result (λ store. store ≡ map zero_table lengths.now) }
     {
@@ -44,7 +44,7 @@ impl TableStore {
             .is_some_and(|words| index < words.len())
     }
 
-    /// The word.
+    /// The word at an index, from 0, of a table.
     pub fn get(&self, table: usize, index: usize) -> u64
         requires { HasWord self.now table index }
         ensures { result ≡ word_at self.now table index }

@@ -1,6 +1,21 @@
-// The numbers by which a CCB (CAM Control Block, ANSI X3.232) and a device queue are named.
-// It relies on nothing.
+// What a CAM Control Block (CCB, ANSI X3.232) is to the recovery engine: its number and queue, status
+// and flags, the completion that a device answers it with, and the context that a program reads.
+// It relies on `sense_record` for the sense fields, `bitflags` for flags, `byteorder` for words.
 #![tactic(auto)]
+
+mod completion;
+mod context_bytes;
+mod control_block;
+mod flags;
+mod sense_bytes;
+mod status;
+
+pub use crate::completion::Completion;
+pub use crate::context_bytes::{CONTEXT_BYTES, context};
+pub use crate::control_block::Ccb;
+pub use crate::flags::CcbFlags;
+pub use crate::sense_bytes::{MAX_SENSE_BYTES, SenseBytes};
+pub use crate::status::CamStatus;
 
 /// The number of a CCB. Numbers are given from 1 upward and never used again.
 #[derive(Clone, Copy, Debug, PartialEq, Eq, Hash, PartialOrd, Ord)]

@@ -1,0 +1,19 @@
+-- What a completion says, and which ones there are.
+use Rattle.std.specs.Prelude.{◌≢◌, ◌≤◌, ℕ, List, length}
+use Rattle.ccb.specs.declared.CcbId.{CcbId}
+use Rattle.ccb.specs.declared.status.CamStatus.{CamStatus}
+use Rattle.ccb.specs.declared.status.CamStatus.TheVariants.{RequestInProgress}
+use Rattle.ccb.specs.SenseBytes.{most_sense_bytes}
+
+-- the answer of a device to a CCB: the CCB's number, its CAM status, the SCSI status byte, and the
+-- sense bytes
+pub record Outcome : Type 0 where
+  pub ccb : CcbId
+  pub status : CamStatus
+  pub scsi : ℕ
+  pub sense : List ℕ
+
+-- the CCB is not still in progress, and its sense bytes are not too many
+pub record IsCompletion (c : Outcome) : Type 0 where
+  pub finished : c.status ≢ RequestInProgress
+  pub few : length c.sense ≤ most_sense_bytes

@@ -1,0 +1,30 @@
+-- A CCB as it is submitted, and its status word.
+use Rattle.std.specs.Prelude.{ℕ, ◌+◌, ◌==◌, if◌then◌else◌, false, [], length}
+use Rattle.ccb.specs.declared.CcbId.{CcbId}
+use Rattle.ccb.specs.declared.QueueId.{QueueId}
+use Rattle.ccb.specs.declared.control_block.Ccb.{Ccb}
+use Rattle.ccb.specs.declared.status.CamStatus.TheVariants.{RequestInProgress}
+use Rattle.ccb.specs.Flags.{autosns_valid, dev_qfrzn}
+use Rattle.ccb.specs.Status.{code_of}
+
+-- a CCB that waits for its first start
+abbrev pub submitted : CcbId → QueueId → ℕ → ℕ → Ccb
+submitted number queue priority retries = record {
+  number = number;
+  queue = queue;
+  priority = priority;
+  retries = retries;
+  attempts = 0;
+  status = RequestInProgress;
+  scsi = 0;
+  sense = [];
+  freeze_taken = false;
+}
+
+-- the flags: that a freeze was taken, and that sense bytes came
+abbrev pub flags_of : Ccb → ℕ
+flags_of ccb = (if ccb.freeze_taken then dev_qfrzn else 0) + (if length ccb.sense == 0 then 0 else autosns_valid)
+
+-- the code, plus the flags
+abbrev pub status_word_of : Ccb → ℕ
+status_word_of ccb = code_of ccb.status + flags_of ccb

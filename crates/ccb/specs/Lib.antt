@@ -1,0 +1,6 @@
+pub mod Status
+pub mod Flags
+pub mod SenseBytes
+pub mod Completion
+pub mod ControlBlock
+pub mod Context

@@ -1,0 +1,95 @@
+// SCSI sense data: reads the sense key and the additional sense code out of the bytes that came with
+// a CHECK CONDITION, in the two formats of the SCSI Primary Commands standard (SPC).
+// It relies on nothing but the standard library.
+#![tactic(auto)]
+
+ghost use Rattle.std.specs.Prelude.{◌≡◌};
+ghost use Rattle.sense_record.specs.Sense.{sense_of};
+
+/// What sense data says of an error.
+#[derive(Clone, Copy, Debug, PartialEq, Eq)]
+pub struct Sense {
+    /// The sense key, from 0 to 15.
+    pub key: u8,
+    /// The additional sense code.
+    pub asc: u8,
+    /// The additional sense code qualifier.
+    pub ascq: u8,
+    /// How many sense bytes there are, whatever their additional length field says.
+    pub len: usize,
+}
+
+/// Reads sense data of the fixed format (response codes 70 and 71 hexadecimal) or the descriptor
+/// format (72 and 73), for a current or a deferred error. A byte that is missing reads as 0. Under
+/// any other response code, and without a byte, key and codes are 0. Takes no memory.
+pub fn read(sense: &[u8]) -> Sense
+    ensures { result ≡ sense_of sense.now }
+{
+    let byte = |place: usize| sense.get(place).copied().unwrap_or(0);
+    let (key_byte, asc, ascq) = match byte(0) & 0x7f {
+        0x70 | 0x71 => (byte(2), byte(12), byte(13)),
+        0x72 | 0x73 => (byte(1), byte(2), byte(3)),
+        _ => (0, 0, 0),
+    };
+    Sense {
+        key: key_byte & 0x0f,
+        asc,
+        ascq,
+        len: sense.len(),
+    }
+}
+
+#[cfg(test)]
+mod tests {
+    use super::*;
+
+    #[test]
+    fn reads_both_formats(rt: HostRuntime) {
+        let fixed = [
+            0x70, 0, 6, 0, 0, 0, 0, 10, 0, 0, 0, 0, 0x29, 0x01, 0, 0, 0, 0,
+        ];
+        let deferred = [0xf1, 0, 0xe3, 0, 0, 0, 0, 10, 0, 0, 0, 0, 0x11, 0x04];
+        let descriptor = [0x72, 0x05, 0x24, 0x02, 0, 0, 0, 0];
+        let deferred_descriptor = [0x73, 0xf4, 0x44, 0x03];
+        for (name, bytes, key, asc, ascq) in [
+            ("fixed, current", fixed.as_slice(), 6, 0x29, 0x01),
+            (
+                "fixed, deferred, with the bits beside code and key",
+                deferred.as_slice(),
+                3,
+                0x11,
+                0x04,
+            ),
+            ("fixed, ends behind the ASC", &fixed[..13], 6, 0x29, 0),
+            ("fixed, ends behind the key", &fixed[..3], 6, 0, 0),
+            ("fixed, the first byte alone", &fixed[..1], 0, 0, 0),
+            ("descriptor, current", descriptor.as_slice(), 5, 0x24, 0x02),
+            (
+                "descriptor, deferred",
+                deferred_descriptor.as_slice(),
+                4,
+                0x44,
+                0x03,
+            ),
+            (
+                "descriptor, ends behind the ASC",
+                &descriptor[..3],
+                5,
+                0x24,
+                0,
+            ),
+            ("an unknown code", [0x7f, 6, 6, 6].as_slice(), 0, 0, 0),
+            ("a code below", [0x6f, 6, 6, 6].as_slice(), 0, 0, 0),
+            ("a code above", [0x74, 6, 6, 6].as_slice(), 0, 0, 0),
+            ("nothing", [].as_slice(), 0, 0, 0),
+        ] {
+            let want = Sense {
+                key,
+                asc,
+                ascq,
+                len: bytes.len(),
+            };
+            assert_eq!(rt; read(bytes), want, "{name}");
+        }
+    }
+}

@@ -1,0 +1,135 @@
+// The tables that recovery programs share: each is a row of 64 bit words, named by table and index.
+// All memory is taken when the tables are made. It relies on nothing but the standard library.
+#![tactic(auto)]
+
+ghost use Rattle.std.specs.Prelude.{◌≡◌, ◌+◌, ◌%◌, ◌^◌, ◌<◌, ◌↔◌, IsTrue, IfOk, length, map};
+ghost use Rattle.table_store.specs.Tables.{HasWord, with_word, word_at, zero_table};
+
+use std::alloc::{AllocError, Global};
+use std::marker::Model;
+
+/// Tables of words. Contracts see the list of tables, each a list of its words.
+#[derive(Debug, Drop)]
+pub struct TableStore {
+    tables: Vec<Vec<u64>>,
+}
+
+impl Model for TableStore {
+    ghost use Rattle.std.specs.Prelude.{ℕ, List, map};
+
+    ghost Value = { List (List ℕ) };
+
+    ghost view = { λ store. map (λ table. table.items) store.tables.items };
+}
+
+impl TableStore {
+    /// One table of each of these lengths in words, numbered from 0 in this order, with all words 0.
+    /// Only this call takes memory; where it is refused, nothing is kept.
+    pub fn with_lengths(alloc: Global, lengths: &[u16]) -> Result<Self, AllocError>
+        ensures { IfOk result (λ store. store ≡ map zero_table lengths.now) }
+    {
+        let mut tables = Vec::with_capacity(alloc, lengths.len())?;
+        for length in lengths {
+            tables.push(vec![in alloc; 0; usize::from(*length)]?)?;
+        }
+        Ok(TableStore { tables })
+    }
+
+    /// Whether there is a word of this index in a table of this number.
+    pub fn has_word(&self, table: usize, index: usize) -> bool
+        ensures { IsTrue result ↔ HasWord self.now table index }
+    {
+        self.tables
+            .get(table)
+            .is_some_and(|words| index < words.len())
+    }
+
+    /// The word at an index, from 0, of a table.
+    pub fn get(&self, table: usize, index: usize) -> u64
+        requires { HasWord self.now table index }
+        ensures { result ≡ word_at self.now table index }
+    {
+        self.tables[table][index]
+    }
+
+    /// Writes the word, and answers the one that stood there.
+    pub fn put(&mut self, table: usize, index: usize, value: u64) -> u64
+        requires { HasWord self.old table index }
+        ensures answer { result ≡ word_at self.old table index }
+        ensures tables { self.new ≡ with_word self.old table index value }
+        ensures lengths { map length self.new ≡ map length self.old }
+    {
+        let word = &mut self.tables[table][index];
+        let old = *word;
+        *word = value;
+        old
+    }
+
+    /// Adds to the word, modulo 2^64, and answers the sum.
+    pub fn add(&mut self, table: usize, index: usize, value: u64) -> u64
+        requires { HasWord self.old table index }
+        ensures answer { result ≡ (word_at self.old table index + value) % 2 ^ 64 }
+        ensures tables { self.new ≡ with_word self.old table index result }
+        ensures lengths { map length self.new ≡ map length self.old }
+    {
+        let word = &mut self.tables[table][index];
+        *word = word.wrapping_add(value);
+        *word
+    }
+}
+
+#[cfg(test)]
+mod tests {
+    use super::*;
+    use std::test::Fail;
+
+    // With any one allocation refused, the first call or the second makes the tables.
+    fn made(alloc: Global, lengths: &[u16]) -> Result<TableStore, AllocError> {
+        match TableStore::with_lengths(alloc, lengths) {
+            Ok(store) => Ok(store),
+            Err(AllocError) => TableStore::with_lengths(alloc, lengths),
+        }
+    }
+
+    #[test]
+    fn words_by_table_and_index(rt: HostRuntime) -> Result<(), Fail> {
+        let mut store = made(rt.alloc(), &[2, 1, 4096])?;
+        for (table, index, there) in [
+            (0, 1, true),
+            (0, 2, false),
+            (1, 1, false),
+            (2, 4095, true),
+            (3, 0, false),
+        ] {
+            assert_eq!(rt; store.has_word(table, index), there, "{table}, {index}");
+        }
+        assert!(rt; store.has_word(0, 1));
+        assert_eq!(rt; store.get(0, 1), 0);
+        assert_eq!(rt; store.put(0, 1, 7), 0);
+        assert!(rt; store.has_word(0, 1));
+        assert_eq!(rt; store.put(0, 1, 9), 7);
+        assert!(rt; store.has_word(0, 1));
+        assert_eq!(rt; store.get(0, 1), 9);
+        assert!(rt; store.has_word(0, 0));
+        assert_eq!(rt; store.get(0, 0), 0);
+        Ok(())
+    }
+
+    #[test]
+    fn add_wraps(rt: HostRuntime) -> Result<(), Fail> {
+        for (word, value, sum) in [
+            (0, 5, 5),
+            (u64::MAX, 1, 0),
+            (u64::MAX, u64::MAX, u64::MAX - 1),
+        ] {
+            let mut store = made(rt.alloc(), &[1])?;
+            assert!(rt; store.has_word(0, 0));
+            assert_eq!(rt; store.put(0, 0, word), 0);
+            assert!(rt; store.has_word(0, 0));
+            assert_eq!(rt; store.add(0, 0, value), sum, "{word} and {value}");
+            assert!(rt; store.has_word(0, 0));
+            assert_eq!(rt; store.get(0, 0), sum, "{word} and {value}");
+        }
+        Ok(())
+    }
+}

@@ -1,0 +1,2 @@
+pub mod Reg
+pub mod Program

@@ -1,10 +1,10 @@
-// The registers of RFC 9669, section 2, and their numbers.
+// The registers and their numbers (RFC 9669, section 3.1).
 
 ghost use Rattle.std.specs.Prelude.{◌≡◌, ◌≤◌, ◌<◌, ◌↔◌, IsNone, IfSome};
 ghost use Rattle.bpf_insn.specs.Reg.{number_of};
 
-/// A register. R0 holds results, R1 to R5 arguments, R6 to R9 are kept over calls, and R10 is the
-/// frame pointer, which is only read (RFC 9669, section 2).
+/// A register of 64 bits. By BPF's calling convention R0 holds results, R1 to R5 arguments, R6 to R9
+/// are kept over calls, and R10 is the frame pointer, which is only read.
 #[derive(Clone, Copy, Debug, PartialEq, Eq)]
 pub enum Reg {
     R0,

@@ -14,21 +14,21 @@ use Rattle.bpf_decode.proofs.Texts.{SpellsThen-length, one_row_of_insns, no_faul
 use Rattle.bpf_decode.proofs.Bytes.{one_text_of_insns}
 
 pub one_program : (text : List ℕ) (p q : List Slot) → Spells text p → Spells text q → p ≡ q
-one_program text p q h k = h.0.0 ∙ ap layout (one_row_of_insns text (insns_in p) (insns_in q) h.2 k.2) ∙ sym k.0.0
+one_program text p q h k = h.is_program.laid_out ∙ ap layout (one_row_of_insns text (insns_in p) (insns_in q) h.in_a_row k.in_a_row) ∙ sym k.is_program.laid_out
 
 pub one_text : (a b : List ℕ) (program : List Slot) → Spells a program → Spells b program → a ≡ b
-one_text a b program h k = one_text_of_insns a b (insns_in program) h.1 k.1 h.2 k.2
+one_text a b program h k = one_text_of_insns a b (insns_in program) h.are_bytes k.are_bytes h.in_a_row k.in_a_row
 
 -- 8 bytes a slot
 length-Spells : (text : List ℕ) (program : List Slot) → Spells text program → length text ≡ 8 * length program
 length-Spells text program h =
-    omega (arith, SpellsThen-length text (insns_in program) [] h.2, ap length h.0.0)
+    omega (arith, SpellsThen-length text (insns_in program) [] h.in_a_row, ap length h.is_program.laid_out)
 
 pub no_fault_of_text : (text : List ℕ) (program : List Slot) (fault : DecodeFault) → Spells text program → ¬ HasFault text fault
-no_fault_of_text text program Empty h f = omega (arith, length-Spells text program h, h.0.1.0)
+no_fault_of_text text program Empty h f = omega (arith, length-Spells text program h, h.is_program.in_range.0)
 no_fault_of_text text program PartialSlot h f = f (omega (arith, length-Spells text program h))
-no_fault_of_text text program TooManySlots h f = omega (arith, length-Spells text program h, h.0.1.1)
-no_fault_of_text text program (At slot fault) h f = no_fault_within text f.1.insns f.1.rest (insns_in program) fault f.1.before f.1.here f.1.has h.2
+no_fault_of_text text program TooManySlots h f = omega (arith, length-Spells text program h, h.is_program.in_range.1)
+no_fault_of_text text program (At slot fault) h f = no_fault_within text f.1.insns f.1.rest (insns_in program) fault f.1.before f.1.here f.1.has h.in_a_row
 
 same_at : (bytes : List ℕ) (s t : ℕ) (f g : InsnFault) → FaultAt bytes s f → FaultAt bytes t g → At s f ≡ At t g
 same_at bytes s t f g h k =

@@ -37,5 +37,7 @@ abbrev pub AreBytes : List ℕ → Type 0
 AreBytes bytes = (i : ℕ) → slice_index bytes i < 256
 
 -- the bytes are those of the program's instructions in a row, and nothing is left
-abbrev pub Spells : List ℕ → List Slot → Type 0
-Spells bytes program = IsProgram program × AreBytes bytes × SpellsThen bytes (insns_in program) []
+pub record Spells (bytes : List ℕ) (program : List Slot) : Type 0 where
+  pub is_program : IsProgram program
+  pub are_bytes : AreBytes bytes
+  pub in_a_row : SpellsThen bytes (insns_in program) []

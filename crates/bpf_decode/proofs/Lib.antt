@@ -1,0 +1,4 @@
+pub mod Rows
+pub mod Texts
+pub mod Bytes
+pub mod Programs

@@ -1,0 +1,91 @@
+// Bytes to a program: the length first, and then slot after slot.
+
+ghost use Rattle.std.specs.Prelude.{◌≡◌, ◌≤◌, ◌*◌, List, length, IfOk, IfErr, MatchResult};
+ghost use Rattle.bpf_insn.specs.declared.program.TheConstants.{MAX_SLOTS};
+ghost use Rattle.bpf_insn.specs.declared.program.Slot.{Slot};
+ghost use Rattle.bpf_decode.specs.Spells.{Spells};
+ghost use Rattle.bpf_decode.specs.Faults.{HasFault};
+ghost use Rattle.bpf_decode.specs.Decoded.{IfFault};
+ghost use Rattle.bpf_decode.specs.declared.decoder.DecodeError.TheVariants.{Memory, Fault};
+
+use crate::fault::DecodeFault;
+use crate::fields::{Fields, SLOT_BYTES};
+use crate::insn::insn;
+use bpf_insn::{MAX_SLOTS, Program, ProgramBuilder};
+use std::alloc::{AllocError, Global};
+
+/// Why bytes were not decoded.
+#[derive(Clone, Copy, Debug, PartialEq, Eq)]
+pub enum DecodeError {
+    /// Memory ran out, which says nothing of the bytes.
+    Memory,
+    /// The bytes spell no program.
+    Fault(DecodeFault),
+}
+
+impl From<AllocError> for DecodeError {
+    ghost from_gives = { λ _ e. e ≡ Memory };
+
+    fn from(_error: AllocError) -> Self {
+        DecodeError::Memory
+    }
+}
+
+impl From<DecodeFault> for DecodeError {
+    ghost from_gives = { λ fault e. e ≡ Fault fault };
+
+    fn from(fault: DecodeFault) -> Self {
+        DecodeError::Fault(fault)
+    }
+}
+
+/// How many slots the bytes are, from 1 to `MAX_SLOTS`.
+fn slot_count(bytes: &[u8]) -> Result<usize, DecodeFault>
+    ensures slots { IfOk result (λ slots. (length bytes.now ≡ 8 * slots) × (1 ≤ slots) × (slots ≤ MAX_SLOTS)) }
+    ensures fault { IfErr result (HasFault bytes.now) }
+{
+    if bytes.is_empty() {
+        return Err(DecodeFault::Empty);
+    }
+    if bytes.len() % SLOT_BYTES != 0 {
+        return Err(DecodeFault::PartialSlot);
+    }
+    let slots = bytes.len() / SLOT_BYTES;
+    if slots > MAX_SLOTS {
+        return Err(DecodeFault::TooManySlots);
+    }
+    Ok(slots)
+}
+
+/// The program that the bytes spell, or the first fault of the bytes.
+fn program(alloc: Global, bytes: &[u8]) -> Result<Program, DecodeError>
+    ensures found { IfOk result (Spells bytes.now) }
+    ensures fault { IfErr result (IfFault (HasFault bytes.now)) }
+{
+    let slots = slot_count(bytes)?;
+    let mut builder = ProgramBuilder::with_capacity(alloc, slots)?;
+    let mut rest = bytes;
+    for slot in 0..slots {
+        match insn(&Fields::from_bytes(rest)) {
+            Ok(insn) => builder.push(insn)?,
+            Err(fault) => return Err(DecodeFault::At { slot, fault }.into()),
+        }
+        rest = rest.split_at(SLOT_BYTES).1;
+    }
+    Ok(builder.build().unwrap())
+}
+
+/// The program that the bytes spell. An error for want of memory says nothing of the bytes, and a
+/// fault is the one that `HasFault` names: no bytes, a length that is no multiple of 8 and more than
+/// 4096 slots in this order, and then the first faulty instruction.
+pub fn decode(alloc: Global, bytes: &[u8]) -> Result<Program, DecodeError>
+    // What is decoded is spelled so.
+    ensures found { IfOk result (Spells bytes.now) }
+    // What is spelled is decoded, unless memory runs out.
+    ensures only { (spelled : List Slot) → Spells bytes.now spelled →
+        MatchResult result (λ program. program ≡ spelled) (λ e. e ≡ Memory) }
+    // Which fault it is.
+    ensures fault { IfErr result (IfFault (HasFault bytes.now)) }
+{
+    program(alloc, bytes)
+}

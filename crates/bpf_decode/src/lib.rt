@@ -1,0 +1,16 @@
+// The decoder: bytes to programs by RFC 9669, sections 3 to 5. What it accepts is stated by
+// `Spells`, and what it refuses by `HasFault`. It relies on `bpf_insn` for what a program is, and on
+// `byteorder` for little-endian words.
+#![tactic(auto)]
+
+mod decoder;
+mod fault;
+mod fields;
+mod insn;
+pub mod laws;
+
+pub use decoder::{DecodeError, decode};
+pub use fault::{DecodeFault, InsnFault};
+
+#[cfg(test)]
+mod tests;

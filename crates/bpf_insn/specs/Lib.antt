@@ -1,0 +1,3 @@
+pub mod Reg
+pub mod Program
+pub mod Target

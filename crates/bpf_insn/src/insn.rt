@@ -1,0 +1,65 @@
+// Instructions by their meaning: what each does, and not how it stands in bytes.
+
+use crate::reg::Reg;
+
+/// How many bits of its operands an arithmetic instruction or a comparison takes.
+#[derive(Clone, Copy, Debug, PartialEq, Eq)]
+pub enum Width {
+    /// All 64 (class ALU64 or JMP).
+    Bits64,
+}
+
+/// What an arithmetic instruction computes (RFC 9669, section 4.1).
+#[derive(Clone, Copy, Debug, PartialEq, Eq)]
+pub enum AluOp {
+    /// `dst = src`.
+    Mov,
+}
+
+/// When a conditional jump is taken (RFC 9669, section 4.3).
+#[derive(Clone, Copy, Debug, PartialEq, Eq)]
+pub enum Condition {
+    /// `dst == src`.
+    Equal,
+}
+
+/// The second operand (RFC 9669, section 4, source bit).
+#[derive(Clone, Copy, Debug, PartialEq, Eq)]
+pub enum Operand {
+    /// A constant, which is sign-extended to 64 bits.
+    Immediate(i32),
+    /// What a register holds.
+    Register(Reg),
+}
+
+/// What a call calls (RFC 9669, section 4.3.1).
+#[derive(Clone, Copy, Debug, PartialEq, Eq)]
+pub enum Callee {
+    /// The helper function of this number. Which numbers have a helper is the verifier's concern.
+    Helper(i32),
+}
+
+/// An instruction.
+#[derive(Clone, Copy, Debug, PartialEq, Eq)]
+pub enum Insn {
+    /// Computes `dst` from `dst` and `src`.
+    Alu {
+        width: Width,
+        op: AluOp,
+        dst: Reg,
+        src: Operand,
+    },
+    /// Where the condition holds of `dst` and `src`, goes on `offset` slots behind the next
+    /// instruction, and else at the next instruction.
+    JumpIf {
+        width: Width,
+        condition: Condition,
+        dst: Reg,
+        src: Operand,
+        offset: i16,
+    },
+    /// Calls a function with arguments in R1 to R5, whose answer comes in R0.
+    Call(Callee),
+    /// Ends the function, and with the outermost one the program, whose result is R0.
+    Exit,
+}

@@ -1,0 +1,16 @@
+// What a BPF program is: instructions by their meaning, in a table with an entry for each slot of 8
+// bytes (RFC 9669). It relies on nothing; how instructions stand in bytes is the crate `bpf_decode`'s.
+#![tactic(auto)]
+
+mod insn;
+mod program;
+mod reg;
+mod target;
+
+pub use insn::{AluOp, Callee, Condition, Insn, Operand, Width};
+pub use program::{MAX_SLOTS, Program, ProgramBuilder, Slot};
+pub use reg::Reg;
+pub use target::jump_target;
+
+#[cfg(test)]
+mod tests;

@@ -1,0 +1,168 @@
+// The machine of the code, of fixed size: it is copied and compared without memory. No instruction so far
+// writes the stack or opens a call, so neither is stored, and a run holds the freeze of its start or none. It
+// relies on `bpf_insn` for instructions and on `helpers` for the calls.
+
+ghost use Rattle.std.specs.Prelude.{◌≡◌, ◌+◌, ◌<◌, if◌then◌else◌};
+ghost use Rattle.bpf_insn.specs.declared.program.TheConstants.{MAX_SLOTS};
+ghost use Rattle.helpers.specs.Rules.{request_of};
+ghost use Rattle.bpf_insn.specs.Target.{target};
+ghost use Rattle.bpf_machine.specs.MachineState.{entry, register, with_register, moved_to};
+ghost use Rattle.bpf_machine.specs.Step.{operand, private_step, request_at, exit_at};
+
+use bpf_insn::{AluOp, Callee, Condition, Insn, Operand, Program, Reg, Width, jump_target};
+use helpers::Request;
+use std::marker::Model;
+
+/// Where the context lies.
+const CONTEXT_ADDRESS: u64 = 0x1000_0000;
+
+/// The frame pointer of the outermost frame: 512 above the frame's start.
+const FRAME_POINTER: u64 = 0x2000_0000 + 512;
+
+/// A machine: where a program stands, its registers, the context that it reads, and what its run has.
+#[derive(Clone, Copy, Debug, PartialEq, Eq)]
+pub struct Machine {
+    place: usize,
+    registers: [Option<u64>; 11],
+    context: [u8; 96],
+    held: Option<u32>,
+    disposed: bool,
+}
+
+impl Model for Machine {
+    ghost use Rattle.bpf_machine.specs.MachineState.{MachineState};
+
+    ghost Value = { MachineState };
+
+    ghost use Rattle.bpf_machine.specs.Inside.{view_of, inside_of, inside_of-view_of};
+
+    ghost view = { view_of };
+
+    ghost inverse = { inside_of };
+
+    ghost inverse_ok = { λ a _. inside_of-view_of a };
+}
+
+impl Machine {
+    /// A run's first machine, over its context and with the freeze of that number, or with none as 0: R1 is
+    /// the context's address, R2 the number, R10 the frame pointer, and all else is unwritten.
+    pub fn entry(context: &[u8; 96], freeze: u32) -> Self
+        ensures { result ≡ entry context.now freeze }
+    {
+        let mut registers = [None; 11];
+        registers[1] = Some(CONTEXT_ADDRESS);
+        registers[2] = Some(u64::from(freeze));
+        registers[10] = Some(FRAME_POINTER);
+        Machine {
+            place: 0,
+            registers,
+            context: *context,
+            held: if freeze == 0 { None } else { Some(freeze) },
+            disposed: false,
+        }
+    }
+
+    /// The slot of the next instruction.
+    pub fn place(&self) -> usize
+        ensures { result ≡ self.now.place }
+    {
+        self.place
+    }
+
+    /// What a register holds, where it is written.
+    pub fn register(&self, reg: Reg) -> Option<u64>
+        ensures { result ≡ register self.now reg }
+    {
+        self.registers[usize::from(reg.number())]
+    }
+
+    /// The machine after its next instruction; `None` exactly where that is no private one (a helper call
+    /// or the outermost exit) or cannot be done.
+    pub fn step(&self, program: &Program) -> Option<Self>
+        ensures { result ≡ private_step program.now self.now }
+    {
+        match program.fetch(self.place)? {
+            Insn::Alu {
+                width: Width::Bits64,
+                op: AluOp::Mov,
+                dst,
+                src,
+            } => Some(self.set(dst, self.value_of(src)?)),
+            Insn::JumpIf {
+                width: Width::Bits64,
+                condition: Condition::Equal,
+                dst,
+                src,
+                offset,
+            } => Some(self.jumped(self.register(dst)? == self.value_of(src)?, offset)),
+            Insn::Call(Callee::Helper(_)) | Insn::Exit => None,
+        }
+    }
+
+    /// The helper call at which the machine stands, where its argument is written and a helper has its
+    /// number.
+    pub fn request(&self, program: &Program) -> Option<Request>
+        ensures { result ≡ request_at program.now self.now }
+    {
+        match program.fetch(self.place)? {
+            Insn::Call(Callee::Helper(number)) => request(number, self.register(Reg::R1)?),
+            Insn::Alu { .. } | Insn::JumpIf { .. } | Insn::Exit => None,
+        }
+    }
+
+    /// R0 at the outermost exit, where the machine stands there and R0 is written.
+    pub fn exit(&self, program: &Program) -> Option<u64>
+        ensures { result ≡ exit_at program.now self.now }
+    {
+        match program.fetch(self.place)? {
+            Insn::Exit => self.register(Reg::R0),
+            Insn::Alu { .. } | Insn::JumpIf { .. } | Insn::Call(_) => None,
+        }
+    }
+
+    // What an operand stands for: a constant is sign-extended.
+    fn value_of(&self, source: Operand) -> Option<u64>
+        ensures { result ≡ operand self.now source }
+    {
+        match source {
+            Operand::Immediate(value) => Some(i64::from(value).cast_unsigned()),
+            Operand::Register(reg) => self.register(reg),
+        }
+    }
+
+    // At the next slot, with a register set.
+    fn set(&self, dst: Reg, value: u64) -> Self
+        requires { self.now.place < MAX_SLOTS }
+        ensures { result ≡ moved_to (with_register self.now dst value) (self.now.place + 1) }
+    {
+        let mut next = *self;
+        next.registers[usize::from(dst.number())] = Some(value);
+        next.place = self.place + 1;
+        next
+    }
+
+    // At the jump's target, or at the next slot.
+    fn jumped(&self, is_taken: bool, offset: i16) -> Self
+        requires { self.now.place < MAX_SLOTS }
+        ensures { result ≡ moved_to self.now (if is_taken then target self.now.place offset else self.now.place + 1) }
+    {
+        let mut next = *self;
+        next.place = if is_taken {
+            jump_target(self.place, offset)
+        } else {
+            self.place + 1
+        };
+        next
+    }
+}
+
+// The call of a helper by its number, with the argument in R1.
+fn request(number: i32, argument: u64) -> Option<Request>
+    ensures { result ≡ request_of number argument }
+{
+    match number {
+        2 => Some(Request::Release { freeze: argument }),
+        4 => Some(Request::Requeue { retries: argument }),
+        _ => None,
+    }
+}

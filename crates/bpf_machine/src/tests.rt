@@ -1,0 +1,59 @@
+// A straight program's machines, worked out by hand.
+
+use super::*;
+use bpf_insn::{AluOp, Callee, Condition, Insn, Operand, Program, Reg, Width};
+use helpers::Request;
+use std::test::Fail;
+
+const fn moves(dst: Reg, src: Operand) -> Insn {
+    Insn::Alu {
+        width: Width::Bits64,
+        op: AluOp::Mov,
+        dst,
+        src,
+    }
+}
+
+#[test]
+fn steps(rt: HostRuntime) -> Result<(), Fail> {
+    let insns = [
+        Insn::JumpIf {
+            width: Width::Bits64,
+            condition: Condition::Equal,
+            dst: Reg::R2,
+            src: Operand::Immediate(0),
+            offset: 2,
+        },
+        moves(Reg::R1, Operand::Register(Reg::R2)),
+        Insn::Call(Callee::Helper(2)),
+        moves(Reg::R0, Operand::Immediate(-1)),
+        Insn::Exit,
+    ];
+    let Some(program) = Program::new(rt.alloc(), &insns)? else {
+        return Err(Fail::from("no program"));
+    };
+    let context = [0; 96];
+
+    // With freeze 5 the jump is not taken, and the release of 5 is called.
+    let entry = Machine::entry(&context, 5);
+    assert_eq!(rt; entry.register(Reg::R1), Some(0x1000_0000));
+    assert_eq!(rt; entry.register(Reg::R10), Some(0x2000_0200));
+    assert_eq!(rt; entry.register(Reg::R0), None);
+    let at_move = entry.step(&program).ok_or("no step")?;
+    assert_eq!(rt; at_move.place(), 1);
+    let at_call = at_move.step(&program).ok_or("no step")?;
+    assert_eq!(rt; at_call.step(&program), None);
+    assert_eq!(rt;
+        at_call.request(&program),
+        Some(Request::Release { freeze: 5 })
+    );
+    assert_eq!(rt; at_call.exit(&program), None);
+
+    // Without a freeze it is, and the exit tells R0, sign-extended.
+    let at_result = Machine::entry(&context, 0).step(&program).ok_or("no step")?;
+    assert_eq!(rt; at_result.place(), 3);
+    let at_exit = at_result.step(&program).ok_or("no step")?;
+    assert_eq!(rt; at_exit.exit(&program), Some(u64::MAX));
+    assert_eq!(rt; at_exit.request(&program), None);
+    Ok(())
+}

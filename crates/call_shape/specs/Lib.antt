@@ -1,0 +1,3 @@
+pub use Rattle.bpf_insn.specs.Program
+pub mod Shape
+pub mod StaticPath

@@ -1,0 +1,3 @@
+pub mod InboxLists
+pub mod Seats
+pub mod Views

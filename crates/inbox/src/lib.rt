@@ -1,0 +1,16 @@
+// The inbox: completions wait here, in the order in which they were put, between the threads that report them and those that handle them.
+// It relies on `ccb` for the completion, and on `crossbeam_queue` for a bounded queue that keeps a rule under any number of threads.
+#![tactic(auto)]
+
+mod account;
+mod closing;
+mod inbox;
+mod passes;
+mod rule;
+
+pub use closing::{CloseFault, Unclosed};
+pub use inbox::Inbox;
+pub use passes::{PutPass, TakePass};
+
+#[cfg(test)]
+mod tests;

@@ -1,9 +1,13 @@
 // Rows of the program, on `carry`. Expected texts are worked out by hand.
 
+mod faults;
+mod memory;
+mod words;
+
 use crate::carry::carry;
-use crate::command_line::plan;
 use crate::plans::Plan;
 use std::alloc::{AllocError, Global};
+use std::fmt::Write;
 use std::process::Abort;
 use std::test::Fail;
 
@@ -11,6 +15,7 @@ const ONE_QUEUE: &str =
     "version = 1\n[[queue]]\nopenings = 2\nprogram = \"p1\"\n[[program]]\nname = \"p1\"\ncode = \"95 00 00 00 00 00 00 00\"\n";
 
 // What carrying out a run answers and writes.
+#[derive(Drop)]
 struct Outcome {
     status: u8,
     out: Vec<u8>,
@@ -34,15 +39,18 @@ fn run(alloc: Global, manifest: &[u8], scenario: &[u8]) -> Result<Outcome, Alloc
     Ok(Outcome { status, out, err })
 }
 
-fn expect(rt: &impl Abort, outcome: Outcome, status: u8, out: &str, err: &str) {
-    let Outcome {
-        status: was,
-        out: text,
-        err: line,
-    } = outcome;
-    assert_eq!(rt; text.as_slice(), out.as_bytes());
-    assert_eq!(rt; line.as_slice(), err.as_bytes());
-    assert_eq!(rt; was, status);
+fn expect(rt: &impl Abort, name: &str, outcome: &Outcome, status: u8, out: &str, err: &str) {
+    assert_eq!(rt;
+        outcome.out.as_slice(),
+        out.as_bytes(),
+        "{name:?} on standard output"
+    );
+    assert_eq!(rt;
+        outcome.err.as_slice(),
+        err.as_bytes(),
+        "{name:?} on standard error"
+    );
+    assert_eq!(rt; outcome.status, status, "{name:?}");
 }
 
 #[test]
@@ -64,7 +72,24 @@ fn first_rows(rt: HostRuntime) -> Result<(), Fail> {
         ),
     ] {
         let outcome = run(rt.alloc(), ONE_QUEUE.as_bytes(), scenario.as_bytes())?;
-        expect(&rt, outcome, 0, text, "");
+        expect(&rt, scenario, &outcome, 0, text, "");
     }
+    Ok(())
+}
+
+// The last of 256 freezes of one queue meets its limit.
+#[test]
+fn freeze_limit(rt: HostRuntime) -> Result<(), Fail> {
+    let alloc = rt.alloc();
+    let mut scenario = String::new(alloc);
+    let mut text = String::from_str(alloc, "camr-trace 1\n")?;
+    for freeze in 1..=255 {
+        scenario.push_str("gfreeze 0 7\n")?;
+        write!(text, "gfreeze 0 7 = freeze {freeze}\n")?;
+    }
+    scenario.push_str("gfreeze 0 7\n")?;
+    text.push_str("gfreeze 0 7 = C2\nend 256 255 0 0\n")?;
+    let outcome = run(alloc, ONE_QUEUE.as_bytes(), scenario.as_bytes())?;
+    expect(&rt, "256 freezes", &outcome, 0, text.as_str(), "");
     Ok(())
 }

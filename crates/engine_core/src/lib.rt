@@ -7,6 +7,8 @@ mod answers;
 mod calls;
 mod configuration;
 pub mod laws;
+#[cfg(test)]
+mod tests;
 
 pub use answers::{CallFault, ReleaseFault, Trace};
 pub use calls::Engine;

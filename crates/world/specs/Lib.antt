@@ -6,3 +6,4 @@ pub mod Run
 pub mod Flat
 pub mod TotalsOf
 pub mod Headline
+pub mod RefusalText

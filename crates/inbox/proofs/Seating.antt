@@ -58,14 +58,14 @@ pub accounted_set : (views : List View) (n seat : ℕ) (v w : View) → get_elem
 accounted_set views n seat v w at role keeps h =
     let less : seat < length views = below views seat v at in
     ⊎_elim
-        (λ out. dite (ℕ_discrete (n + 2) seat)
-            (λ (here : n + 2 ≡ seat). inl (w, ap (λ j. get_elem? (set views seat w) j) here ∙ set_here views seat w less, role))
-            (λ (apart : n + 2 ≢ seat). inl (out.0, set_else views seat (n + 2) w apart ∙ out.1, out.2)))
-        (λ back. dite (ℕ_discrete back.0 seat)
-            (λ (here : back.0 ≡ seat).
-                let same : back.1 ≡ v = some-injective back.1 v (sym back.2 ∙ ap (λ j. get_elem? views j) here ∙ at) in
-                inr (seat, w, set_here views seat w less, role, keeps (subst (λ (u : View). Contains (numbers u.back) n) same back.4)))
-            (λ (apart : back.0 ≢ seat). inr (back.0, back.1, set_else views seat back.0 w apart ∙ back.2, back.3, back.4))) h
+    (λ out. dite (ℕ_discrete (n + 2) seat)
+    (λ (here : n + 2 ≡ seat). inl (w, ap (λ j. get_elem? (set views seat w) j) here ∙ set_here views seat w less, role))
+    (λ (apart : n + 2 ≢ seat). inl (out.0, set_else views seat (n + 2) w apart ∙ out.1, out.2)))
+    (λ back. dite (ℕ_discrete back.0 seat)
+    (λ (here : back.0 ≡ seat).
+    let same : back.1 ≡ v = some-injective back.1 v (sym back.2 ∙ ap (λ j. get_elem? views j) here ∙ at) in
+    inr (seat, w, set_here views seat w less, role, keeps (subst (λ (u : View). Contains (numbers u.back) n) same back.4)))
+    (λ (apart : back.0 ≢ seat). inr (back.0, back.1, set_else views seat back.0 w apart ∙ back.2, back.3, back.4))) h
 
 -- a pass that is back stays so where the seat of one that is out changes
 pub back_set : (views : List View) (n seat : ℕ) (v w : View) → get_elem? views seat ≡ some v → v.role ≡ Holder → IsBack views n → (n + 2 ≢ seat) × IsBack (set views seat w) n

@@ -104,8 +104,8 @@ module _ (seat : ℕ) (v : View) (plain : v ≡ holding v.account [] []) where
       let none : h.whole.rest ≡ [] = sym mine.3 ∙ ap (λ (u : View). u.rest) plain in
       let agrees' : Agrees after a' = record { own_put = by_pass-own m h.whole.put a.put x mine.4.own_put; own_taken = mine.4.own_taken; seen_put = starts_itself whole'.put; seen_taken = starts_itself h.whole.taken } in
       let moves : (b : Account) → IsReturned views h.whole lists b → IsReturned views' whole' after b = λ b was.
-          let back = back_set views b.number seat v w at role was.2 in
-          (was.0, agrees_after_put h.whole.put h.whole.taken (h.whole.rest ++ (items)) (h.whole.rest ++ (items ++ x ∷ [])) m x b (λ same. back.0 (ap (λ k. k + 2) (sym same) ∙ sym mine.0)) was.1, back.1) in
+      let back = back_set views b.number seat v w at role was.2 in
+      (was.0, agrees_after_put h.whole.put h.whole.taken (h.whole.rest ++ (items)) (h.whole.rest ++ (items ++ x ∷ [])) m x b (λ same. back.0 (ap (λ k. k + 2) (sym same) ∙ sym mine.0)) was.1, back.1) in
       let F : ℕ → View → Type 0 = λ j u. Fits views' whole' after j u in (
         w,
         record {
@@ -140,8 +140,8 @@ module _ (seat : ℕ) (v : View) (plain : v ≡ holding v.account [] []) where
       let none : h.whole.rest ≡ [] = sym mine.3 ∙ ap (λ (u : View). u.rest) plain in
       let agrees' : Agrees after a' = record { own_put = mine.4.own_put; own_taken = by_pass-own m h.whole.taken a.taken x mine.4.own_taken; seen_put = starts_itself h.whole.put; seen_taken = starts_itself whole'.taken } in
       let moves : (b : Account) → IsReturned views h.whole lists b → IsReturned views' whole' after b = λ b was.
-          let back = back_set views b.number seat v w at role was.2 in
-          (was.0, agrees_after_take h.whole.put h.whole.taken (h.whole.rest ++ (x ∷ items)) (h.whole.rest ++ (items)) m x b (λ same. back.0 (ap (λ k. k + 2) (sym same) ∙ sym mine.0)) was.1, back.1) in
+      let back = back_set views b.number seat v w at role was.2 in
+      (was.0, agrees_after_take h.whole.put h.whole.taken (h.whole.rest ++ (x ∷ items)) (h.whole.rest ++ (items)) m x b (λ same. back.0 (ap (λ k. k + 2) (sym same) ∙ sym mine.0)) was.1, back.1) in
       let F : ℕ → View → Type 0 = λ j u. Fits views' whole' after j u in (
         w,
         record {

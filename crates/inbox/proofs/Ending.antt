@@ -1,6 +1,6 @@
 -- At the closing: each pass that is taken in keeps the rule, and so does each completion that is taken out, and then the lists are known.
-use Rattle.std.proofs.Common.{◌≡◌, ◌≢◌, ℕ, ◌+◌, ◌<◌, ◌≤◌, ◌⊎◌, List, [], ◌∷◌, ◌++◌, length, set, sym, refl, ap, ◌∙◌, subst, inl, inr, ⊎_elim, append_assoc, length-append, length-set, arith}
-use Rattle.std.specs.List.{All, Contains, sum_by}
+use Rattle.std.proofs.Common.{◌≡◌, ◌≢◌, ℕ, ◌+◌, ◌<◌, ◌≤◌, List, [], ◌∷◌, ◌++◌, length, set, sym, refl, ap, ◌∙◌, subst, inl, inr, ⊎_elim, append_assoc, length-append, length-set, arith}
+use Rattle.std.specs.List.{Contains, sum_by}
 use Rattle.std.proofs.lemmas.List.Elements.{All-cons, All-weaker, Contains-append_right}
 use mathlib.Core.Option.{some, some-injective}
 use mathlib.Core.Logic.{dite}
@@ -42,14 +42,14 @@ spent_there views n other here less u e = ap (λ (w : View). w.role) (sym (some-
 accounted_spent : (views : List View) (n m other seat : ℕ) (u w : View) → other ≡ m + 2 → get_elem? views other ≡ some u → u.back ≡ [] → get_elem? views seat ≡ some w → w.role ≡ Holder → seat ≢ other → (n ≡ m → Contains (numbers w.back) n) → IsAccounted views n → IsAccounted (set views other spent) n
 accounted_spent views n m other seat u w there at none at_seat role apart has h = ⊎_elim
     (λ out. dite (ℕ_discrete n m)
-        (λ (same : n ≡ m). inr (seat, w, set_else views other seat spent apart ∙ at_seat, role, has same))
-        (λ (differ : n ≢ m). inl (out.0, set_else views other (n + 2) spent (λ e. differ (omega arith)) ∙ out.1, out.2)))
+    (λ (same : n ≡ m). inr (seat, w, set_else views other seat spent apart ∙ at_seat, role, has same))
+    (λ (differ : n ≢ m). inl (out.0, set_else views other (n + 2) spent (λ e. differ (omega arith)) ∙ out.1, out.2)))
     (λ back. dite (ℕ_discrete back.0 other)
-        (λ (here : back.0 ≡ other).
-            let same : back.1 ≡ u = some-injective back.1 u (sym back.2 ∙ ap (λ j. get_elem? views j) here ∙ at) in
-            let nobody : Contains (numbers []) n = subst (λ (l : List Account). Contains (numbers l) n) none (subst (λ (x : View). Contains (numbers x.back) n) same back.4) in
-            absurd (omega (arith, nobody.1)))
-        (λ (differ : back.0 ≢ other). inr (back.0, back.1, set_else views other back.0 spent differ ∙ back.2, back.3, back.4))) h
+    (λ (here : back.0 ≡ other).
+    let same : back.1 ≡ u = some-injective back.1 u (sym back.2 ∙ ap (λ j. get_elem? views j) here ∙ at) in
+    let nobody : Contains (numbers []) n = subst (λ (l : List Account). Contains (numbers l) n) none (subst (λ (x : View). Contains (numbers x.back) n) same back.4) in
+    absurd (omega (arith, nobody.1)))
+    (λ (differ : back.0 ≢ other). inr (back.0, back.1, set_else views other back.0 spent differ ∙ back.2, back.3, back.4))) h
 
 pub returns : (seat : ℕ) (v : View) (other : ℕ) (u : View) → v.role ≡ Holder → u ≡ holding u.account [] [] → Merges Kept seat v other u (holding v.account (u.account ∷ v.back) v.rest) spent
 returns seat v other u role plain items views h at apart there =
@@ -124,7 +124,7 @@ module _ (seat : ℕ) (v : View) (role : v.role ≡ Holder) (all : length v.back
       let more : 2 < length views = (let less : seat < length views = below views seat v at in let seat_is : seat ≡ v.account.number + 2 = mine.0 in omega arith) in
       let same_weight : weight v ≡ weight w = ap (λ (r : Role). weight_as r (length v.back)) role in
       let moves : (b : Account) → IsReturned views h.whole lists b → IsReturned views' whole' lists' b = λ b y.
-          (y.0, agrees_whatever_left h.whole.put h.whole.taken (h.whole.rest ++ x ∷ items) (whole'.rest ++ items) b y.1, (back_set views b.number seat v w at role y.2).1) in
+      (y.0, agrees_whatever_left h.whole.put h.whole.taken (h.whole.rest ++ x ∷ items) (whole'.rest ++ items) b y.1, (back_set views b.number seat v w at role y.2).1) in
       let F : ℕ → View → Type 0 = λ j u. Fits views' whole' lists' j u in (
         w,
         record {
@@ -154,14 +154,14 @@ module _ (seat : ℕ) (v : View) (role : v.role ≡ Holder) (all : length v.back
         complete = λ n less.
             let made : n < h.whole.made = (let enough : h.whole.shape.puts + h.whole.shape.takes ≤ h.whole.made = only.1 in let same : v.account.shape.puts + v.account.shape.takes ≡ h.whole.shape.puts + h.whole.shape.takes = ap (λ (s : Shape). s.puts + s.takes) mine.2 in omega arith) in
             ⊎_elim
-                (λ out. dite (ℕ_discrete (n + 2) seat)
-                    (λ (here : n + 2 ≡ seat). (0, omega arith, (let two : seat ≡ v.account.number + 2 = mine.0 in omega arith)))
-                    (λ (apart : n + 2 ≢ seat). absurd (only_holder views seat (n + 2) v out.0 at out.1 only.0 apart out.2)))
-                (λ back. dite (ℕ_discrete back.0 seat)
-                    (λ (here : back.0 ≡ seat).
-                        let same : back.1 ≡ v = some-injective back.1 v (sym back.2 ∙ ap (λ j. get_elem? views j) here ∙ at) in
-                        Contains-append_right (v.account.number ∷ []) (numbers v.back) n (subst (λ (u : View). Contains (numbers u.back) n) same back.4))
-                    (λ (apart : back.0 ≢ seat). absurd (only_holder views seat back.0 v back.1 at back.2 only.0 apart back.3)))
-                (h.accounted n made);
+            (λ out. dite (ℕ_discrete (n + 2) seat)
+            (λ (here : n + 2 ≡ seat). (0, omega arith, (let two : seat ≡ v.account.number + 2 = mine.0 in omega arith)))
+            (λ (apart : n + 2 ≢ seat). absurd (only_holder views seat (n + 2) v out.0 at out.1 only.0 apart out.2)))
+            (λ back. dite (ℕ_discrete back.0 seat)
+            (λ (here : back.0 ≡ seat).
+            let same : back.1 ≡ v = some-injective back.1 v (sym back.2 ∙ ap (λ j. get_elem? views j) here ∙ at) in
+            Contains-append_right (v.account.number ∷ []) (numbers v.back) n (subst (λ (u : View). Contains (numbers u.back) n) same back.4))
+            (λ (apart : back.0 ≢ seat). absurd (only_holder views seat back.0 v back.1 at back.2 only.0 apart back.3)))
+            (h.accounted n made);
         left_is = ap (λ l. l ++ items) (sym mine.3);
       }

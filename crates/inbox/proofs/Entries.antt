@@ -1,5 +1,5 @@
 -- Lists of entries: the completions of one pass, and what an account says of lists that have grown.
-use Rattle.std.proofs.Common.{◌≡◌, ◌≢◌, ℕ, ◌<◌, Bool, true, false, ◌==◌, if◌then◌else◌, List, [], ◌∷◌, ◌++◌, map, length, sym, refl, ap, ◌∙◌, subst, append_assoc, append-nil, eq-eqb, ne_eqb, arith}
+use Rattle.std.proofs.Common.{◌≡◌, ◌≢◌, ℕ, ◌<◌, Bool, true, false, ◌==◌, if◌then◌else◌, List, [], ◌∷◌, ◌++◌, sym, refl, ap, ◌∙◌, subst, append_assoc, append-nil, eq-eqb, ne_eqb, arith}
 use Rattle.std.specs.List.{All}
 use Rattle.std.proofs.lemmas.List.{map-append}
 use Rattle.std.proofs.lemmas.List.Elements.{All-head, All-tail}
@@ -16,7 +16,7 @@ pub by_pass-append : (n : ℕ) (xs ys : List Entry) → by_pass n (xs ++ ys) ≡
 by_pass-append n [] ys = refl
 by_pass-append n (e ∷ es) ys = let rest = by_pass-append n es ys in
     elim (e.pass == n) as (λ b. (if b then e.completion ∷ by_pass n (es ++ ys) else by_pass n (es ++ ys)) ≡ (if b then e.completion ∷ by_pass n es else by_pass n es) ++ by_pass n ys)
-        [ true ↦ ap (λ l. e.completion ∷ l) rest | false ↦ rest ]
+    [ true ↦ ap (λ l. e.completion ∷ l) rest | false ↦ rest ]
 
 own_entry : (n : ℕ) (c : Outcome) → by_pass n (entry n c ∷ []) ≡ c ∷ []
 own_entry n c = subst (λ (b : Bool). (if b then c ∷ [] else []) ≡ c ∷ []) (sym (eq-eqb n n refl)) refl

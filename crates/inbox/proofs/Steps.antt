@@ -1,6 +1,6 @@
 -- A put and a take keep the rule, and what a pass learns from it.
-use Rattle.std.proofs.Common.{◌≡◌, ◌≢◌, ℕ, ◌+◌, ◌<◌, ◌≤◌, List, [], ◌∷◌, ◌++◌, map, length, set, sym, refl, ap, ◌∙◌, subst, append_assoc, length-append, length-set, arith}
-use Rattle.std.specs.List.{All, Contains, sum_by}
+use Rattle.std.proofs.Common.{◌≡◌, ◌≢◌, ℕ, ◌+◌, ◌<◌, ◌≤◌, List, [], ◌∷◌, ◌++◌, length, set, sym, refl, ap, ◌∙◌, subst, append_assoc, length-append, length-set, arith}
+use Rattle.std.specs.List.{Contains}
 use Rattle.std.proofs.lemmas.List.Elements.{All-nil, All-push, All-weaker}
 use mathlib.Core.Option.{some}
 use lib.ListN.{get_elem?}
@@ -12,8 +12,8 @@ use Rattle.inbox.specs.declared.account.Account.{Account}
 use Rattle.inbox.specs.declared.account.View.{View}
 use Rattle.inbox.specs.declared.account.Role.{Role}
 use Rattle.inbox.specs.declared.account.Role.TheVariants.{Opening, Keeper, Holder, Spent}
-use Rattle.inbox.specs.InboxLists.{InboxLists, AreLists, Agrees, Puts, Takes, entry, by_pass, completions}
-use Rattle.inbox.specs.Seats.{Whole, Kept, Knows, Fits, FitsAs, IsBack, IsReturned, lists_of, holding, weight, numbers}
+use Rattle.inbox.specs.InboxLists.{InboxLists, AreLists, Agrees, Puts, Takes, entry, completions}
+use Rattle.inbox.specs.Seats.{Whole, Kept, Knows, Fits, FitsAs, IsReturned, lists_of, holding, weight, numbers}
 use Rattle.inbox.proofs.Entries.{three, by_pass-own, completions-push, agrees_after_put, agrees_after_take, starts_itself}
 use Rattle.inbox.proofs.Seating.{below, each_set, weight-set, accounted_set, back_set}
 
@@ -104,8 +104,8 @@ module _ (seat : ℕ) (v : View) (plain : v ≡ holding v.account [] []) where
       let none : h.whole.rest ≡ [] = sym mine.3 ∙ ap (λ (u : View). u.rest) plain in
       let agrees' : Agrees after a' = record { own_put = by_pass-own m h.whole.put a.put x mine.4.own_put; own_taken = mine.4.own_taken; seen_put = starts_itself whole'.put; seen_taken = starts_itself h.whole.taken } in
       let moves : (b : Account) → IsReturned views h.whole lists b → IsReturned views' whole' after b = λ b was.
-          let back = back_set views b.number seat v w at role was.2 in
-          (was.0, agrees_after_put h.whole.put h.whole.taken (h.whole.rest ++ (items)) (h.whole.rest ++ (items ++ x ∷ [])) m x b (λ same. back.0 (ap (λ k. k + 2) (sym same) ∙ sym mine.0)) was.1, back.1) in
+      let back = back_set views b.number seat v w at role was.2 in
+      (was.0, agrees_after_put h.whole.put h.whole.taken (h.whole.rest ++ (items)) (h.whole.rest ++ (items ++ x ∷ [])) m x b (λ same. back.0 (ap (λ k. k + 2) (sym same) ∙ sym mine.0)) was.1, back.1) in
       let F : ℕ → View → Type 0 = λ j u. Fits views' whole' after j u in (
         w,
         record {
@@ -140,8 +140,8 @@ module _ (seat : ℕ) (v : View) (plain : v ≡ holding v.account [] []) where
       let none : h.whole.rest ≡ [] = sym mine.3 ∙ ap (λ (u : View). u.rest) plain in
       let agrees' : Agrees after a' = record { own_put = mine.4.own_put; own_taken = by_pass-own m h.whole.taken a.taken x mine.4.own_taken; seen_put = starts_itself h.whole.put; seen_taken = starts_itself whole'.taken } in
       let moves : (b : Account) → IsReturned views h.whole lists b → IsReturned views' whole' after b = λ b was.
-          let back = back_set views b.number seat v w at role was.2 in
-          (was.0, agrees_after_take h.whole.put h.whole.taken (h.whole.rest ++ (x ∷ items)) (h.whole.rest ++ (items)) m x b (λ same. back.0 (ap (λ k. k + 2) (sym same) ∙ sym mine.0)) was.1, back.1) in
+      let back = back_set views b.number seat v w at role was.2 in
+      (was.0, agrees_after_take h.whole.put h.whole.taken (h.whole.rest ++ (x ∷ items)) (h.whole.rest ++ (items)) m x b (λ same. back.0 (ap (λ k. k + 2) (sym same) ∙ sym mine.0)) was.1, back.1) in
       let F : ℕ → View → Type 0 = λ j u. Fits views' whole' after j u in (
         w,
         record {

@@ -51,12 +51,14 @@ fn close<R: Abort + Wait>(
 {
     match inbox.close(rt, puts, takes) {
         Ok(left) => left,
-        Err(Unclosed {
-            fault,
-            inbox,
-            puts,
-            takes,
-        }) => {
+        Err(
+            Unclosed {
+                fault,
+                inbox,
+                puts,
+                takes,
+            },
+        ) => {
             assert_eq!(rt; fault, CloseFault::OutOfMemory);
             match inbox.close(rt, puts, takes) {
                 Ok(left) => left,
@@ -115,7 +117,11 @@ fn holds_as_many_as_its_capacity_in_order(rt: HostRuntime) -> Result<(), Fail> {
         let (inbox, mut puts, mut takes) = open(&rt, rt.alloc(), capacity as usize, 1, 1);
         put_below(&rt, &inbox, &mut puts, capacity);
         let refused = put(&rt, &inbox, &mut puts, capacity);
-        assert_eq!(rt; refused, Err(completion(&rt, capacity)), "full at {capacity}");
+        assert_eq!(rt;
+            refused,
+            Err(completion(&rt, capacity)),
+            "full at {capacity}"
+        );
         take_below(&rt, &inbox, &mut takes, capacity);
         assert_eq!(rt; take(&rt, &inbox, &mut takes), None, "empty at {capacity}");
         assert_eq!(rt; close(&rt, inbox, puts, takes).len(), 0);
@@ -129,7 +135,10 @@ fn gives_back_what_is_left_in_order(rt: HostRuntime) -> Result<(), Fail> {
     put_below(&rt, &inbox, &mut puts, 4);
     take_below(&rt, &inbox, &mut takes, 2);
     let left = close(&rt, inbox, puts, takes);
-    assert_eq!(rt; left.as_slice(), [completion(&rt, 2), completion(&rt, 3)].as_slice());
+    assert_eq!(rt;
+        left.as_slice(),
+        [completion(&rt, 2), completion(&rt, 3)].as_slice()
+    );
     Ok(())
 }
 
@@ -140,12 +149,14 @@ fn refuses_to_close_without_a_pass(rt: HostRuntime) -> Result<(), Fail> {
     let kept = puts.pop().expect(&rt, "two put passes");
     match inbox.close(&rt, puts, takes) {
         Ok(_) => panic!(rt; "closed without a pass"),
-        Err(Unclosed {
-            fault,
-            inbox,
-            puts,
-            takes,
-        }) => {
+        Err(
+            Unclosed {
+                fault,
+                inbox,
+                puts,
+                takes,
+            },
+        ) => {
             assert_eq!(rt; fault, CloseFault::PassMissing);
             assert_eq!(rt; (puts.len(), takes.len()), (1, 1));
             let mut puts = puts;
@@ -154,7 +165,10 @@ fn refuses_to_close_without_a_pass(rt: HostRuntime) -> Result<(), Fail> {
                 Err(_) => panic!(rt; "no room for the pass"),
             }
             let left = close(&rt, inbox, puts, takes);
-            assert_eq!(rt; left.as_slice(), [completion(&rt, 0), completion(&rt, 1)].as_slice());
+            assert_eq!(rt;
+                left.as_slice(),
+                [completion(&rt, 0), completion(&rt, 1)].as_slice()
+            );
         }
     }
     Ok(())
@@ -163,7 +177,10 @@ fn refuses_to_close_without_a_pass(rt: HostRuntime) -> Result<(), Fail> {
 #[test]
 fn says_why_it_was_not_closed(rt: HostRuntime) -> Result<(), Fail> {
     for (fault, text) in [
-        (CloseFault::PassMissing, "L2: a pass of the inbox is missing"),
+        (
+            CloseFault::PassMissing,
+            "L2: a pass of the inbox is missing",
+        ),
         (CloseFault::OutOfMemory, "out of memory"),
     ] {
         let said = match format!(in rt.alloc(); "{fault}") {

@@ -57,7 +57,9 @@ fn consume<R: Abort + Wait>(rt: &R, inbox: &Inbox, pass: &mut TakePass, numbers:
             break;
         }
         match inbox.take(rt, pass) {
-            Some(taken) => numbers.push(taken.ccb().0).expect(rt, "room for the number"),
+            Some(taken) => numbers
+                .push(taken.ccb().0)
+                .expect(rt, "room for the number"),
             None => thread::yield_now(),
         }
     }
@@ -164,7 +166,10 @@ fn check_taken(rt: &impl Abort, alloc: Global, taken: &[Vec<u32>]) {
         for number in numbers {
             let producer = (*number / EACH) as usize;
             let place = *number as usize;
-            assert!(rt; producer < next.len() && place < seen.len(), "{number} was never put");
+            assert!(rt;
+                producer < next.len() && place < seen.len(),
+                "{number} was never put"
+            );
             assert!(rt; next[producer] <= *number, "{number} came late");
             assert!(rt; !seen[place], "{number} came twice");
             next[producer] = *number;

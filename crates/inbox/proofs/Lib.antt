@@ -4,3 +4,4 @@ pub mod Steps
 pub mod Making
 pub mod Ending
 pub mod Passing
+pub mod Worked

@@ -1,6 +1,6 @@
 -- The rule holds of a new inbox, and stays so as it makes its passes.
-use Rattle.std.proofs.Common.{◌≡◌, ◌≢◌, ℕ, zero, suc, ◌+◌, ◌<◌, ◌≤◌, ◌⊎◌, List, [], ◌∷◌, ◌++◌, length, set, sym, refl, ap, ◌∙◌, subst, inl, inr, ⊎_elim, length-append, length-set, arith}
-use Rattle.std.specs.List.{All, Contains, sum_by}
+use Rattle.std.proofs.Common.{◌≡◌, ◌≢◌, ℕ, zero, suc, ◌+◌, ◌<◌, ◌≤◌, List, [], ◌∷◌, ◌++◌, length, set, sym, refl, ap, ◌∙◌, subst, inl, ⊎_elim, length-append, length-set, arith}
+use Rattle.std.specs.List.{All, sum_by}
 use Rattle.std.proofs.lemmas.List.Elements.{All-nil, All-weaker}
 use Rattle.std.proofs.lemmas.List.Sums.{sum_by_push}
 use mathlib.Core.Option.{some, some-injective, some-ne-none}
@@ -8,7 +8,7 @@ use mathlib.Core.Logic.{dite}
 use native.Mathlib.Decide.{ℕ_discrete}
 use lib.ListN.{get_elem?}
 use Rattle.crossbeam_queue.specs.Fifo.{Forks}
-use Rattle.crossbeam_queue.proofs.Lists.{set_else, at_longer, at_last}
+use Rattle.crossbeam_queue.proofs.Lists.{set_else, at_last}
 use Rattle.ccb.specs.Completion.{Outcome}
 use Rattle.inbox.specs.declared.account.Entry.{Entry}
 use Rattle.inbox.specs.declared.account.Shape.{Shape}
@@ -17,9 +17,9 @@ use Rattle.inbox.specs.declared.account.View.{View}
 use Rattle.inbox.specs.declared.account.Role.{Role}
 use Rattle.inbox.specs.declared.account.Role.TheVariants.{Opening, Keeper, Holder, Spent}
 use Rattle.inbox.specs.InboxLists.{InboxLists, AreLists, Agrees, completions}
-use Rattle.inbox.specs.Seats.{Whole, Kept, Fits, FitsAs, IsBack, IsReturned, IsAccounted, lists_of, no_shape, new_account, opening, spent, keeping, holding, weight, weight_as, numbers}
+use Rattle.inbox.specs.Seats.{Whole, Kept, Fits, FitsAs, IsBack, IsReturned, lists_of, no_shape, new_account, opening, spent, keeping, holding, weight, weight_as}
 use Rattle.inbox.proofs.Entries.{by_pass-new}
-use Rattle.inbox.proofs.Seating.{last_or_before, single, each_set, weight-set, elsewhere}
+use Rattle.inbox.proofs.Seating.{last_or_before, single, each_set, weight-set, accounted_make}
 
 abbrev empty_whole : Shape → Whole
 empty_whole shape = record { shape = shape; made = 0; put = []; taken = []; rest = [] }
@@ -121,10 +121,7 @@ makes seat v role room items views h at =
       counted = omega (arith, sum_by_push weight old new, weight-set views seat v k at, h.counted);
       accounted = λ n less. dite (ℕ_discrete n made)
           (λ (last : n ≡ made). inl (new, at_last old new (n + 2) (long ∙ ap (λ m. m + 2) (sym last)), refl))
-          (λ (before : n ≢ made). ⊎_elim
-          (λ out. inl (out.0, at_longer old (new ∷ []) (n + 2) out.0 (set_else views seat (n + 2) k (λ same. let first : seat ≡ 0 = mine.0 in omega arith) ∙ out.1), out.2))
-          (λ back. inr (back.0, back.1, at_longer old (new ∷ []) back.0 back.1 (set_else views seat back.0 k (elsewhere views seat back.0 v back.1 at role back.2 back.3) ∙ back.2), back.3, back.4))
-          (h.accounted n (omega arith)));
+          (λ (before : n ≢ made). accounted_make views n seat v k new at role mine.0 (h.accounted n (omega arith)));
       each = λ j u there. ⊎_elim
           (λ before. each_set F views seat k (mine.0, (let two_more : length views ≡ made + 2 = mine.1 in omega (arith, longer)), ap (λ n. n + 1) same_made, same_shape, λ _. empty)
           (λ i w apart was. others_make w.role views views' h.whole lists i w mine.1 longer (λ first. apart (first ∙ sym mine.0)) moves (h.each i w was)) j u before)

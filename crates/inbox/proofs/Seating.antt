@@ -1,16 +1,15 @@
 -- The seats of the queue: one that changes, one that is new, and how many are out.
-use Rattle.std.proofs.Common.{◌≡◌, ◌≢◌, ℕ, zero, suc, ◌+◌, ◌<◌, ◌≤◌, ◌⊎◌, map, List, [], ◌∷◌, ◌++◌, length, set, sym, refl, ap, ◌∙◌, subst, inl, inr, ⊎_elim, arith}
+use Rattle.std.proofs.Common.{◌≡◌, ◌≢◌, ℕ, zero, suc, ◌+◌, ◌<◌, ◌≤◌, ◌⊎◌, List, [], ◌∷◌, ◌++◌, length, set, sym, refl, ap, ◌∙◌, subst, inl, inr, ⊎_elim, arith}
 use Rattle.std.specs.List.{sum_by, Contains}
 use Rattle.std.proofs.lemmas.List.Sums.{sum_by-cons}
 use mathlib.Core.Option.{some, some-injective, some-ne-none}
 use mathlib.Core.Logic.{dite}
 use native.Mathlib.Decide.{ℕ_discrete}
 use lib.ListN.{get_elem?}
-use Rattle.crossbeam_queue.proofs.Lists.{at_set, set_here, set_else}
+use Rattle.crossbeam_queue.proofs.Lists.{at_set, set_here, set_else, at_longer}
 use Rattle.inbox.specs.declared.account.View.{View}
-use Rattle.inbox.specs.declared.account.Account.{Account}
 use Rattle.inbox.specs.declared.account.Role.{Role}
-use Rattle.inbox.specs.declared.account.Role.TheVariants.{Opening, Keeper, Holder, Spent}
+use Rattle.inbox.specs.declared.account.Role.TheVariants.{Keeper, Holder, Spent}
 use Rattle.inbox.specs.Seats.{weight, weight_as, spent, numbers, IsAccounted, IsBack}
 
 pub below : {A : Type 0} (l : List A) (j : ℕ) (a : A) → get_elem? l j ≡ some a → j < length l
@@ -73,8 +72,20 @@ back_set views n seat v w at role back = let apart : n + 2 ≢ seat = λ here. l
     (apart, λ u e. back u (sym (set_else views seat (n + 2) w apart) ∙ e))
 
 -- the seat that makes the passes is no pass's
-pub elsewhere : (views : List View) (seat j : ℕ) (v u : View) → get_elem? views seat ≡ some v → v.role ≡ Keeper → get_elem? views j ≡ some u → u.role ≡ Holder → j ≢ seat
+elsewhere : (views : List View) (seat j : ℕ) (v u : View) → get_elem? views seat ≡ some v → v.role ≡ Keeper → get_elem? views j ≡ some u → u.role ≡ Holder → j ≢ seat
 elsewhere views seat j v u at keeper there holder same =
     let it : u ≡ v = some-injective u v (sym there ∙ ap (λ i. get_elem? views i) same ∙ at) in
     let clash : Holder ≡ Keeper = sym holder ∙ ap (λ (w : View). w.role) it ∙ keeper in
     (cc)
+
+-- one more pass is made, and the seat that makes them changes
+pub accounted_make : (views : List View) (n seat : ℕ) (v k new : View) → get_elem? views seat ≡ some v → v.role ≡ Keeper → seat ≡ 0 → IsAccounted views n → IsAccounted (set views seat k ++ new ∷ []) n
+accounted_make views n seat v k new at role first h =
+    let old : List View = set views seat k in
+    ⊎_elim
+    (λ out.
+    let there : get_elem? old (n + 2) ≡ some out.0 = set_else views seat (n + 2) k (λ same. omega arith) ∙ out.1 in
+    inl (out.0, at_longer old (new ∷ []) (n + 2) out.0 there, out.2))
+    (λ back.
+    let there : get_elem? old back.0 ≡ some back.1 = set_else views seat back.0 k (elsewhere views seat back.0 v back.1 at role back.2 back.3) ∙ back.2 in
+    inr (back.0, back.1, at_longer old (new ∷ []) back.0 back.1 there, back.3, back.4)) h

@@ -1,6 +1,6 @@
 -- A put and a take keep the rule, and what a pass learns from it.
-use Rattle.std.proofs.Common.{◌≡◌, ◌≢◌, ℕ, ◌+◌, ◌<◌, ◌≤◌, List, [], ◌∷◌, ◌++◌, map, length, set, sym, refl, ap, ◌∙◌, subst, append_assoc, length-append, length-set, arith}
-use Rattle.std.specs.List.{All, Contains, sum_by}
+use Rattle.std.proofs.Common.{◌≡◌, ◌≢◌, ℕ, ◌+◌, ◌<◌, ◌≤◌, List, [], ◌∷◌, ◌++◌, length, set, sym, refl, ap, ◌∙◌, subst, append_assoc, length-append, length-set, arith}
+use Rattle.std.specs.List.{Contains}
 use Rattle.std.proofs.lemmas.List.Elements.{All-nil, All-push, All-weaker}
 use mathlib.Core.Option.{some}
 use lib.ListN.{get_elem?}
@@ -12,8 +12,8 @@ use Rattle.inbox.specs.declared.account.Account.{Account}
 use Rattle.inbox.specs.declared.account.View.{View}
 use Rattle.inbox.specs.declared.account.Role.{Role}
 use Rattle.inbox.specs.declared.account.Role.TheVariants.{Opening, Keeper, Holder, Spent}
-use Rattle.inbox.specs.InboxLists.{InboxLists, AreLists, Agrees, Puts, Takes, entry, by_pass, completions}
-use Rattle.inbox.specs.Seats.{Whole, Kept, Knows, Fits, FitsAs, IsBack, IsReturned, lists_of, holding, weight, numbers}
+use Rattle.inbox.specs.InboxLists.{InboxLists, AreLists, Agrees, Puts, Takes, entry, completions}
+use Rattle.inbox.specs.Seats.{Whole, Kept, Knows, Fits, FitsAs, IsReturned, lists_of, holding, weight, numbers}
 use Rattle.inbox.proofs.Entries.{three, by_pass-own, completions-push, agrees_after_put, agrees_after_take, starts_itself}
 use Rattle.inbox.proofs.Seating.{below, each_set, weight-set, accounted_set, back_set}
 

@@ -1,5 +1,5 @@
 -- What contracts see of an inbox and of its passes.
-use Rattle.std.specs.Prelude.{◌≡◌, ℕ, zero, suc, ◌+◌, ◌<◌, ◌≤◌, List, [], ◌∷◌, ◌++◌, length}
+use Rattle.std.specs.Prelude.{◌≡◌, ℕ, zero, suc, ◌+◌, List, [], ◌∷◌, ◌++◌, length}
 use Rattle.atomic_table.specs.Seated.{TableId}
 use Rattle.inbox.specs.declared.account.Shape.{Shape}
 use Rattle.inbox.specs.declared.account.Account.{Account}

@@ -1,5 +1,5 @@
 -- The pass that took in all others has the accounts of all passes, which are of the inbox's shape.
-use Rattle.std.proofs.Common.{List, ◌+◌, ◌<◌, ◌≤◌, length, sym, ap, ◌∙◌, subst, arith}
+use Rattle.std.proofs.Common.{List, ◌+◌, ◌<◌, length, sym, ap, ◌∙◌, subst, arith}
 use Rattle.inbox.specs.declared.account.Account.{Account}
 use Rattle.inbox.specs.declared.account.Shape.{Shape}
 use Rattle.inbox.specs.InboxLists.{Settles}

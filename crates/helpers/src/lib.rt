@@ -6,4 +6,4 @@ mod call;
 mod limits;
 
 pub use call::{Answer, Request};
-pub use limits::HelperLimits;
+pub use limits::{HelperLimits, TableLengths};

@@ -1,0 +1,193 @@
+-- An instruction that passes its check is not stuck on a machine that is described, and leads to machines that are
+-- described by what the check says of its ways on.
+use Rattle.std.proofs.Common.{◌≡◌, ℕ, ℤ, ◌≤◌, Bool, true, false, leb, Result, Ok, Err, refl, sym, ◌∙◌, ◌⊎◌, inl, inr}
+use Rattle.std.specs.Prelude.{pos}
+use Rattle.std.specs.Ordering.{int_eq}
+use Rattle.std.proofs.lemmas.Bool.{cases_Bool, cond-true, cond-false, leb-true}
+use Rattle.bpf_insn.specs.declared.reg.Reg.{Reg}
+use Rattle.bpf_insn.specs.declared.reg.Reg.TheVariants.{R0}
+use Rattle.verifier.specs.declared.kind.Kind.{Kind}
+use Rattle.verifier.specs.declared.kind.Kind.TheVariants.{Unwritten, Number, Context, Frame, OpenFreeze, SureFreeze}
+use Rattle.verifier.specs.declared.description.Held.{Held}
+use Rattle.verifier.specs.declared.description.Held.TheVariants.{Nothing, Open, Sure}
+use Rattle.verifier.specs.declared.description.Description.{Description}
+use Rattle.verifier.specs.declared.check.Flow.{Flow}
+use Rattle.verifier.specs.declared.refusal.Cause.{Cause}
+use Rattle.verifier.specs.Descriptions.{kind_at, with_kind, sure_freeze, zero_freeze, released_freeze, requeued}
+use Rattle.verifier.specs.Checks.{goes_on, goes_both, ends, check_move, compared, jump_on_number, jump_on_freeze, check_jump, release_held, check_release, check_requeue, check_call, exit_result, exit_held, check_exit}
+
+-- a kind of which something is written
+abbrev pub IsWritten : Kind → Type 0
+IsWritten Unwritten = ⊥
+IsWritten (Number least most) = Unit {0}
+IsWritten Context = Unit {0}
+IsWritten Frame = Unit {0}
+IsWritten OpenFreeze = Unit {0}
+IsWritten SureFreeze = Unit {0}
+
+-- the check goes well, and leads on so
+abbrev IsOk : Result Flow Cause → Flow → Type 0
+IsOk result flow = result ≡ Ok flow
+
+ok_is : (a b : Flow) → IsOk (Ok a) b → b ≡ a
+ok_is a b e = let same : a ≡ b = cc in sym same
+
+not_ok : {A : Type 0} (cause : Cause) (flow : Flow) → IsOk (Err cause) flow → A
+not_ok cause flow e = absurd cc
+
+pub record MovePasses (d : Description) (dst : Reg) (kind : Kind) (flow : Flow) : Type 0 where
+  pub written : IsWritten kind
+  pub leads : flow ≡ goes_on (with_kind d dst kind)
+
+pub move_passes : (d : Description) (dst : Reg) (kind : Kind) (flow : Flow) → check_move d dst kind ≡ Ok flow → MovePasses d dst kind flow
+move_passes d dst Unwritten flow e = not_ok _ _ e
+move_passes d dst (Number least most) flow e = record { written = tt; leads = ok_is _ _ e }
+move_passes d dst Context flow e = record { written = tt; leads = ok_is _ _ e }
+move_passes d dst Frame flow e = record { written = tt; leads = ok_is _ _ e }
+move_passes d dst OpenFreeze flow e = record { written = tt; leads = ok_is _ _ e }
+move_passes d dst SureFreeze flow e = record { written = tt; leads = ok_is _ _ e }
+
+-- a freeze that may be 0 is compared with 0
+pub record Splits (d : Description) (to : ℕ) (zero : Bool) (left : Kind) (flow : Flow) : Type 0 where
+  pub with_zero : zero ≡ true
+  pub left_is : left ≡ OpenFreeze
+  pub leads : flow ≡ goes_both (sure_freeze d) to (zero_freeze d)
+
+-- a freeze that is not 0 is compared with 0
+pub record GoesOn (d : Description) (zero : Bool) (left : Kind) (flow : Flow) : Type 0 where
+  pub with_zero : zero ≡ true
+  pub left_is : left ≡ SureFreeze
+  pub leads : flow ≡ goes_on d
+
+pub record JumpPasses (d : Description) (to : ℕ) (zero : Bool) (left right : Kind) (flow : Flow) : Type 0 where
+  pub left_written : IsWritten left
+  pub right_written : IsWritten right
+  pub leads : (flow ≡ goes_both d to d) ⊎ (Splits d to zero left flow ⊎ GoesOn d zero left flow)
+
+compared_passes : (right : Kind) (result : Result Flow Cause) (flow : Flow) → compared right result ≡ Ok flow → IsWritten right × (result ≡ Ok flow)
+compared_passes Unwritten result flow e = not_ok _ _ e
+compared_passes (Number low high) result flow e = (tt, e)
+compared_passes Context result flow e = (tt, e)
+compared_passes Frame result flow e = (tt, e)
+compared_passes OpenFreeze result flow e = (tt, e)
+compared_passes SureFreeze result flow e = (tt, e)
+
+number_passes : (d : Description) (to : ℕ) (right : Kind) (flow : Flow) → jump_on_number d to right ≡ Ok flow → IsWritten right × (flow ≡ goes_both d to d)
+number_passes d to Unwritten flow e = not_ok _ _ e
+number_passes d to (Number low high) flow e = (tt, ok_is _ _ e)
+number_passes d to Context flow e = not_ok _ _ e
+number_passes d to Frame flow e = not_ok _ _ e
+number_passes d to OpenFreeze flow e = not_ok _ _ e
+number_passes d to SureFreeze flow e = not_ok _ _ e
+
+freeze_passes : (zero : Bool) (on flow : Flow) → jump_on_freeze zero on ≡ Ok flow → (zero ≡ true) × (flow ≡ on)
+freeze_passes true on flow e = (refl, ok_is _ _ e)
+freeze_passes false on flow e = not_ok _ _ e
+
+pub jump_passes : (d : Description) (to : ℕ) (zero : Bool) (left right : Kind) (flow : Flow) → check_jump d to zero left right ≡ Ok flow → JumpPasses d to zero left right flow
+jump_passes d to is_zero Unwritten right flow e = not_ok _ _ e
+jump_passes d to is_zero (Number least most) right flow e =
+    let it = number_passes d to right flow e in
+    record { left_written = tt; right_written = it.0; leads = inl it.1 }
+jump_passes d to is_zero OpenFreeze right flow e =
+    let it = compared_passes right _ flow e in
+    let on = freeze_passes is_zero _ flow it.1 in
+    record { left_written = tt; right_written = it.0; leads = inr (inl (record { with_zero = on.0; left_is = refl; leads = on.1 })) }
+jump_passes d to is_zero SureFreeze right flow e =
+    let it = compared_passes right _ flow e in
+    let on = freeze_passes is_zero _ flow it.1 in
+    record { left_written = tt; right_written = it.0; leads = inr (inr (record { with_zero = on.0; left_is = refl; leads = on.1 })) }
+jump_passes d to is_zero Context right flow e = not_ok _ _ (compared_passes right _ flow e).1
+jump_passes d to is_zero Frame right flow e = not_ok _ _ (compared_passes right _ flow e).1
+
+pub record ReleasePasses (d : Description) (argument : Kind) (flow : Flow) : Type 0 where
+  pub sure : argument ≡ SureFreeze
+  pub held : d.held ≡ Sure
+  pub leads : flow ≡ goes_on (released_freeze d)
+
+held_passes : (d : Description) (held : Held) (flow : Flow) → release_held d held ≡ Ok flow → (held ≡ Sure) × (flow ≡ goes_on (released_freeze d))
+held_passes d Nothing flow e = not_ok _ _ e
+held_passes d Open flow e = not_ok _ _ e
+held_passes d Sure flow e = (refl, ok_is _ _ e)
+
+release_passes : (d : Description) (argument : Kind) (flow : Flow) → check_release d argument ≡ Ok flow → ReleasePasses d argument flow
+release_passes d Unwritten flow e = not_ok _ _ e
+release_passes d (Number least most) flow e = not_ok _ _ e
+release_passes d Context flow e = not_ok _ _ e
+release_passes d Frame flow e = not_ok _ _ e
+release_passes d OpenFreeze flow e = not_ok _ _ e
+release_passes d SureFreeze flow e = let it = held_passes d d.held flow e in record { sure = refl; held = it.0; leads = it.1 }
+
+pub record RequeuePasses (d : Description) (argument : Kind) (flow : Flow) : Type 0 where
+  pub least : ℕ
+  pub most : ℕ
+  pub number : argument ≡ Number least most
+  pub few : most ≤ 1
+  pub once : d.disposed ≡ false
+  pub leads : flow ≡ goes_on (requeued d)
+
+requeue_passes : (d : Description) (argument : Kind) (flow : Flow) → check_requeue d argument ≡ Ok flow → RequeuePasses d argument flow
+requeue_passes d Unwritten flow e = not_ok _ _ e
+requeue_passes d (Number least most) flow e =
+    elim (cases_Bool (leb most 1)) [
+      | inl few ↦
+          let inner = sym (cond-true (leb most 1) _ _ few) ∙ e in
+          elim (cases_Bool d.disposed) [
+            | inl twice ↦ not_ok _ _ (sym (cond-true d.disposed _ _ twice) ∙ inner)
+            | inr once ↦ record { least = least; most = most; number = refl; few = leb-true most 1 few; once = once; leads = ok_is _ _ (sym (cond-false d.disposed _ _ once) ∙ inner) }
+          ]
+      | inr many ↦ not_ok _ _ (sym (cond-false (leb most 1) _ _ many) ∙ e)
+    ]
+requeue_passes d Context flow e = not_ok _ _ e
+requeue_passes d Frame flow e = not_ok _ _ e
+requeue_passes d OpenFreeze flow e = not_ok _ _ e
+requeue_passes d SureFreeze flow e = not_ok _ _ e
+
+pub record IsRelease (d : Description) (number : ℤ) (argument : Kind) (flow : Flow) : Type 0 where
+  pub helper : int_eq number (pos 2) ≡ true
+  pub passes : ReleasePasses d argument flow
+
+pub record IsRequeue (d : Description) (number : ℤ) (argument : Kind) (flow : Flow) : Type 0 where
+  pub other : int_eq number (pos 2) ≡ false
+  pub helper : int_eq number (pos 4) ≡ true
+  pub passes : RequeuePasses d argument flow
+
+pub call_passes : (d : Description) (number : ℤ) (argument : Kind) (flow : Flow) → check_call d number argument ≡ Ok flow → IsRelease d number argument flow ⊎ IsRequeue d number argument flow
+call_passes d number argument flow e =
+    elim (cases_Bool (int_eq number (pos 2))) [
+      | inl two ↦ inl (record { helper = two; passes = release_passes d argument flow (sym (cond-true (int_eq number (pos 2)) _ _ two) ∙ e) })
+      | inr other ↦
+          let inner = sym (cond-false (int_eq number (pos 2)) _ _ other) ∙ e in
+          elim (cases_Bool (int_eq number (pos 4))) [
+            | inl four ↦ inr (record { other = other; helper = four; passes = requeue_passes d argument flow (sym (cond-true (int_eq number (pos 4)) _ _ four) ∙ inner) })
+            | inr none ↦ not_ok _ _ (sym (cond-false (int_eq number (pos 4)) _ _ none) ∙ inner)
+          ]
+    ]
+
+pub record ExitPasses (held : Held) (disposed : Bool) (result : Kind) (flow : Flow) : Type 0 where
+  pub nothing : held ≡ Nothing
+  pub once : disposed ≡ true
+  pub written : IsWritten result
+  pub leads : flow ≡ ends
+
+result_passes : (kind : Kind) (flow : Flow) → exit_result kind ≡ Ok flow → IsWritten kind × (flow ≡ ends)
+result_passes Unwritten flow e = not_ok _ _ e
+result_passes (Number least most) flow e = (tt, ok_is _ _ e)
+result_passes Context flow e = not_ok _ _ e
+result_passes Frame flow e = not_ok _ _ e
+result_passes OpenFreeze flow e = not_ok _ _ e
+result_passes SureFreeze flow e = not_ok _ _ e
+
+held_nothing : (d : Description) (held : Held) (flow : Flow) → exit_held d held ≡ Ok flow → ExitPasses held d.disposed (kind_at d R0) flow
+held_nothing d Nothing flow e =
+    elim (cases_Bool d.disposed) [
+      | inl once ↦
+          let it = result_passes (kind_at d R0) flow (sym (cond-true d.disposed _ _ once) ∙ e) in
+          record { nothing = refl; once = once; written = it.0; leads = it.1 }
+      | inr never ↦ not_ok _ _ (sym (cond-false d.disposed _ _ never) ∙ e)
+    ]
+held_nothing d Open flow e = not_ok _ _ e
+held_nothing d Sure flow e = not_ok _ _ e
+
+pub exit_passes : (d : Description) (flow : Flow) → check_exit d ≡ Ok flow → ExitPasses d.held d.disposed (kind_at d R0) flow
+exit_passes d flow e = held_nothing d d.held flow e

@@ -1,0 +1,13 @@
+pub mod Branches
+pub mod Visits
+pub mod Describes
+pub mod Kept
+pub mod Checked
+pub mod Unstuck
+pub mod Followed
+pub mod Tables
+pub mod Merges
+pub mod Passed
+pub mod Plains
+pub mod Fails
+pub mod Told

@@ -1,0 +1,108 @@
+-- A machine that is described is not stuck at an instruction that passes its check.
+use Rattle.std.proofs.Common.{◌≡◌, ℕ, ℤ, ◌<◌, ◌≤◌, true, false, not, ◌||◌, ◌&&◌, List, [], ◌∷◌, Option, Some, Ok, refl, ap, subst, ◌∙◌, arith, ◌⊎◌, inl, inr}
+use Rattle.std.specs.Prelude.{is_none, pos}
+use Rattle.std.specs.Ordering.{int_eq}
+use Rattle.std.proofs.lemmas.Bool.{cond-true, cond-false, le-leb, eq-eqb}
+use Rattle.bpf_insn.specs.declared.insn.Insn.{Insn}
+use Rattle.bpf_insn.specs.declared.insn.Insn.TheVariants.{Alu, JumpIf, Call, Exit}
+use Rattle.bpf_insn.specs.declared.insn.Callee.TheVariants.{Helper}
+use Rattle.bpf_insn.specs.declared.insn.Width.TheVariants.{Bits64}
+use Rattle.bpf_insn.specs.declared.insn.AluOp.TheVariants.{Mov}
+use Rattle.bpf_insn.specs.declared.insn.Condition.TheVariants.{Equal}
+use Rattle.bpf_insn.specs.declared.reg.Reg.TheVariants.{R0, R1}
+use Rattle.bpf_insn.specs.Target.{target}
+use Rattle.helpers.specs.declared.limits.HelperLimits.{HelperLimits}
+use Rattle.helpers.specs.declared.call.Request.{Request}
+use Rattle.helpers.specs.declared.call.Request.TheVariants.{Release, Requeue}
+use Rattle.helpers.specs.Rules.{is_held, meets_rule, request_of}
+use Rattle.bpf_machine.specs.MachineState.{MachineState, context_address, frame_pointer, register}
+use Rattle.bpf_machine.specs.Step.{operand}
+use Rattle.bpf_machine.specs.Stuck.{breaks_rule, call_is_stuck, holds_none, exit_is_stuck, insn_is_stuck}
+use Rattle.verifier.specs.declared.kind.Kind.{Kind}
+use Rattle.verifier.specs.declared.kind.Kind.TheVariants.{Unwritten, Number, Context, Frame, OpenFreeze, SureFreeze}
+use Rattle.verifier.specs.declared.description.Held.{Held}
+use Rattle.verifier.specs.declared.description.Held.TheVariants.{Nothing, Sure}
+use Rattle.verifier.specs.declared.description.Description.{Description}
+use Rattle.verifier.specs.declared.check.Flow.{Flow}
+use Rattle.verifier.specs.Descriptions.{kind_at, source_kind}
+use Rattle.verifier.specs.Checks.{check, is_zero}
+use Rattle.verifier.proofs.Describes.{HoldsKind, HoldsFreeze, Describes}
+use Rattle.verifier.proofs.Kept.{register_held, operand_held}
+use Rattle.verifier.proofs.Checked.{IsWritten, move_passes, jump_passes, ReleasePasses, RequeuePasses, IsRelease, IsRequeue, call_passes, ExitPasses, exit_passes}
+
+-- what is written is some number
+pub value_of : (freeze : ℕ) (kind : Kind) (o : Option ℕ) → IsWritten kind → HoldsKind freeze kind o → (value : ℕ) × (o ≡ Some value)
+value_of freeze Unwritten o written h = absurd written
+value_of freeze (Number least most) o written h = (h.0, h.1)
+value_of freeze Context o written h = (context_address, h)
+value_of freeze Frame o written h = (frame_pointer 0, h)
+value_of freeze OpenFreeze o written h = (freeze, h)
+value_of freeze SureFreeze o written h = (freeze, h.0)
+
+-- a freeze that is sure to be held, where its number is the argument
+pub record HasFreeze (freeze : ℕ) (m : MachineState) : Type 0 where
+  pub argument : register m R1 ≡ Some freeze
+  pub held : m.held ≡ freeze ∷ []
+  pub above : 0 < freeze
+
+pub has_freeze : (d : Description) (freeze : ℕ) (m : MachineState) (flow : Flow) → Describes d freeze m → ReleasePasses d (kind_at d R1) flow → HasFreeze freeze m
+has_freeze d freeze m flow is passes =
+    let kind : HoldsKind freeze SureFreeze (register m R1) = subst (λ (k : Kind). HoldsKind freeze k (register m R1)) passes.sure (register_held d freeze m is R1) in
+    let held : HoldsFreeze freeze Sure m.held = subst (λ (h : Held). HoldsFreeze freeze h m.held) passes.held is.freeze_is in
+    record { argument = kind.0; held = held.0; above = held.1 }
+
+-- the argument of a requeue
+pub record HasRetries (m : MachineState) : Type 0 where
+  pub retries : ℕ
+  pub argument : register m R1 ≡ Some retries
+  pub few : retries ≤ 1
+  pub once : m.disposed ≡ false
+
+pub has_retries : (d : Description) (freeze : ℕ) (m : MachineState) (flow : Flow) → Describes d freeze m → RequeuePasses d (kind_at d R1) flow → HasRetries m
+has_retries d freeze m flow is passes =
+    let kind : HoldsKind freeze (Number passes.least passes.most) (register m R1) = subst (λ (k : Kind). HoldsKind freeze k (register m R1)) passes.number (register_held d freeze m is R1) in
+    record { retries = kind.0; argument = kind.1; few = omega (arith, kind.3, passes.few); once = is.disposal ∙ passes.once }
+
+pub is_release : (number : ℤ) (argument : ℕ) → int_eq number (pos 2) ≡ true → request_of number argument ≡ Some (Release argument)
+is_release number argument two = cond-true (int_eq number (pos 2)) _ _ two
+
+pub is_requeue : (number : ℤ) (argument : ℕ) → int_eq number (pos 2) ≡ false → int_eq number (pos 4) ≡ true → request_of number argument ≡ Some (Requeue argument)
+is_requeue number argument other four = cond-false (int_eq number (pos 2)) _ _ other ∙ cond-true (int_eq number (pos 4)) _ _ four
+
+-- the call of a helper, with the request that it is and the rule that is met
+call_unstuck : (limits : HelperLimits) (m : MachineState) (number : ℤ) (argument : ℕ) (request : Request) → register m R1 ≡ Some argument → request_of number argument ≡ Some request → meets_rule limits m.held m.disposed request ≡ true → call_is_stuck limits m number (register m R1) ≡ false
+call_unstuck limits m number argument request has is meets =
+    ap (call_is_stuck limits m number) has ∙ (ap (breaks_rule limits m) is ∙ ap not meets)
+
+held_alone : (freeze : ℕ) (held : List ℕ) → held ≡ freeze ∷ [] → is_held held freeze ≡ true
+held_alone freeze held is = ap (λ h. is_held h freeze) is ∙ ap (λ b. b || false) (eq-eqb freeze freeze refl)
+
+pub helper_unstuck : (limits : HelperLimits) (d : Description) (freeze : ℕ) (m : MachineState) (number : ℤ) (flow : Flow) → Describes d freeze m → IsRelease d number (kind_at d R1) flow ⊎ IsRequeue d number (kind_at d R1) flow → call_is_stuck limits m number (register m R1) ≡ false
+helper_unstuck limits d freeze m number flow is (inl release) =
+    let has = has_freeze d freeze m flow is release.passes in
+    call_unstuck limits m number freeze (Release freeze) has.argument (is_release number freeze release.helper) (held_alone freeze m.held has.held)
+helper_unstuck limits d freeze m number flow is (inr requeue) =
+    let has = has_retries d freeze m flow is requeue.passes in
+    call_unstuck limits m number has.retries (Requeue has.retries) has.argument (is_requeue number has.retries requeue.other requeue.helper) (ap (λ b. b && not m.disposed) (le-leb has.retries 1 has.few) ∙ ap not has.once)
+
+none_held : (freeze : ℕ) (d : Description) (m : MachineState) → Describes d freeze m → d.held ≡ Nothing → m.held ≡ []
+none_held freeze d m is nothing = subst (λ (h : Held). HoldsFreeze freeze h m.held) nothing is.freeze_is
+
+exit_unstuck : (d : Description) (freeze : ℕ) (m : MachineState) (flow : Flow) → Describes d freeze m → ExitPasses d.held d.disposed (kind_at d R0) flow → exit_is_stuck m m.open_calls ≡ false
+exit_unstuck d freeze m flow is passes =
+    let r0 = value_of freeze (kind_at d R0) (register m R0) passes.written (register_held d freeze m is R0) in
+    let held : not (holds_none m.held) ≡ false = ap (λ h. not (holds_none h)) (none_held freeze d m is passes.nothing) in
+    let disposed : not m.disposed ≡ false = ap not (is.disposal ∙ passes.once) in
+    ap (exit_is_stuck m) is.calls ∙ (ap (λ b. (b || not m.disposed) || is_none (register m R0)) held ∙ (ap (λ b. b || is_none (register m R0)) disposed ∙ ap is_none r0.1))
+
+pub unstuck : (limits : HelperLimits) (d : Description) (freeze : ℕ) (m : MachineState) (place : ℕ) (insn : Insn) (flow : Flow) → Describes d freeze m → check place insn d ≡ Ok flow → insn_is_stuck limits m insn ≡ false
+unstuck limits d freeze m place (Alu Bits64 Mov dst src) flow is e =
+    let passes = move_passes d dst (source_kind d src) flow e in
+    ap is_none (value_of freeze (source_kind d src) (operand m src) passes.written (operand_held d freeze m is src)).1
+unstuck limits d freeze m place (JumpIf Bits64 Equal dst src offset) flow is e =
+    let passes = jump_passes d (target place offset) (is_zero src) (kind_at d dst) (source_kind d src) flow e in
+    let left = value_of freeze (kind_at d dst) (register m dst) passes.left_written (register_held d freeze m is dst) in
+    let right = value_of freeze (source_kind d src) (operand m src) passes.right_written (operand_held d freeze m is src) in
+    ap (λ o. is_none {T = ℕ} o || is_none (operand m src)) left.1 ∙ ap is_none right.1
+unstuck limits d freeze m place (Call (Helper number)) flow is e = helper_unstuck limits d freeze m number flow is (call_passes d number (kind_at d R1) flow e)
+unstuck limits d freeze m place Exit flow is e = exit_unstuck d freeze m flow is (exit_passes d flow e)

@@ -1,0 +1,32 @@
+-- What becomes of a register's kind.
+use Rattle.std.specs.Prelude.{ℕ, min, max}
+use Rattle.verifier.specs.declared.kind.Kind.{Kind}
+use Rattle.verifier.specs.declared.kind.Kind.TheVariants.{Unwritten, Number, Context, Frame, OpenFreeze, SureFreeze}
+
+abbrev pub exactly : ℕ → Kind
+exactly value = Number value value
+
+abbrev pub join_kind : Kind → Kind → Kind
+join_kind (Number least most) (Number low high) = Number (min least low) (max most high)
+join_kind Context Context = Context
+join_kind Frame Frame = Frame
+join_kind OpenFreeze OpenFreeze = OpenFreeze
+join_kind SureFreeze SureFreeze = SureFreeze
+join_kind a b = Unwritten
+
+-- a copy of a freeze that was given back
+abbrev pub released_kind : Kind → Kind
+released_kind OpenFreeze = Number 1 0xffffffff
+released_kind SureFreeze = Number 1 0xffffffff
+released_kind kind = kind
+
+-- a copy of a freeze that was found not to be 0
+abbrev pub sure_kind : Kind → Kind
+sure_kind OpenFreeze = SureFreeze
+sure_kind kind = kind
+
+-- a copy of a freeze that was found to be 0
+abbrev pub zero_kind : Kind → Kind
+zero_kind OpenFreeze = exactly 0
+zero_kind SureFreeze = exactly 0
+zero_kind kind = kind

@@ -1,0 +1,44 @@
+-- What it is for a program to be accepted.
+use Rattle.std.specs.Prelude.{◌≡◌, ℕ, ◌≤◌, List}
+use Rattle.bpf_insn.specs.declared.program.Slot.{Slot}
+use Rattle.bpf_insn.specs.Program.{IsProgram}
+use Rattle.helpers.specs.declared.limits.HelperLimits.{HelperLimits}
+use Rattle.bpf_machine.specs.Reached.{Safe, Within}
+use Rattle.call_shape.specs.Shape.{IsLawful, FaultIs}
+use Rattle.call_shape.specs.StaticPath.{StaticPath}
+use Rattle.verifier.specs.declared.refusal.Refusal.TheVariants.{Shape, Check}
+use Rattle.verifier.specs.declared.refusal.VerifyError.{VerifyError}
+use Rattle.verifier.specs.declared.refusal.VerifyError.TheVariants.{OutOfMemory, Refused}
+
+-- a program, the limits under which it was verified, its budget in instructions, and its greatest number of frames
+pub record Verdict : Type 0 where
+  pub program : List Slot
+  pub limits : HelperLimits
+  pub budget : ℕ
+  pub frames : ℕ
+
+-- no run of it is ever stuck, and none executes more instructions than its budget
+pub record IsAccepted (v : Verdict) : Type 0 where
+  pub is_program : IsProgram v.program
+  pub safe : Safe v.program v.limits
+  pub within : Within v.program v.budget
+
+-- the budget is the length of a static path, and none is longer
+pub record IsBudget (program : List Slot) (budget : ℕ) : Type 0 where
+  pub path : StaticPath program 0 budget
+  pub longest : (n : ℕ) → StaticPath program 0 n → n ≤ budget
+
+-- a verdict on this program under these limits
+pub record IsVerdictOn (program : List Slot) (limits : HelperLimits) (v : Verdict) : Type 0 where
+  pub program_is : v.program ≡ program
+  pub limits_are : v.limits ≡ limits
+  pub accepted : IsAccepted v
+  pub budget : IsBudget program v.budget
+  pub frames : v.frames ≡ 1
+
+-- A shape fault is answered for a program that has it, and for a program of lawful shape none is. No two shape faults
+-- are answered for one program, since a fault that is named has the lowest number and slot.
+abbrev pub ToldOfShape : List Slot → VerifyError → Type 0
+ToldOfShape program OutOfMemory = IsLawful program
+ToldOfShape program (Refused (Shape fault)) = FaultIs program fault
+ToldOfShape program (Refused (Check cause slot)) = IsLawful program

@@ -1,0 +1,82 @@
+// A program that was verified, as a type: only `verify` makes one. It relies on `bpf_insn` and `helpers`.
+
+ghost use Rattle.std.specs.Prelude.{◌≡◌};
+ghost use Rattle.verifier.specs.Verdict.{Verdict, IsAccepted};
+
+use bpf_insn::Program;
+use helpers::HelperLimits;
+use std::marker::Model;
+
+/// A program of which no run is ever stuck, and none executes more instructions than its budget. Whoever
+/// runs it needs no test of what its registers hold.
+#[derive(Debug, Drop)]
+pub struct Accepted {
+    program: Program,
+    limits: HelperLimits,
+    budget: u32,
+    frames: u8,
+}
+
+impl Model for Accepted {
+    ghost use Rattle.verifier.specs.Verdict.{Verdict, IsAccepted};
+
+    ghost Value = { Verdict };
+
+    ghost view = { λ a. record {
+      program = a.program;
+      limits = a.limits;
+      budget = a.budget;
+      frames = a.frames;
+    } };
+
+    ghost invariant = { λ a. IsAccepted (record {
+      program = a.program;
+      limits = a.limits;
+      budget = a.budget;
+      frames = a.frames;
+    }) };
+}
+
+impl Accepted {
+    pub(crate) fn new(program: Program, limits: HelperLimits, budget: u32, frames: u8) -> Self
+        requires { IsAccepted (record { program = program; limits = limits; budget = budget; frames = frames }) }
+        ensures { result ≡ record { program = program; limits = limits; budget = budget; frames = frames } }
+    {
+        Accepted {
+            program,
+            limits,
+            budget,
+            frames,
+        }
+    }
+
+    /// The greatest number of instructions that a run executes, helper calls and the exit included.
+    pub fn budget(&self) -> u32
+        ensures value { result ≡ self.now.budget }
+        ensures accepted { IsAccepted self.now }
+    {
+        self.budget
+    }
+
+    /// The greatest number of stack frames that a run has at a time, 1 to 8.
+    pub fn frames(&self) -> u8
+        ensures { result ≡ self.now.frames }
+    {
+        self.frames
+    }
+
+    /// The program.
+    pub fn program(&self) -> &Program
+        ensures value { result.now ≡ self.now.program }
+        ensures accepted { IsAccepted self.now }
+    {
+        &self.program
+    }
+
+    /// The limits under which it was verified.
+    pub fn limits(&self) -> &HelperLimits
+        ensures { result.now ≡ self.now.limits }
+    {
+        &self.limits
+    }
+}

@@ -1,0 +1,191 @@
+// The check of one instruction, and what holds where it leads. It relies on `description`.
+
+ghost use Rattle.std.specs.Prelude.{◌≡◌, ◌<◌, length, IfSome};
+ghost use Rattle.bpf_insn.specs.Program.{IsProgram, insn_at};
+ghost use Rattle.bpf_insn.specs.declared.program.TheConstants.{MAX_SLOTS};
+ghost use Rattle.bpf_insn.specs.Target.{target};
+ghost use Rattle.verifier.specs.Descriptions.{source_kind, kind_at};
+ghost use Rattle.verifier.specs.Checks.{check, check_move, check_jump, check_call, check_release, check_requeue, check_exit, is_zero};
+
+use crate::description::{Description, Held};
+use crate::kind::Kind;
+use crate::refusal::Cause;
+use bpf_insn::{AluOp, Callee, Condition, Insn, Operand, Program, Reg, Width, jump_target};
+
+/// Where an instruction leads, and what holds there.
+#[derive(Clone, Copy, Debug)]
+pub struct Flow {
+    /// At the next slot.
+    pub next: Option<Description>,
+    /// At a jump's target.
+    pub jump: Option<(usize, Description)>,
+}
+
+impl Flow {
+    ghost use Rattle.verifier.specs.Checks.{goes_on};
+
+    fn goes_on(next: Description) -> Self
+        ensures { result ≡ goes_on next }
+    {
+        Flow {
+            next: Some(next),
+            jump: None,
+        }
+    }
+}
+
+/// Checks the instruction at a place whose machines are described so.
+pub fn check(program: &Program, place: usize, description: &Description) -> Result<Flow, Cause>
+    requires program { IsProgram program.now }
+    requires place { place < length program.now }
+    ensures { IfSome (insn_at program.now place) (λ insn. result ≡ check place insn description.now) }
+{
+    let Some(insn) = program.fetch(place) else {
+        unreachable!()
+    };
+    match insn {
+        Insn::Alu {
+            width: Width::Bits64,
+            op: AluOp::Mov,
+            dst,
+            src,
+        } => check_move(description, dst, description.source(src)),
+        Insn::JumpIf {
+            width: Width::Bits64,
+            condition: Condition::Equal,
+            dst,
+            src,
+            offset,
+        } => check_branch(description, place, dst, src, offset),
+        Insn::Call(Callee::Helper(number)) => check_call(
+            description,
+            number,
+            description.kind(Reg::R1),
+        ),
+        Insn::Exit => check_exit(description),
+    }
+}
+
+// What is moved has to be written.
+fn check_move(description: &Description, dst: Reg, source: Kind) -> Result<Flow, Cause>
+    ensures { result ≡ check_move description.now dst source }
+{
+    match source {
+        Kind::Unwritten => Err(Cause::UnwrittenRegister),
+        _ => Ok(Flow::goes_on(description.with(dst, source))),
+    }
+}
+
+// The target of a jump and what it compares.
+fn check_branch(
+    description: &Description,
+    place: usize,
+    dst: Reg,
+    src: Operand,
+    offset: i16,
+) -> Result<Flow, Cause>
+    requires { place < MAX_SLOTS }
+    ensures { result ≡ check_jump description.now (target place offset) (is_zero src) (kind_at description.now dst) (source_kind description.now src) }
+{
+    let target = jump_target(place, offset);
+    check_jump(
+        description,
+        target,
+        is_zero(src),
+        description.kind(dst),
+        description.source(src),
+    )
+}
+
+// Numbers are compared with numbers. A freeze is compared with the constant 0 alone: where they are equal
+// there is none, and else it is sure.
+fn check_jump(
+    description: &Description,
+    target: usize,
+    is_zero: bool,
+    left: Kind,
+    right: Kind,
+) -> Result<Flow, Cause>
+    ensures { result ≡ check_jump description.now target is_zero left right }
+{
+    match (left, right) {
+        (Kind::Unwritten, _) | (_, Kind::Unwritten) => Err(Cause::UnwrittenRegister),
+        (Kind::Number { .. }, Kind::Number { .. }) => Ok(Flow {
+            next: Some(*description),
+            jump: Some((target, *description)),
+        }),
+        (Kind::OpenFreeze, _) if is_zero => Ok(Flow {
+            next: Some(description.sure()),
+            jump: Some((target, description.zero())),
+        }),
+        (Kind::SureFreeze, _) if is_zero => Ok(Flow::goes_on(*description)),
+        _ => Err(Cause::AddressCompared),
+    }
+}
+
+// The operand is the constant 0.
+fn is_zero(operand: Operand) -> bool
+    ensures { result ≡ is_zero operand }
+{
+    match operand {
+        Operand::Immediate(value) => value == 0,
+        Operand::Register(_) => false,
+    }
+}
+
+fn check_call(description: &Description, number: i32, argument: Kind) -> Result<Flow, Cause>
+    ensures { result ≡ check_call description.now number argument }
+{
+    match number {
+        2 => check_release(description, argument),
+        4 => check_requeue(description, argument),
+        _ => Err(Cause::UnknownHelper),
+    }
+}
+
+// A release needs a sure freeze that is held.
+fn check_release(description: &Description, argument: Kind) -> Result<Flow, Cause>
+    ensures { result ≡ check_release description.now argument }
+{
+    match (argument, description.held) {
+        (Kind::Unwritten, _) => Err(Cause::UnwrittenRegister),
+        (Kind::SureFreeze, Held::Sure) => Ok(Flow::goes_on(description.released())),
+        _ => Err(Cause::ArgumentAgainstRule),
+    }
+}
+
+// A requeue needs 0 or 1, and a CCB that is not disposed of.
+fn check_requeue(description: &Description, argument: Kind) -> Result<Flow, Cause>
+    ensures { result ≡ check_requeue description.now argument }
+{
+    match argument {
+        Kind::Unwritten => Err(Cause::UnwrittenRegister),
+        Kind::Number { least: _, most } if most <= 1 => {
+            if description.disposed {
+                Err(Cause::DisposedTwice)
+            } else {
+                Ok(Flow::goes_on(description.requeued()))
+            }
+        }
+        _ => Err(Cause::ArgumentAgainstRule),
+    }
+}
+
+// At the exit no freeze is held, the CCB is disposed of, and R0 is a number.
+fn check_exit(description: &Description) -> Result<Flow, Cause>
+    ensures { result ≡ check_exit description.now }
+{
+    if description.held != Held::Nothing {
+        return Err(Cause::FreezeHeld);
+    }
+    if !description.disposed {
+        return Err(Cause::NotDisposed);
+    }
+    match description.kind(Reg::R0) {
+        Kind::Number { .. } => Ok(Flow {
+            next: None,
+            jump: None,
+        }),
+        _ => Err(Cause::NoResult),
+    }
+}

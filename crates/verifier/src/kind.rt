@@ -1,0 +1,89 @@
+// What is known of one register.
+
+ghost use Rattle.std.specs.Prelude.{◌≡◌};
+ghost use Rattle.verifier.specs.Kinds.{exactly, join_kind, released_kind, sure_kind, zero_kind};
+
+/// What a register holds, as far as it is known.
+#[derive(Clone, Copy, Debug, PartialEq, Eq)]
+pub enum Kind {
+    /// Perhaps nothing.
+    Unwritten,
+    /// A number in this range, both ends included.
+    Number { least: u64, most: u64 },
+    /// The context's address.
+    Context,
+    /// The frame pointer.
+    Frame,
+    /// The run's freeze, or 0 where it has none.
+    OpenFreeze,
+    /// The run's freeze, which is not 0.
+    SureFreeze,
+}
+
+impl Kind {
+    /// That number.
+    pub fn exactly(value: u64) -> Self
+        ensures { result ≡ exactly value }
+    {
+        Kind::Number {
+            least: value,
+            most: value,
+        }
+    }
+
+    /// What both say: ranges become their hull, and different kinds become unwritten.
+    pub fn join(self, other: Self) -> Self
+        ensures { result ≡ join_kind self other }
+    {
+        match (self, other) {
+            (
+                Kind::Number { least, most },
+                Kind::Number {
+                    least: low,
+                    most: high,
+                },
+            ) => Kind::Number {
+                least: least.min(low),
+                most: most.max(high),
+            },
+            (Kind::Context, Kind::Context) => Kind::Context,
+            (Kind::Frame, Kind::Frame) => Kind::Frame,
+            (Kind::OpenFreeze, Kind::OpenFreeze) => Kind::OpenFreeze,
+            (Kind::SureFreeze, Kind::SureFreeze) => Kind::SureFreeze,
+            _ => Kind::Unwritten,
+        }
+    }
+
+    /// What a copy is once its freeze is given back: some number that no freeze has any more.
+    pub fn released(self) -> Self
+        ensures { result ≡ released_kind self }
+    {
+        match self {
+            Kind::OpenFreeze | Kind::SureFreeze => Kind::Number {
+                least: 1,
+                most: 0xffff_ffff,
+            },
+            kind => kind,
+        }
+    }
+
+    /// What a copy is where its freeze was found not to be 0.
+    pub fn sure(self) -> Self
+        ensures { result ≡ sure_kind self }
+    {
+        match self {
+            Kind::OpenFreeze => Kind::SureFreeze,
+            kind => kind,
+        }
+    }
+
+    /// What a copy is where its freeze was found to be 0.
+    pub fn zero(self) -> Self
+        ensures { result ≡ zero_kind self }
+    {
+        match self {
+            Kind::OpenFreeze | Kind::SureFreeze => Kind::exactly(0),
+            kind => kind,
+        }
+    }
+}

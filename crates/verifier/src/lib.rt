@@ -1,0 +1,20 @@
+// The verifier: a program is accepted where no run of it can be stuck, and then its budget is known. It
+// describes what holds at each place before it is executed, in one pass from the first slot to the last,
+// since every jump leads forward. It relies on `call_shape` for that, on `budget_path` for the budget, and on
+// `bpf_machine` for what it proves.
+#![tactic(auto)]
+
+mod accepted;
+mod check;
+mod description;
+mod kind;
+mod pass;
+mod refusal;
+mod verification;
+
+pub use accepted::Accepted;
+pub use refusal::{Cause, Refusal, VerifyError};
+pub use verification::verify;
+
+#[cfg(test)]
+mod tests;

@@ -1,0 +1,91 @@
+// The pass over a program's slots, from the first to the last. It relies on `check`.
+
+ghost use Rattle.std.specs.Prelude.{◌≡◌, ◌<◌, ◌+◌, length, Ok, Err, MatchResult, OnErr, OnOk, IfErr};
+ghost use Rattle.bpf_insn.specs.Program.{IsProgram};
+ghost use Rattle.verifier.specs.Passes.{merge, flow_into, visit, visits, Passes, PassFails};
+
+use crate::check::{Flow, check};
+use crate::description::Description;
+use crate::refusal::{Cause, Refusal, VerifyError};
+use bpf_insn::Program;
+use call_shape::Shape;
+use std::alloc::Global;
+
+/// Describes each place of a program of lawful shape, and checks each instruction that something leads to.
+/// It takes memory for one description a slot.
+pub fn pass(alloc: Global, shape: &Shape<'_>) -> Result<(), VerifyError>
+    ensures passes { OnOk result (Passes shape.now) }
+    ensures fails { IfErr result (PassFails shape.now) }
+{
+    let program = shape.program();
+    let len = program.len();
+    let mut table = Vec::with_capacity(alloc, len)?;
+    table.push_reserved(Some(Description::entry()));
+    for _ in 1..len {
+        table.push_reserved(None);
+    }
+    match visit_all(program, &mut table) {
+        Ok(()) => Ok(()),
+        Err(refusal) => Err(VerifyError::Refused(refusal)),
+    }
+}
+
+// Checks all places in their order.
+fn visit_all(program: &Program, table: &mut [Option<Description>]) -> Result<(), Refusal>
+    requires program { IsProgram program.now }
+    requires whole { length table.old ≡ length program.now }
+    ensures { MatchResult result (λ _. visits program.now table.old 0 (length program.now) ≡ Ok table.new) (λ refusal. visits program.now table.old 0 (length program.now) ≡ Err refusal) }
+{
+    for place in 0..program.len() {
+        visit(program, table, place)?;
+    }
+    Ok(())
+}
+
+// Checks one place, where something leads to it.
+fn visit(program: &Program, table: &mut [Option<Description>], place: usize) -> Result<(), Refusal>
+    requires program { IsProgram program.now }
+    requires place { place < length program.now }
+    requires whole { length table.old ≡ length program.now }
+    ensures { MatchResult result (λ _. visit program.now table.old place ≡ Ok table.new) (λ refusal. visit program.now table.old place ≡ Err refusal) }
+{
+    let Some(description) = table[place] else {
+        return Ok(());
+    };
+    match check(program, place, &description) {
+        Ok(flow) => follow(table, place, &flow),
+        Err(cause) => Err(Refusal::Check(cause, place)),
+    }
+}
+
+// Joins what holds where an instruction leads into what is known there.
+fn follow(table: &mut [Option<Description>], place: usize, flow: &Flow) -> Result<(), Refusal>
+    requires { place < length table.old }
+    ensures { MatchResult result (λ _. flow_into table.old place (Ok flow.now) ≡ Ok table.new) (λ refusal. flow_into table.old place (Ok flow.now) ≡ Err refusal) }
+{
+    if let Some(next) = &flow.next {
+        merge(table, place + 1, next)?;
+    }
+    if let Some((target, taken)) = &flow.jump {
+        merge(table, *target, taken)?;
+    }
+    Ok(())
+}
+
+// Something more leads to a place. A lawful shape leads to places of the program alone.
+fn merge(table: &mut [Option<Description>], place: usize, new: &Description) -> Result<(), Refusal>
+    ensures { MatchResult result (λ _. merge table.old place new.now ≡ Ok table.new) (λ refusal. merge table.old place new.now ≡ Err refusal) }
+{
+    if place >= table.len() {
+        return Ok(());
+    }
+    let joined = match &table[place] {
+        None => *new,
+        Some(old) => match old.join(new) {
+            Some(joined) => joined,
+            None => return Err(Refusal::Check(Cause::PathsDisagree, place)),
+        },
+    };
+    table[place] = Some(joined);
+    Ok(())
+}

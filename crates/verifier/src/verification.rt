@@ -1,0 +1,36 @@
+// The verdict on a program. It relies on `call_shape` and `budget_path`, and on `pass` for the rest.
+
+ghost use Rattle.std.specs.Prelude.{◌≡◌, IfOk, IfErr};
+ghost use Rattle.verifier.specs.declared.refusal.VerifyError.TheVariants.{OutOfMemory};
+ghost use Rattle.verifier.specs.Verdict.{IsVerdictOn, ToldOfShape};
+ghost use Rattle.verifier.specs.Plain.{IsPlain};
+
+use crate::accepted::Accepted;
+use crate::pass::pass;
+use crate::refusal::VerifyError;
+use bpf_insn::Program;
+use budget_path::budget;
+use call_shape::shape;
+use helpers::HelperLimits;
+use std::alloc::Global;
+
+/// Accepts a program under these limits, or says why not. A shape fault comes first: it is answered exactly
+/// where the shape has one. Then the instructions that a path leads to are checked, each once and in the
+/// order of their slots, and the first check that fails is told with its slot. A plain program is refused
+/// for no cause but memory. On an answer other than `Ok` nothing is kept.
+pub fn verify(
+    alloc: Global,
+    program: &Program,
+    limits: &HelperLimits,
+) -> Result<Accepted, VerifyError>
+    ensures verdict { IfOk result (IsVerdictOn program.now limits.now) }
+    ensures shape { IfErr result (ToldOfShape program.now) }
+    ensures plain { IfErr result (λ error. IsPlain program.now → error ≡ OutOfMemory) }
+{
+    let shape = shape(program)?;
+    pass(alloc, &shape)?;
+    let budget = budget(alloc, &shape)?;
+    let program = program.try_clone()?;
+    let limits = limits.try_clone()?;
+    Ok(Accepted::new(program, limits, budget, shape.frames()))
+}

@@ -14,6 +14,10 @@ pub record IsLeast (pairs : List WaitingCcb) (pair : WaitingCcb) : Type 0 where
   pub waits : Contains pairs pair
   pub first : All (StartsFirst pair) pairs
 
+-- there is one least at most
+abbrev pub LeastIsOne : Type 0
+LeastIsOne = (pairs : List WaitingCcb) (one other : WaitingCcb) → IsLeast pairs one → IsLeast pairs other → one ≡ other
+
 -- the least stands at this place
 abbrev pub IsLeastAt : List WaitingCcb → ℕ → Type 0
 IsLeastAt pairs place = (place < length pairs) × HoldsAt (λ pair. All (StartsFirst pair) pairs) pairs place

@@ -5,6 +5,7 @@
 
 mod fault;
 mod freezes;
+pub mod laws;
 mod queue;
 mod waiting;
 

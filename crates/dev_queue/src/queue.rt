@@ -1,21 +1,21 @@
 // One device queue: its waiting CCBs, two counts and its openings. It relies on `waiting` for the list,
 // on `freezes` for the count of freezes, and on `fault`.
 
-ghost use Rattle.std.specs.Prelude.{◌≡◌, ◌+◌, ◌-◌, ◌<◌, ◌≤◌, false, length, IfOk, OnOk, OnErr, if◌then◌else◌};
+ghost use Rattle.std.specs.Prelude.{◌≡◌, ◌<◌, ◌≤◌, false, length, IfOk, OnOk, OnErr};
 ghost use Rattle.std.specs.Result.{result_err};
-ghost use Rattle.dev_queue.specs.Waiting.{IsLeastNumber, waits, with_pair, without};
-ghost use Rattle.dev_queue.specs.State.{QueueState, empty_queue, live};
+ghost use Rattle.dev_queue.specs.Waiting.{IsLeastNumber, waits};
+ghost use Rattle.dev_queue.specs.State.{QueueState, empty_queue, live, with_waiting, with_started, with_stopped, with_left};
 ghost use Rattle.dev_queue.specs.Faults.{insert_fault, start_fault};
 
 use crate::fault::QueueFault;
 use crate::freezes::Frozen;
-use crate::waiting::{WaitingCcb, WaitingList};
+use crate::waiting::{ROOM, WaitingCcb, WaitingList};
 use ccb::CcbId;
 use std::alloc::{AllocError, Global};
 use std::marker::Model;
 
-/// How many CCBs of one queue can be live at a time.
-const MOST_LIVE: u32 = 256;
+/// How many CCBs of one queue can be live at a time, so that each of them finds room to wait.
+const MOST_LIVE: u32 = ROOM as u32;
 
 /// The live CCBs of one device queue: which wait, how many are active, and how many in recovery, at most
 /// 256 in all. Openings, from 1 to 255, are how many may be active for another one to start. Contracts
@@ -59,7 +59,7 @@ impl DevQueue {
     pub fn insert(&mut self, number: CcbId, priority: u32) -> Result<(), QueueFault>
         requires { waits number self.old.waiting ≡ false }
         ensures fault { result_err result ≡ insert_fault self.old }
-        ensures waits { OnOk result (self.new ≡ record self.old { waiting = with_pair (record { priority = priority; number = number }) self.old.waiting }) }
+        ensures waits { OnOk result (self.new ≡ with_waiting number priority self.old) }
         ensures refused { OnErr result (self.new ≡ self.old) }
     {
         let (waiting, active, recovering) = self.counts();
@@ -77,7 +77,7 @@ impl DevQueue {
     pub fn start<F: Frozen>(&mut self, freezes: &F) -> Result<CcbId, QueueFault>
         ensures fault { result_err result ≡ start_fault (F.frozen_count freezes.now) self.old }
         ensures least { IfOk result (IsLeastNumber self.old.waiting) }
-        ensures started { IfOk result (λ number. self.new ≡ record self.old { waiting = without number self.old.waiting; active = self.old.active + 1 }) }
+        ensures started { IfOk result (λ number. self.new ≡ with_started number self.old) }
         ensures refused { OnErr result (self.new ≡ self.old) }
     {
         if freezes.frozen() != 0 {
@@ -96,7 +96,7 @@ impl DevQueue {
     /// An active CCB stops: it stays, in recovery, or is out.
     pub fn stop(&mut self, stays: bool)
         requires { 1 ≤ self.old.active }
-        ensures { self.new ≡ record self.old { active = self.old.active - 1; recovering = if stays then self.old.recovering + 1 else self.old.recovering } }
+        ensures { self.new ≡ with_stopped stays self.old }
     {
         self.active -= 1;
         if stays {
@@ -108,7 +108,7 @@ impl DevQueue {
     pub fn put_back(&mut self, number: CcbId, priority: u32)
         requires recovering { 1 ≤ self.old.recovering }
         requires new { waits number self.old.waiting ≡ false }
-        ensures { self.new ≡ record self.old { waiting = with_pair (record { priority = priority; number = number }) self.old.waiting; recovering = self.old.recovering - 1 } }
+        ensures { self.new ≡ with_waiting number priority (with_left self.old) }
     {
         self.leave();
         self.waiting.add(WaitingCcb { priority, number });
@@ -117,7 +117,7 @@ impl DevQueue {
     /// A CCB in recovery is out, so that there is room for another one.
     pub fn leave(&mut self)
         requires { 1 ≤ self.old.recovering }
-        ensures left { self.new ≡ record self.old { recovering = self.old.recovering - 1 } }
+        ensures left { self.new ≡ with_left self.old }
         ensures room { live self.new < 256 }
     {
         self.recovering -= 1;

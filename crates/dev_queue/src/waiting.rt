@@ -10,7 +10,7 @@ use ccb::CcbId;
 use std::alloc::{AllocError, Global};
 use std::marker::Model;
 
-/// How many CCBs of one queue can be live, and so wait, at a time.
+/// How many CCBs can wait at a time.
 pub(crate) const ROOM: usize = 256;
 
 /// A CCB that waits: a lower priority number starts first, and among equals a lower CCB number.

@@ -6,7 +6,7 @@ ghost use Rattle.std.specs.Prelude.{◌≡◌, ℕ};
 pub trait Frozen {
     ghost frozen_count: { Self → ℕ };
 
-    /// How many freezes the queue has. It is frozen where this is not 0.
+    /// How many freezes the queue has, from 0. It is frozen where this is not 0.
     fn frozen(&self) -> u32
         ensures { result ≡ frozen_count self.now };
 }

@@ -93,7 +93,7 @@ impl DevQueue {
         Ok(pair.number)
     }
 
-    /// An active CCB stops: it stays, in recovery, or is out.
+    /// An active CCB stops: it stays, in recovery, or is out. It asks for an active one.
     pub fn stop(&mut self, stays: bool)
         requires { 1 ≤ self.old.active }
         ensures { self.new ≡ with_stopped stays self.old }
@@ -104,7 +104,8 @@ impl DevQueue {
         }
     }
 
-    /// A CCB in recovery waits again, under a number that does not wait yet.
+    /// A CCB in recovery waits again, under a number that does not wait yet. It asks for one in recovery, and
+    /// so there is room.
     pub fn put_back(&mut self, number: CcbId, priority: u32)
         requires recovering { 1 ≤ self.old.recovering }
         requires new { waits number self.old.waiting ≡ false }
@@ -114,7 +115,7 @@ impl DevQueue {
         self.waiting.add(WaitingCcb { priority, number });
     }
 
-    /// A CCB in recovery is out, so that there is room for another one.
+    /// A CCB in recovery is out, and leaves room for another one. It asks for one in recovery.
     pub fn leave(&mut self)
         requires { 1 ≤ self.old.recovering }
         ensures left { self.new ≡ with_left self.old }

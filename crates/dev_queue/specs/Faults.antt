@@ -1,0 +1,17 @@
+-- Which fault a call of a device queue answers, if any.
+use Rattle.std.specs.Prelude.{ℕ, not, ◌==◌, nat_le, length, Option, Some, None, if◌then◌else◌}
+use Rattle.dev_queue.specs.declared.fault.QueueFault.{QueueFault}
+use Rattle.dev_queue.specs.declared.fault.QueueFault.TheVariants.{Full, Frozen, NoOpening, NothingWaits}
+use Rattle.dev_queue.specs.State.{QueueState, live}
+
+-- of one CCB more: 256 are live
+abbrev pub insert_fault : QueueState → Option QueueFault
+insert_fault state = if nat_le 256 (live state) then Some Full else None
+
+-- of a start, where the queue has so many freezes: it is frozen, has no opening, or no CCB waits, in this order
+abbrev pub start_fault : ℕ → QueueState → Option QueueFault
+start_fault frozen state =
+    if not (frozen == 0) then Some Frozen
+    else if nat_le state.openings state.active then Some NoOpening
+    else if length state.waiting == 0 then Some NothingWaits
+    else None

@@ -1,0 +1,5 @@
+pub mod Waiting
+pub mod Invariant
+pub mod State
+pub mod Faults
+pub mod FaultText

@@ -14,6 +14,11 @@ pub enum ShapeFault {
 }
 
 impl fmt::Display for ShapeFault {
+    ghost use Rattle.std.specs.Prelude.{Some};
+    ghost use Rattle.call_shape.specs.FaultText.{fault_text};
+
+    ghost output = { λ fault. Some (fault_text fault) };
+
     fn fmt<W: fmt::Write>(&self, f: &mut fmt::Formatter<W>) -> fmt::Result {
         match self {
             ShapeFault::OpenEnd(slot) => write!(f, "S1 at {slot}"),

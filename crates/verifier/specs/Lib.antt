@@ -6,3 +6,4 @@ pub mod Checks
 pub mod Passes
 pub mod Verdict
 pub mod Plain
+pub mod RefusalText

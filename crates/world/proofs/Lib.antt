@@ -1,4 +1,5 @@
-pub mod Rows
-pub mod Entries
-pub mod Steps
-pub mod Laws
+pub mod Worked
+pub mod GuestRows
+pub mod CcbRows
+pub mod RunRows
+pub mod MachineRows

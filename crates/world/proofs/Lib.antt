@@ -3,3 +3,12 @@ pub mod GuestRows
 pub mod CcbRows
 pub mod RunRows
 pub mod MachineRows
+pub mod Found
+pub mod Rising
+pub mod Cases
+pub mod Entries
+pub mod Moves
+pub mod Each
+pub mod Kept
+pub mod Leads
+pub mod Counts

@@ -11,4 +11,6 @@ pub mod Run
 pub mod TookGave
 pub mod Flat
 pub mod TotalsOf
+pub mod Limits
+pub mod FreezeLaws
 pub mod RefusalText

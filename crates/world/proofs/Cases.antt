@@ -318,13 +318,13 @@ guest_freeze_case setup before queue guest reply after e =
           ]
     ]
 
-guest_release_case : (setup : Setup) (before : World) (number : ℕ) (reply : Reply) (after : World) → (o : Option Freeze) → entry_of number before.freezes ≡ o → step_guest_release before o ≡ Some (reply, after) → Case setup before (guest_release number) reply after
-guest_release_case setup before number reply after None entry e = absurd cc
-guest_release_case setup before number reply after (Some f) entry e =
+guest_release_found : (before : World) (number : ℕ) (reply : Reply) (after : World) (o : Option Freeze) → entry_of number before.freezes ≡ o → step_guest_release before o ≡ Some (reply, after) → Releases before (guest_release number) reply after
+guest_release_found before number reply after None entry e = absurd cc
+guest_release_found before number reply after (Some f) entry e =
     elim (cases_Bool (is_guest f.holder)) [
       | inl guests ↦
           let last = some_is _ _ (sym (cond-true (is_guest f.holder) _ _ guests) ∙ e) in
-          releases_one (record {
+          record {
             number = number;
             event_is = refl;
             freeze = f;
@@ -332,78 +332,103 @@ guest_release_case setup before number reply after (Some f) entry e =
             guests = guests;
             reply_is = ap (λ (x : Reply × World). x.0) last;
             after_is = ap (λ (x : Reply × World). x.1) last;
-          })
+          }
       | inr other ↦ let none = sym (cond-false (is_guest f.holder) _ _ other) ∙ e in absurd cc
     ]
 
-private_case : (setup : Setup) (before : World) (event : Event) (reply : Reply) (after : World) (it : Executes before event private) (o : Option MachineState) → private_step it.run.program it.run.machine ≡ o → option_map (λ (machine : MachineState). let x : Reply × World = (went_on, goes_on before it.run machine) in x) o ≡ Some (reply, after) → Case setup before event reply after
-private_case setup before event reply after it None step e = absurd cc
-private_case setup before event reply after it (Some machine) step e =
-    let last = some_is _ _ e in
-    goes_on_one (record { it = it; machine = machine; step = step; reply_is = ap (λ (x : Reply × World). x.0) last; after_is = ap (λ (x : Reply × World). x.1) last })
+-- a guest's release
+pub guest_release_parts : (setup : Setup) (before : World) (number : ℕ) (reply : Reply) (after : World) → WorldStep setup before (guest_release number) reply after → Releases before (guest_release number) reply after
+guest_release_parts setup before number reply after e = guest_release_found before number reply after (entry_of number before.freezes) refl e
 
-release_case : (setup : Setup) (before : World) (event : Event) (reply : Reply) (after : World) (it : Executes before event (call release)) (number : ℕ) → request_at it.run.program it.run.machine ≡ Some (Release number) → (o : Option Freeze) → entry_of number before.freezes ≡ o → releases before it.run o ≡ Some (reply, after) → Case setup before event reply after
-release_case setup before event reply after it number call_is None entry e = absurd cc
-release_case setup before event reply after it number call_is (Some f) entry e =
+private_found : (before : World) (event : Event) (reply : Reply) (after : World) (it : Executes before event private) (o : Option MachineState) → private_step it.run.program it.run.machine ≡ o → option_map (λ (machine : MachineState). let x : Reply × World = (went_on, goes_on before it.run machine) in x) o ≡ Some (reply, after) → GoesOn before event reply after
+private_found before event reply after it None step e = absurd cc
+private_found before event reply after it (Some machine) step e =
+    let last = some_is _ _ e in
+    record { it = it; machine = machine; step = step; reply_is = ap (λ (x : Reply × World). x.0) last; after_is = ap (λ (x : Reply × World). x.1) last }
+
+release_found : (before : World) (event : Event) (reply : Reply) (after : World) (it : Executes before event (call release)) (number : ℕ) → request_at it.run.program it.run.machine ≡ Some (Release number) → (o : Option Freeze) → entry_of number before.freezes ≡ o → releases before it.run o ≡ Some (reply, after) → GivesBack before event reply after
+release_found before event reply after it number call_is None entry e = absurd cc
+release_found before event reply after it number call_is (Some f) entry e =
     elim (cases_Bool (is_run it.run.number f.holder)) [
-      | inl held ↦
-          gives_back (record {
-            it = it;
-            number = number;
-            call_is = call_is;
-            freeze = f;
-            entry = entry;
-            held = held;
-            answer = some_is _ _ (sym (cond-true (is_run it.run.number f.holder) _ _ held) ∙ e);
-          })
+      | inl held ↦ record {
+          it = it;
+          number = number;
+          call_is = call_is;
+          freeze = f;
+          entry = entry;
+          held = held;
+          answer = some_is _ _ (sym (cond-true (is_run it.run.number f.holder) _ _ held) ∙ e);
+        }
       | inr other ↦ let none = sym (cond-false (is_run it.run.number f.holder) _ _ other) ∙ e in absurd cc
     ]
 
-requeue_case : (setup : Setup) (before : World) (event : Event) (reply : Reply) (after : World) (it : Executes before event (call requeue)) (retries : ℕ) → request_at it.run.program it.run.machine ≡ Some (Requeue retries) → retries ≤ 1 → it.run.machine.disposed ≡ false → (o : Option LiveCcb) → ccb_of it.run.ccb before.live ≡ o → requeues before it.run retries o ≡ Some (reply, after) → Case setup before event reply after
-requeue_case setup before event reply after it retries call_is few fresh None found e = absurd cc
-requeue_case setup before event reply after it retries call_is few fresh (Some live) found e =
-    requeues_one (record { it = it; retries = retries; call_is = call_is; few = few; fresh = fresh; live = live; found = found; answer = some_is _ _ e })
+requeue_found : (before : World) (event : Event) (reply : Reply) (after : World) (it : Executes before event (call requeue)) (retries : ℕ) → request_at it.run.program it.run.machine ≡ Some (Requeue retries) → retries ≤ 1 → it.run.machine.disposed ≡ false → (o : Option LiveCcb) → ccb_of it.run.ccb before.live ≡ o → requeues before it.run retries o ≡ Some (reply, after) → Requeues before event reply after
+requeue_found before event reply after it retries call_is few fresh None found e = absurd cc
+requeue_found before event reply after it retries call_is few fresh (Some live) found e =
+    record { it = it; retries = retries; call_is = call_is; few = few; fresh = fresh; live = live; found = found; answer = some_is _ _ e }
 
-call_release_case : (setup : Setup) (before : World) (event : Event) (reply : Reply) (after : World) (it : Executes before event (call release)) (o : Option Request) → request_at it.run.program it.run.machine ≡ o → option_and_then (step_call before it.run release) o ≡ Some (reply, after) → Case setup before event reply after
-call_release_case setup before event reply after it None call_is e = absurd cc
-call_release_case setup before event reply after it (Some (Release number)) call_is e =
-    release_case setup before event reply after it number call_is (entry_of number before.freezes) refl e
-call_release_case setup before event reply after it (Some (Requeue retries)) call_is e = absurd cc
+call_release_found : (before : World) (event : Event) (reply : Reply) (after : World) (it : Executes before event (call release)) (o : Option Request) → request_at it.run.program it.run.machine ≡ o → option_and_then (step_call before it.run release) o ≡ Some (reply, after) → GivesBack before event reply after
+call_release_found before event reply after it None call_is e = absurd cc
+call_release_found before event reply after it (Some (Release number)) call_is e =
+    release_found before event reply after it number call_is (entry_of number before.freezes) refl e
+call_release_found before event reply after it (Some (Requeue retries)) call_is e = absurd cc
 
-call_requeue_case : (setup : Setup) (before : World) (event : Event) (reply : Reply) (after : World) (it : Executes before event (call requeue)) (o : Option Request) → request_at it.run.program it.run.machine ≡ o → option_and_then (step_call before it.run requeue) o ≡ Some (reply, after) → Case setup before event reply after
-call_requeue_case setup before event reply after it None call_is e = absurd cc
-call_requeue_case setup before event reply after it (Some (Release number)) call_is e = absurd cc
-call_requeue_case setup before event reply after it (Some (Requeue retries)) call_is e =
+call_requeue_found : (before : World) (event : Event) (reply : Reply) (after : World) (it : Executes before event (call requeue)) (o : Option Request) → request_at it.run.program it.run.machine ≡ o → option_and_then (step_call before it.run requeue) o ≡ Some (reply, after) → Requeues before event reply after
+call_requeue_found before event reply after it None call_is e = absurd cc
+call_requeue_found before event reply after it (Some (Release number)) call_is e = absurd cc
+call_requeue_found before event reply after it (Some (Requeue retries)) call_is e =
     elim (cases_Bool (leb retries 1 && not it.run.machine.disposed)) [
       | inl rule ↦
           let parts = and_parts (leb retries 1) (not it.run.machine.disposed) rule in
-          requeue_case setup before event reply after it retries call_is (leb-true _ _ parts.0) (not-true _ parts.1)
+          requeue_found before event reply after it retries call_is (leb-true _ _ parts.0) (not-true _ parts.1)
           (ccb_of it.run.ccb before.live) refl (sym (cond-true (leb retries 1 && not it.run.machine.disposed) _ _ rule) ∙ e)
       | inr broken ↦ let none = sym (cond-false (leb retries 1 && not it.run.machine.disposed) _ _ broken) ∙ e in absurd cc
     ]
 
-exit_case : (setup : Setup) (before : World) (event : Event) (reply : Reply) (after : World) (it : Executes before event exit) (o : Option ℕ) → exit_at it.run.program it.run.machine ≡ o → option_map (λ (r0 : ℕ). let x : Reply × World = (result r0, ends before it.run) in x) o ≡ Some (reply, after) → Case setup before event reply after
-exit_case setup before event reply after it None exit_is e = absurd cc
-exit_case setup before event reply after it (Some r0) exit_is e =
+exit_found : (before : World) (event : Event) (reply : Reply) (after : World) (it : Executes before event exit) (o : Option ℕ) → exit_at it.run.program it.run.machine ≡ o → option_map (λ (r0 : ℕ). let x : Reply × World = (result r0, ends before it.run) in x) o ≡ Some (reply, after) → Exits before event reply after
+exit_found before event reply after it None exit_is e = absurd cc
+exit_found before event reply after it (Some r0) exit_is e =
     let last = some_is _ _ e in
-    exits (record { it = it; r0 = r0; exit_is = exit_is; reply_is = ap (λ (x : Reply × World). x.0) last; after_is = ap (λ (x : Reply × World). x.1) last })
+    record { it = it; r0 = r0; exit_is = exit_is; reply_is = ap (λ (x : Reply × World). x.0) last; after_is = ap (λ (x : Reply × World). x.1) last }
 
-run_case : (setup : Setup) (before : World) (event : Event) (instruction : Instruction) (reply : Reply) (after : World) (it : Executes before event instruction) → step_run before it.run instruction ≡ Some (reply, after) → Case setup before event reply after
-run_case setup before event private reply after it e = private_case setup before event reply after it (private_step it.run.program it.run.machine) refl e
-run_case setup before event (call release) reply after it e = call_release_case setup before event reply after it (request_at it.run.program it.run.machine) refl e
-run_case setup before event (call requeue) reply after it e = call_requeue_case setup before event reply after it (request_at it.run.program it.run.machine) refl e
-run_case setup before event exit reply after it e = exit_case setup before event reply after it (exit_at it.run.program it.run.machine) refl e
+-- a run that is out, and its instruction
+pub record Instructs (before : World) (number : ℕ) (instruction : Instruction) (reply : Reply) (after : World) : Type 0 where
+  pub it : Executes before (executes number instruction) instruction
+  pub step : step_run before it.run instruction ≡ Some (reply, after)
 
-executes_case : (setup : Setup) (before : World) (number : ℕ) (instruction : Instruction) (reply : Reply) (after : World) (o : Option LiveRun) → run_of number before.runs ≡ o → step_executes before instruction o ≡ Some (reply, after) → Case setup before (executes number instruction) reply after
-executes_case setup before number instruction reply after None found e = absurd cc
-executes_case setup before number instruction reply after (Some run) found e =
+executes_found : (before : World) (number : ℕ) (instruction : Instruction) (reply : Reply) (after : World) (o : Option LiveRun) → run_of number before.runs ≡ o → step_executes before instruction o ≡ Some (reply, after) → Instructs before number instruction reply after
+executes_found before number instruction reply after None found e = absurd cc
+executes_found before number instruction reply after (Some run) found e =
     elim (cases_Bool run.out) [
-      | inl out ↦
-          run_case setup before (executes number instruction) instruction reply after
-          (record { number = number; event_is = refl; run = run; found = found; out = out })
-          (sym (cond-true run.out _ _ out) ∙ e)
+      | inl out ↦ record {
+          it = record { number = number; event_is = refl; run = run; found = found; out = out };
+          step = sym (cond-true run.out _ _ out) ∙ e;
+        }
       | inr parked ↦ let none = sym (cond-false run.out _ _ parked) ∙ e in absurd cc
     ]
+
+pub executes_parts : (setup : Setup) (before : World) (number : ℕ) (instruction : Instruction) (reply : Reply) (after : World) → WorldStep setup before (executes number instruction) reply after → Instructs before number instruction reply after
+executes_parts setup before number instruction reply after e = executes_found before number instruction reply after (run_of number before.runs) refl e
+
+pub private_parts : (setup : Setup) (before : World) (number : ℕ) (reply : Reply) (after : World) → WorldStep setup before (executes number private) reply after → GoesOn before (executes number private) reply after
+private_parts setup before number reply after e =
+    let i = executes_parts setup before number private reply after e in
+    private_found before (executes number private) reply after i.it (private_step i.it.run.program i.it.run.machine) refl i.step
+
+pub release_parts : (setup : Setup) (before : World) (number : ℕ) (reply : Reply) (after : World) → WorldStep setup before (executes number (call release)) reply after → GivesBack before (executes number (call release)) reply after
+release_parts setup before number reply after e =
+    let i = executes_parts setup before number (call release) reply after e in
+    call_release_found before (executes number (call release)) reply after i.it (request_at i.it.run.program i.it.run.machine) refl i.step
+
+pub requeue_parts : (setup : Setup) (before : World) (number : ℕ) (reply : Reply) (after : World) → WorldStep setup before (executes number (call requeue)) reply after → Requeues before (executes number (call requeue)) reply after
+requeue_parts setup before number reply after e =
+    let i = executes_parts setup before number (call requeue) reply after e in
+    call_requeue_found before (executes number (call requeue)) reply after i.it (request_at i.it.run.program i.it.run.machine) refl i.step
+
+pub exit_parts : (setup : Setup) (before : World) (number : ℕ) (reply : Reply) (after : World) → WorldStep setup before (executes number exit) reply after → Exits before (executes number exit) reply after
+exit_parts setup before number reply after e =
+    let i = executes_parts setup before number exit reply after e in
+    exit_found before (executes number exit) reply after i.it (exit_at i.it.run.program i.it.run.machine) refl i.step
 
 pub case_of : (setup : Setup) (before : World) (event : Event) (reply : Reply) (after : World) → WorldStep setup before event reply after → Case setup before event reply after
 case_of setup before (submit queue priority retries) reply after e = submit_case setup before queue priority retries reply after e
@@ -416,5 +441,8 @@ case_of setup before (complete outcome) reply after e =
       | inr bad ↦ let none = sym (cond-false (is_completion outcome) _ _ bad) ∙ e in absurd cc
     ]
 case_of setup before (guest_freeze queue guest) reply after e = guest_freeze_case setup before queue guest reply after e
-case_of setup before (guest_release number) reply after e = guest_release_case setup before number reply after (entry_of number before.freezes) refl e
-case_of setup before (executes number instruction) reply after e = executes_case setup before number instruction reply after (run_of number before.runs) refl e
+case_of setup before (guest_release number) reply after e = releases_one (guest_release_parts setup before number reply after e)
+case_of setup before (executes number private) reply after e = goes_on_one (private_parts setup before number reply after e)
+case_of setup before (executes number (call release)) reply after e = gives_back (release_parts setup before number reply after e)
+case_of setup before (executes number (call requeue)) reply after e = requeues_one (requeue_parts setup before number reply after e)
+case_of setup before (executes number exit) reply after e = exits (exit_parts setup before number reply after e)

@@ -12,3 +12,4 @@ pub mod Each
 pub mod Kept
 pub mod Leads
 pub mod Counts
+pub mod Gone

@@ -1,9 +1,10 @@
--- A CCB as it is submitted, and its status word.
-use Rattle.std.specs.Prelude.{ℕ, ◌+◌, ◌==◌, if◌then◌else◌, false, [], length}
+-- A CCB as it is submitted, what each step of its life makes of it, and its status word.
+use Rattle.std.specs.Prelude.{ℕ, ◌+◌, ◌-◌, ◌^◌, ◌==◌, if◌then◌else◌, Bool, false, [], length, min}
 use Rattle.ccb.specs.declared.CcbId.{CcbId}
 use Rattle.ccb.specs.declared.QueueId.{QueueId}
 use Rattle.ccb.specs.declared.control_block.Ccb.{Ccb}
 use Rattle.ccb.specs.declared.status.CamStatus.TheVariants.{RequestInProgress}
+use Rattle.ccb.specs.Completion.{Outcome}
 use Rattle.ccb.specs.Flags.{autosns_valid, dev_qfrzn}
 use Rattle.ccb.specs.Status.{code_of}
 
@@ -20,6 +21,24 @@ submitted number queue priority retries = record {
   sense = [];
   freeze_taken = false;
 }
+
+-- started once more: the count of starts grows, up to the largest u32
+abbrev pub started : Ccb → Ccb
+started ccb = record ccb { attempts = min (ccb.attempts + 1) (2 ^ 32 - 1) }
+
+-- with what a completion brought, and whether a freeze of the queue was taken for it
+abbrev pub completed : Ccb → Outcome → Bool → Ccb
+completed ccb outcome freeze_taken = record ccb {
+  status = outcome.status;
+  scsi = outcome.scsi;
+  sense = outcome.sense;
+  freeze_taken = freeze_taken;
+}
+
+-- waiting again: so many retries are used up, as far as there are that many, and what the completion brought is gone
+abbrev pub requeued : Ccb → ℕ → Ccb
+requeued ccb used =
+    record (submitted ccb.number ccb.queue ccb.priority (ccb.retries - used)) { attempts = ccb.attempts }
 
 -- the flags: that a freeze was taken, and that sense bytes came
 abbrev pub flags_of : Ccb → ℕ

@@ -1,7 +1,7 @@
 // A CCB as the transport keeps it from its submission to its end, and what each step of its life
 // changes. It relies on the status codes, the flags and the place for sense bytes.
-ghost use Rattle.std.specs.Prelude.{◌≡◌, ◌+◌, ◌-◌, ◌^◌, [], min, false};
-ghost use Rattle.ccb.specs.ControlBlock.{flags_of, status_word_of, submitted};
+ghost use Rattle.std.specs.Prelude.{◌≡◌};
+ghost use Rattle.ccb.specs.ControlBlock.{completed, flags_of, requeued, started, status_word_of, submitted};
 
 use crate::completion::Completion;
 use crate::flags::CcbFlags;
@@ -54,19 +54,14 @@ impl Ccb {
 
     /// Counts a start. The count stays at the largest u32 once it is there.
     pub fn start(&mut self)
-        ensures { self.new ≡ record self.old { attempts = min (self.old.attempts + 1) (2 ^ 32 - 1) } }
+        ensures { self.new ≡ started self.old }
     {
         self.attempts = self.attempts.saturating_add(1);
     }
 
     /// Takes over what a completion brought, and whether a freeze of the queue was taken for it.
     pub fn complete(&mut self, completion: &Completion, freeze_taken: bool)
-        ensures { self.new ≡ record self.old {
-          status = completion.now.status;
-          scsi = completion.now.scsi;
-          sense = completion.now.sense;
-          freeze_taken = freeze_taken;
-        } }
+        ensures { self.new ≡ completed self.old completion.now freeze_taken }
     {
         self.status = completion.status();
         self.scsi = completion.scsi();
@@ -77,9 +72,7 @@ impl Ccb {
     /// Makes the CCB wait again: so many retries are used up, as far as there are that many, and what
     /// the completion brought is gone. Number, queue, priority and attempts stay.
     pub fn requeue(&mut self, used: u32)
-        ensures { self.new ≡ record (submitted self.old.number self.old.queue self.old.priority (self.old.retries - used)) {
-          attempts = self.old.attempts;
-        } }
+        ensures { self.new ≡ requeued self.old used }
     {
         self.retries = self.retries.saturating_sub(used);
         self.status = CamStatus::RequestInProgress;

@@ -1,16 +1,48 @@
--- What may happen in the world, and what is answered.
+-- What may happen in the world, and what is answered. One instruction of one run is one event.
 use Rattle.std.specs.Prelude.{ℕ}
+use Rattle.ccb.specs.Completion.{Outcome}
 use Rattle.world.specs.declared.history.Refusal.{Refusal}
 
+-- a helper of recovery programs, by what it does
+pub data Helper : Type 0 where
+  -- helper 2
+  release : Helper
+  -- helper 4
+  requeue : Helper
+
+-- what one instruction of a run is: private to the run, a call of a helper, or the outermost exit
+pub data Instruction : Type 0 where
+  private : Instruction
+  call : Helper → Instruction
+  exit : Instruction
+
 pub data Event : Type 0 where
+  -- a CCB is submitted to a queue
+  submit : (queue priority retries : ℕ) → Event
+  -- a queue starts a CCB
+  dispatch : (queue : ℕ) → Event
+  -- a device is done with a CCB
+  complete : Outcome → Event
   -- a guest freezes a queue
   guest_freeze : (queue guest : ℕ) → Event
   -- a guest gives the freeze of that number back
   guest_release : (freeze : ℕ) → Event
+  -- the run of that number executes its next instruction
+  executes : (run : ℕ) → Instruction → Event
 
 pub data Reply : Type 0 where
+  -- the number of the CCB that was submitted or started
+  ccb_given : (ccb : ℕ) → Reply
+  -- the CCB is finished
+  done : Reply
+  -- the number of the run that started, and that of its freeze, or 0 where it got none
+  run_started : (run freeze : ℕ) → Reply
   -- the number of the freeze that was taken
   freeze_given : (freeze : ℕ) → Reply
   -- how many freezes the queue has afterwards
   count_left : (count : ℕ) → Reply
+  -- the run went on, and nobody else saw it
+  went_on : Reply
+  -- what R0 is after a helper call, or at the exit
+  result : (r0 : ℕ) → Reply
   refused : Refusal → Reply

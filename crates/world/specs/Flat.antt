@@ -1,18 +1,45 @@
--- The events that a history stands for.
-use Rattle.std.specs.Prelude.{ℕ, List, [], ◌∷◌, Result, Ok, Err}
+-- The events that a history stands for: one for each record, but for an advance, which is one for each instruction.
+use Rattle.std.specs.Prelude.{ℕ, ◌-◌, List, [], ◌∷◌, ◌++◌, Result, Ok, Err, replicate}
 use Rattle.std.specs.List.{flat_map}
+use Rattle.ccb.specs.declared.CcbId.{CcbId}
 use Rattle.world.specs.declared.history.Refusal.{Refusal}
+use Rattle.world.specs.declared.history.Completed.{Completed}
+use Rattle.world.specs.declared.history.Completed.TheVariants.{Done, Started}
+use Rattle.world.specs.declared.history.StoppedAt.{StoppedAt}
+use Rattle.world.specs.declared.history.StoppedAt.TheVariants.{Release, Requeue, Exit}
 use Rattle.world.specs.declared.history.Record.{Record}
-use Rattle.world.specs.declared.history.Record.TheVariants.{GuestFreeze, GuestRelease}
-use Rattle.world.specs.Event.{Event, guest_freeze, guest_release, Reply, freeze_given, count_left, refused}
+use Rattle.world.specs.declared.history.Record.TheVariants.{Submit, Dispatch, Complete, Advance, GuestFreeze, GuestRelease}
+use Rattle.world.specs.Event.{release, requeue, Instruction, private, call, exit, Event, submit, dispatch, complete, guest_freeze, guest_release, executes, Reply, ccb_given, done, run_started, freeze_given, count_left, went_on, result, refused}
+
+-- what is answered to a call that gives the number of a CCB
+abbrev pub ccb_reply : Result CcbId Refusal → Reply
+ccb_reply (Ok ccb) = ccb_given ccb.0
+ccb_reply (Err refusal) = refused refusal
+
+-- what is answered to a completion
+abbrev pub completed_reply : Result Completed Refusal → Reply
+completed_reply (Ok Done) = done
+completed_reply (Ok (Started run freeze)) = run_started run freeze
+completed_reply (Err refusal) = refused refusal
 
 -- what is answered to a call that gives a freeze
 abbrev pub freeze_reply : Result ℕ Refusal → Reply
 freeze_reply (Ok number) = freeze_given number
 freeze_reply (Err refusal) = refused refusal
 
--- one record's events, each with its reply
+-- the instruction at which a run stopped
+abbrev pub stop_of : StoppedAt → Instruction
+stop_of Release = call release
+stop_of Requeue = call requeue
+stop_of Exit = exit
+
+-- one record's events, each with its reply; of an advance all but the last instruction are private
 abbrev pub events_of : Record → List (Event × Reply)
+events_of (Submit queue priority retries answer) = (submit queue.0 priority retries, ccb_reply answer) ∷ []
+events_of (Dispatch queue answer) = (dispatch queue.0, ccb_reply answer) ∷ []
+events_of (Complete completion answer) = (complete completion, completed_reply answer) ∷ []
+events_of (Advance run instructions stop r0) =
+    replicate (instructions - 1) (executes run private, went_on) ++ (executes run (stop_of stop), result r0) ∷ []
 events_of (GuestFreeze queue guest answer) = (guest_freeze queue.0 guest, freeze_reply answer) ∷ []
 events_of (GuestRelease freeze count) = (guest_release freeze, count_left count) ∷ []
 

@@ -1,9 +1,16 @@
 pub use Rattle.freeze_ledger.specs.Freezes
 pub mod World
+pub mod Lawful
+pub mod Lookups
 pub mod Event
+pub mod FreezeSteps
+pub mod CcbSteps
+pub mod RunSteps
 pub mod Step
 pub mod Run
+pub mod TookGave
 pub mod Flat
 pub mod TotalsOf
-pub mod Headline
+pub mod Limits
+pub mod FreezeLaws
 pub mod RefusalText

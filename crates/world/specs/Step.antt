@@ -1,50 +1,22 @@
--- The steps of the world, one event at a time. Where several refusals hold the first of the table is the reply,
+-- The steps of the world, one event at a time. Where several refusals hold the first of the step's rule is the reply,
 -- and a refusal leaves the world as it was.
-use Rattle.std.specs.Prelude.{◌≡◌, ℕ, ◌+◌, Bool, true, false, if◌then◌else◌, nat_le, List, [], ◌∷◌, ◌++◌, Option, Some, None}
-use Rattle.freeze_ledger.specs.declared.entries.Holder.{Holder}
-use Rattle.freeze_ledger.specs.declared.entries.Holder.TheVariants.{Run, Timer, Guest}
-use Rattle.freeze_ledger.specs.declared.entries.Freeze.{Freeze}
-use Rattle.freeze_ledger.specs.Freezes.{frozen, meets_limit, entry_of, without}
-use Rattle.world.specs.declared.history.Refusal.TheVariants.{Unknown, Limit}
-use Rattle.world.specs.World.{Setup, queue_count, World}
-use Rattle.world.specs.Event.{Event, guest_freeze, guest_release, Reply, freeze_given, count_left, refused}
-
-abbrev pub is_guest : Holder → Bool
-is_guest (Run run) = false
-is_guest (Timer due) = false
-is_guest (Guest guest) = true
-
--- with a new freeze of the queue, under the number after the greatest given
-abbrev pub froze : World → ℕ → Holder → World
-froze world queue holder =
-    let number = world.greatest_freeze + 1 in
-    record world {
-      freezes = world.freezes ++ record { number = number; queue = record { 0 = queue }; holder = holder } ∷ [];
-      greatest_freeze = number;
-    }
-
--- without the freeze of this number
-abbrev pub thawed : World → ℕ → World
-thawed world number = record world { freezes = without number world.freezes }
-
--- C1 where there is no such queue, C2 where a further freeze meets a limit, else a new freeze
-abbrev pub step_guest_freeze : Setup → World → ℕ → ℕ → Reply × World
-step_guest_freeze setup world queue guest =
-    if nat_le (queue_count setup) queue then (refused Unknown, world)
-    else if meets_limit queue world.freezes world.greatest_freeze then (refused Limit, world)
-    else (freeze_given (world.greatest_freeze + 1), froze world queue (Guest guest))
-
--- no event unless a guest holds a freeze of that number; it goes
-abbrev pub step_guest_release : World → Option Freeze → Option (Reply × World)
-step_guest_release world None = None
-step_guest_release world (Some freeze) =
-    let after = thawed world freeze.number in
-    if is_guest freeze.holder then Some (count_left (frozen freeze.queue.0 after.freezes), after) else None
+use Rattle.std.specs.Prelude.{◌≡◌, Option, Some}
+use Rattle.freeze_ledger.specs.Freezes.{entry_of}
+use Rattle.world.specs.World.{Setup, World}
+use Rattle.world.specs.Lookups.{run_of}
+use Rattle.world.specs.Event.{Event, submit, dispatch, complete, guest_freeze, guest_release, executes, Reply}
+use Rattle.world.specs.FreezeSteps.{step_guest_freeze, step_guest_release}
+use Rattle.world.specs.CcbSteps.{step_submit, step_dispatch, step_complete}
+use Rattle.world.specs.RunSteps.{step_executes}
 
 -- what an event is answered and leads to, or `None` where it is no event in this world
 abbrev pub step : Setup → World → Event → Option (Reply × World)
+step setup world (submit queue priority retries) = Some (step_submit setup world queue priority retries)
+step setup world (dispatch queue) = Some (step_dispatch setup world queue)
+step setup world (complete outcome) = step_complete setup world outcome
 step setup world (guest_freeze queue guest) = Some (step_guest_freeze setup world queue guest)
 step setup world (guest_release number) = step_guest_release world (entry_of number world.freezes)
+step setup world (executes run instruction) = step_executes world instruction (run_of run world.runs)
 
 -- the event with this reply leads from one world to the other
 abbrev pub WorldStep : Setup → World → Event → Reply → World → Type 0

@@ -1,15 +1,20 @@
 -- The sums over a history: the number of its records, and in the world after them the freezes, the active CCBs and
--- the live runs. The world has no CCBs and no runs, so the last two are 0.
-use Rattle.std.specs.Prelude.{◌≡◌, ℕ, List, length}
+-- the live runs.
+use Rattle.std.specs.Prelude.{◌≡◌, List, length, count_by}
 use Rattle.world.specs.declared.history.Record.{Record}
 use Rattle.world.specs.declared.history.Totals.{Totals}
 use Rattle.world.specs.World.{Setup, World}
+use Rattle.world.specs.Lookups.{is_active}
 use Rattle.world.specs.Run.{WorldRun}
 use Rattle.world.specs.Flat.{flat}
 
 abbrev pub totals_in : List Record → World → Totals
-totals_in records world =
-    record { history = length records; frozen = length world.freezes; active = 0; runs = 0 }
+totals_in records world = record {
+  history = length records;
+  frozen = length world.freezes;
+  active = count_by (λ live. is_active live.state) world.live;
+  runs = length world.runs;
+}
 
 abbrev pub TotalsOf : Setup → List Record → Totals → Type 0
 TotalsOf setup records totals = (world : World) × WorldRun setup (flat records) world × (totals ≡ totals_in records world)

@@ -1,20 +1,88 @@
--- The world at one moment, as CAM (ANSI X3.232) has it: device queues with openings, and the freezes that hold them.
-use Rattle.std.specs.Prelude.{ℕ, List, [], length}
+-- The world at one moment, as CAM (ANSI X3.232) has it: device queues with openings, the CCBs that were submitted to
+-- them, the freezes that hold them, and the runs of recovery programs (RFC 9669). It is lists, and no count is kept.
+use Rattle.std.specs.Prelude.{ℕ, Bool, List, [], length, map, slice_index_or}
+use Rattle.ccb.specs.declared.control_block.Ccb.{Ccb}
 use Rattle.freeze_ledger.specs.declared.entries.Freeze.{Freeze}
+use Rattle.helpers.specs.declared.limits.HelperLimits.{HelperLimits}
+use Rattle.bpf_insn.specs.declared.program.Slot.{Slot}
+use Rattle.bpf_machine.specs.MachineState.{MachineState}
 
--- What an engine is opened with: for each device queue, in the order of the queues' numbers from 0, its openings.
+-- What an engine is opened with for one device queue: its openings, the recovery program that it starts at a failed
+-- completion, and how many instructions a run of it executes at most.
+pub record QueueSetup : Type 0 where
+  pub openings : ℕ
+  pub program : List Slot
+  pub budget : ℕ
+
+-- What an engine is opened with: the limits of the helper calls, and the device queues in the order of their numbers
+-- from 0.
 pub record Setup : Type 0 where
-  pub openings : List ℕ
+  pub limits : HelperLimits
+  pub queues : List QueueSetup
 
 abbrev pub queue_count : Setup → ℕ
-queue_count setup = length setup.openings
+queue_count setup = length setup.queues
+
+-- what stands behind the last queue
+abbrev pub no_queue : QueueSetup
+no_queue = record { openings = 0; program = []; budget = 0 }
+
+-- the queue of a number
+abbrev pub queue_setup : Setup → ℕ → QueueSetup
+queue_setup setup queue = slice_index_or setup.queues queue no_queue
+
+-- where a CCB is that is not finished
+pub data CcbState : Type 0 where
+  -- it waits for its start
+  waiting : CcbState
+  -- a device works on it
+  active : CcbState
+  -- its completion failed, and a run decides what becomes of it
+  in_recovery : CcbState
+
+pub record LiveCcb : Type 0 where
+  pub ccb : Ccb
+  pub state : CcbState
+
+-- a CCB that is finished, with the code of its final status
+pub record EndedCcb : Type 0 where
+  pub number : ℕ
+  pub code : ℕ
+
+-- a run that has not exited: for which CCB of which queue, the program and its machine, and whether it is out
+pub record LiveRun : Type 0 where
+  pub number : ℕ
+  pub ccb : ℕ
+  pub queue : ℕ
+  pub program : List Slot
+  pub machine : MachineState
+  pub out : Bool
 
 pub record World : Type 0 where
-  -- each a number, a queue and a holder, in the order of their numbers; no count of them is kept
+  -- the CCBs that are not finished, in the order of their numbers
+  pub live : List LiveCcb
+  -- those that are, in the order in which they ended
+  pub ended : List EndedCcb
+  -- each a number, a queue and a holder, in the order of their numbers
   pub freezes : List Freeze
-  -- the greatest freeze number that was given
+  -- in the order of their numbers
+  pub runs : List LiveRun
+  -- of each queue, how many of its CCBs may be active at a time
+  pub openings : List ℕ
+  -- the greatest CCB, run and freeze numbers that were given, 0 before the first
+  pub greatest_ccb : ℕ
+  pub greatest_run : ℕ
   pub greatest_freeze : ℕ
 
 -- the world before the first event
 abbrev pub opening : Setup → World
-opening setup = record { freezes = []; greatest_freeze = 0 }
+opening setup = record {
+  live = [];
+  ended = [];
+  freezes = [];
+  runs = [];
+  openings = map (λ queue. queue.openings) setup.queues;
+  greatest_ccb = 0;
+  greatest_run = 0;
+  greatest_freeze = 0;
+}

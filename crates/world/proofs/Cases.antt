@@ -1,0 +1,448 @@
+-- The cases of a step: what holds before it, what is answered, and what is after it. A proof about steps goes by these.
+use Rattle.std.proofs.Common.{◌≡◌, ℕ, ◌+◌, ◌<◌, ◌≤◌, List, [], ◌∷◌, ◌++◌, length, Bool, true, false, not, cond, eqb, leb, ltb, Option, Some, None, ◌⊎◌, inl, inr, refl, ap, sym, subst, ◌∙◌, arith}
+use Rattle.std.specs.Prelude.{◌&&◌, slice_index}
+use Rattle.std.specs.Option.{option_map, option_and_then}
+use Rattle.std.proofs.lemmas.Bool.{cases_Bool, cond-true, cond-false, leb-true, leb-false, ltb-false, or_parts, and_parts, not-true, not-false}
+use Rattle.ccb.specs.declared.control_block.Ccb.{Ccb}
+use Rattle.ccb.specs.Completion.{Outcome}
+use Rattle.ccb.specs.ControlBlock.{submitted, started, completed, requeued}
+use Rattle.freeze_ledger.specs.declared.entries.Holder.TheVariants.{Run, Guest}
+use Rattle.freeze_ledger.specs.declared.entries.Freeze.{Freeze}
+use Rattle.freeze_ledger.specs.Freezes.{frozen, meets_limit, entry_of, without}
+use Rattle.helpers.specs.declared.call.Request.{Request}
+use Rattle.helpers.specs.declared.call.Request.TheVariants.{Release, Requeue}
+use Rattle.bpf_machine.specs.MachineState.{MachineState}
+use Rattle.bpf_machine.specs.Step.{private_step, request_at, exit_at}
+use Rattle.world.specs.declared.history.Refusal.{Refusal}
+use Rattle.world.specs.declared.history.Refusal.TheVariants.{Unknown, Limit, NotActive, Frozen, NoOpening, NothingWaits}
+use Rattle.world.specs.World.{Setup, queue_count, waiting, active, LiveCcb, LiveRun, World}
+use Rattle.world.specs.Lookups.{is_active, active_count, ccb_of, with_ccb, next_waiting, run_of}
+use Rattle.world.specs.Event.{Helper, release, requeue, Instruction, private, call, exit, Event, submit, dispatch, complete, guest_freeze, guest_release, executes, Reply, ccb_given, done, freeze_given, count_left, went_on, result, refused}
+use Rattle.world.specs.FreezeSteps.{is_guest, froze, thawed, step_guest_release}
+use Rattle.world.specs.CcbSteps.{ccb_meets_limit, starts, is_success, run_meets_limit, finishes, run_starts, recovers, completes, is_completion}
+use Rattle.world.specs.RunSteps.{is_run, goes_on, answers, releases, requeues, step_call, ends, step_run, step_executes}
+use Rattle.world.specs.Step.{WorldStep}
+
+-- which events may be refused
+abbrev pub may_refuse : Event → Bool
+may_refuse (submit queue priority retries) = true
+may_refuse (dispatch queue) = true
+may_refuse (complete outcome) = true
+may_refuse (guest_freeze queue guest) = true
+may_refuse (guest_release freeze) = false
+may_refuse (executes run instruction) = false
+
+-- the call is refused
+pub record Refuses (before : World) (event : Event) (reply : Reply) (after : World) : Type 0 where
+  pub may : may_refuse event ≡ true
+  pub refusal : Refusal
+  pub reply_is : reply ≡ refused refusal
+  pub after_is : after ≡ before
+
+-- a CCB waits under a new number
+pub record Submits (setup : Setup) (before : World) (event : Event) (reply : Reply) (after : World) : Type 0 where
+  pub queue : ℕ
+  pub priority : ℕ
+  pub retries : ℕ
+  pub event_is : event ≡ submit queue priority retries
+  pub known : queue < queue_count setup
+  pub room : ccb_meets_limit queue before ≡ false
+  pub reply_is : reply ≡ ccb_given (before.greatest_ccb + 1)
+  pub after_is : after ≡ record before {
+    live = before.live ++ record { ccb = submitted (record { 0 = before.greatest_ccb + 1 }) (record { 0 = queue }) priority retries; state = waiting } ∷ [];
+    greatest_ccb = before.greatest_ccb + 1;
+  }
+
+-- a CCB that waits starts
+pub record Dispatches (setup : Setup) (before : World) (event : Event) (reply : Reply) (after : World) : Type 0 where
+  pub queue : ℕ
+  pub event_is : event ≡ dispatch queue
+  pub known : queue < queue_count setup
+  pub thawed : frozen queue before.freezes ≡ 0
+  pub opening : active_count queue before.live < slice_index before.openings queue
+  pub next : LiveCcb
+  pub next_is : next_waiting queue before.live ≡ Some next
+  pub reply_is : reply ≡ ccb_given next.ccb.number.0
+  pub after_is : after ≡ record before { live = with_ccb (record { ccb = started next.ccb; state = active }) before.live }
+
+-- an active CCB is finished
+pub record Finishes (before : World) (event : Event) (reply : Reply) (after : World) : Type 0 where
+  pub outcome : Outcome
+  pub event_is : event ≡ complete outcome
+  pub live : LiveCcb
+  pub found : ccb_of outcome.ccb.0 before.live ≡ Some live
+  pub is_active : is_active live.state ≡ true
+  pub success : is_success outcome.status ≡ true
+  pub reply_is : reply ≡ done
+  pub after_is : after ≡ finishes before live.ccb outcome.status
+
+-- an active CCB failed, and a run starts
+pub record Fails (before : World) (event : Event) : Type 0 where
+  pub outcome : Outcome
+  pub event_is : event ≡ complete outcome
+  pub completion : is_completion outcome ≡ true
+  pub live : LiveCcb
+  pub found : ccb_of outcome.ccb.0 before.live ≡ Some live
+  pub is_active : is_active live.state ≡ true
+  pub failure : is_success outcome.status ≡ false
+  pub room : run_meets_limit before ≡ false
+
+-- with a freeze
+pub record Recovers (setup : Setup) (before : World) (event : Event) (reply : Reply) (after : World) : Type 0 where
+  pub fails : Fails before event
+  pub free : meets_limit fails.live.ccb.queue.0 before.freezes before.greatest_freeze ≡ false
+  pub starts_is : (reply, after) ≡ run_starts setup (froze before fails.live.ccb.queue.0 (Run (before.greatest_run + 1))) (completed fails.live.ccb fails.outcome true) (before.greatest_freeze + 1)
+
+-- without one
+pub record RecoversUnfrozen (setup : Setup) (before : World) (event : Event) (reply : Reply) (after : World) : Type 0 where
+  pub fails : Fails before event
+  pub full : meets_limit fails.live.ccb.queue.0 before.freezes before.greatest_freeze ≡ true
+  pub starts_is : (reply, after) ≡ run_starts setup before (completed fails.live.ccb fails.outcome false) 0
+
+-- a guest freezes a queue
+pub record Freezes (setup : Setup) (before : World) (event : Event) (reply : Reply) (after : World) : Type 0 where
+  pub queue : ℕ
+  pub guest : ℕ
+  pub event_is : event ≡ guest_freeze queue guest
+  pub known : queue < queue_count setup
+  pub room : meets_limit queue before.freezes before.greatest_freeze ≡ false
+  pub reply_is : reply ≡ freeze_given (before.greatest_freeze + 1)
+  pub after_is : after ≡ froze before queue (Guest guest)
+
+-- a guest's freeze of that number goes
+pub record Releases (before : World) (event : Event) (reply : Reply) (after : World) : Type 0 where
+  pub number : ℕ
+  pub event_is : event ≡ guest_release number
+  pub freeze : Freeze
+  pub entry : entry_of number before.freezes ≡ Some freeze
+  pub guests : is_guest freeze.holder ≡ true
+  pub reply_is : reply ≡ count_left (frozen freeze.queue.0 (without freeze.number before.freezes))
+  pub after_is : after ≡ thawed before freeze.number
+
+-- a run that is out executes its next instruction
+pub record Executes (before : World) (event : Event) (instruction : Instruction) : Type 0 where
+  pub number : ℕ
+  pub event_is : event ≡ executes number instruction
+  pub run : LiveRun
+  pub found : run_of number before.runs ≡ Some run
+  pub out : run.out ≡ true
+
+-- a private one
+pub record GoesOn (before : World) (event : Event) (reply : Reply) (after : World) : Type 0 where
+  pub it : Executes before event private
+  pub machine : MachineState
+  pub step : private_step it.run.program it.run.machine ≡ Some machine
+  pub reply_is : reply ≡ went_on
+  pub after_is : after ≡ goes_on before it.run machine
+
+-- a call of helper 2
+pub record GivesBack (before : World) (event : Event) (reply : Reply) (after : World) : Type 0 where
+  pub it : Executes before event (call release)
+  pub number : ℕ
+  pub call_is : request_at it.run.program it.run.machine ≡ Some (Release number)
+  pub freeze : Freeze
+  pub entry : entry_of number before.freezes ≡ Some freeze
+  pub held : is_run it.run.number freeze.holder ≡ true
+  pub answer : (reply, after) ≡ answers (thawed before freeze.number) it.run (Release freeze.number) (frozen freeze.queue.0 (without freeze.number before.freezes))
+
+-- a call of helper 4
+pub record Requeues (before : World) (event : Event) (reply : Reply) (after : World) : Type 0 where
+  pub it : Executes before event (call requeue)
+  pub retries : ℕ
+  pub call_is : request_at it.run.program it.run.machine ≡ Some (Requeue retries)
+  pub few : retries ≤ 1
+  pub fresh : it.run.machine.disposed ≡ false
+  pub live : LiveCcb
+  pub found : ccb_of it.run.ccb before.live ≡ Some live
+  pub answer : (reply, after) ≡ answers (record before { live = with_ccb (record { ccb = requeued live.ccb retries; state = waiting }) before.live }) it.run (Requeue retries) 0
+
+-- the exit
+pub record Exits (before : World) (event : Event) (reply : Reply) (after : World) : Type 0 where
+  pub it : Executes before event exit
+  pub r0 : ℕ
+  pub exit_is : exit_at it.run.program it.run.machine ≡ Some r0
+  pub reply_is : reply ≡ result r0
+  pub after_is : after ≡ ends before it.run
+
+-- all cases
+pub data Case (setup : Setup) (before : World) (event : Event) (reply : Reply) (after : World) : Type 0 where
+  refuses : Refuses before event reply after → Case setup before event reply after
+  submits : Submits setup before event reply after → Case setup before event reply after
+  dispatches : Dispatches setup before event reply after → Case setup before event reply after
+  finishes_one : Finishes before event reply after → Case setup before event reply after
+  recovers_one : Recovers setup before event reply after → Case setup before event reply after
+  recovers_unfrozen : RecoversUnfrozen setup before event reply after → Case setup before event reply after
+  freezes : Freezes setup before event reply after → Case setup before event reply after
+  releases_one : Releases before event reply after → Case setup before event reply after
+  goes_on_one : GoesOn before event reply after → Case setup before event reply after
+  gives_back : GivesBack before event reply after → Case setup before event reply after
+  requeues_one : Requeues before event reply after → Case setup before event reply after
+  exits : Exits before event reply after → Case setup before event reply after
+
+pub some_is : (p q : Reply × World) → Some p ≡ Some q → q ≡ p
+some_is p q e = let same : p ≡ q = cc in sym same
+
+pub pair_parts : (p q : Reply × World) → q ≡ p → (q.0 ≡ p.0) × (q.1 ≡ p.1)
+pair_parts p q e = (ap (λ (x : Reply × World). x.0) e, ap (λ (x : Reply × World). x.1) e)
+
+refused_case : (setup : Setup) (before : World) (event : Event) (reply : Reply) (after : World) (refusal : Refusal) → may_refuse event ≡ true → ◌≡◌ {A = Reply × World} (reply, after) (refused refusal, before) → Case setup before event reply after
+refused_case setup before event reply after refusal may e =
+    refuses (record { may = may; refusal = refusal; reply_is = ap (λ (x : Reply × World). x.0) e; after_is = ap (λ (x : Reply × World). x.1) e })
+
+submit_case : (setup : Setup) (before : World) (queue priority retries : ℕ) (reply : Reply) (after : World) → WorldStep setup before (submit queue priority retries) reply after → Case setup before (submit queue priority retries) reply after
+submit_case setup before queue priority retries reply after e =
+    let is = some_is _ _ e in
+    elim (cases_Bool (leb (queue_count setup) queue)) [
+      | inl unknown ↦ refused_case setup before _ reply after Unknown refl (is ∙ cond-true (leb (queue_count setup) queue) _ _ unknown)
+      | inr known ↦
+          let inner = is ∙ cond-false (leb (queue_count setup) queue) _ _ known in
+          elim (cases_Bool (ccb_meets_limit queue before)) [
+            | inl full ↦ refused_case setup before _ reply after Limit refl (inner ∙ cond-true (ccb_meets_limit queue before) _ _ full)
+            | inr room ↦
+                let last = inner ∙ cond-false (ccb_meets_limit queue before) _ _ room in
+                submits (record {
+                  queue = queue;
+                  priority = priority;
+                  retries = retries;
+                  event_is = refl;
+                  known = leb-false _ _ known;
+                  room = room;
+                  reply_is = ap (λ (x : Reply × World). x.0) last;
+                  after_is = ap (λ (x : Reply × World). x.1) last;
+                })
+          ]
+    ]
+
+dispatch_case : (setup : Setup) (before : World) (queue : ℕ) (reply : Reply) (after : World) → WorldStep setup before (dispatch queue) reply after → Case setup before (dispatch queue) reply after
+dispatch_case setup before queue reply after e =
+    let is = some_is _ _ e in
+    elim (cases_Bool (leb (queue_count setup) queue)) [
+      | inl unknown ↦ refused_case setup before _ reply after Unknown refl (is ∙ cond-true (leb (queue_count setup) queue) _ _ unknown)
+      | inr known ↦
+          let second = is ∙ cond-false (leb (queue_count setup) queue) _ _ known in
+          elim (cases_Bool (ltb 0 (frozen queue before.freezes))) [
+            | inl cold ↦ refused_case setup before _ reply after Frozen refl (second ∙ cond-true (ltb 0 (frozen queue before.freezes)) _ _ cold)
+            | inr thawed ↦
+                let third = second ∙ cond-false (ltb 0 (frozen queue before.freezes)) _ _ thawed in
+                elim (cases_Bool (leb (slice_index before.openings queue) (active_count queue before.live))) [
+                  | inl full ↦ refused_case setup before _ reply after NoOpening refl (third ∙ cond-true (leb (slice_index before.openings queue) (active_count queue before.live)) _ _ full)
+                  | inr free ↦
+                      let last = third ∙ cond-false (leb (slice_index before.openings queue) (active_count queue before.live)) _ _ free in
+                      chosen (next_waiting queue before.live) refl (leb-false _ _ known) (let none = ltb-false _ _ thawed in omega (arith, none)) (leb-false _ _ free) last
+                ]
+          ]
+    ]
+  where
+    chosen : (o : Option LiveCcb) → next_waiting queue before.live ≡ o → queue < queue_count setup → frozen queue before.freezes ≡ 0 → active_count queue before.live < slice_index before.openings queue → ◌≡◌ {A = Reply × World} (reply, after) (starts before o) → Case setup before (dispatch queue) reply after
+    chosen None next_is known cold free last = refused_case setup before _ reply after NothingWaits refl last
+    chosen (Some next) next_is known cold free last =
+        dispatches (record {
+          queue = queue;
+          event_is = refl;
+          known = known;
+          thawed = cold;
+          opening = free;
+          next = next;
+          next_is = next_is;
+          reply_is = ap (λ (x : Reply × World). x.0) last;
+          after_is = ap (λ (x : Reply × World). x.1) last;
+        })
+
+-- a CCB that is there: refused, finished or in recovery
+complete_case : (setup : Setup) (before : World) (outcome : Outcome) (reply : Reply) (after : World) → is_completion outcome ≡ true → (o : Option LiveCcb) → ccb_of outcome.ccb.0 before.live ≡ o → ◌≡◌ {A = Reply × World} (reply, after) (completes setup before outcome o) → Case setup before (complete outcome) reply after
+complete_case setup before outcome reply after good None found e = refused_case setup before _ reply after Unknown refl e
+complete_case setup before outcome reply after good (Some live) found e =
+    elim (cases_Bool (not (is_success outcome.status) && run_meets_limit before)) [
+      | inl full ↦ refused_case setup before _ reply after Limit refl (e ∙ cond-true (not (is_success outcome.status) && run_meets_limit before) _ _ full)
+      | inr room ↦
+          let second = e ∙ cond-false (not (is_success outcome.status) && run_meets_limit before) _ _ room in
+          elim (cases_Bool (not (is_active live.state))) [
+            | inl idle ↦ refused_case setup before _ reply after NotActive refl (second ∙ cond-true (not (is_active live.state)) _ _ idle)
+            | inr busy ↦
+                let third = second ∙ cond-false (not (is_active live.state)) _ _ busy in
+                elim (cases_Bool (is_success outcome.status)) [
+                  | inl success ↦
+                      let last = third ∙ cond-true (is_success outcome.status) _ _ success in
+                      finishes_one (record {
+                        outcome = outcome;
+                        event_is = refl;
+                        live = live;
+                        found = found;
+                        is_active = not-false _ busy;
+                        success = success;
+                        reply_is = ap (λ (x : Reply × World). x.0) last;
+                        after_is = ap (λ (x : Reply × World). x.1) last;
+                      })
+                  | inr failure ↦
+                      let fourth = third ∙ cond-false (is_success outcome.status) _ _ failure in
+                      let roomy : run_meets_limit before ≡ false =
+                      sym (ap (λ (b : Bool). not b && run_meets_limit before) failure) ∙ room in
+                      let fails : Fails before (complete outcome) = record {
+                        outcome = outcome;
+                        event_is = refl;
+                        completion = good;
+                        live = live;
+                        found = found;
+                        is_active = not-false _ busy;
+                        failure = failure;
+                        room = roomy;
+                      } in
+                      elim (cases_Bool (meets_limit live.ccb.queue.0 before.freezes before.greatest_freeze)) [
+                        | inl full ↦ recovers_unfrozen (record { fails = fails; full = full; starts_is = fourth ∙ cond-true (meets_limit live.ccb.queue.0 before.freezes before.greatest_freeze) _ _ full })
+                        | inr free ↦ recovers_one (record { fails = fails; free = free; starts_is = fourth ∙ cond-false (meets_limit live.ccb.queue.0 before.freezes before.greatest_freeze) _ _ free })
+                      ]
+                ]
+          ]
+    ]
+
+guest_freeze_case : (setup : Setup) (before : World) (queue guest : ℕ) (reply : Reply) (after : World) → WorldStep setup before (guest_freeze queue guest) reply after → Case setup before (guest_freeze queue guest) reply after
+guest_freeze_case setup before queue guest reply after e =
+    let is = some_is _ _ e in
+    elim (cases_Bool (leb (queue_count setup) queue)) [
+      | inl unknown ↦ refused_case setup before _ reply after Unknown refl (is ∙ cond-true (leb (queue_count setup) queue) _ _ unknown)
+      | inr known ↦
+          let inner = is ∙ cond-false (leb (queue_count setup) queue) _ _ known in
+          elim (cases_Bool (meets_limit queue before.freezes before.greatest_freeze)) [
+            | inl full ↦ refused_case setup before _ reply after Limit refl (inner ∙ cond-true (meets_limit queue before.freezes before.greatest_freeze) _ _ full)
+            | inr room ↦
+                let last = inner ∙ cond-false (meets_limit queue before.freezes before.greatest_freeze) _ _ room in
+                freezes (record {
+                  queue = queue;
+                  guest = guest;
+                  event_is = refl;
+                  known = leb-false _ _ known;
+                  room = room;
+                  reply_is = ap (λ (x : Reply × World). x.0) last;
+                  after_is = ap (λ (x : Reply × World). x.1) last;
+                })
+          ]
+    ]
+
+guest_release_found : (before : World) (number : ℕ) (reply : Reply) (after : World) (o : Option Freeze) → entry_of number before.freezes ≡ o → step_guest_release before o ≡ Some (reply, after) → Releases before (guest_release number) reply after
+guest_release_found before number reply after None entry e = absurd cc
+guest_release_found before number reply after (Some f) entry e =
+    elim (cases_Bool (is_guest f.holder)) [
+      | inl guests ↦
+          let last = some_is _ _ (sym (cond-true (is_guest f.holder) _ _ guests) ∙ e) in
+          record {
+            number = number;
+            event_is = refl;
+            freeze = f;
+            entry = entry;
+            guests = guests;
+            reply_is = ap (λ (x : Reply × World). x.0) last;
+            after_is = ap (λ (x : Reply × World). x.1) last;
+          }
+      | inr other ↦ let none = sym (cond-false (is_guest f.holder) _ _ other) ∙ e in absurd cc
+    ]
+
+-- a guest's release
+pub guest_release_parts : (setup : Setup) (before : World) (number : ℕ) (reply : Reply) (after : World) → WorldStep setup before (guest_release number) reply after → Releases before (guest_release number) reply after
+guest_release_parts setup before number reply after e = guest_release_found before number reply after (entry_of number before.freezes) refl e
+
+private_found : (before : World) (event : Event) (reply : Reply) (after : World) (it : Executes before event private) (o : Option MachineState) → private_step it.run.program it.run.machine ≡ o → option_map (λ (machine : MachineState). let x : Reply × World = (went_on, goes_on before it.run machine) in x) o ≡ Some (reply, after) → GoesOn before event reply after
+private_found before event reply after it None step e = absurd cc
+private_found before event reply after it (Some machine) step e =
+    let last = some_is _ _ e in
+    record { it = it; machine = machine; step = step; reply_is = ap (λ (x : Reply × World). x.0) last; after_is = ap (λ (x : Reply × World). x.1) last }
+
+release_found : (before : World) (event : Event) (reply : Reply) (after : World) (it : Executes before event (call release)) (number : ℕ) → request_at it.run.program it.run.machine ≡ Some (Release number) → (o : Option Freeze) → entry_of number before.freezes ≡ o → releases before it.run o ≡ Some (reply, after) → GivesBack before event reply after
+release_found before event reply after it number call_is None entry e = absurd cc
+release_found before event reply after it number call_is (Some f) entry e =
+    elim (cases_Bool (is_run it.run.number f.holder)) [
+      | inl held ↦ record {
+          it = it;
+          number = number;
+          call_is = call_is;
+          freeze = f;
+          entry = entry;
+          held = held;
+          answer = some_is _ _ (sym (cond-true (is_run it.run.number f.holder) _ _ held) ∙ e);
+        }
+      | inr other ↦ let none = sym (cond-false (is_run it.run.number f.holder) _ _ other) ∙ e in absurd cc
+    ]
+
+requeue_found : (before : World) (event : Event) (reply : Reply) (after : World) (it : Executes before event (call requeue)) (retries : ℕ) → request_at it.run.program it.run.machine ≡ Some (Requeue retries) → retries ≤ 1 → it.run.machine.disposed ≡ false → (o : Option LiveCcb) → ccb_of it.run.ccb before.live ≡ o → requeues before it.run retries o ≡ Some (reply, after) → Requeues before event reply after
+requeue_found before event reply after it retries call_is few fresh None found e = absurd cc
+requeue_found before event reply after it retries call_is few fresh (Some live) found e =
+    record { it = it; retries = retries; call_is = call_is; few = few; fresh = fresh; live = live; found = found; answer = some_is _ _ e }
+
+call_release_found : (before : World) (event : Event) (reply : Reply) (after : World) (it : Executes before event (call release)) (o : Option Request) → request_at it.run.program it.run.machine ≡ o → option_and_then (step_call before it.run release) o ≡ Some (reply, after) → GivesBack before event reply after
+call_release_found before event reply after it None call_is e = absurd cc
+call_release_found before event reply after it (Some (Release number)) call_is e =
+    release_found before event reply after it number call_is (entry_of number before.freezes) refl e
+call_release_found before event reply after it (Some (Requeue retries)) call_is e = absurd cc
+
+call_requeue_found : (before : World) (event : Event) (reply : Reply) (after : World) (it : Executes before event (call requeue)) (o : Option Request) → request_at it.run.program it.run.machine ≡ o → option_and_then (step_call before it.run requeue) o ≡ Some (reply, after) → Requeues before event reply after
+call_requeue_found before event reply after it None call_is e = absurd cc
+call_requeue_found before event reply after it (Some (Release number)) call_is e = absurd cc
+call_requeue_found before event reply after it (Some (Requeue retries)) call_is e =
+    elim (cases_Bool (leb retries 1 && not it.run.machine.disposed)) [
+      | inl rule ↦
+          let parts = and_parts (leb retries 1) (not it.run.machine.disposed) rule in
+          requeue_found before event reply after it retries call_is (leb-true _ _ parts.0) (not-true _ parts.1)
+          (ccb_of it.run.ccb before.live) refl (sym (cond-true (leb retries 1 && not it.run.machine.disposed) _ _ rule) ∙ e)
+      | inr broken ↦ let none = sym (cond-false (leb retries 1 && not it.run.machine.disposed) _ _ broken) ∙ e in absurd cc
+    ]
+
+exit_found : (before : World) (event : Event) (reply : Reply) (after : World) (it : Executes before event exit) (o : Option ℕ) → exit_at it.run.program it.run.machine ≡ o → option_map (λ (r0 : ℕ). let x : Reply × World = (result r0, ends before it.run) in x) o ≡ Some (reply, after) → Exits before event reply after
+exit_found before event reply after it None exit_is e = absurd cc
+exit_found before event reply after it (Some r0) exit_is e =
+    let last = some_is _ _ e in
+    record { it = it; r0 = r0; exit_is = exit_is; reply_is = ap (λ (x : Reply × World). x.0) last; after_is = ap (λ (x : Reply × World). x.1) last }
+
+-- a run that is out, and its instruction
+pub record Instructs (before : World) (number : ℕ) (instruction : Instruction) (reply : Reply) (after : World) : Type 0 where
+  pub it : Executes before (executes number instruction) instruction
+  pub step : step_run before it.run instruction ≡ Some (reply, after)
+
+executes_found : (before : World) (number : ℕ) (instruction : Instruction) (reply : Reply) (after : World) (o : Option LiveRun) → run_of number before.runs ≡ o → step_executes before instruction o ≡ Some (reply, after) → Instructs before number instruction reply after
+executes_found before number instruction reply after None found e = absurd cc
+executes_found before number instruction reply after (Some run) found e =
+    elim (cases_Bool run.out) [
+      | inl out ↦ record {
+          it = record { number = number; event_is = refl; run = run; found = found; out = out };
+          step = sym (cond-true run.out _ _ out) ∙ e;
+        }
+      | inr parked ↦ let none = sym (cond-false run.out _ _ parked) ∙ e in absurd cc
+    ]
+
+pub executes_parts : (setup : Setup) (before : World) (number : ℕ) (instruction : Instruction) (reply : Reply) (after : World) → WorldStep setup before (executes number instruction) reply after → Instructs before number instruction reply after
+executes_parts setup before number instruction reply after e = executes_found before number instruction reply after (run_of number before.runs) refl e
+
+pub private_parts : (setup : Setup) (before : World) (number : ℕ) (reply : Reply) (after : World) → WorldStep setup before (executes number private) reply after → GoesOn before (executes number private) reply after
+private_parts setup before number reply after e =
+    let i = executes_parts setup before number private reply after e in
+    private_found before (executes number private) reply after i.it (private_step i.it.run.program i.it.run.machine) refl i.step
+
+pub release_parts : (setup : Setup) (before : World) (number : ℕ) (reply : Reply) (after : World) → WorldStep setup before (executes number (call release)) reply after → GivesBack before (executes number (call release)) reply after
+release_parts setup before number reply after e =
+    let i = executes_parts setup before number (call release) reply after e in
+    call_release_found before (executes number (call release)) reply after i.it (request_at i.it.run.program i.it.run.machine) refl i.step
+
+pub requeue_parts : (setup : Setup) (before : World) (number : ℕ) (reply : Reply) (after : World) → WorldStep setup before (executes number (call requeue)) reply after → Requeues before (executes number (call requeue)) reply after
+requeue_parts setup before number reply after e =
+    let i = executes_parts setup before number (call requeue) reply after e in
+    call_requeue_found before (executes number (call requeue)) reply after i.it (request_at i.it.run.program i.it.run.machine) refl i.step
+
+pub exit_parts : (setup : Setup) (before : World) (number : ℕ) (reply : Reply) (after : World) → WorldStep setup before (executes number exit) reply after → Exits before (executes number exit) reply after
+exit_parts setup before number reply after e =
+    let i = executes_parts setup before number exit reply after e in
+    exit_found before (executes number exit) reply after i.it (exit_at i.it.run.program i.it.run.machine) refl i.step
+
+pub case_of : (setup : Setup) (before : World) (event : Event) (reply : Reply) (after : World) → WorldStep setup before event reply after → Case setup before event reply after
+case_of setup before (submit queue priority retries) reply after e = submit_case setup before queue priority retries reply after e
+case_of setup before (dispatch queue) reply after e = dispatch_case setup before queue reply after e
+case_of setup before (complete outcome) reply after e =
+    elim (cases_Bool (is_completion outcome)) [
+      | inl good ↦
+          complete_case setup before outcome reply after good (ccb_of outcome.ccb.0 before.live) refl
+          (some_is _ _ (sym (cond-true (is_completion outcome) _ _ good) ∙ e))
+      | inr bad ↦ let none = sym (cond-false (is_completion outcome) _ _ bad) ∙ e in absurd cc
+    ]
+case_of setup before (guest_freeze queue guest) reply after e = guest_freeze_case setup before queue guest reply after e
+case_of setup before (guest_release number) reply after e = releases_one (guest_release_parts setup before number reply after e)
+case_of setup before (executes number private) reply after e = goes_on_one (private_parts setup before number reply after e)
+case_of setup before (executes number (call release)) reply after e = gives_back (release_parts setup before number reply after e)
+case_of setup before (executes number (call requeue)) reply after e = requeues_one (requeue_parts setup before number reply after e)
+case_of setup before (executes number exit) reply after e = exits (exit_parts setup before number reply after e)

@@ -1,0 +1,68 @@
+-- Frozen counts move as the entries do.
+use Rattle.std.proofs.Common.{◌≡◌, ℕ, ◌+◌, List, [], ◌∷◌, ◌++◌, Bool, true, false, cond, eqb, Option, Some, None, refl, ap, sym, subst, ◌∙◌, arith}
+use Rattle.std.proofs.lemmas.Bool.{ne_eqb, cond-false}
+use Rattle.ccb.specs.ControlBlock.{completed}
+use Rattle.freeze_ledger.specs.declared.entries.Freeze.{Freeze}
+use Rattle.freeze_ledger.specs.declared.entries.Holder.TheVariants.{Run}
+use Rattle.freeze_ledger.specs.Freezes.{frozen, entry_of, without}
+use Rattle.world.specs.declared.history.Refusal.{Refusal}
+use Rattle.world.specs.World.{Setup, World}
+use Rattle.world.specs.Event.{release, requeue, private, call, exit, Event, submit, dispatch, complete, guest_freeze, guest_release, executes, Reply, run_started, refused}
+use Rattle.world.specs.FreezeSteps.{froze, thawed}
+use Rattle.world.specs.CcbSteps.{run_starts}
+use Rattle.world.specs.Limits.{KeepsLimits}
+use Rattle.world.specs.FreezeLaws.{OneFewer, MovesCounts, CountsAreEntries}
+use Rattle.world.proofs.Entries.{frozen_push, frozen_without, entry_bounds}
+use Rattle.world.proofs.Cases.{may_refuse, Case, case_of, refuses, submits, dispatches, finishes_one, recovers_one, recovers_unfrozen, freezes, releases_one, goes_on_one, gives_back, requeues_one, exits}
+use Rattle.world.proofs.Leads.{limits_are_kept}
+
+-- the count after the freeze of this number went
+goes : (setup : Setup) (before after : World) (number : ℕ) (freeze : Freeze) → KeepsLimits setup before → entry_of number before.freezes ≡ Some freeze → after.freezes ≡ without freeze.number before.freezes → OneFewer before number (frozen freeze.queue.0 (without freeze.number before.freezes)) after
+goes setup before after number freeze kept entry e =
+    let is = entry_bounds 0 before.freezes before.greatest_freeze number freeze kept.freezes.numbered entry in
+    record {
+      freeze = freeze;
+      entry = entry;
+      count_is = sym (ap (frozen freeze.queue.0) e);
+      fewer = λ other.
+          ap (λ (fs : List Freeze). frozen other fs + cond {A = ℕ} (eqb freeze.queue.0 other) 1 0) e
+          ∙ frozen_without other 0 before.freezes before.greatest_freeze freeze.number freeze kept.freezes.numbered (subst (λ (n : ℕ). entry_of n before.freezes ≡ Some freeze) (sym is.0) entry);
+    }
+
+refusal_moves : (before : World) (event : Event) (refusal : Refusal) → may_refuse event ≡ true → MovesCounts before event (refused refusal) before
+refusal_moves before (submit queue priority retries) refusal may = refl
+refusal_moves before (dispatch queue) refusal may = refl
+refusal_moves before (complete outcome) refusal may = refl
+refusal_moves before (guest_freeze queue guest) refusal may = refl
+refusal_moves before (guest_release number) refusal may = absurd (let bad : false ≡ true = may in cc)
+refusal_moves before (executes run instruction) refusal may = absurd (let bad : false ≡ true = may in cc)
+
+pub case_moves : (setup : Setup) (before : World) (event : Event) (reply : Reply) (after : World) → KeepsLimits setup before → Case setup before event reply after → MovesCounts before event reply after
+case_moves setup before event reply after kept (refuses it) = rw (it.reply_is, it.after_is) (refusal_moves before event it.refusal it.may)
+case_moves setup before event reply after kept (submits it) = rw it.event_is (ap (λ (w : World). w.freezes) it.after_is)
+case_moves setup before event reply after kept (dispatches it) = rw it.event_is (ap (λ (w : World). w.freezes) it.after_is)
+case_moves setup before event reply after kept (finishes_one it) = rw (it.event_is, it.reply_is) (ap (λ (w : World). w.freezes) it.after_is)
+case_moves setup before event reply after kept (recovers_one it) =
+    let reply_is : reply ≡ run_started (before.greatest_run + 1) (before.greatest_freeze + 1) = ap (λ (x : Reply × World). x.0) it.starts_is in
+    let is = ap (λ (x : Reply × World). x.1.freezes) it.starts_is in
+    let above : eqb (before.greatest_freeze + 1) 0 ≡ false = ne_eqb _ _ (λ e. omega (arith, e)) in
+    rw (it.fails.event_is, reply_is) (
+      it.fails.live,
+      it.fails.found,
+      rw above (λ other. ap (frozen other) is ∙ frozen_push other before.freezes _),
+    )
+case_moves setup before event reply after kept (recovers_unfrozen it) =
+    let reply_is : reply ≡ run_started (before.greatest_run + 1) 0 = ap (λ (x : Reply × World). x.0) it.starts_is in
+    rw (it.fails.event_is, reply_is) (it.fails.live, it.fails.found, λ other. omega (arith, ap (λ (x : Reply × World). frozen other x.1.freezes) it.starts_is))
+case_moves setup before event reply after kept (freezes it) =
+    rw (it.event_is, it.reply_is) (λ other. ap (λ (w : World). frozen other w.freezes) it.after_is ∙ frozen_push other before.freezes _)
+case_moves setup before event reply after kept (releases_one it) =
+    rw it.event_is (_, it.reply_is, goes setup before after it.number it.freeze kept it.entry (ap (λ (w : World). w.freezes) it.after_is))
+case_moves setup before event reply after kept (goes_on_one it) = rw it.it.event_is (ap (λ (w : World). w.freezes) it.after_is)
+case_moves setup before event reply after kept (gives_back it) =
+    rw it.it.event_is (it.number, _, (it.it.run, it.it.found, it.call_is), ap (λ (x : Reply × World). x.0) it.answer, goes setup before after it.number it.freeze kept it.entry (ap (λ (x : Reply × World). x.1.freezes) it.answer))
+case_moves setup before event reply after kept (requeues_one it) = rw it.it.event_is (ap (λ (x : Reply × World). x.1.freezes) it.answer)
+case_moves setup before event reply after kept (exits it) = rw it.it.event_is (ap (λ (w : World). w.freezes) it.after_is)
+
+pub counts_are_entries : CountsAreEntries
+counts_are_entries setup xs before run event reply after e = case_moves setup before event reply after (limits_are_kept setup xs before run) (case_of setup before event reply after e)

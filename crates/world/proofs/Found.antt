@@ -1,0 +1,140 @@
+-- Lists whose elements bear numbers: what is found by a number after one more at the end, one that is changed in its
+-- place, and one fewer; and what rising numbers say.
+use Rattle.std.proofs.Common.{◌≡◌, ℕ, ◌+◌, ◌<◌, ◌≤◌, List, [], ◌∷◌, ◌++◌, map, length, Bool, true, false, not, cond, eqb, Option, Some, None, ◌⊎◌, inl, inr, refl, ap, sym, subst, ◌∙◌, arith}
+use Rattle.std.specs.List.{find, filter, count_by}
+use Rattle.std.proofs.lemmas.Bool.{cases_Bool, cases_eq, cond-true, cond-false, cond_both, eq-eqb, ne_eqb, eqb-true, eqb-false, not_from_true, not_from_false, not-true}
+use Rattle.std.proofs.lemmas.List.Sums.{sum_by-cons}
+use Rattle.world.specs.Limits.{AreRising}
+
+module _ {A : Type 0} (key : A → ℕ) where
+  -- the element of a number
+  abbrev pub at : ℕ → List A → Option A
+  at n xs = find (λ x. eqb (key x) n) xs
+
+  -- with this element in the place of the one that has its number
+  abbrev pub put : A → List A → List A
+  put c xs = map (λ x. cond (eqb (key x) (key c)) c x) xs
+
+  -- all elements but that of a number
+  abbrev pub leave : ℕ → List A → List A
+  leave n xs = filter (λ x. not (eqb (key x) n)) xs
+
+  pub at_head : (n : ℕ) (y : A) (xs : List A) → key y ≡ n → at n (y ∷ xs) ≡ Some y
+  at_head n y xs e = cond-true (eqb (key y) n) (Some y) (at n xs) (eq-eqb _ _ e)
+
+  pub at_tail : (n : ℕ) (y : A) (xs : List A) → (key y ≡ n → ⊥) → at n (y ∷ xs) ≡ at n xs
+  at_tail n y xs apart = cond-false (eqb (key y) n) (Some y) (at n xs) (ne_eqb _ _ apart)
+
+  pub found_key : (n : ℕ) (xs : List A) (x : A) → at n xs ≡ Some x → key x ≡ n
+  found_key n [] x e = absurd (let bad : None ≡ Some x = e in cc)
+  found_key n (y ∷ xs) x e =
+      elim (cases_eq (key y) n) [
+        | inl same ↦
+            let both : Some y ≡ Some x = sym (at_head n y xs same) ∙ e in
+            let is : y ≡ x = cc in subst (λ (z : A). key z ≡ n) is same
+        | inr apart ↦ found_key n xs x (sym (at_tail n y xs apart) ∙ e)
+      ]
+
+  -- one more at the end
+  pub found_push : (n : ℕ) (xs : List A) (y x : A) → at n xs ≡ Some x → at n (xs ++ y ∷ []) ≡ Some x
+  found_push n [] y x e = absurd (let bad : None ≡ Some x = e in cc)
+  found_push n (z ∷ xs) y x e =
+      elim (cases_eq (key z) n) [
+        | inl same ↦ at_head n z (xs ++ y ∷ []) same ∙ (sym (at_head n z xs same) ∙ e)
+        | inr apart ↦ at_tail n z (xs ++ y ∷ []) apart ∙ found_push n xs y x (sym (at_tail n z xs apart) ∙ e)
+      ]
+
+  pub missing_push : (n : ℕ) (xs : List A) (y : A) → at n xs ≡ None → at n (xs ++ y ∷ []) ≡ at n (y ∷ [])
+  missing_push n [] y e = refl
+  missing_push n (z ∷ xs) y e =
+      elim (cases_eq (key z) n) [
+        | inl same ↦ absurd (let bad : Some z ≡ None = sym (at_head n z xs same) ∙ e in cc)
+        | inr apart ↦ at_tail n z (xs ++ y ∷ []) apart ∙ missing_push n xs y (sym (at_tail n z xs apart) ∙ e)
+      ]
+
+  pub found_in_push : (n : ℕ) (xs : List A) (y x : A) → at n (xs ++ y ∷ []) ≡ Some x → (at n xs ≡ Some x) ⊎ ((x ≡ y) × (key y ≡ n))
+  found_in_push n [] y x e =
+      elim (cases_eq (key y) n) [
+        | inl same ↦ let both : Some y ≡ Some x = sym (at_head n y [] same) ∙ e in inr (cc, same)
+        | inr apart ↦ absurd (let bad : None ≡ Some x = sym (at_tail n y [] apart) ∙ e in cc)
+      ]
+  found_in_push n (z ∷ xs) y x e =
+      elim (cases_eq (key z) n) [
+        | inl same ↦ inl (at_head n z xs same ∙ (sym (at_head n z (xs ++ y ∷ []) same) ∙ e))
+        | inr apart ↦
+            elim (found_in_push n xs y x (sym (at_tail n z (xs ++ y ∷ []) apart) ∙ e)) [
+              | inl there ↦ inl (at_tail n z xs apart ∙ there)
+              | inr last ↦ inr last
+            ]
+      ]
+
+  -- one that is changed in its place
+  put_head : (c y : A) (xs : List A) → key y ≡ key c → put c (y ∷ xs) ≡ c ∷ put c xs
+  put_head c y xs e = ap (λ (z : A). z ∷ put c xs) (cond-true (eqb (key y) (key c)) c y (eq-eqb _ _ e))
+
+  put_tail : (c y : A) (xs : List A) → (key y ≡ key c → ⊥) → put c (y ∷ xs) ≡ y ∷ put c xs
+  put_tail c y xs apart = ap (λ (z : A). z ∷ put c xs) (cond-false (eqb (key y) (key c)) c y (ne_eqb _ _ apart))
+
+  pub put_same : (c : A) (xs : List A) (x : A) → at (key c) xs ≡ Some x → at (key c) (put c xs) ≡ Some c
+  put_same c [] x e = absurd (let bad : None ≡ Some x = e in cc)
+  put_same c (y ∷ xs) x e =
+      elim (cases_eq (key y) (key c)) [
+        | inl same ↦ ap (at (key c)) (put_head c y xs same) ∙ at_head (key c) c (put c xs) refl
+        | inr apart ↦
+            ap (at (key c)) (put_tail c y xs apart)
+            ∙ (at_tail (key c) y (put c xs) apart ∙ put_same c xs x (sym (at_tail (key c) y xs apart) ∙ e))
+      ]
+
+  pub put_other : (c : A) (n : ℕ) (xs : List A) → (key c ≡ n → ⊥) → at n (put c xs) ≡ at n xs
+  put_other c n [] other = refl
+  put_other c n (y ∷ xs) other =
+      elim (cases_eq (key y) (key c)) [
+        | inl same ↦
+            ap (at n) (put_head c y xs same)
+            ∙ (at_tail n c (put c xs) other
+            ∙ (put_other c n xs other ∙ sym (at_tail n y xs (λ e. other (sym same ∙ e)))))
+        | inr apart ↦
+            ap (at n) (put_tail c y xs apart)
+            ∙ elim (cases_eq (key y) n) [
+              | inl here ↦ at_head n y (put c xs) here ∙ sym (at_head n y xs here)
+              | inr there ↦ at_tail n y (put c xs) there ∙ (put_other c n xs other ∙ sym (at_tail n y xs there))
+            ]
+      ]
+
+  pub put_keys : (c : A) (xs : List A) → map key (put c xs) ≡ map key xs
+  put_keys c [] = refl
+  put_keys c (y ∷ xs) =
+      elim (cases_eq (key y) (key c)) [
+        | inl same ↦ ap (map key) (put_head c y xs same) ∙ (ap (λ (k : ℕ). k ∷ map key (put c xs)) (sym same) ∙ ap (λ (ks : List ℕ). key y ∷ ks) (put_keys c xs))
+        | inr apart ↦ ap (map key) (put_tail c y xs apart) ∙ ap (λ (ks : List ℕ). key y ∷ ks) (put_keys c xs)
+      ]
+
+  -- one fewer
+  leave_head : (m : ℕ) (y : A) (xs : List A) → key y ≡ m → leave m (y ∷ xs) ≡ leave m xs
+  leave_head m y xs e = cond-false (not (eqb (key y) m)) _ _ (not_from_true _ (eq-eqb _ _ e))
+
+  leave_tail : (m : ℕ) (y : A) (xs : List A) → (key y ≡ m → ⊥) → leave m (y ∷ xs) ≡ y ∷ leave m xs
+  leave_tail m y xs apart = cond-true (not (eqb (key y) m)) _ _ (not_from_false _ (ne_eqb _ _ apart))
+
+  pub leave_same : (m : ℕ) (xs : List A) → at m (leave m xs) ≡ None
+  leave_same m [] = refl
+  leave_same m (y ∷ xs) =
+      elim (cases_eq (key y) m) [
+        | inl same ↦ ap (at m) (leave_head m y xs same) ∙ leave_same m xs
+        | inr apart ↦ ap (at m) (leave_tail m y xs apart) ∙ (at_tail m y (leave m xs) apart ∙ leave_same m xs)
+      ]
+
+  pub leave_other : (m n : ℕ) (xs : List A) → (m ≡ n → ⊥) → at n (leave m xs) ≡ at n xs
+  leave_other m n [] other = refl
+  leave_other m n (y ∷ xs) other =
+      elim (cases_eq (key y) m) [
+        | inl same ↦
+            ap (at n) (leave_head m y xs same)
+            ∙ (leave_other m n xs other ∙ sym (at_tail n y xs (λ e. other (sym same ∙ e))))
+        | inr apart ↦
+            ap (at n) (leave_tail m y xs apart)
+            ∙ elim (cases_eq (key y) n) [
+              | inl here ↦ at_head n y (leave m xs) here ∙ sym (at_head n y xs here)
+              | inr there ↦ at_tail n y (leave m xs) there ∙ (leave_other m n xs other ∙ sym (at_tail n y xs there))
+            ]
+      ]

@@ -1,0 +1,246 @@
+-- Each step keeps the limits.
+use Rattle.std.proofs.Common.{◌≡◌, ℕ, ◌+◌, ◌<◌, ◌≤◌, List, [], ◌∷◌, ◌++◌, length, length-append, map, Bool, true, false, not, cond, eqb, leb, Option, Some, None, ◌⊎◌, inl, inr, refl, ap, sym, subst, ◌∙◌, arith, slice_index}
+use Rattle.std.specs.Prelude.{◌&&◌, slice_index_or}
+use Rattle.std.specs.List.{All, count_by}
+use Rattle.std.proofs.lemmas.Bool.{cases_Bool, leb-false, or_parts, cases_eq, eq-eqb, ne_eqb, and_left, and_right}
+use Rattle.std.proofs.lemmas.List.Elements.{All-push, All-filter, All-nil}
+use Rattle.std.proofs.lemmas.List.Sums.{sum_by_push, length-filter, count_by-le-length}
+use Rattle.ccb.specs.ControlBlock.{submitted}
+use Rattle.freeze_ledger.specs.declared.entries.Holder.{Holder}
+use Rattle.freeze_ledger.specs.declared.entries.Freeze.{Freeze}
+use Rattle.freeze_ledger.specs.Freezes.{frozen, meets_limit, entry_of, without}
+use Rattle.freeze_ledger.proofs.Numbered.{numbered_push}
+use Rattle.world.specs.World.{Setup, queue_count, queue_setup, waiting, LiveCcb, LiveRun, World, opening}
+use Rattle.world.specs.Lookups.{is_active, is_of, live_count, active_count, ccb_of, with_ccb, run_of}
+use Rattle.world.specs.Event.{Event, Reply}
+use Rattle.world.specs.CcbSteps.{ccb_meets_limit, run_meets_limit}
+use Rattle.world.specs.Step.{WorldStep}
+use Rattle.world.specs.Limits.{AreRising, FreezeLimits, CcbLimits, RunLimits, KeepsLimits}
+use Rattle.world.proofs.Found.{put, leave, put_keys}
+use Rattle.world.proofs.Rising.{rising_push, rising_leave, count_put, count_leave}
+use Rattle.world.proofs.Each.{all_found, all_put, put_length}
+use Rattle.world.proofs.Entries.{frozen_push, frozen_without, numbered_without, length_without, entry_bounds}
+use Rattle.world.proofs.Cases.{Case, case_of}
+use Rattle.world.proofs.Moves.{ccb_key, run_key, CcbMove, ccbs_stay, ccb_enters, ccb_changes, ccb_leaves, ccb_move, openings_stay, FreezeMove, freezes_stay, freeze_enters, freeze_leaves, freeze_move, RunMove, runs_stay, run_enters, run_changes, run_leaves, run_move}
+
+-- below every limit of freezes
+pub record HasRoom (queue : ℕ) (freezes : List Freeze) (greatest : ℕ) : Type 0 where
+  pub a_queue : frozen queue freezes < 255
+  pub ledger : length freezes < 1024
+  pub numbers : greatest < 4294967295
+
+pub room_from : (queue : ℕ) (freezes : List Freeze) (greatest : ℕ) → meets_limit queue freezes greatest ≡ false → HasRoom queue freezes greatest
+room_from queue freezes greatest e =
+    let outer = or_parts _ _ e in
+    let inner = or_parts _ _ outer.0 in
+    record { a_queue = leb-false _ _ inner.0; ledger = leb-false _ _ inner.1; numbers = leb-false _ _ outer.1 }
+
+-- what the limits of freezes speak of
+abbrev FreezesWithin : Setup → List Freeze → ℕ → Type 0
+FreezesWithin setup freezes greatest = FreezeLimits setup (record (opening setup) { freezes = freezes; greatest_freeze = greatest })
+
+freezes_from : (setup : Setup) (world : World) (freezes : List Freeze) (greatest : ℕ) → world.freezes ≡ freezes → world.greatest_freeze ≡ greatest → FreezesWithin setup freezes greatest → FreezeLimits setup world
+freezes_from setup world freezes greatest e g kept =
+    record {
+      queues = rw e kept.queues;
+      a_queue = λ q. rw e (kept.a_queue q);
+      ledger = rw e kept.ledger;
+      numbered = rw (e, g) kept.numbered;
+      numbers = rw g kept.numbers;
+    }
+
+pub freezes_kept : (setup : Setup) (before after : World) → FreezeMove setup before after → FreezeLimits setup before → FreezeLimits setup after
+freezes_kept setup before after (freezes_stay e g) kept =
+    freezes_from setup after before.freezes before.greatest_freeze e g (record { queues = kept.queues; a_queue = kept.a_queue; ledger = kept.ledger; numbered = kept.numbered; numbers = kept.numbers })
+freezes_kept setup before after (freeze_enters queue holder known full e g) kept =
+    let f : Freeze = record { number = before.greatest_freeze + 1; queue = record { 0 = queue }; holder = holder } in
+    let room = room_from queue before.freezes before.greatest_freeze full in
+    let one_more : (q : ℕ) → frozen q before.freezes + cond {A = ℕ} (eqb queue q) 1 0 ≤ 255 = λ q. elim (cases_eq queue q) [
+      | inl same ↦ let here : frozen q before.freezes < 255 = subst (λ (x : ℕ). frozen x before.freezes < 255) same room.a_queue in rw (eq-eqb queue q same) (omega arith)
+      | inr apart ↦ rw (ne_eqb queue q apart) (omega (arith, kept.a_queue q))
+    ] in
+    freezes_from setup after (before.freezes ++ f ∷ []) (before.greatest_freeze + 1) e g (record {
+      queues = All-push (λ (x : Freeze). x.queue.0 < queue_count setup) before.freezes f kept.queues known;
+      a_queue = λ q. omega (arith, frozen_push q before.freezes f, one_more q);
+      ledger = omega (arith, room.ledger, length-append before.freezes (f ∷ []));
+      numbered = numbered_push 0 before.freezes before.greatest_freeze f kept.numbered refl;
+      numbers = omega (arith, room.numbers);
+    })
+freezes_kept setup before after (freeze_leaves number freeze entry e g) kept =
+    let is = entry_bounds 0 before.freezes before.greatest_freeze number freeze kept.numbered entry in
+    freezes_from setup after (without freeze.number before.freezes) before.greatest_freeze e g (record {
+      queues = All-filter (λ (x : Freeze). not (eqb x.number freeze.number)) (λ (x : Freeze). x.queue.0 < queue_count setup) before.freezes kept.queues;
+      a_queue = λ q. omega (arith, kept.a_queue q, frozen_without q 0 before.freezes before.greatest_freeze freeze.number freeze kept.numbered (subst (λ (n : ℕ). entry_of n before.freezes ≡ Some freeze) (sym is.0) entry));
+      ledger = omega (arith, kept.ledger, length_without freeze.number before.freezes);
+      numbered = numbered_without 0 before.freezes before.greatest_freeze freeze.number kept.numbered;
+      numbers = kept.numbers;
+    })
+
+-- what the limits of CCBs speak of
+abbrev CcbsWithin : Setup → List ℕ → List LiveCcb → ℕ → Type 0
+CcbsWithin setup openings live greatest = CcbLimits setup (record (opening setup) { live = live; openings = openings; greatest_ccb = greatest })
+
+ccbs_from : (setup : Setup) (world : World) (openings : List ℕ) (live : List LiveCcb) (greatest : ℕ) → world.openings ≡ openings → world.live ≡ live → world.greatest_ccb ≡ greatest → CcbsWithin setup openings live greatest → CcbLimits setup world
+ccbs_from setup world openings live greatest o e g kept =
+    record {
+      queues = rw e kept.queues;
+      a_queue = λ q. rw e (kept.a_queue q);
+      active = λ q. rw (o, e) (kept.active q);
+      openings = rw o kept.openings;
+      all = rw e kept.all;
+      rising = rw (e, g) kept.rising;
+      numbers = rw g kept.numbers;
+    }
+
+-- below every limit of CCBs
+record CcbRoom (queue : ℕ) (world : World) : Type 0 where
+  a_queue : live_count queue world.live < 256
+  all : length world.live < 4096
+  numbers : world.greatest_ccb < 4294967295
+
+ccb_room : (queue : ℕ) (world : World) → ccb_meets_limit queue world ≡ false → CcbRoom queue world
+ccb_room queue world e =
+    let outer = or_parts _ _ e in
+    let inner = or_parts _ _ outer.0 in
+    record { a_queue = leb-false _ _ inner.0; all = leb-false _ _ inner.1; numbers = leb-false _ _ outer.1 }
+
+abbrev works : ℕ → LiveCcb → Bool
+works q c = is_of q c && is_active c.state
+
+pub ccbs_kept : (setup : Setup) (before after : World) → CcbMove setup before after → after.openings ≡ before.openings → CcbLimits setup before → CcbLimits setup after
+ccbs_kept setup before after (ccbs_stay e g) o kept =
+    ccbs_from setup after before.openings before.live before.greatest_ccb o e g (record { queues = kept.queues; a_queue = kept.a_queue; active = kept.active; openings = kept.openings; all = kept.all; rising = kept.rising; numbers = kept.numbers })
+ccbs_kept setup before after (ccb_enters queue priority retries known full e g) o kept =
+    let c : LiveCcb = record { ccb = submitted (record { 0 = before.greatest_ccb + 1 }) (record { 0 = queue }) priority retries; state = waiting } in
+    let room = ccb_room queue before full in
+    let one_more : (q : ℕ) → live_count q before.live + cond {A = ℕ} (eqb queue q) 1 0 ≤ 256 = λ q. elim (cases_eq queue q) [
+      | inl same ↦ let here : live_count q before.live < 256 = subst (λ (x : ℕ). live_count x before.live < 256) same room.a_queue in rw (eq-eqb queue q same) (omega arith)
+      | inr apart ↦ rw (ne_eqb queue q apart) (omega (arith, kept.a_queue q))
+    ] in
+    let none_active : (q : ℕ) → works q c ≡ false = λ q. and_right (is_of q c) false refl in
+    ccbs_from setup after before.openings (before.live ++ c ∷ []) (before.greatest_ccb + 1) o e g (record {
+      queues = All-push (λ (x : LiveCcb). x.ccb.queue.0 < queue_count setup) before.live c kept.queues known;
+      a_queue = λ q. omega (arith, sum_by_push (λ (x : LiveCcb). cond (is_of q x) 1 0) before.live c, one_more q);
+      active = λ q.
+          let none : cond {A = ℕ} (works q c) 1 0 ≡ 0 = ap (λ (b : Bool). cond {A = ℕ} b 1 0) (none_active q) in
+          omega (arith, sum_by_push (λ (x : LiveCcb). cond (works q x) 1 0) before.live c, none, kept.active q);
+      openings = kept.openings;
+      all = omega (arith, room.all, length-append before.live (c ∷ []));
+      rising = rising_push ccb_key 0 before.live before.greatest_ccb c kept.rising refl;
+      numbers = omega (arith, room.numbers);
+    })
+ccbs_kept setup before after (ccb_changes old new found queue_is active_or_not e g) o kept =
+    let of_old : (q : ℕ) → is_of q new ≡ is_of q old = λ q. ap (λ (x : ℕ). eqb x q) queue_is in
+    let known : new.ccb.queue.0 < queue_count setup = rw queue_is (all_found ccb_key (λ (x : LiveCcb). x.ccb.queue.0 < queue_count setup) new.ccb.number.0 before.live old kept.queues found) in
+    let moved : (p : LiveCcb → Bool) → count_by p (with_ccb new before.live) + cond (p old) 1 0 ≡ count_by p before.live + cond (p new) 1 0 = λ p.
+    count_put ccb_key p 0 before.live before.greatest_ccb new old kept.rising found in
+    ccbs_from setup after before.openings (with_ccb new before.live) before.greatest_ccb o e g (record {
+      queues = all_put ccb_key (λ (x : LiveCcb). x.ccb.queue.0 < queue_count setup) new before.live known kept.queues;
+      a_queue = λ q.
+          let same : cond {A = ℕ} (is_of q new) 1 0 ≡ cond (is_of q old) 1 0 = ap (λ (b : Bool). cond {A = ℕ} b 1 0) (of_old q) in
+          omega (arith, moved (is_of q), same, kept.a_queue q);
+      active = λ q.
+          elim active_or_not [
+            | inl idle ↦
+                let none : cond {A = ℕ} (works q new) 1 0 ≡ 0 = ap (λ (b : Bool). cond {A = ℕ} b 1 0) (and_right (is_of q new) (is_active new.state) idle) in
+                omega (arith, moved (works q), none, kept.active q)
+            | inr free ↦
+                elim (cases_eq new.ccb.queue.0 q) [
+                  | inl same ↦
+                      let here : active_count q before.live < slice_index before.openings q = subst (λ (x : ℕ). active_count x before.live < slice_index before.openings x) same free in
+                      let most : cond {A = ℕ} (works q new) 1 0 ≤ 1 = at_most_one (works q new) in
+                      omega (arith, moved (works q), most, here)
+                  | inr apart ↦
+                      let none : cond {A = ℕ} (works q new) 1 0 ≡ 0 = ap (λ (b : Bool). cond {A = ℕ} b 1 0) (and_left (is_of q new) (is_active new.state) (ne_eqb _ _ apart)) in
+                      omega (arith, moved (works q), none, kept.active q)
+                ]
+          ];
+      openings = kept.openings;
+      all = omega (arith, put_length ccb_key new before.live, kept.all);
+      rising = rw (put_keys ccb_key new before.live) kept.rising;
+      numbers = kept.numbers;
+    })
+  where
+    at_most_one : (b : Bool) → cond {A = ℕ} b 1 0 ≤ 1
+    at_most_one true = omega arith
+    at_most_one false = omega arith
+ccbs_kept setup before after (ccb_leaves number old found e g) o kept =
+    ccbs_from setup after before.openings (leave ccb_key number before.live) before.greatest_ccb o e g (record {
+      queues = All-filter (λ (x : LiveCcb). not (eqb x.ccb.number.0 number)) (λ (x : LiveCcb). x.ccb.queue.0 < queue_count setup) before.live kept.queues;
+      a_queue = λ q. omega (arith, kept.a_queue q, count_leave ccb_key (is_of q) before.live number);
+      active = λ q. omega (arith, kept.active q, count_leave ccb_key (works q) before.live number);
+      openings = kept.openings;
+      all = omega (arith, kept.all, length-filter (λ (x : LiveCcb). not (eqb x.ccb.number.0 number)) before.live, count_by-le-length (λ (x : LiveCcb). not (eqb x.ccb.number.0 number)) before.live);
+      rising = rising_leave ccb_key 0 before.live before.greatest_ccb number kept.rising;
+      numbers = kept.numbers;
+    })
+
+-- what the limits of runs speak of
+abbrev RunsWithin : Setup → List LiveRun → ℕ → Type 0
+RunsWithin setup runs greatest = RunLimits setup (record (opening setup) { runs = runs; greatest_run = greatest })
+
+runs_from : (setup : Setup) (world : World) (runs : List LiveRun) (greatest : ℕ) → world.runs ≡ runs → world.greatest_run ≡ greatest → RunsWithin setup runs greatest → RunLimits setup world
+runs_from setup world runs greatest e g kept =
+    record { queues = rw e kept.queues; programs = rw e kept.programs; all = rw e kept.all; rising = rw (e, g) kept.rising; numbers = rw g kept.numbers }
+
+abbrev IsKnown : Setup → LiveRun → Type 0
+IsKnown setup run = run.queue < queue_count setup
+
+abbrev IsOfProgram : Setup → LiveRun → Type 0
+IsOfProgram setup run = run.program ≡ (queue_setup setup run.queue).program
+
+pub runs_kept : (setup : Setup) (before after : World) → RunMove setup before after → RunLimits setup before → RunLimits setup after
+runs_kept setup before after (runs_stay e g) kept =
+    runs_from setup after before.runs before.greatest_run e g (record { queues = kept.queues; programs = kept.programs; all = kept.all; rising = kept.rising; numbers = kept.numbers })
+runs_kept setup before after (run_enters run number known program full e g) kept =
+    let parts = or_parts _ _ full in
+    let most : length before.runs < 256 = leb-false _ _ parts.0 in
+    let left : before.greatest_run < 4294967295 = leb-false _ _ parts.1 in
+    runs_from setup after (before.runs ++ run ∷ []) (before.greatest_run + 1) e g (record {
+      queues = All-push (IsKnown setup) before.runs run kept.queues known;
+      programs = All-push (IsOfProgram setup) before.runs run kept.programs program;
+      all = omega (arith, most, length-append before.runs (run ∷ []));
+      rising = rising_push run_key 0 before.runs before.greatest_run run kept.rising number;
+      numbers = omega (arith, left);
+    })
+runs_kept setup before after (run_changes run machine found e g) kept =
+    let changed : LiveRun = record run { machine = machine } in
+    runs_from setup after (put run_key changed before.runs) before.greatest_run e g (record {
+      queues = all_put run_key (IsKnown setup) changed before.runs (all_found run_key (IsKnown setup) run.number before.runs run kept.queues found) kept.queues;
+      programs = all_put run_key (IsOfProgram setup) changed before.runs (all_found run_key (IsOfProgram setup) run.number before.runs run kept.programs found) kept.programs;
+      all = omega (arith, put_length run_key changed before.runs, kept.all);
+      rising = rw (put_keys run_key changed before.runs) kept.rising;
+      numbers = kept.numbers;
+    })
+runs_kept setup before after (run_leaves run found e g) kept =
+    runs_from setup after (leave run_key run.number before.runs) before.greatest_run e g (record {
+      queues = All-filter (λ (x : LiveRun). not (eqb x.number run.number)) (IsKnown setup) before.runs kept.queues;
+      programs = All-filter (λ (x : LiveRun). not (eqb x.number run.number)) (IsOfProgram setup) before.runs kept.programs;
+      all = omega (arith, kept.all, length-filter (λ (x : LiveRun). not (eqb x.number run.number)) before.runs, count_by-le-length (λ (x : LiveRun). not (eqb x.number run.number)) before.runs);
+      rising = rising_leave run_key 0 before.runs before.greatest_run run.number kept.rising;
+      numbers = kept.numbers;
+    })
+
+-- the queue of a live CCB exists
+pub known_queue : (setup : Setup) (world : World) → CcbLimits setup world → (number : ℕ) (live : LiveCcb) → ccb_of number world.live ≡ Some live → live.ccb.queue.0 < queue_count setup
+known_queue setup world kept number live found = all_found ccb_key (λ (x : LiveCcb). x.ccb.queue.0 < queue_count setup) number world.live live kept.queues found
+
+pub case_keeps : (setup : Setup) (before : World) (event : Event) (reply : Reply) (after : World) → Case setup before event reply after → KeepsLimits setup before → KeepsLimits setup after
+case_keeps setup before event reply after it kept =
+    let known = known_queue setup before kept.ccbs in
+    record {
+      freezes = freezes_kept setup before after (freeze_move setup before event reply after known it) kept.freezes;
+      ccbs = ccbs_kept setup before after (ccb_move setup before event reply after kept.ccbs.rising it) (openings_stay setup before event reply after it) kept.ccbs;
+      runs = runs_kept setup before after (run_move setup before event reply after known it) kept.runs;
+    }
+
+pub step_keeps : (setup : Setup) (before : World) (event : Event) (reply : Reply) (after : World) → WorldStep setup before event reply after → KeepsLimits setup before → KeepsLimits setup after
+step_keeps setup before event reply after e kept = case_keeps setup before event reply after (case_of setup before event reply after e) kept
+
+pub opening_keeps : (setup : Setup) → KeepsLimits setup (opening setup)
+opening_keeps setup =
+    record {
+      freezes = record { queues = λ k d below. absurd (omega arith); a_queue = λ q. omega arith; ledger = omega arith; numbered = omega arith; numbers = omega arith };
+      ccbs = record { queues = λ k d below. absurd (omega arith); a_queue = λ q. omega arith; active = λ q. omega arith; openings = refl; all = omega arith; rising = omega arith; numbers = omega arith };
+      runs = record { queues = λ k d below. absurd (omega arith); programs = λ k d below. absurd (omega arith); all = omega arith; rising = omega arith; numbers = omega arith };
+    }

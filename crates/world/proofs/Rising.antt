@@ -1,0 +1,118 @@
+-- What rising numbers say of a list: numbers tell its elements apart, so a change of one by its number is a change of
+-- one alone.
+use Rattle.std.proofs.Common.{◌≡◌, ℕ, ◌+◌, ◌<◌, ◌≤◌, List, [], ◌∷◌, ◌++◌, map, length, Bool, true, false, not, cond, eqb, Option, Some, None, ◌⊎◌, inl, inr, refl, ap, sym, subst, ◌∙◌, arith}
+use Rattle.std.specs.List.{find, filter, count_by}
+use Rattle.std.proofs.lemmas.Bool.{cases_Bool, cases_eq, cond-true, cond-false, cond_both, eq-eqb, ne_eqb, eqb-true, eqb-false, not_from_true, not_from_false, not-true}
+use Rattle.std.proofs.lemmas.List.Sums.{sum_by-cons}
+use Rattle.world.specs.Limits.{AreRising}
+use Rattle.world.proofs.Found.{at, put, leave, at_head, at_tail}
+
+pub rising_lower : (low lower : ℕ) (ns : List ℕ) (high : ℕ) → lower ≤ low → AreRising low ns high → AreRising lower ns high
+rising_lower low lower [] high le h = omega arith
+rising_lower low lower (n ∷ ns) high le h = (omega (arith, h.0), h.1)
+
+pub rising_high : (low : ℕ) (ns : List ℕ) (high : ℕ) → AreRising low ns high → low ≤ high
+rising_high low [] high h = h
+rising_high low (n ∷ ns) high h = omega (arith, h.0, rising_high n ns high h.1)
+
+module _ {A : Type 0} (key : A → ℕ) where
+  pub rising_push : (low : ℕ) (xs : List A) (high : ℕ) (y : A) → AreRising low (map key xs) high → key y ≡ high + 1 → AreRising low (map key (xs ++ y ∷ [])) (high + 1)
+  rising_push low [] high y h e = (omega (arith, h, e), omega (arith, e))
+  rising_push low (x ∷ xs) high y h e = (h.0, rising_push (key x) xs high y h.1 e)
+
+  pub rising_leave : (low : ℕ) (xs : List A) (high m : ℕ) → AreRising low (map key xs) high → AreRising low (map key (leave key m xs)) high
+  rising_leave low [] high m h = h
+  rising_leave low (x ∷ xs) high m h =
+      let rest = rising_leave (key x) xs high m h.1 in
+      cond_both (not (eqb (key x) m)) (x ∷ leave key m xs) (leave key m xs) (λ ys. AreRising low (map key ys) high)
+      (λ _. (h.0, rest)) (λ _. rising_lower (key x) low (map key (leave key m xs)) high (omega (arith, h.0)) rest)
+
+  pub found_bounds : (low : ℕ) (xs : List A) (high n : ℕ) (x : A) → AreRising low (map key xs) high → at key n xs ≡ Some x → (low < n) × (n ≤ high)
+  found_bounds low [] high n x h e = absurd (let bad : None ≡ Some x = e in cc)
+  found_bounds low (y ∷ xs) high n x h e =
+      elim (cases_eq (key y) n) [
+        | inl same ↦ (omega (arith, same, h.0), omega (arith, same, rising_high (key y) (map key xs) high h.1))
+        | inr apart ↦
+            let rest = found_bounds (key y) xs high n x h.1 (sym (at_tail key n y xs apart) ∙ e) in
+            (omega (arith, rest.0, h.0), rest.1)
+      ]
+
+  pub missing_low : (low : ℕ) (xs : List A) (high n : ℕ) → n ≤ low → AreRising low (map key xs) high → at key n xs ≡ None
+  missing_low low [] high n le h = refl
+  missing_low low (y ∷ xs) high n le h =
+      at_tail key n y xs (λ e. omega (arith, e, le, h.0)) ∙ missing_low (key y) xs high n (omega (arith, le, h.0)) h.1
+
+  pub missing_high : (low : ℕ) (xs : List A) (high n : ℕ) → high < n → AreRising low (map key xs) high → at key n xs ≡ None
+  missing_high low [] high n lt h = refl
+  missing_high low (y ∷ xs) high n lt h =
+      at_tail key n y xs (λ e. omega (arith, e, lt, rising_high (key y) (map key xs) high h.1)) ∙ missing_high (key y) xs high n lt h.1
+
+  -- nothing is changed where all numbers are above
+  pub put_low : (low : ℕ) (xs : List A) (high : ℕ) (c : A) → key c ≤ low → AreRising low (map key xs) high → put key c xs ≡ xs
+  put_low low [] high c le h = refl
+  put_low low (y ∷ xs) high c le h =
+      ap (λ (z : A). z ∷ put key c xs) (cond-false (eqb (key y) (key c)) c y (ne_eqb _ _ (λ e. omega (arith, e, le, h.0))))
+      ∙ ap (λ (zs : List A). y ∷ zs) (put_low (key y) xs high c (omega (arith, le, h.0)) h.1)
+
+  pub leave_low : (low : ℕ) (xs : List A) (high m : ℕ) → m ≤ low → AreRising low (map key xs) high → leave key m xs ≡ xs
+  leave_low low [] high m le h = refl
+  leave_low low (y ∷ xs) high m le h =
+      cond-true (not (eqb (key y) m)) _ _ (not_from_false _ (ne_eqb _ _ (λ e. omega (arith, e, le, h.0))))
+      ∙ ap (λ (zs : List A). y ∷ zs) (leave_low (key y) xs high m (omega (arith, le, h.0)) h.1)
+
+  abbrev one : Bool → ℕ
+  one b = cond b 1 0
+
+  -- a change of one moves a count by that one alone
+  pub count_put : (p : A → Bool) (low : ℕ) (xs : List A) (high : ℕ) (c x : A) → AreRising low (map key xs) high → at key (key c) xs ≡ Some x → count_by p (put key c xs) + cond (p x) 1 0 ≡ count_by p xs + cond (p c) 1 0
+  count_put p low [] high c x h e = absurd (let bad : None ≡ Some x = e in cc)
+  count_put p low (y ∷ xs) high c x h e =
+      let all = sum_by-cons (λ (z : A). cond (p z) 1 0) y xs in
+      elim (cases_eq (key y) (key c)) [
+        | inl same ↦
+            let both : Some y ≡ Some x = sym (at_head key (key c) y xs same) ∙ e in
+            let is : y ≡ x = cc in
+            let now : put key c (y ∷ xs) ≡ c ∷ xs =
+            ap (λ (z : A). z ∷ put key c xs) (cond-true (eqb (key y) (key c)) c y (eq-eqb _ _ same))
+            ∙ ap (λ (zs : List A). c ∷ zs) (put_low (key y) xs high c (omega (arith, same)) h.1) in
+            let left : count_by p (put key c (y ∷ xs)) ≡ count_by p (c ∷ xs) = ap (count_by p) now in
+            let after = sum_by-cons (λ (z : A). cond (p z) 1 0) c xs in
+            let one_is : cond {A = ℕ} (p y) 1 0 ≡ cond (p x) 1 0 = ap (λ (z : A). cond {A = ℕ} (p z) 1 0) is in
+            omega (arith, all, left, after, one_is)
+        | inr apart ↦
+            let rest = count_put p (key y) xs high c x h.1 (sym (at_tail key (key c) y xs apart) ∙ e) in
+            let now : put key c (y ∷ xs) ≡ y ∷ put key c xs = ap (λ (z : A). z ∷ put key c xs) (cond-false (eqb (key y) (key c)) c y (ne_eqb _ _ apart)) in
+            let left : count_by p (put key c (y ∷ xs)) ≡ count_by p (y ∷ put key c xs) = ap (count_by p) now in
+            let after = sum_by-cons (λ (z : A). cond (p z) 1 0) y (put key c xs) in
+            omega (arith, all, rest, left, after)
+      ]
+
+  -- one fewer takes at most from a count
+  pub count_leave : (p : A → Bool) (xs : List A) (m : ℕ) → count_by p (leave key m xs) ≤ count_by p xs
+  count_leave p [] m = omega arith
+  count_leave p (y ∷ xs) m =
+      let rest = count_leave p xs m in
+      let all = sum_by-cons (λ (z : A). cond (p z) 1 0) y xs in
+      let after = sum_by-cons (λ (z : A). cond (p z) 1 0) y (leave key m xs) in
+      cond_both (not (eqb (key y) m)) (y ∷ leave key m xs) (leave key m xs) (λ ys. count_by p ys ≤ count_by p (y ∷ xs))
+      (λ _. omega (arith, rest, all, after)) (λ _. omega (arith, rest, all))
+
+  -- what a search among some of the elements finds is what its number finds
+  pub found_among : (test some : A → Bool) (low : ℕ) (xs : List A) (high : ℕ) (x : A) → AreRising low (map key xs) high → find test (filter some xs) ≡ Some x → (at key (key x) xs ≡ Some x) × (some x ≡ true)
+  found_among test some low [] high x h e = absurd (let bad : None ≡ Some x = e in cc)
+  found_among test some low (y ∷ xs) high x h e =
+      let later : find test (filter some xs) ≡ Some x → (at key (key x) (y ∷ xs) ≡ Some x) × (some x ≡ true) = λ l.
+      let it = found_among test some (key y) xs high x h.1 l in
+      (at_tail key (key x) y xs (λ same. omega (arith, same, (found_bounds (key y) xs high (key x) x h.1 it.0).0)) ∙ it.0, it.1) in
+      elim (cases_Bool (some y)) [
+        | inl is_one ↦
+            let listed : find test (y ∷ filter some xs) ≡ Some x = sym (ap (find test) (cond-true (some y) (y ∷ filter some xs) (filter some xs) is_one)) ∙ e in
+            elim (cases_Bool (test y)) [
+              | inl passes ↦
+                  let both : Some y ≡ Some x = sym (cond-true (test y) (Some y) (find test (filter some xs)) passes) ∙ listed in
+                  let is : y ≡ x = cc in
+                  (at_head key (key x) y xs (ap key is) ∙ both, subst (λ (z : A). some z ≡ true) is is_one)
+              | inr fails ↦ later (sym (cond-false (test y) (Some y) (find test (filter some xs)) fails) ∙ listed)
+            ]
+        | inr is_none ↦ later (sym (ap (find test) (cond-false (some y) (y ∷ filter some xs) (filter some xs) is_none)) ∙ e)
+      ]

@@ -1,0 +1,147 @@
+-- A worked run: a CCB times out, its queue is frozen, and the queue's program gives the freeze back and makes the CCB
+-- wait again.
+use Rattle.std.proofs.Common.{◌≡◌, false, List, [], ◌∷◌, Ok, refl}
+use Rattle.ccb.specs.declared.status.CamStatus.TheVariants.{CommandTimeout, RequestInProgress}
+use Rattle.freeze_ledger.specs.declared.entries.Holder.TheVariants.{Run}
+use Rattle.helpers.specs.declared.limits.HelperLimits.{HelperLimits}
+use Rattle.world.specs.declared.history.Completed.TheVariants.{Started}
+use Rattle.world.specs.declared.history.StoppedAt.TheVariants.{Release, Requeue, Exit}
+use Rattle.world.specs.declared.history.Record.{Record}
+use Rattle.world.specs.declared.history.Record.TheVariants.{Submit, Dispatch, Complete, Advance}
+use Rattle.world.specs.World.{waiting, World, opening}
+use Rattle.world.specs.Event.{release, requeue, private, call, exit, Event, submit, dispatch, complete, executes, Reply, ccb_given, run_started, went_on, result}
+use Rattle.world.specs.Run.{WorldRun}
+use Rattle.world.specs.TookGave.{took, gave}
+use Rattle.world.specs.Flat.{flat}
+use Rattle.world.specs.TotalsOf.{TotalsOf}
+use Rattle.world.proofs.Worked.{one_queue, outcome_of, next}
+
+abbrev submitted_one : HelperLimits → World
+submitted_one l = next (one_queue l) (opening (one_queue l)) (submit 0 10 3)
+
+abbrev started_one : HelperLimits → World
+started_one l = next (one_queue l) (submitted_one l) (dispatch 0)
+
+abbrev failed : HelperLimits → World
+failed l = next (one_queue l) (started_one l) (complete (outcome_of 1 CommandTimeout))
+
+abbrev at_release : HelperLimits → World
+at_release l = next (one_queue l) (next (one_queue l) (failed l) (executes 1 private)) (executes 1 private)
+
+abbrev released : HelperLimits → World
+released l = next (one_queue l) (at_release l) (executes 1 (call release))
+
+abbrev at_requeue : HelperLimits → World
+at_requeue l = next (one_queue l) (released l) (executes 1 private)
+
+abbrev requeued_one : HelperLimits → World
+requeued_one l = next (one_queue l) (at_requeue l) (executes 1 (call requeue))
+
+abbrev at_exit : HelperLimits → World
+at_exit l = next (one_queue l) (requeued_one l) (executes 1 private)
+
+-- at the end no freeze is there and no run, and the CCB waits, started once, with one retry fewer
+abbrev at_end : World
+at_end = record {
+  live = record {
+    ccb = record {
+      number = record { 0 = 1 };
+      queue = record { 0 = 0 };
+      priority = 10;
+      retries = 2;
+      attempts = 1;
+      status = RequestInProgress;
+      scsi = 0;
+      sense = [];
+      freeze_taken = false;
+    };
+    state = waiting;
+  } ∷ [];
+  ended = [];
+  freezes = [];
+  runs = [];
+  openings = 2 ∷ [];
+  greatest_ccb = 1;
+  greatest_run = 1;
+  greatest_freeze = 1;
+}
+
+-- the six records that a transport makes of it
+abbrev records : List Record
+records =
+    Submit (record { 0 = 0 }) 10 3 (Ok (record { 0 = 1 }))
+    ∷ Dispatch (record { 0 = 0 }) (Ok (record { 0 = 1 }))
+    ∷ Complete (outcome_of 1 CommandTimeout) (Ok (Started 1 1))
+    ∷ Advance 1 3 Release 0
+    ∷ Advance 1 2 Requeue 0
+    ∷ Advance 1 2 Exit 0 ∷ []
+
+abbrev events : List (Event × Reply)
+events =
+    (submit 0 10 3, ccb_given 1)
+    ∷ (dispatch 0, ccb_given 1)
+    ∷ (complete (outcome_of 1 CommandTimeout), run_started 1 1)
+    ∷ (executes 1 private, went_on) ∷ (executes 1 private, went_on) ∷ (executes 1 (call release), result 0)
+    ∷ (executes 1 private, went_on) ∷ (executes 1 (call requeue), result 0)
+    ∷ (executes 1 private, went_on) ∷ (executes 1 exit, result 0) ∷ []
+
+what_they_stand_for : flat records ≡ events
+what_they_stand_for = refl
+
+it_runs : (l : HelperLimits) → WorldRun (one_queue l) events at_end
+it_runs l = (
+  submitted_one l,
+  refl,
+  (
+    started_one l,
+    refl,
+    (
+      failed l,
+      refl,
+      (
+        next (one_queue l) (failed l) (executes 1 private),
+        refl,
+        (
+          at_release l,
+          refl,
+          (
+            released l,
+            refl,
+            (
+              at_requeue l,
+              refl,
+              (
+                requeued_one l,
+                refl,
+                (
+                  at_exit l,
+                  refl,
+                  (
+                    at_end,
+                    refl,
+                    refl,
+                  ),
+                ),
+              ),
+            ),
+          ),
+        ),
+      ),
+    ),
+  ),
+)
+
+its_totals : (l : HelperLimits) → TotalsOf (one_queue l) records (record { history = 6; frozen = 0; active = 0; runs = 0 })
+its_totals l = (at_end, it_runs l, refl)
+
+-- the run got freeze 1 at its start, and gave it up
+it_took : took 1 events ≡ 1 ∷ []
+it_took = refl
+
+it_gave : (l : HelperLimits) → gave 1 (one_queue l) (opening (one_queue l)) events at_end (it_runs l) ≡ 1 ∷ []
+unfolding it_runs
+it_gave l = refl
+
+-- in between the queue was frozen by the run, and its CCB was in recovery
+its_freeze : (l : HelperLimits) → (failed l).freezes ≡ record { number = 1; queue = record { 0 = 0 }; holder = Run 1 } ∷ []
+its_freeze l = refl

@@ -1,0 +1,121 @@
+-- The laws of frozen counts and freezes: what holds in every run of every setup.
+use Rattle.std.specs.Prelude.{◌≡◌, ℕ, ◌+◌, ◌==◌, true, if◌then◌else◌, List, [], ◌∷◌, ◌++◌, map, filter, IsSome, Some}
+use Rattle.freeze_ledger.specs.declared.entries.Freeze.{Freeze}
+use Rattle.freeze_ledger.specs.Freezes.{frozen, entry_of}
+use Rattle.ccb.specs.Completion.{Outcome}
+use Rattle.helpers.specs.declared.call.Request.TheVariants.{Release}
+use Rattle.bpf_machine.specs.Step.{request_at}
+use Rattle.world.specs.World.{Setup, LiveCcb, LiveRun, World}
+use Rattle.world.specs.Lookups.{ccb_of, run_of}
+use Rattle.world.specs.Event.{release, requeue, private, call, exit, Event, submit, dispatch, complete, guest_freeze, guest_release, executes, Reply, ccb_given, done, run_started, freeze_given, count_left, went_on, result, refused}
+use Rattle.world.specs.RunSteps.{is_run}
+use Rattle.world.specs.Step.{WorldStep}
+use Rattle.world.specs.Run.{Leads, WorldRun}
+
+-- a freeze of that number is there
+abbrev pub IsHeld : ℕ → World → Type 0
+IsHeld number world = IsSome (entry_of number world.freezes)
+
+-- no freeze came or went
+abbrev pub KeepsFreezes : World → World → Type 0
+KeepsFreezes before after = after.freezes ≡ before.freezes
+
+-- one freeze more of that queue, and of any other as many as before
+abbrev pub OneMore : World → ℕ → World → Type 0
+OneMore before queue after =
+    (other : ℕ) → frozen other after.freezes ≡ frozen other before.freezes + (if queue == other then 1 else 0)
+
+-- The freeze of that number went: one fewer of its queue, of any other as many as before, and `count` is how many
+-- entries name its queue now.
+pub record OneFewer (before : World) (number count : ℕ) (after : World) : Type 0 where
+  pub freeze : Freeze
+  pub entry : entry_of number before.freezes ≡ Some freeze
+  pub count_is : count ≡ frozen freeze.queue.0 after.freezes
+  pub fewer : (other : ℕ) → frozen other after.freezes + (if freeze.queue.0 == other then 1 else 0) ≡ frozen other before.freezes
+
+-- a guest's freeze, by its reply
+abbrev pub MovesByFreeze : World → ℕ → Reply → World → Type 0
+MovesByFreeze before queue (freeze_given number) after = OneMore before queue after
+MovesByFreeze before queue (refused refusal) after = after ≡ before
+MovesByFreeze before queue (ccb_given ccb) after = ⊥
+MovesByFreeze before queue done after = ⊥
+MovesByFreeze before queue (run_started run freeze) after = ⊥
+MovesByFreeze before queue (count_left count) after = ⊥
+MovesByFreeze before queue went_on after = ⊥
+MovesByFreeze before queue (result r0) after = ⊥
+
+-- a completion, by its reply: one more of the CCB's queue where a run started with a freeze, which has a number above 0
+abbrev pub MovesByCompletion : World → Outcome → Reply → World → Type 0
+MovesByCompletion before outcome (run_started run freeze) after =
+    (live : LiveCcb) × (ccb_of outcome.ccb.0 before.live ≡ Some live)
+    × ((other : ℕ) →
+    frozen other after.freezes
+    ≡ frozen other before.freezes + (if freeze == 0 then 0 else if live.ccb.queue.0 == other then 1 else 0))
+MovesByCompletion before outcome done after = KeepsFreezes before after
+MovesByCompletion before outcome (refused refusal) after = after ≡ before
+MovesByCompletion before outcome (ccb_given ccb) after = ⊥
+MovesByCompletion before outcome (freeze_given number) after = ⊥
+MovesByCompletion before outcome (count_left count) after = ⊥
+MovesByCompletion before outcome went_on after = ⊥
+MovesByCompletion before outcome (result r0) after = ⊥
+
+-- the freeze that the run asks to give back
+abbrev pub AsksFor : World → ℕ → ℕ → Type 0
+AsksFor world run number =
+    (it : LiveRun) × (run_of run world.runs ≡ Some it) × (request_at it.program it.machine ≡ Some (Release number))
+
+-- What a step does to each queue's frozen count: a freeze that was taken adds one to its queue's, by whomever it was
+-- taken, and one that is given back takes one; the reply to that is the number of entries that name the queue now.
+-- Nothing else changes a count.
+abbrev pub MovesCounts : World → Event → Reply → World → Type 0
+MovesCounts before (guest_freeze queue guest) reply after = MovesByFreeze before queue reply after
+MovesCounts before (complete outcome) reply after = MovesByCompletion before outcome reply after
+MovesCounts before (guest_release number) reply after =
+    (count : ℕ) × (reply ≡ count_left count) × OneFewer before number count after
+MovesCounts before (executes run (call release)) reply after =
+    (number count : ℕ) × AsksFor before run number × (reply ≡ result count) × OneFewer before number count after
+MovesCounts before (executes run (call requeue)) reply after = KeepsFreezes before after
+MovesCounts before (executes run private) reply after = KeepsFreezes before after
+MovesCounts before (executes run exit) reply after = KeepsFreezes before after
+MovesCounts before (submit queue priority retries) reply after = KeepsFreezes before after
+MovesCounts before (dispatch queue) reply after = KeepsFreezes before after
+
+-- at every moment of every run each frozen count moves as its entries do
+abbrev pub CountsAreEntries : Type 0
+CountsAreEntries =
+    (setup : Setup) (xs : List (Event × Reply)) (before : World) → WorldRun setup xs before →
+    (event : Event) (reply : Reply) (after : World) → WorldStep setup before event reply after → MovesCounts before event reply after
+
+-- a number that a guest gave up is never held again
+abbrev pub GivenUpStaysGivenUp : Type 0
+GivenUpStaysGivenUp =
+    (setup : Setup) (xs ys : List (Event × Reply)) (number : ℕ) (reply : Reply) (world : World) →
+    WorldRun setup (xs ++ (guest_release number, reply) ∷ ys) world → IsHeld number world → ⊥
+
+-- nor is one that a run gave up
+abbrev pub GivenUpByRunStaysGivenUp : Type 0
+GivenUpByRunStaysGivenUp =
+    (setup : Setup) (xs ys : List (Event × Reply)) (run number : ℕ) (reply : Reply) (before world : World) →
+    WorldRun setup xs before → AsksFor before run number →
+    Leads setup before ((executes run (call release), reply) ∷ ys) world → IsHeld number world → ⊥
+
+-- a number whose freeze is gone never has one again
+abbrev pub GoneStaysGone : Type 0
+GoneStaysGone =
+    (setup : Setup) (xs ys zs : List (Event × Reply)) (number : ℕ) (held gone later : World) →
+    WorldRun setup xs held → IsHeld number held →
+    Leads setup held ys gone → (IsHeld number gone → ⊥) →
+    Leads setup gone zs later → IsHeld number later → ⊥
+
+-- the numbers of the freezes that a run holds, in their order
+abbrev pub held_by : ℕ → List Freeze → List ℕ
+held_by run freezes = map (λ freeze. freeze.number) (filter (λ freeze. is_run run freeze.holder) freezes)
+
+-- What the machine of each live run holds is what the entries say that the run holds, and no entry names a run that is
+-- not live.
+pub record HoldsWhatEntriesSay (world : World) : Type 0 where
+  pub machines : (number : ℕ) (run : LiveRun) → run_of number world.runs ≡ Some run → run.machine.held ≡ held_by number world.freezes
+  pub entries : (number run : ℕ) (freeze : Freeze) → entry_of number world.freezes ≡ Some freeze → is_run run freeze.holder ≡ true → IsSome (run_of run world.runs)
+
+abbrev pub HeldAreEntries : Type 0
+HeldAreEntries = (setup : Setup) (xs : List (Event × Reply)) (world : World) → WorldRun setup xs world → HoldsWhatEntriesSay world

@@ -1,0 +1,41 @@
+-- What becomes of the freezes: a new one and one fewer, and what guests do with theirs.
+use Rattle.std.specs.Prelude.{ℕ, ◌+◌, Bool, true, false, if◌then◌else◌, nat_le, [], ◌∷◌, ◌++◌, Option, Some, None}
+use Rattle.freeze_ledger.specs.declared.entries.Holder.{Holder}
+use Rattle.freeze_ledger.specs.declared.entries.Holder.TheVariants.{Run, Timer, Guest}
+use Rattle.freeze_ledger.specs.declared.entries.Freeze.{Freeze}
+use Rattle.freeze_ledger.specs.Freezes.{frozen, meets_limit, without}
+use Rattle.world.specs.declared.history.Refusal.TheVariants.{Unknown, Limit}
+use Rattle.world.specs.World.{Setup, queue_count, World}
+use Rattle.world.specs.Event.{Reply, freeze_given, count_left, refused}
+
+abbrev pub is_guest : Holder → Bool
+is_guest (Run run) = false
+is_guest (Timer due) = false
+is_guest (Guest guest) = true
+
+-- with a new freeze of the queue, under the number after the greatest given
+abbrev pub froze : World → ℕ → Holder → World
+froze world queue holder =
+    let number = world.greatest_freeze + 1 in
+    record world {
+      freezes = world.freezes ++ record { number = number; queue = record { 0 = queue }; holder = holder } ∷ [];
+      greatest_freeze = number;
+    }
+
+-- without the freeze of this number
+abbrev pub thawed : World → ℕ → World
+thawed world number = record world { freezes = without number world.freezes }
+
+-- C1 where there is no such queue, C2 where a further freeze meets a limit, else a new freeze
+abbrev pub step_guest_freeze : Setup → World → ℕ → ℕ → Reply × World
+step_guest_freeze setup world queue guest =
+    if nat_le (queue_count setup) queue then (refused Unknown, world)
+    else if meets_limit queue world.freezes world.greatest_freeze then (refused Limit, world)
+    else (freeze_given (world.greatest_freeze + 1), froze world queue (Guest guest))
+
+-- no event unless a guest holds a freeze of that number; it goes
+abbrev pub step_guest_release : World → Option Freeze → Option (Reply × World)
+step_guest_release world None = None
+step_guest_release world (Some freeze) =
+    let after = thawed world freeze.number in
+    if is_guest freeze.holder then Some (count_left (frozen freeze.queue.0 after.freezes), after) else None

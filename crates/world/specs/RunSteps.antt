@@ -1,0 +1,69 @@
+-- What one instruction of a run does: to its own machine, and by a helper call or its exit to the world.
+use Rattle.std.specs.Prelude.{ℕ, Bool, false, not, ◌&&◌, ◌==◌, if◌then◌else◌, nat_le, Option, Some, None, filter}
+use Rattle.std.specs.Option.{option_map, option_and_then}
+use Rattle.ccb.specs.ControlBlock.{requeued}
+use Rattle.freeze_ledger.specs.declared.entries.Holder.{Holder}
+use Rattle.freeze_ledger.specs.declared.entries.Holder.TheVariants.{Run, Timer, Guest}
+use Rattle.freeze_ledger.specs.declared.entries.Freeze.{Freeze}
+use Rattle.freeze_ledger.specs.Freezes.{frozen, entry_of}
+use Rattle.helpers.specs.declared.call.Request.{Request}
+use Rattle.helpers.specs.declared.call.Request.TheVariants.{Release, Requeue}
+use Rattle.bpf_machine.specs.MachineState.{MachineState}
+use Rattle.bpf_machine.specs.Step.{private_step, request_at, exit_at, answered}
+use Rattle.world.specs.World.{waiting, LiveCcb, LiveRun, World}
+use Rattle.world.specs.Lookups.{ccb_of, with_ccb, with_run}
+use Rattle.world.specs.Event.{Helper, release, requeue, Instruction, private, call, exit, Reply, went_on, result}
+use Rattle.world.specs.FreezeSteps.{thawed}
+
+-- the holder is the run of this number
+abbrev pub is_run : ℕ → Holder → Bool
+is_run number (Run run) = run == number
+is_run number (Timer due) = false
+is_run number (Guest guest) = false
+
+-- the run's machine is now this one
+abbrev pub goes_on : World → LiveRun → MachineState → World
+goes_on world run machine = record world { runs = with_run (record run { machine = machine }) world.runs }
+
+-- the run's call is answered by a number in R0
+abbrev pub answers : World → LiveRun → Request → ℕ → Reply × World
+answers world run request r0 = (result r0, goes_on world run (answered request (record { r0 = r0 }) run.machine))
+
+-- no event unless the run holds the freeze; it goes, and the answer is how many its queue has then
+abbrev pub releases : World → LiveRun → Option Freeze → Option (Reply × World)
+releases world run None = None
+releases world run (Some freeze) =
+    let after = thawed world freeze.number in
+    if is_run run.number freeze.holder
+    then Some (answers after run (Release freeze.number) (frozen freeze.queue.0 after.freezes))
+    else None
+
+-- the run's CCB waits again with so many retries fewer
+abbrev pub requeues : World → LiveRun → ℕ → Option LiveCcb → Option (Reply × World)
+requeues world run retries None = None
+requeues world run retries (Some live) =
+    let after = record world { live = with_ccb (record { ccb = requeued live.ccb retries; state = waiting }) world.live } in
+    Some (answers after run (Requeue retries) 0)
+
+-- no event unless the machine stands at a call of this very helper, and the helper's rule holds
+abbrev pub step_call : World → LiveRun → Helper → Request → Option (Reply × World)
+step_call world run release (Release freeze) = releases world run (entry_of freeze world.freezes)
+step_call world run requeue (Requeue retries) =
+    if nat_le retries 1 && not run.machine.disposed then requeues world run retries (ccb_of run.ccb world.live) else None
+step_call world run release (Requeue retries) = None
+step_call world run requeue (Release freeze) = None
+
+-- the run is gone
+abbrev pub ends : World → LiveRun → World
+ends world run = record world { runs = filter (λ other. not (other.number == run.number)) world.runs }
+
+-- no event unless the machine stands at such an instruction
+abbrev pub step_run : World → LiveRun → Instruction → Option (Reply × World)
+step_run world run private = option_map (λ machine. (went_on, goes_on world run machine)) (private_step run.program run.machine)
+step_run world run (call helper) = option_and_then (step_call world run helper) (request_at run.program run.machine)
+step_run world run exit = option_map (λ r0. (result r0, ends world run)) (exit_at run.program run.machine)
+
+-- no event unless the run is live and out
+abbrev pub step_executes : World → Instruction → Option LiveRun → Option (Reply × World)
+step_executes world instruction None = None
+step_executes world instruction (Some run) = if run.out then step_run world run instruction else None

@@ -1,0 +1,54 @@
+-- The freezes that a run got and gave up, read along a run of the world.
+use Rattle.std.specs.Prelude.{ℕ, ◌==◌, ◌&&◌, not, if◌then◌else◌, List, [], ◌∷◌, ◌++◌, Option, Some, None}
+use Rattle.helpers.specs.declared.call.Request.{Request}
+use Rattle.helpers.specs.declared.call.Request.TheVariants.{Release, Requeue}
+use Rattle.bpf_machine.specs.Step.{request_at}
+use Rattle.world.specs.World.{Setup, LiveRun, World}
+use Rattle.world.specs.Lookups.{run_of}
+use Rattle.world.specs.Event.{release, requeue, private, call, exit, Event, submit, dispatch, complete, guest_freeze, guest_release, executes, Reply, ccb_given, done, run_started, freeze_given, count_left, went_on, result, refused}
+use Rattle.world.specs.Run.{Leads}
+
+-- the freeze that a reply gives to this run: that of its start, if it got one
+abbrev pub taken_by : ℕ → Reply → List ℕ
+taken_by run (run_started number freeze) = if number == run && not (freeze == 0) then freeze ∷ [] else []
+taken_by run (ccb_given ccb) = []
+taken_by run done = []
+taken_by run (freeze_given freeze) = []
+taken_by run (count_left count) = []
+taken_by run went_on = []
+taken_by run (result r0) = []
+taken_by run (refused refusal) = []
+
+-- the freeze that a helper call asks to give back
+abbrev pub asked : Option Request → List ℕ
+asked None = []
+asked (Some (Release freeze)) = freeze ∷ []
+asked (Some (Requeue retries)) = []
+
+-- the request at which the run stands
+abbrev pub request_of_run : Option LiveRun → Option Request
+request_of_run None = None
+request_of_run (Some run) = request_at run.program run.machine
+
+-- the freeze that an event takes from this run: that which it gives to helper 2
+abbrev pub given_by : ℕ → World → Event → List ℕ
+given_by run world (executes number (call release)) =
+    if number == run then asked (request_of_run (run_of run world.runs)) else []
+given_by run world (executes number (call requeue)) = []
+given_by run world (executes number private) = []
+given_by run world (executes number exit) = []
+given_by run world (submit queue priority retries) = []
+given_by run world (dispatch queue) = []
+given_by run world (complete outcome) = []
+given_by run world (guest_freeze queue guest) = []
+given_by run world (guest_release freeze) = []
+
+-- all that a run got, in order
+abbrev pub took : ℕ → List (Event × Reply) → List ℕ
+took run [] = []
+took run (x ∷ xs) = taken_by run x.1 ++ took run xs
+
+-- all that it gave up, in order
+abbrev pub gave : ℕ → (setup : Setup) (before : World) (xs : List (Event × Reply)) (after : World) → Leads setup before xs after → List ℕ
+gave run setup before [] after leads = []
+gave run setup before (x ∷ xs) after leads = given_by run before x.0 ++ gave run setup leads.0 xs after leads.2

@@ -13,3 +13,14 @@ pub mod Kept
 pub mod Leads
 pub mod Counts
 pub mod Gone
+pub mod Fates
+pub mod Private
+pub mod Beginnings
+pub mod Reaching
+pub mod HeldBy
+pub mod Held
+pub mod Recovering
+pub mod Sound
+pub mod NeverStuck
+pub mod Lives
+pub mod Headline

@@ -1,11 +1,12 @@
--- The laws of frozen counts and freezes: what holds in every run of every setup.
-use Rattle.std.specs.Prelude.{◌≡◌, ℕ, ◌+◌, ◌==◌, true, if◌then◌else◌, List, [], ◌∷◌, ◌++◌, map, filter, IsSome, Some}
+-- The laws of frozen counts and freezes: what holds in every run of the world.
+use Rattle.std.specs.Prelude.{◌≡◌, ℕ, ◌+◌, ◌==◌, true, if◌then◌else◌, List, ◌∷◌, ◌++◌, map, filter, IsSome, Some}
 use Rattle.freeze_ledger.specs.declared.entries.Freeze.{Freeze}
 use Rattle.freeze_ledger.specs.Freezes.{frozen, entry_of}
 use Rattle.ccb.specs.Completion.{Outcome}
 use Rattle.helpers.specs.declared.call.Request.TheVariants.{Release}
 use Rattle.bpf_machine.specs.Step.{request_at}
 use Rattle.world.specs.World.{Setup, LiveCcb, LiveRun, World}
+use Rattle.world.specs.Lawful.{IsLawful}
 use Rattle.world.specs.Lookups.{ccb_of, run_of}
 use Rattle.world.specs.Event.{release, requeue, private, call, exit, Event, submit, dispatch, complete, guest_freeze, guest_release, executes, Reply, ccb_given, done, run_started, freeze_given, count_left, went_on, result, refused}
 use Rattle.world.specs.RunSteps.{is_run}
@@ -118,4 +119,4 @@ pub record HoldsWhatEntriesSay (world : World) : Type 0 where
   pub entries : (number run : ℕ) (freeze : Freeze) → entry_of number world.freezes ≡ Some freeze → is_run run freeze.holder ≡ true → IsSome (run_of run world.runs)
 
 abbrev pub HeldAreEntries : Type 0
-HeldAreEntries = (setup : Setup) (xs : List (Event × Reply)) (world : World) → WorldRun setup xs world → HoldsWhatEntriesSay world
+HeldAreEntries = (setup : Setup) → IsLawful setup → (xs : List (Event × Reply)) (world : World) → WorldRun setup xs world → HoldsWhatEntriesSay world

@@ -13,4 +13,5 @@ pub mod Flat
 pub mod TotalsOf
 pub mod Limits
 pub mod FreezeLaws
+pub mod Headline
 pub mod RefusalText

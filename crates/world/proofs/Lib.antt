@@ -24,3 +24,4 @@ pub mod Sound
 pub mod NeverStuck
 pub mod Lives
 pub mod Headline
+pub mod Accounts

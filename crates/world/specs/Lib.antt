@@ -14,4 +14,5 @@ pub mod TotalsOf
 pub mod Limits
 pub mod FreezeLaws
 pub mod Headline
+pub mod CcbLaws
 pub mod RefusalText

@@ -1,5 +1,5 @@
 -- The laws of runs, read off their lives.
-use Rattle.std.proofs.Common.{◌≡◌, ℕ, ◌+◌, ◌<◌, ◌≤◌, List, true, false, Some, inl, inr, refl, ap, sym, subst, ◌∙◌, arith}
+use Rattle.std.proofs.Common.{◌≡◌, ℕ, ◌+◌, ◌<◌, ◌≤◌, List, [], ◌∷◌, true, false, Some, None, inl, inr, refl, ap, sym, subst, ◌∙◌, arith}
 use Rattle.std.proofs.lemmas.Bool.{eq-eqb}
 use Rattle.ccb.specs.Completion.{Outcome}
 use Rattle.bpf_machine.specs.Reached.{Reached}
@@ -7,15 +7,20 @@ use Rattle.world.specs.World.{Setup, queue_setup, LiveRun, World}
 use Rattle.world.specs.Lawful.{IsLawful}
 use Rattle.world.specs.Lookups.{ccb_of, run_of}
 use Rattle.world.specs.Event.{Instruction, complete, executes, Event, Reply, run_started}
-use Rattle.world.specs.Headline.{is_step_of, steps_of, requeues_of, exits_of, Starts, KeepsWithin, WithinBudget, InRecoveryBy, DisposedOnce, OthersLeaveIt}
+use Rattle.world.specs.Run.{Leads}
+use Rattle.world.specs.Headline.{is_step_of, steps_of, requeues_of, exits_of, Starts, KeepsWithin, WithinBudget, InRecoveryBy, DisposedOnce, OthersLeaveIt, GoneRunStaysGone}
 use Rattle.world.proofs.Found.{found_key}
 use Rattle.world.proofs.Cases.{case_of}
-use Rattle.world.proofs.Moves.{ccb_key}
+use Rattle.world.specs.Limits.{KeepsLimits}
+use Rattle.world.proofs.Moves.{ccb_key, run_move}
+use Rattle.world.proofs.Kept.{known_queue, step_keeps}
+use Rattle.world.proofs.Leads.{leads_keeps, limits_are_kept}
+use Rattle.world.proofs.Held.{live_given, others_entries}
 use Rattle.world.proofs.Fates.{Fate, stands, goes_privately, goes_releasing, goes_requeuing, leaves_world, fate_of}
 use Rattle.world.proofs.Beginnings.{no_some, begun_found, started_begins, begins_at_entry}
 use Rattle.world.proofs.Reaching.{same_found}
 use Rattle.world.proofs.Sound.{IsSound, step_sound, run_sound, leads_sound}
-use Rattle.world.proofs.Lives.{Life, alive, over, recount, life_leads, within}
+use Rattle.world.proofs.Lives.{Life, alive, over, recount, rises, stays_over, life_leads, within}
 
 -- a run from its start on
 record Story (setup : Setup) (outcome : Outcome) (run : ℕ) (ys : List (Event × Reply)) (world : World) (started : World) : Type 0 where
@@ -118,5 +123,31 @@ not_its_step before event after number run other (leaves_world r0 event_is exit_
 
 pub others_leave_it : OthersLeaveIt
 others_leave_it setup xs before first event reply after e number run found other =
-    let it = case_of setup before event reply after e in
-    not_its_step before event after number run other (fate_of setup before event reply after number run found it)
+    let it = case_of setup before event reply after e in (
+      not_its_step before event after number run other (fate_of setup before event reply after number run found it),
+      others_entries setup before event reply after number run (limits_are_kept setup xs before first) found other it,
+    )
+
+-- run numbers only rise, and a run that is over stays over
+leads_over : (setup : Setup) (before : World) (xs : List (Event × Reply)) (after : World) (number : ℕ) → KeepsLimits setup before → Leads setup before xs after → run_of number before.runs ≡ None → number ≤ before.greatest_run → run_of number after.runs ≡ None
+leads_over setup before [] after number kept run none given = subst (λ (w : World). run_of number w.runs ≡ None) run none
+leads_over setup before (x ∷ xs) after number kept run none given =
+    let still = stays_over setup before x.0 x.1 run.0 number kept none given run.1 in
+    leads_over setup run.0 xs after number (step_keeps setup before x.0 x.1 run.0 run.1 kept) run.2 still.0 still.1
+
+leads_rise : (setup : Setup) (before : World) (xs : List (Event × Reply)) (after : World) → KeepsLimits setup before → Leads setup before xs after → before.greatest_run ≤ after.greatest_run
+leads_rise setup before [] after kept run = rw run (omega arith)
+leads_rise setup before (x ∷ xs) after kept run =
+    let it = case_of setup before x.0 x.1 run.0 run.1 in
+    omega (
+      arith,
+      rises setup before run.0 (run_move setup before x.0 x.1 run.0 (known_queue setup before kept.ccbs) it),
+      leads_rise setup run.0 xs after (step_keeps setup before x.0 x.1 run.0 run.1 kept) run.2,
+    )
+
+pub gone_run_stays_gone : GoneRunStaysGone
+gone_run_stays_gone setup xs ys zs number run live gone later first found second none third =
+    let kept = limits_are_kept setup xs live first in
+    let given = live_given setup live number run kept found in
+    leads_over setup gone zs later number (leads_keeps setup live ys gone second kept) third none
+    (omega (arith, given, leads_rise setup live ys gone kept second))

@@ -1,5 +1,5 @@
 -- What the machine of each run holds is what the entries say, through every step.
-use Rattle.std.proofs.Common.{◌≡◌, ℕ, ◌+◌, ◌≤◌, List, [], ◌∷◌, ◌++◌, true, false, not, cond, eqb, Option, Some, None, IsSome, ◌⊎◌, inl, inr, refl, ap, sym, subst, ◌∙◌, arith}
+use Rattle.std.proofs.Common.{◌≡◌, ℕ, ◌+◌, ◌≤◌, List, [], ◌∷◌, ◌++◌, map, true, false, not, cond, eqb, Option, Some, None, IsSome, ◌⊎◌, inl, inr, refl, ap, sym, subst, ◌∙◌, arith}
 use Rattle.std.specs.List.{filter}
 use Rattle.std.proofs.lemmas.Bool.{cases_Bool, cases_eq, cond-true, cond-false, eq-eqb, ne_eqb, eqb-true}
 use Rattle.freeze_ledger.specs.declared.entries.Holder.{Holder}
@@ -14,7 +14,7 @@ use Rattle.world.specs.Event.{Event, Reply}
 use Rattle.world.specs.FreezeSteps.{is_guest}
 use Rattle.world.specs.RunSteps.{is_run}
 use Rattle.world.specs.Limits.{KeepsLimits}
-use Rattle.world.specs.FreezeLaws.{held_by, HoldsWhatEntriesSay}
+use Rattle.world.specs.FreezeLaws.{entries_of, held_by, HoldsWhatEntriesSay}
 use Rattle.world.specs.Headline.{is_step_of}
 use Rattle.world.proofs.Found.{found_in_push, found_key, leave_same, leave_other}
 use Rattle.world.proofs.Rising.{found_bounds}
@@ -25,7 +25,7 @@ use Rattle.world.proofs.Fates.{machine_of, Fate, stands, goes_privately, goes_re
 use Rattle.world.proofs.Private.{private_keeps}
 use Rattle.world.proofs.Beginnings.{no_some, new_run, begins_frozen, begun_found}
 use Rattle.world.proofs.Reaching.{AllReached, same_found, reached_goes, lawful_exit}
-use Rattle.world.proofs.HeldBy.{freeze_key, held_push_own, held_push_other, held_without_own, held_without_other, held_none, is_among}
+use Rattle.world.proofs.HeldBy.{freeze_key, held_push_own, entries_push_other, held_without_own, entries_without_other, held_none, is_among}
 
 -- a guest is no run, and a run is no other
 guest_is_none : (r : ℕ) (holder : Holder) → is_guest holder ≡ true → is_run r holder ≡ false
@@ -43,34 +43,34 @@ pub live_given : (setup : Setup) (world : World) (number : ℕ) (run : LiveRun) 
 live_given setup world number run kept found = (found_bounds run_key 0 world.runs world.greatest_run number run kept.runs.rising found).1
 
 -- a step of anyone else leaves the entries of a live run
-pub others_entries : (setup : Setup) (before : World) (event : Event) (reply : Reply) (after : World) (number : ℕ) (run : LiveRun) → KeepsLimits setup before → run_of number before.runs ≡ Some run → is_step_of number event ≡ false → Case setup before event reply after → held_by number after.freezes ≡ held_by number before.freezes
-others_entries setup before event reply after number run kept found other (refuses it) = ap (λ (w : World). held_by number w.freezes) it.after_is
-others_entries setup before event reply after number run kept found other (submits it) = ap (λ (w : World). held_by number w.freezes) it.after_is
-others_entries setup before event reply after number run kept found other (dispatches it) = ap (λ (w : World). held_by number w.freezes) it.after_is
-others_entries setup before event reply after number run kept found other (finishes_one it) = ap (λ (w : World). held_by number w.freezes) it.after_is
+pub others_entries : (setup : Setup) (before : World) (event : Event) (reply : Reply) (after : World) (number : ℕ) (run : LiveRun) → KeepsLimits setup before → run_of number before.runs ≡ Some run → is_step_of number event ≡ false → Case setup before event reply after → entries_of number after.freezes ≡ entries_of number before.freezes
+others_entries setup before event reply after number run kept found other (refuses it) = ap (λ (w : World). entries_of number w.freezes) it.after_is
+others_entries setup before event reply after number run kept found other (submits it) = ap (λ (w : World). entries_of number w.freezes) it.after_is
+others_entries setup before event reply after number run kept found other (dispatches it) = ap (λ (w : World). entries_of number w.freezes) it.after_is
+others_entries setup before event reply after number run kept found other (finishes_one it) = ap (λ (w : World). entries_of number w.freezes) it.after_is
 others_entries setup before event reply after number run kept found other (recovers_one it) =
-    ap (λ (x : Reply × World). held_by number x.1.freezes) it.starts_is
-    ∙ held_push_other number before.freezes _ (ne_eqb _ _ (λ e. omega (arith, e, live_given setup before number run kept found)))
-others_entries setup before event reply after number run kept found other (recovers_unfrozen it) = ap (λ (x : Reply × World). held_by number x.1.freezes) it.starts_is
+    ap (λ (x : Reply × World). entries_of number x.1.freezes) it.starts_is
+    ∙ entries_push_other number before.freezes _ (ne_eqb _ _ (λ e. omega (arith, e, live_given setup before number run kept found)))
+others_entries setup before event reply after number run kept found other (recovers_unfrozen it) = ap (λ (x : Reply × World). entries_of number x.1.freezes) it.starts_is
 others_entries setup before event reply after number run kept found other (freezes_one it) =
-    ap (λ (w : World). held_by number w.freezes) it.after_is ∙ held_push_other number before.freezes _ refl
+    ap (λ (w : World). entries_of number w.freezes) it.after_is ∙ entries_push_other number before.freezes _ refl
 others_entries setup before event reply after number run kept found other (releases_one it) =
     let named = entry_bounds 0 before.freezes before.greatest_freeze it.number it.freeze kept.freezes.numbered it.entry in
-    ap (λ (w : World). held_by number w.freezes) it.after_is
-    ∙ held_without_other number it.freeze.number 0 before.freezes before.greatest_freeze it.freeze kept.freezes.numbered
+    ap (λ (w : World). entries_of number w.freezes) it.after_is
+    ∙ entries_without_other number it.freeze.number 0 before.freezes before.greatest_freeze it.freeze kept.freezes.numbered
     (subst (λ (n : ℕ). entry_of n before.freezes ≡ Some it.freeze) (sym named.0) it.entry) (guest_is_none number it.freeze.holder it.guests)
-others_entries setup before event reply after number run kept found other (goes_on_one it) = ap (λ (w : World). held_by number w.freezes) it.after_is
+others_entries setup before event reply after number run kept found other (goes_on_one it) = ap (λ (w : World). entries_of number w.freezes) it.after_is
 others_entries setup before event reply after number run kept found other (gives_back it) =
     let named = entry_bounds 0 before.freezes before.greatest_freeze it.number it.freeze kept.freezes.numbered it.entry in
     let bears : it.it.run.number ≡ it.it.number = found_key run_key it.it.number before.runs it.it.run it.it.found in
     let apart : it.it.run.number ≡ number → ⊥ = λ e.
     let its : is_step_of number event ≡ true = ap (is_step_of number) it.it.event_is ∙ eq-eqb _ _ (sym bears ∙ e) in
     let bad : true ≡ false = sym its ∙ other in cc in
-    ap (λ (x : Reply × World). held_by number x.1.freezes) it.answer
-    ∙ held_without_other number it.freeze.number 0 before.freezes before.greatest_freeze it.freeze kept.freezes.numbered
+    ap (λ (x : Reply × World). entries_of number x.1.freezes) it.answer
+    ∙ entries_without_other number it.freeze.number 0 before.freezes before.greatest_freeze it.freeze kept.freezes.numbered
     (subst (λ (n : ℕ). entry_of n before.freezes ≡ Some it.freeze) (sym named.0) it.entry) (run_is_one it.it.run.number number it.freeze.holder it.held apart)
-others_entries setup before event reply after number run kept found other (requeues_one it) = ap (λ (x : Reply × World). held_by number x.1.freezes) it.answer
-others_entries setup before event reply after number run kept found other (exits it) = ap (λ (w : World). held_by number w.freezes) it.after_is
+others_entries setup before event reply after number run kept found other (requeues_one it) = ap (λ (x : Reply × World). entries_of number x.1.freezes) it.answer
+others_entries setup before event reply after number run kept found other (exits it) = ap (λ (w : World). entries_of number w.freezes) it.after_is
 
 -- the entries that name a run that was not there before
 nothing_held : (setup : Setup) (before : World) (number : ℕ) → KeepsLimits setup before → HoldsWhatEntriesSay before → run_of number before.runs ≡ None → held_by number before.freezes ≡ []
@@ -104,7 +104,7 @@ machines_hold setup before event reply after kept held it number now some = spli
     by_fate : (run : LiveRun) → run_of number before.runs ≡ Some run → Fate before event after number run → now.machine.held ≡ held_by number after.freezes
     by_fate run found (stands other is) =
         let same = same_found after number run now is some in
-        sym (ap (λ (r : LiveRun). r.machine.held) same) ∙ (held.machines number run found ∙ sym (others_entries setup before event reply after number run kept found other it))
+        sym (ap (λ (r : LiveRun). r.machine.held) same) ∙ (held.machines number run found ∙ sym (ap (map freeze_key) (others_entries setup before event reply after number run kept found other it)))
     by_fate run found (goes_privately machine e step is freezes live) =
         let same = same_found after number (machine_of run machine) now is some in
         sym (ap (λ (r : LiveRun). r.machine.held) same) ∙ ((private_keeps run.program run.machine machine step).held ∙ (held.machines number run found ∙ sym (ap (held_by number) freezes)))

@@ -9,7 +9,7 @@ use Rattle.freeze_ledger.specs.Invariant.{AreNumbered}
 use Rattle.freeze_ledger.proofs.Numbered.{without_lower}
 use Rattle.helpers.specs.Rules.{is_held}
 use Rattle.world.specs.RunSteps.{is_run}
-use Rattle.world.specs.FreezeLaws.{held_by}
+use Rattle.world.specs.FreezeLaws.{entries_of, held_by}
 use Rattle.world.proofs.Found.{at_head, at_tail}
 use Rattle.world.proofs.Entries.{entry_bounds}
 
@@ -17,11 +17,17 @@ abbrev pub freeze_key : Freeze → ℕ
 freeze_key freeze = freeze.number
 
 -- the first entry is the run's, or it is not
+pub entries_head : (r : ℕ) (g : Freeze) (fs : List Freeze) → is_run r g.holder ≡ true → entries_of r (g ∷ fs) ≡ g ∷ entries_of r fs
+entries_head r g fs e = cond-true (is_run r g.holder) (g ∷ entries_of r fs) (entries_of r fs) e
+
+pub entries_tail : (r : ℕ) (g : Freeze) (fs : List Freeze) → is_run r g.holder ≡ false → entries_of r (g ∷ fs) ≡ entries_of r fs
+entries_tail r g fs e = cond-false (is_run r g.holder) (g ∷ entries_of r fs) (entries_of r fs) e
+
 pub held_head : (r : ℕ) (g : Freeze) (fs : List Freeze) → is_run r g.holder ≡ true → held_by r (g ∷ fs) ≡ g.number ∷ held_by r fs
-held_head r g fs e = ap (map freeze_key) (cond-true (is_run r g.holder) (g ∷ filter (λ (f : Freeze). is_run r f.holder) fs) (filter (λ (f : Freeze). is_run r f.holder) fs) e)
+held_head r g fs e = ap (map freeze_key) (entries_head r g fs e)
 
 pub held_tail : (r : ℕ) (g : Freeze) (fs : List Freeze) → is_run r g.holder ≡ false → held_by r (g ∷ fs) ≡ held_by r fs
-held_tail r g fs e = ap (map freeze_key) (cond-false (is_run r g.holder) (g ∷ filter (λ (f : Freeze). is_run r f.holder) fs) (filter (λ (f : Freeze). is_run r f.holder) fs) e)
+held_tail r g fs e = ap (map freeze_key) (entries_tail r g fs e)
 
 -- one more at the end
 pub held_push_own : (r : ℕ) (fs : List Freeze) (f : Freeze) → is_run r f.holder ≡ true → held_by r (fs ++ f ∷ []) ≡ held_by r fs ++ f.number ∷ []
@@ -32,12 +38,12 @@ held_push_own r (g ∷ fs) f e =
       | inr other ↦ held_tail r g (fs ++ f ∷ []) other ∙ (held_push_own r fs f e ∙ sym (ap (λ (ns : List ℕ). ns ++ f.number ∷ []) (held_tail r g fs other)))
     ]
 
-pub held_push_other : (r : ℕ) (fs : List Freeze) (f : Freeze) → is_run r f.holder ≡ false → held_by r (fs ++ f ∷ []) ≡ held_by r fs
-held_push_other r [] f e = held_tail r f [] e
-held_push_other r (g ∷ fs) f e =
+pub entries_push_other : (r : ℕ) (fs : List Freeze) (f : Freeze) → is_run r f.holder ≡ false → entries_of r (fs ++ f ∷ []) ≡ entries_of r fs
+entries_push_other r [] f e = entries_tail r f [] e
+entries_push_other r (g ∷ fs) f e =
     elim (cases_Bool (is_run r g.holder)) [
-      | inl its ↦ held_head r g (fs ++ f ∷ []) its ∙ (ap (λ (ns : List ℕ). g.number ∷ ns) (held_push_other r fs f e) ∙ sym (held_head r g fs its))
-      | inr other ↦ held_tail r g (fs ++ f ∷ []) other ∙ (held_push_other r fs f e ∙ sym (held_tail r g fs other))
+      | inl its ↦ entries_head r g (fs ++ f ∷ []) its ∙ (ap (λ (gs : List Freeze). g ∷ gs) (entries_push_other r fs f e) ∙ sym (entries_head r g fs its))
+      | inr other ↦ entries_tail r g (fs ++ f ∷ []) other ∙ (entries_push_other r fs f e ∙ sym (entries_tail r g fs other))
     ]
 
 -- one fewer of its own
@@ -69,22 +75,22 @@ held_without_own r n (g ∷ fs) =
     ]
 
 -- one fewer of another holder
-pub held_without_other : (r n low : ℕ) (fs : List Freeze) (high : ℕ) (f : Freeze) → AreNumbered low fs high → entry_of n fs ≡ Some f → is_run r f.holder ≡ false → held_by r (without n fs) ≡ held_by r fs
-held_without_other r n low [] high f h entry e = refl
-held_without_other r n low (g ∷ fs) high f h entry e =
+pub entries_without_other : (r n low : ℕ) (fs : List Freeze) (high : ℕ) (f : Freeze) → AreNumbered low fs high → entry_of n fs ≡ Some f → is_run r f.holder ≡ false → entries_of r (without n fs) ≡ entries_of r fs
+entries_without_other r n low [] high f h entry e = refl
+entries_without_other r n low (g ∷ fs) high f h entry e =
     elim (cases_eq g.number n) [
       | inl same ↦
           let both : Some g ≡ Some f = sym (at_head freeze_key n g fs same) ∙ entry in
           let is : g ≡ f = cc in
-          ap (held_by r) (cond-false (not (eqb g.number n)) (g ∷ without n fs) (without n fs) (not_from_true _ (eq-eqb _ _ same))
+          ap (entries_of r) (cond-false (not (eqb g.number n)) (g ∷ without n fs) (without n fs) (not_from_true _ (eq-eqb _ _ same))
           ∙ without_lower n g.number fs high (omega (arith, same)) h.1)
-          ∙ sym (held_tail r g fs (subst (λ (x : Freeze). is_run r x.holder ≡ false) (sym is) e))
+          ∙ sym (entries_tail r g fs (subst (λ (x : Freeze). is_run r x.holder ≡ false) (sym is) e))
       | inr apart ↦
-          let rest = held_without_other r n g.number fs high f h.1 (sym (at_tail freeze_key n g fs apart) ∙ entry) e in
-          ap (held_by r) (cond-true (not (eqb g.number n)) (g ∷ without n fs) (without n fs) (not_from_false _ (ne_eqb _ _ apart)))
+          let rest = entries_without_other r n g.number fs high f h.1 (sym (at_tail freeze_key n g fs apart) ∙ entry) e in
+          ap (entries_of r) (cond-true (not (eqb g.number n)) (g ∷ without n fs) (without n fs) (not_from_false _ (ne_eqb _ _ apart)))
           ∙ elim (cases_Bool (is_run r g.holder)) [
-            | inl its ↦ held_head r g (without n fs) its ∙ (ap (λ (ns : List ℕ). g.number ∷ ns) rest ∙ sym (held_head r g fs its))
-            | inr other ↦ held_tail r g (without n fs) other ∙ (rest ∙ sym (held_tail r g fs other))
+            | inl its ↦ entries_head r g (without n fs) its ∙ (ap (λ (gs : List Freeze). g ∷ gs) rest ∙ sym (entries_head r g fs its))
+            | inr other ↦ entries_tail r g (without n fs) other ∙ (rest ∙ sym (entries_tail r g fs other))
           ]
     ]
 

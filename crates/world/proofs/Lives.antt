@@ -12,6 +12,7 @@ use Rattle.world.specs.Lookups.{run_of}
 use Rattle.world.specs.Event.{release, requeue, Instruction, private, call, exit, Event, submit, dispatch, complete, guest_freeze, guest_release, executes, Reply}
 use Rattle.world.specs.Step.{WorldStep}
 use Rattle.world.specs.Run.{Leads}
+use Rattle.world.specs.Limits.{KeepsLimits}
 use Rattle.world.specs.Headline.{is_step_of, is_requeue_of, is_exit_of, steps_of, requeues_of, exits_of}
 use Rattle.world.proofs.Each.{all_found}
 use Rattle.world.proofs.Cases.{Case, case_of, executes_parts}
@@ -94,17 +95,17 @@ gone_stands setup before (complete outcome) reply after number none e = refl
 gone_stands setup before (guest_freeze queue guest) reply after number none e = refl
 gone_stands setup before (guest_release freeze) reply after number none e = refl
 
-rises : (setup : Setup) (before after : World) → RunMove setup before after → before.greatest_run ≤ after.greatest_run
+pub rises : (setup : Setup) (before after : World) → RunMove setup before after → before.greatest_run ≤ after.greatest_run
 rises setup before after (runs_stay e g) = omega (arith, g)
 rises setup before after (run_enters run named known program room e g) = omega (arith, g)
 rises setup before after (run_changes run machine found e g) = omega (arith, g)
 rises setup before after (run_leaves run found e g) = omega (arith, g)
 
 -- a run that is over stays over
-pub stays_over : (setup : Setup) (before : World) (event : Event) (reply : Reply) (after : World) (number : ℕ) → IsSound setup before → run_of number before.runs ≡ None → number ≤ before.greatest_run → WorldStep setup before event reply after → (run_of number after.runs ≡ None) × (number ≤ after.greatest_run)
-stays_over setup before event reply after number sound none given e =
+pub stays_over : (setup : Setup) (before : World) (event : Event) (reply : Reply) (after : World) (number : ℕ) → KeepsLimits setup before → run_of number before.runs ≡ None → number ≤ before.greatest_run → WorldStep setup before event reply after → (run_of number after.runs ≡ None) × (number ≤ after.greatest_run)
+stays_over setup before event reply after number kept none given e =
     let it = case_of setup before event reply after e in
-    (split it (run_of number after.runs) refl, omega (arith, given, rises setup before after (run_move setup before event reply after (known_queue setup before sound.kept.ccbs) it)))
+    (split it (run_of number after.runs) refl, omega (arith, given, rises setup before after (run_move setup before event reply after (known_queue setup before kept.ccbs) it)))
   where
     split : Case setup before event reply after → (o : Option LiveRun) → run_of number after.runs ≡ o → run_of number after.runs ≡ None
     split it None found = found
@@ -182,7 +183,7 @@ life_step setup start number k j e before event reply after lawful sound step (a
     alive_step setup start number k j e before event reply after lawful sound step now found queue ccb reached disposed none_yet
     (fate_of setup before event reply after number now found (case_of setup before event reply after step))
 life_step setup start number k j e before event reply after lawful sound step (over none given most used gone) =
-    let still = stays_over setup before event reply after number sound none given step in
+    let still = stays_over setup before event reply after number sound.kept none given step in
     not_counted setup start number k j e event after (gone_stands setup before event reply after number none step) (over still.0 still.1 most used gone)
 
 -- along a run of the world

@@ -108,9 +108,13 @@ GoneStaysGone =
     Leads setup held ys gone → (IsHeld number gone → ⊥) →
     Leads setup gone zs later → IsHeld number later → ⊥
 
--- the numbers of the freezes that a run holds, in their order
+-- the entries that name the run as their holder, in their order
+abbrev pub entries_of : ℕ → List Freeze → List Freeze
+entries_of run freezes = filter (λ freeze. is_run run freeze.holder) freezes
+
+-- the numbers of the freezes that a run holds
 abbrev pub held_by : ℕ → List Freeze → List ℕ
-held_by run freezes = map (λ freeze. freeze.number) (filter (λ freeze. is_run run freeze.holder) freezes)
+held_by run freezes = map (λ freeze. freeze.number) (entries_of run freezes)
 
 -- What the machine of each live run holds is what the entries say that the run holds, and no entry names a run that is
 -- not live.

@@ -1,5 +1,5 @@
 -- The headline of runs: what holds of every run of a recovery program, in every run of the world of every lawful setup.
-use Rattle.std.specs.Prelude.{◌≡◌, ℕ, ◌<◌, ◌≤◌, ◌==◌, Bool, true, false, List, Some, count_by}
+use Rattle.std.specs.Prelude.{◌≡◌, ℕ, ◌<◌, ◌≤◌, ◌==◌, Bool, true, false, List, Some, None, count_by}
 use Rattle.ccb.specs.Completion.{Outcome}
 use Rattle.bpf_machine.specs.Stuck.{is_stuck}
 use Rattle.bpf_machine.specs.Reached.{Reached}
@@ -9,6 +9,7 @@ use Rattle.world.specs.Lookups.{ccb_of, run_of}
 use Rattle.world.specs.Event.{release, requeue, Instruction, private, call, exit, Event, submit, dispatch, complete, guest_freeze, guest_release, executes, Reply, run_started}
 use Rattle.world.specs.Step.{WorldStep}
 use Rattle.world.specs.Run.{Leads, WorldRun}
+use Rattle.world.specs.FreezeLaws.{entries_of}
 
 -- the event is a step of this run
 abbrev pub is_step_of : ℕ → Event → Bool
@@ -112,10 +113,18 @@ DisposedOnce =
     (requeues_of run ys ≤ 1) × (0 < exits_of run ys → requeues_of run ys ≡ 1)
     × (requeues_of run ys ≡ 0 → InRecoveryBy run outcome.ccb.0 world)
 
--- a step of anyone else leaves a run as it is
+-- a step of anyone else leaves a run and the entries that name it as they are
 abbrev pub OthersLeaveIt : Type 0
 OthersLeaveIt =
     (setup : Setup) (xs : List (Event × Reply)) (before : World) → WorldRun setup xs before →
     (event : Event) (reply : Reply) (after : World) → WorldStep setup before event reply after →
     (number : ℕ) (run : LiveRun) → run_of number before.runs ≡ Some run → is_step_of number event ≡ false →
-    run_of number after.runs ≡ Some run
+    (run_of number after.runs ≡ Some run) × (entries_of number after.freezes ≡ entries_of number before.freezes)
+
+-- a run that is gone never comes back
+abbrev pub GoneRunStaysGone : Type 0
+GoneRunStaysGone =
+    (setup : Setup) (xs ys zs : List (Event × Reply)) (number : ℕ) (run : LiveRun) (live gone later : World) →
+    WorldRun setup xs live → run_of number live.runs ≡ Some run →
+    Leads setup live ys gone → run_of number gone.runs ≡ None →
+    Leads setup gone zs later → run_of number later.runs ≡ None

@@ -1,6 +1,7 @@
 -- The laws of runs, read off their lives.
-use Rattle.std.proofs.Common.{◌≡◌, ℕ, ◌+◌, ◌<◌, ◌≤◌, List, [], ◌∷◌, true, false, Some, None, inl, inr, refl, ap, sym, subst, ◌∙◌, arith}
-use Rattle.std.proofs.lemmas.Bool.{eq-eqb}
+use Rattle.std.proofs.Common.{◌≡◌, ℕ, ◌+◌, ◌<◌, ◌≤◌, List, [], ◌∷◌, Bool, true, false, not, cond, eqb, Some, None, inl, inr, refl, ap, sym, subst, ◌∙◌, arith}
+use Rattle.std.specs.Prelude.{◌&&◌}
+use Rattle.std.proofs.lemmas.Bool.{cases_Bool, eq-eqb}
 use Rattle.ccb.specs.Completion.{Outcome}
 use Rattle.bpf_machine.specs.Reached.{Reached}
 use Rattle.world.specs.World.{Setup, queue_setup, LiveRun, World}
@@ -8,7 +9,7 @@ use Rattle.world.specs.Lawful.{IsLawful}
 use Rattle.world.specs.Lookups.{ccb_of, run_of}
 use Rattle.world.specs.Event.{Instruction, complete, executes, Event, Reply, run_started}
 use Rattle.world.specs.Run.{Leads}
-use Rattle.world.specs.Headline.{is_step_of, steps_of, requeues_of, exits_of, Starts, KeepsWithin, WithinBudget, InRecoveryBy, DisposedOnce, OthersLeaveIt, GoneRunStaysGone}
+use Rattle.world.specs.Headline.{is_step_of, steps_of, requeues_of, exits_of, Starts, KeepsWithin, WithinBudget, InRecoveryBy, DisposedOnce, OthersLeaveIt, GoneRunStaysGone, times_in, ExactFreezes}
 use Rattle.world.proofs.Found.{found_key}
 use Rattle.world.proofs.Cases.{case_of}
 use Rattle.world.specs.Limits.{KeepsLimits}
@@ -16,10 +17,12 @@ use Rattle.world.proofs.Moves.{ccb_key, run_move}
 use Rattle.world.proofs.Kept.{known_queue, step_keeps}
 use Rattle.world.proofs.Leads.{leads_keeps, limits_are_kept}
 use Rattle.world.proofs.Held.{live_given, others_entries}
-use Rattle.world.proofs.Fates.{Fate, stands, goes_privately, goes_releasing, goes_requeuing, leaves_world, fate_of}
+use Rattle.world.proofs.Fates.{Begins, Fate, stands, goes_privately, goes_releasing, goes_requeuing, leaves_world, fate_of}
 use Rattle.world.proofs.Beginnings.{no_some, begun_found, started_begins, begins_at_entry}
 use Rattle.world.proofs.Reaching.{same_found}
 use Rattle.world.proofs.Sound.{IsSound, step_sound, run_sound, leads_sound}
+use Rattle.world.specs.TookGave.{taken_by, took}
+use Rattle.world.proofs.Exact.{has, times_append, times_one, balance_leads, live_balance, gone_balance}
 use Rattle.world.proofs.Lives.{Life, alive, over, recount, rises, stays_over, life_leads, within}
 
 -- a run from its start on
@@ -106,6 +109,58 @@ disposed_once setup lawful outcome run ys world it =
     let s = story setup lawful outcome run ys world it in
     let d = disposes setup s.start run (steps_of run ys) (requeues_of run ys) (exits_of run ys) world s.sound s.life in
     (d.most, d.at_exit, λ none. subst (λ (n : ℕ). InRecoveryBy run n world) s.ccb_is (d.until_then none))
+
+-- what a run holds at its start is what it got
+start_balance : (setup : Setup) (before : World) (event : Event) (reply : Reply) (after : World) (run : ℕ) (start : LiveRun) (n : ℕ) → before.greatest_run + 1 ≡ run → Begins setup before event reply after start → (times_in n (taken_by run reply) ≡ times_in n start.machine.held) × (times_in n (taken_by run reply) ≤ 1)
+start_balance setup before event reply after run start n named it =
+    let got : taken_by run reply ≡ cond (not (eqb it.freeze 0)) (it.freeze ∷ []) [] =
+    ap (taken_by run) it.reply_is
+    ∙ ap (λ (b : Bool). cond (b && not (eqb it.freeze 0)) (it.freeze ∷ []) []) (eq-eqb _ _ named) in
+    let held : start.machine.held ≡ cond (eqb it.freeze 0) [] (it.freeze ∷ []) = ap (λ (r : LiveRun). r.machine.held) it.run_is in
+    let same : taken_by run reply ≡ start.machine.held = got ∙ (turned (eqb it.freeze 0) ∙ sym held) in
+    let all : times_in n (taken_by run reply) ≡ times_in n start.machine.held = ap (times_in n) same in
+    let few : times_in n start.machine.held ≤ 1 = subst (λ (ns : List ℕ). times_in n ns ≤ 1) (sym held) (at_most (eqb it.freeze 0)) in
+    (all, omega (arith, all, few))
+  where
+    turned : (b : Bool) → cond (not b) (it.freeze ∷ []) [] ≡ cond b [] (it.freeze ∷ [])
+    turned true = refl
+    turned false = refl
+
+    at_most : (b : Bool) → times_in n (cond b [] (it.freeze ∷ [])) ≤ 1
+    at_most true = omega arith
+    at_most false =
+        elim (cases_Bool (eqb it.freeze n)) [
+          | inl yes_it ↦ let is : times_in n (it.freeze ∷ []) ≡ 1 = times_one n it.freeze ∙ ap (λ (b : Bool). cond {A = ℕ} b 1 0) yes_it in omega (arith, is)
+          | inr not_it ↦ let is : times_in n (it.freeze ∷ []) ≡ 0 = times_one n it.freeze ∙ ap (λ (b : Bool). cond {A = ℕ} b 1 0) not_it in omega (arith, is)
+        ]
+
+pub exact_freezes : ExactFreezes
+exact_freezes setup lawful outcome run ys world it =
+    let before : World = it.before in
+    let started : World = it.started in
+    let event : Event = complete outcome in
+    let reply : Reply = run_started run it.freeze in
+    let sound = run_sound setup it.xs before lawful it.run_before in
+    let begun = started_begins setup before outcome run it.freeze started (case_of setup before event reply started it.step) in
+    let same_reply : run_started run it.freeze ≡ run_started (before.greatest_run + 1) begun.1.freeze = begun.1.reply_is in
+    let named : before.greatest_run + 1 ≡ run = cc in
+    let there = subst (λ (n : ℕ). run_of n started.runs ≡ Some begun.0) named (begun_found setup before event reply started begun.0 sound.kept.runs begun.1) in
+    let after_start = step_sound setup before event reply started lawful it.step sound in
+    let given = live_given setup started run begun.0 after_start.kept there in
+    let at_start = λ (n : ℕ). start_balance setup before event reply started run begun.0 n named begun.1 in
+    let balanced = λ (n : ℕ).
+    balance_leads setup n run (times_in n (taken_by run reply)) 0 started ys world lawful after_start given it.goes_on
+    (has begun.0 there (omega (arith, (at_start n).0))) in
+    let all = λ (n : ℕ). times_append n (taken_by run reply) (took run ys) in
+    record {
+      once = λ n. omega (arith, all n, (balanced n).nothing_more, (at_start n).1);
+      live = λ now found n.
+          let now_is = live_balance n run _ _ world now found (balanced n).balance in
+          omega (arith, all n, (balanced n).nothing_more, now_is);
+      gone = λ none n.
+          let then_is = gone_balance n run _ _ world none (balanced n).balance in
+          omega (arith, all n, (balanced n).nothing_more, then_is);
+    }
 
 -- what is a step of the run's own
 own : (number : ℕ) (instruction : Instruction) (event : Event) → event ≡ executes number instruction → is_step_of number event ≡ false → ⊥

@@ -23,5 +23,6 @@ pub mod Recovering
 pub mod Sound
 pub mod NeverStuck
 pub mod Lives
+pub mod Exact
 pub mod Headline
 pub mod Accounts

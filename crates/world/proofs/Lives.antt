@@ -79,7 +79,7 @@ not_counted setup start number k j e event world other life =
     recount setup start number k j e _ _ _ world (omega (arith, step)) (omega (arith, again)) (omega (arith, gone)) life
 
 -- a run that is not live makes no step
-gone_stands : (setup : Setup) (before : World) (event : Event) (reply : Reply) (after : World) (number : ℕ) → run_of number before.runs ≡ None → WorldStep setup before event reply after → is_step_of number event ≡ false
+pub gone_stands : (setup : Setup) (before : World) (event : Event) (reply : Reply) (after : World) (number : ℕ) → run_of number before.runs ≡ None → WorldStep setup before event reply after → is_step_of number event ≡ false
 gone_stands setup before (executes run instruction) reply after number none e =
     elim (cases_eq run number) [
       | inl same ↦

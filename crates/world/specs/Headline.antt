@@ -1,5 +1,5 @@
 -- The headline of runs: what holds of every run of a recovery program, in every run of the world of every lawful setup.
-use Rattle.std.specs.Prelude.{◌≡◌, ℕ, ◌<◌, ◌≤◌, ◌==◌, Bool, true, false, List, Some, None, count_by}
+use Rattle.std.specs.Prelude.{◌≡◌, ℕ, ◌+◌, ◌<◌, ◌≤◌, ◌==◌, Bool, true, false, List, ◌∷◌, Some, None, count_by}
 use Rattle.ccb.specs.Completion.{Outcome}
 use Rattle.bpf_machine.specs.Stuck.{is_stuck}
 use Rattle.bpf_machine.specs.Reached.{Reached}
@@ -9,6 +9,7 @@ use Rattle.world.specs.Lookups.{ccb_of, run_of}
 use Rattle.world.specs.Event.{release, requeue, Instruction, private, call, exit, Event, submit, dispatch, complete, guest_freeze, guest_release, executes, Reply, run_started}
 use Rattle.world.specs.Step.{WorldStep}
 use Rattle.world.specs.Run.{Leads, WorldRun}
+use Rattle.world.specs.TookGave.{took, gave}
 use Rattle.world.specs.FreezeLaws.{entries_of}
 
 -- the event is a step of this run
@@ -112,6 +113,24 @@ DisposedOnce =
     Starts setup outcome run ys world →
     (requeues_of run ys ≤ 1) × (0 < exits_of run ys → requeues_of run ys ≡ 1)
     × (requeues_of run ys ≡ 0 → InRecoveryBy run outcome.ccb.0 world)
+
+-- how often a number is in a list
+abbrev pub times_in : ℕ → List ℕ → ℕ
+times_in number numbers = count_by (λ other. other == number) numbers
+
+-- What a run got, each freeze once, is what its machine holds and what it gave up; and where the run is gone, what it
+-- gave up alone.
+pub record HoldsExactly (run : ℕ) (got given : List ℕ) (world : World) : Type 0 where
+  pub once : (number : ℕ) → times_in number got ≤ 1
+  pub live : (now : LiveRun) → run_of run world.runs ≡ Some now → (number : ℕ) → times_in number got ≡ times_in number now.machine.held + times_in number given
+  pub gone : run_of run world.runs ≡ None → (number : ℕ) → times_in number got ≡ times_in number given
+
+-- From its start on a run holds exactly the freezes that it got and did not give up yet, and at its end it gave up each.
+abbrev pub ExactFreezes : Type 0
+ExactFreezes =
+    (setup : Setup) → IsLawful setup → (outcome : Outcome) (run : ℕ) (ys : List (Event × Reply)) (world : World) →
+    (it : Starts setup outcome run ys world) →
+    HoldsExactly run (took run ((complete outcome, run_started run it.freeze) ∷ ys)) (gave run setup it.started ys world it.goes_on) world
 
 -- a step of anyone else leaves a run and the entries that name it as they are
 abbrev pub OthersLeaveIt : Type 0

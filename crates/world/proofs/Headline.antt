@@ -9,7 +9,7 @@ use Rattle.world.specs.Lawful.{IsLawful}
 use Rattle.world.specs.Lookups.{ccb_of, run_of}
 use Rattle.world.specs.Event.{Instruction, complete, executes, Event, Reply, run_started}
 use Rattle.world.specs.Run.{Leads}
-use Rattle.world.specs.Headline.{is_step_of, steps_of, requeues_of, exits_of, Starts, KeepsWithin, WithinBudget, InRecoveryBy, DisposedOnce, OthersLeaveIt, GoneRunStaysGone, times_in, ExactFreezes}
+use Rattle.world.specs.Headline.{is_step_of, steps_of, requeues_of, exits_of, StartedRun, KeepsWithin, WithinBudget, InRecoveryBy, DisposedOnce, OthersLeaveIt, GoneRunStaysGone, times_in, ExactFreezes}
 use Rattle.world.proofs.Found.{found_key}
 use Rattle.world.proofs.Cases.{case_of}
 use Rattle.world.specs.Limits.{KeepsLimits}
@@ -33,7 +33,7 @@ record Story (setup : Setup) (outcome : Outcome) (run : ℕ) (ys : List (Event �
   sound : IsSound setup world
   life : Life setup start run (steps_of run ys) (requeues_of run ys) (exits_of run ys) world
 
-story : (setup : Setup) → IsLawful setup → (outcome : Outcome) (run : ℕ) (ys : List (Event × Reply)) (world : World) (it : Starts setup outcome run ys world) → Story setup outcome run ys world it.started
+story : (setup : Setup) → IsLawful setup → (outcome : Outcome) (run : ℕ) (ys : List (Event × Reply)) (world : World) (it : StartedRun setup outcome run ys world) → Story setup outcome run ys world it.started
 story setup lawful outcome run ys world it =
     let before : World = it.before in
     let started : World = it.started in

@@ -12,6 +12,8 @@ use Rattle.world.specs.World.{waiting, World, opening}
 use Rattle.world.specs.Event.{release, requeue, private, call, exit, Event, submit, dispatch, complete, executes, Reply, ccb_given, run_started, went_on, result}
 use Rattle.world.specs.Run.{WorldRun}
 use Rattle.world.specs.TookGave.{took, gave}
+use Rattle.world.specs.CcbLaws.{finished_in}
+use Rattle.world.specs.Headline.{steps_of, requeues_of, exits_of}
 use Rattle.world.specs.Flat.{flat}
 use Rattle.world.specs.TotalsOf.{TotalsOf}
 use Rattle.world.proofs.Worked.{one_queue, outcome_of, next}
@@ -145,3 +147,11 @@ it_gave l = refl
 -- in between the queue was frozen by the run, and its CCB was in recovery
 its_freeze : (l : HelperLimits) → (failed l).freezes ≡ record { number = 1; queue = record { 0 = 0 }; holder = Run 1 } ∷ []
 its_freeze l = refl
+
+-- the run's seven steps are its budget; it made its CCB wait again once, and exited
+its_steps : (steps_of 1 events ≡ 7) × (requeues_of 1 events ≡ 1) × (exits_of 1 events ≡ 1)
+its_steps = (refl, refl, refl)
+
+-- no CCB ended
+none_ended : finished_in events ≡ []
+none_ended = refl

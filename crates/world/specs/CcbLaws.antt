@@ -4,7 +4,7 @@ use Rattle.std.specs.List.{flat_map}
 use Rattle.ccb.specs.Status.{code_of}
 use Rattle.world.specs.World.{Setup, LiveCcb, EndedCcb, World}
 use Rattle.world.specs.Lookups.{ccb_of}
-use Rattle.world.specs.Event.{Event, submit, dispatch, complete, guest_freeze, guest_release, executes, Reply, ccb_given, done, run_started, freeze_given, count_left, went_on, result, refused}
+use Rattle.world.specs.Event.{Event, complete, Reply, done}
 use Rattle.world.specs.Run.{WorldRun}
 
 -- how often the number is among those that ended
@@ -27,18 +27,7 @@ pub record AreAccounted (live : List LiveCcb) (ended : List EndedCcb) (greatest 
 -- the CCB that a completion finishes, with the code of its status
 abbrev pub finished_by : Event → Reply → List EndedCcb
 finished_by (complete outcome) done = record { number = outcome.ccb.0; code = code_of outcome.status } ∷ []
-finished_by (complete outcome) (ccb_given ccb) = []
-finished_by (complete outcome) (run_started run freeze) = []
-finished_by (complete outcome) (freeze_given freeze) = []
-finished_by (complete outcome) (count_left count) = []
-finished_by (complete outcome) went_on = []
-finished_by (complete outcome) (result r0) = []
-finished_by (complete outcome) (refused refusal) = []
-finished_by (submit queue priority retries) reply = []
-finished_by (dispatch queue) reply = []
-finished_by (guest_freeze queue guest) reply = []
-finished_by (guest_release freeze) reply = []
-finished_by (executes run instruction) reply = []
+finished_by event reply = []
 
 abbrev pub finished_in : List (Event × Reply) → List EndedCcb
 finished_in xs = flat_map (λ x. finished_by x.0 x.1) xs

@@ -6,7 +6,7 @@ use Rattle.bpf_machine.specs.Reached.{Reached}
 use Rattle.world.specs.World.{Setup, queue_setup, in_recovery, LiveCcb, LiveRun, World}
 use Rattle.world.specs.Lawful.{IsLawful}
 use Rattle.world.specs.Lookups.{ccb_of, run_of}
-use Rattle.world.specs.Event.{release, requeue, Instruction, private, call, exit, Event, submit, dispatch, complete, guest_freeze, guest_release, executes, Reply, run_started}
+use Rattle.world.specs.Event.{requeue, Instruction, call, exit, Event, complete, executes, Reply, run_started}
 use Rattle.world.specs.Step.{WorldStep}
 use Rattle.world.specs.Run.{Leads, WorldRun}
 use Rattle.world.specs.TookGave.{took, gave}
@@ -15,34 +15,17 @@ use Rattle.world.specs.FreezeLaws.{entries_of}
 -- the event is a step of this run
 abbrev pub is_step_of : ℕ → Event → Bool
 is_step_of run (executes number instruction) = number == run
-is_step_of run (submit queue priority retries) = false
-is_step_of run (dispatch queue) = false
-is_step_of run (complete outcome) = false
-is_step_of run (guest_freeze queue guest) = false
-is_step_of run (guest_release freeze) = false
+is_step_of run event = false
 
 -- the event is this run's call that makes its CCB wait again
 abbrev pub is_requeue_of : ℕ → Event → Bool
 is_requeue_of run (executes number (call requeue)) = number == run
-is_requeue_of run (executes number (call release)) = false
-is_requeue_of run (executes number private) = false
-is_requeue_of run (executes number exit) = false
-is_requeue_of run (submit queue priority retries) = false
-is_requeue_of run (dispatch queue) = false
-is_requeue_of run (complete outcome) = false
-is_requeue_of run (guest_freeze queue guest) = false
-is_requeue_of run (guest_release freeze) = false
+is_requeue_of run event = false
 
 -- the event is this run's exit
 abbrev pub is_exit_of : ℕ → Event → Bool
 is_exit_of run (executes number exit) = number == run
-is_exit_of run (executes number (call helper)) = false
-is_exit_of run (executes number private) = false
-is_exit_of run (submit queue priority retries) = false
-is_exit_of run (dispatch queue) = false
-is_exit_of run (complete outcome) = false
-is_exit_of run (guest_freeze queue guest) = false
-is_exit_of run (guest_release freeze) = false
+is_exit_of run event = false
 
 -- how many steps, requeues and exits of this run there are in a list of events
 abbrev pub steps_of : ℕ → List (Event × Reply) → ℕ
@@ -71,7 +54,7 @@ NeverStuck =
     (is_stuck run.program setup.limits run.machine ≡ false) × (run.out ≡ true → HasOneStep setup world number)
 
 -- A completion starts a run at some moment of a run of the world, which goes on from there.
-pub record Starts (setup : Setup) (outcome : Outcome) (run : ℕ) (ys : List (Event × Reply)) (world : World) : Type 0 where
+pub record StartedRun (setup : Setup) (outcome : Outcome) (run : ℕ) (ys : List (Event × Reply)) (world : World) : Type 0 where
   pub xs : List (Event × Reply)
   pub before : World
   pub run_before : WorldRun setup xs before
@@ -92,7 +75,7 @@ pub record KeepsWithin (setup : Setup) (run : ℕ) (start : LiveRun) (steps : �
 abbrev pub WithinBudget : Type 0
 WithinBudget =
     (setup : Setup) → IsLawful setup → (outcome : Outcome) (run : ℕ) (ys : List (Event × Reply)) (world : World) →
-    (it : Starts setup outcome run ys world) →
+    (it : StartedRun setup outcome run ys world) →
     (start : LiveRun) × (run_of run it.started.runs ≡ Some start) × KeepsWithin setup run start (steps_of run ys) world
 
 -- The CCB is in recovery by this run alone.
@@ -110,7 +93,7 @@ pub record InRecoveryBy (run ccb : ℕ) (world : World) : Type 0 where
 abbrev pub DisposedOnce : Type 0
 DisposedOnce =
     (setup : Setup) → IsLawful setup → (outcome : Outcome) (run : ℕ) (ys : List (Event × Reply)) (world : World) →
-    Starts setup outcome run ys world →
+    StartedRun setup outcome run ys world →
     (requeues_of run ys ≤ 1) × (0 < exits_of run ys → requeues_of run ys ≡ 1)
     × (requeues_of run ys ≡ 0 → InRecoveryBy run outcome.ccb.0 world)
 
@@ -129,7 +112,7 @@ pub record HoldsExactly (run : ℕ) (got given : List ℕ) (world : World) : Typ
 abbrev pub ExactFreezes : Type 0
 ExactFreezes =
     (setup : Setup) → IsLawful setup → (outcome : Outcome) (run : ℕ) (ys : List (Event × Reply)) (world : World) →
-    (it : Starts setup outcome run ys world) →
+    (it : StartedRun setup outcome run ys world) →
     HoldsExactly run (took run ((complete outcome, run_started run it.freeze) ∷ ys)) (gave run setup it.started ys world it.goes_on) world
 
 -- a step of anyone else leaves a run and the entries that name it as they are

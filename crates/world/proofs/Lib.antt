@@ -2,6 +2,7 @@ pub mod Worked
 pub mod GuestRows
 pub mod CcbRows
 pub mod RunRows
+pub mod LawfulRows
 pub mod MachineRows
 pub mod Found
 pub mod Rising

@@ -1,18 +1,17 @@
 -- The worked setup of one queue is lawful: its program is never stuck, and no run of it executes more than 7
 -- instructions. So the laws speak of the worked run.
-use Rattle.std.proofs.Common.{◌≡◌, ℕ, zero, suc, ◌+◌, ◌<◌, ◌≤◌, List, [], ◌∷◌, length, Bool, true, false, not, cond, eqb, Option, Some, None, IsSome, ◌⊎◌, inl, inr, refl, ap, sym, subst, ◌∙◌, arith}
+use Rattle.std.proofs.Common.{◌≡◌, ℕ, zero, suc, ◌≤◌, List, [], ◌∷◌, Bool, true, false, not, cond, eqb, Option, Some, None, inl, inr, refl, ap, sym, subst, ◌∙◌, arith}
 use Rattle.std.specs.Prelude.{◌||◌}
 use Rattle.std.proofs.lemmas.List.Elements.{All-nil, All-cons}
-use Rattle.std.proofs.lemmas.Bool.{cases_Bool, cond-true, cond-false, eq-eqb, not_from_true}
+use Rattle.std.proofs.lemmas.Bool.{cases_Bool, cond-false, eq-eqb, not_from_true}
 use Rattle.helpers.specs.declared.limits.HelperLimits.{HelperLimits}
 use Rattle.helpers.specs.declared.call.Request.{Request}
 use Rattle.helpers.specs.declared.call.Request.TheVariants.{Release, Requeue}
 use Rattle.helpers.specs.declared.call.Answer.{Answer}
 use Rattle.bpf_machine.specs.MachineState.{MachineState, entry, unwritten_frame, context_address, frame_pointer}
-use Rattle.bpf_machine.specs.Step.{private_step, request_at, exit_at, Allowed, answered}
+use Rattle.bpf_machine.specs.Step.{private_step, request_at, Allowed}
 use Rattle.bpf_machine.specs.Stuck.{is_stuck}
 use Rattle.bpf_machine.specs.Reached.{Steps, Reached, Safe, Within}
-use Rattle.world.specs.World.{queue_setup}
 use Rattle.world.specs.Lawful.{IsLawfulQueue, IsLawful}
 use Rattle.world.proofs.Worked.{program, queue_of, one_queue}
 

@@ -29,10 +29,12 @@ abbrev pub finished_by : Event → Reply → List EndedCcb
 finished_by (complete outcome) done = record { number = outcome.ccb.0; code = code_of outcome.status } ∷ []
 finished_by event reply = []
 
+-- all that the events finish, in order
 abbrev pub finished_in : List (Event × Reply) → List EndedCcb
 finished_in xs = flat_map (λ x. finished_by x.0 x.1) xs
 
--- at every moment of every run
+-- At every moment of every run: the numbers are accounted for, and what ended is what completions finished, each with
+-- the code of its status.
 abbrev pub EachIsLiveOrEnded : Type 0
 EachIsLiveOrEnded =
     (setup : Setup) (xs : List (Event × Reply)) (world : World) → WorldRun setup xs world →

@@ -109,5 +109,6 @@ pub record HoldsWhatEntriesSay (world : World) : Type 0 where
   pub machines : (number : ℕ) (run : LiveRun) → run_of number world.runs ≡ Some run → run.machine.held ≡ held_by number world.freezes
   pub entries : (number run : ℕ) (freeze : Freeze) → entry_of number world.freezes ≡ Some freeze → is_run run freeze.holder ≡ true → IsSome (run_of run world.runs)
 
+-- at every moment of every run of a lawful setup
 abbrev pub HeldAreEntries : Type 0
 HeldAreEntries = (setup : Setup) → IsLawful setup → (xs : List (Event × Reply)) (world : World) → WorldRun setup xs world → HoldsWhatEntriesSay world

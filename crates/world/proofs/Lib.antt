@@ -9,6 +9,7 @@ pub mod Rising
 pub mod Cases
 pub mod Entries
 pub mod Moves
+pub mod Waiting
 pub mod Each
 pub mod Kept
 pub mod Leads

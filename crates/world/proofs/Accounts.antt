@@ -11,10 +11,10 @@ use Rattle.world.specs.Event.{Event, submit, dispatch, complete, guest_freeze, g
 use Rattle.world.specs.Run.{Leads}
 use Rattle.world.specs.Limits.{KeepsLimits}
 use Rattle.world.specs.CcbLaws.{ended_times, AreAccounted, finished_by, finished_in, EachIsLiveOrEnded}
-use Rattle.world.proofs.Found.{leave, at_head, at_tail, found_key, found_push, missing_push, put_same, put_other, leave_same, leave_other}
+use Rattle.world.proofs.Lists.Found.{leave, at_head, at_tail, found_key, found_push, missing_push, put_same, put_other, leave_same, leave_other}
 use Rattle.world.proofs.Kept.{step_keeps, opening_keeps}
-use Rattle.world.proofs.Cases.{Case, case_of, refuses, submits, dispatches, finishes_one, recovers_one, recovers_unfrozen, freezes_one, releases_one, goes_on_one, gives_back, requeues_one, exits}
-use Rattle.world.proofs.Moves.{ccb_key, ccb_found, next_found}
+use Rattle.world.proofs.Steps.Cases.{Case, case_of, refuses, submits, dispatches, finishes_one, recovers_one, recovers_unfrozen, freezes_one, releases_one, goes_on_one, gives_back, requeues_one, exits}
+use Rattle.world.proofs.Steps.Moves.{ccb_key, ccb_found, next_found}
 
 absent : (o : Option LiveCcb) (x : LiveCcb) → o ≡ None → o ≡ Some x → ⊥
 absent o x none some = let bad : None ≡ Some x = sym none ∙ some in cc

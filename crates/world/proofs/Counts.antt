@@ -8,8 +8,8 @@ use Rattle.world.specs.World.{Setup, World}
 use Rattle.world.specs.Event.{Event, submit, dispatch, complete, guest_freeze, guest_release, executes, Reply, run_started, refused}
 use Rattle.world.specs.Limits.{KeepsLimits}
 use Rattle.world.specs.FreezeLaws.{OneFewer, MovesCounts, CountsAreEntries}
-use Rattle.world.proofs.Entries.{frozen_push, frozen_without, entry_bounds}
-use Rattle.world.proofs.Cases.{may_refuse, Case, case_of, refuses, submits, dispatches, finishes_one, recovers_one, recovers_unfrozen, freezes_one, releases_one, goes_on_one, gives_back, requeues_one, exits}
+use Rattle.world.proofs.Lists.Entries.{frozen_push, frozen_without, entry_bounds}
+use Rattle.world.proofs.Steps.Cases.{may_refuse, Case, case_of, refuses, submits, dispatches, finishes_one, recovers_one, recovers_unfrozen, freezes_one, releases_one, goes_on_one, gives_back, requeues_one, exits}
 use Rattle.world.proofs.Leads.{limits_are_kept}
 
 -- the count after the freeze of this number went

@@ -17,18 +17,18 @@ use Rattle.world.specs.Run.{Leads}
 use Rattle.world.specs.TookGave.{taken_by, asked, request_of_run, given_by, took, gave}
 use Rattle.world.specs.FreezeLaws.{held_by}
 use Rattle.world.specs.Headline.{is_step_of, times_in}
-use Rattle.world.proofs.Found.{at_head, at_tail}
-use Rattle.world.proofs.Entries.{entry_bounds}
-use Rattle.world.proofs.Cases.{Case, case_of, refuses, submits, dispatches, finishes_one, recovers_one, recovers_unfrozen, freezes_one, releases_one, goes_on_one, gives_back, requeues_one, exits}
-use Rattle.world.proofs.Fates.{machine_of, Fate, stands, goes_privately, goes_releasing, goes_requeuing, leaves_world, fate_of}
-use Rattle.world.proofs.Private.{private_keeps}
-use Rattle.world.proofs.HeldBy.{freeze_key, held_head, held_tail}
+use Rattle.world.proofs.Lists.Found.{at_head, at_tail}
+use Rattle.world.proofs.Lists.Entries.{entry_bounds}
+use Rattle.world.proofs.Steps.Cases.{Case, case_of, refuses, submits, dispatches, finishes_one, recovers_one, recovers_unfrozen, freezes_one, releases_one, goes_on_one, gives_back, requeues_one, exits}
+use Rattle.world.proofs.Steps.Fates.{machine_of, Fate, stands, goes_privately, goes_releasing, goes_requeuing, leaves_world, fate_of}
+use Rattle.world.proofs.Steps.Private.{private_keeps}
+use Rattle.world.proofs.Lists.HeldBy.{freeze_key, held_head, held_tail}
 use Rattle.world.proofs.Held.{live_given}
 use Rattle.world.proofs.Reaching.{same_found, reached_goes, lawful_exit}
-use Rattle.world.proofs.Beginnings.{no_some}
+use Rattle.world.proofs.Steps.Beginnings.{no_some}
 use Rattle.world.proofs.Sound.{IsSound, step_sound}
 use Rattle.world.proofs.Lives.{gone_stands, rises, stays_over}
-use Rattle.world.proofs.Moves.{run_move}
+use Rattle.world.proofs.Steps.Moves.{run_move}
 use Rattle.world.proofs.Kept.{known_queue}
 
 -- numbers in a list

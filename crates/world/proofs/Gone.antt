@@ -11,9 +11,9 @@ use Rattle.world.specs.Step.{WorldStep}
 use Rattle.world.specs.Run.{Leads}
 use Rattle.world.specs.Limits.{KeepsLimits}
 use Rattle.world.specs.FreezeLaws.{IsHeld, AsksFor, GivenUpStaysGivenUp, GivenUpByRunStaysGivenUp, GoneStaysGone}
-use Rattle.world.proofs.Entries.{entry_push, entry_without, entry_removed, entry_bounds, none_since}
-use Rattle.world.proofs.Cases.{case_of, guest_release_parts, release_parts}
-use Rattle.world.proofs.Moves.{FreezeMove, freezes_stay, freeze_enters, freeze_leaves, freeze_move}
+use Rattle.world.proofs.Lists.Entries.{entry_push, entry_without, entry_removed, entry_bounds, none_since}
+use Rattle.world.proofs.Steps.Cases.{case_of, guest_release_parts, release_parts}
+use Rattle.world.proofs.Steps.Moves.{FreezeMove, freezes_stay, freeze_enters, freeze_leaves, freeze_move}
 use Rattle.world.proofs.Kept.{known_queue, step_keeps}
 use Rattle.world.proofs.Leads.{leads_split, leads_keeps, limits_are_kept}
 

@@ -10,15 +10,15 @@ use Rattle.world.specs.Lookups.{ccb_of, run_of}
 use Rattle.world.specs.Event.{Instruction, complete, executes, Event, Reply, run_started}
 use Rattle.world.specs.Run.{Leads}
 use Rattle.world.specs.Headline.{is_step_of, steps_of, requeues_of, exits_of, StartedRun, KeepsWithin, WithinBudget, InRecoveryBy, DisposedOnce, OthersLeaveIt, GoneRunStaysGone, times_in, ExactFreezes}
-use Rattle.world.proofs.Found.{found_key}
-use Rattle.world.proofs.Cases.{case_of}
+use Rattle.world.proofs.Lists.Found.{found_key}
+use Rattle.world.proofs.Steps.Cases.{case_of}
 use Rattle.world.specs.Limits.{KeepsLimits}
-use Rattle.world.proofs.Moves.{ccb_key, run_move}
+use Rattle.world.proofs.Steps.Moves.{ccb_key, run_move}
 use Rattle.world.proofs.Kept.{known_queue, step_keeps}
 use Rattle.world.proofs.Leads.{leads_keeps, limits_are_kept}
 use Rattle.world.proofs.Held.{live_given, others_entries}
-use Rattle.world.proofs.Fates.{Begins, Fate, stands, goes_privately, goes_releasing, goes_requeuing, leaves_world, fate_of}
-use Rattle.world.proofs.Beginnings.{no_some, begun_found, started_begins, begins_at_entry}
+use Rattle.world.proofs.Steps.Fates.{Begins, Fate, stands, goes_privately, goes_releasing, goes_requeuing, leaves_world, fate_of}
+use Rattle.world.proofs.Steps.Beginnings.{no_some, begun_found, started_begins, begins_at_entry}
 use Rattle.world.proofs.Reaching.{same_found}
 use Rattle.world.proofs.Sound.{IsSound, step_sound, run_sound, leads_sound}
 use Rattle.world.specs.TookGave.{taken_by, took}

@@ -15,12 +15,12 @@ use Rattle.world.specs.Event.{Event, Reply}
 use Rattle.world.specs.CcbSteps.{ccb_meets_limit}
 use Rattle.world.specs.Step.{WorldStep}
 use Rattle.world.specs.Limits.{FreezeLimits, CcbLimits, RunLimits, KeepsLimits}
-use Rattle.world.proofs.Found.{put, leave, put_keys}
-use Rattle.world.proofs.Rising.{rising_push, rising_leave, count_put, count_leave}
-use Rattle.world.proofs.Each.{all_found, all_put, put_length}
-use Rattle.world.proofs.Entries.{frozen_push, frozen_without, numbered_without, length_without, entry_bounds}
-use Rattle.world.proofs.Cases.{Case, case_of}
-use Rattle.world.proofs.Moves.{ccb_key, run_key, CcbMove, ccbs_stay, ccb_enters, ccb_changes, ccb_leaves, ccb_move, openings_stay, FreezeMove, freezes_stay, freeze_enters, freeze_leaves, freeze_move, RunMove, runs_stay, run_enters, run_changes, run_leaves, run_move}
+use Rattle.world.proofs.Lists.Found.{put, leave, put_keys}
+use Rattle.world.proofs.Lists.Rising.{rising_push, rising_leave, count_put, count_leave}
+use Rattle.world.proofs.Lists.Each.{all_found, all_put, put_length}
+use Rattle.world.proofs.Lists.Entries.{frozen_push, frozen_without, numbered_without, length_without, entry_bounds}
+use Rattle.world.proofs.Steps.Cases.{Case, case_of}
+use Rattle.world.proofs.Steps.Moves.{ccb_key, run_key, CcbMove, ccbs_stay, ccb_enters, ccb_changes, ccb_leaves, ccb_move, openings_stay, FreezeMove, freezes_stay, freeze_enters, freeze_leaves, freeze_move, RunMove, runs_stay, run_enters, run_changes, run_leaves, run_move}
 
 -- below every limit of freezes
 pub record HasRoom (queue : ℕ) (freezes : List Freeze) (greatest : ℕ) : Type 0 where

@@ -14,13 +14,13 @@ use Rattle.world.specs.Step.{WorldStep}
 use Rattle.world.specs.Run.{Leads}
 use Rattle.world.specs.Limits.{KeepsLimits}
 use Rattle.world.specs.Headline.{is_step_of, is_requeue_of, is_exit_of, steps_of, requeues_of, exits_of}
-use Rattle.world.proofs.Each.{all_found}
-use Rattle.world.proofs.Cases.{Case, case_of, executes_parts}
-use Rattle.world.proofs.Moves.{run_key, RunMove, runs_stay, run_enters, run_changes, run_leaves, run_move}
+use Rattle.world.proofs.Lists.Each.{all_found}
+use Rattle.world.proofs.Steps.Cases.{Case, case_of, executes_parts}
+use Rattle.world.proofs.Steps.Moves.{run_key, RunMove, runs_stay, run_enters, run_changes, run_leaves, run_move}
 use Rattle.world.proofs.Kept.{known_queue}
-use Rattle.world.proofs.Fates.{machine_of, Fate, stands, goes_privately, goes_releasing, goes_requeuing, leaves_world, fate_of}
-use Rattle.world.proofs.Private.{private_keeps}
-use Rattle.world.proofs.Beginnings.{no_some, new_run}
+use Rattle.world.proofs.Steps.Fates.{machine_of, Fate, stands, goes_privately, goes_releasing, goes_requeuing, leaves_world, fate_of}
+use Rattle.world.proofs.Steps.Private.{private_keeps}
+use Rattle.world.proofs.Steps.Beginnings.{no_some, new_run}
 use Rattle.world.proofs.Reaching.{release_steps, requeue_steps, lawful_queue, reached_goes, lawful_exit}
 use Rattle.world.proofs.Held.{live_given}
 use Rattle.world.proofs.Sound.{IsSound, step_sound}

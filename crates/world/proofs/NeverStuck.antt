@@ -17,12 +17,12 @@ use Rattle.world.specs.Event.{release, requeue, Instruction, private, call, exit
 use Rattle.world.specs.RunSteps.{is_run, step_call, step_run, step_executes, releases, requeues}
 use Rattle.world.specs.Step.{WorldStep}
 use Rattle.world.specs.Headline.{HasOneStep, NeverStuck}
-use Rattle.world.proofs.Found.{found_key}
-use Rattle.world.proofs.Cases.{some_is, Executes, private_parts, release_parts, requeue_parts, exit_parts}
-use Rattle.world.proofs.Moves.{run_key}
-use Rattle.world.proofs.Fates.{same_run}
+use Rattle.world.proofs.Lists.Found.{found_key}
+use Rattle.world.proofs.Steps.Cases.{some_is, Executes, private_parts, release_parts, requeue_parts, exit_parts}
+use Rattle.world.proofs.Steps.Moves.{run_key}
+use Rattle.world.proofs.Steps.Fates.{same_run}
 use Rattle.world.proofs.Reaching.{reached_goes}
-use Rattle.world.proofs.HeldBy.{among_is}
+use Rattle.world.proofs.Lists.HeldBy.{among_is}
 use Rattle.world.proofs.Sound.{IsSound, run_sound}
 
 -- the machine of the run stands at such an instruction

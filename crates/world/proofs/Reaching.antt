@@ -16,12 +16,12 @@ use Rattle.world.specs.Lawful.{IsLawfulQueue, IsLawful}
 use Rattle.world.specs.Lookups.{run_of}
 use Rattle.world.specs.Event.{Event, Reply}
 use Rattle.world.specs.Limits.{FreezeLimits, RunLimits}
-use Rattle.world.proofs.Each.{all_found}
-use Rattle.world.proofs.Entries.{frozen_without, entry_bounds}
-use Rattle.world.proofs.Cases.{Case}
-use Rattle.world.proofs.Moves.{run_key}
-use Rattle.world.proofs.Fates.{machine_of, Fate, stands, goes_privately, goes_releasing, goes_requeuing, leaves_world, fate_of, same_run}
-use Rattle.world.proofs.Beginnings.{new_run, begins_at_entry}
+use Rattle.world.proofs.Lists.Each.{all_found}
+use Rattle.world.proofs.Lists.Entries.{frozen_without, entry_bounds}
+use Rattle.world.proofs.Steps.Cases.{Case}
+use Rattle.world.proofs.Steps.Moves.{run_key}
+use Rattle.world.proofs.Steps.Fates.{machine_of, Fate, stands, goes_privately, goes_releasing, goes_requeuing, leaves_world, fate_of, same_run}
+use Rattle.world.proofs.Steps.Beginnings.{new_run, begins_at_entry}
 
 -- the count after a release is at most 254
 pub count_after : (setup : Setup) (before : World) (number : ℕ) (freeze : Freeze) → FreezeLimits setup before → entry_of number before.freezes ≡ Some freeze → frozen freeze.queue.0 (without freeze.number before.freezes) ≤ 254

@@ -7,12 +7,12 @@ use Rattle.world.specs.Lookups.{is_waiting, is_active, ccb_of, with_ccb, run_of}
 use Rattle.world.specs.Event.{Event, Reply}
 use Rattle.world.specs.Limits.{KeepsLimits}
 use Rattle.world.specs.Headline.{is_step_of}
-use Rattle.world.proofs.Found.{found_key, found_push, put_same, put_other, leave_other}
-use Rattle.world.proofs.Cases.{Case, refuses, submits, dispatches, finishes_one, recovers_one, recovers_unfrozen, freezes_one, releases_one, goes_on_one, gives_back, requeues_one, exits}
-use Rattle.world.proofs.Moves.{ccb_key, ccb_found, next_found}
-use Rattle.world.proofs.Fates.{machine_of, Fate, stands, goes_privately, goes_releasing, goes_requeuing, leaves_world, fate_of, Begins, Newly}
-use Rattle.world.proofs.Private.{private_keeps}
-use Rattle.world.proofs.Beginnings.{no_some, new_run}
+use Rattle.world.proofs.Lists.Found.{found_key, found_push, put_same, put_other, leave_other}
+use Rattle.world.proofs.Steps.Cases.{Case, refuses, submits, dispatches, finishes_one, recovers_one, recovers_unfrozen, freezes_one, releases_one, goes_on_one, gives_back, requeues_one, exits}
+use Rattle.world.proofs.Steps.Moves.{ccb_key, ccb_found, next_found}
+use Rattle.world.proofs.Steps.Fates.{machine_of, Fate, stands, goes_privately, goes_releasing, goes_requeuing, leaves_world, fate_of, Begins, Newly}
+use Rattle.world.proofs.Steps.Private.{private_keeps}
+use Rattle.world.proofs.Steps.Beginnings.{no_some, new_run}
 use Rattle.world.proofs.Reaching.{same_found}
 
 -- the CCB of this number is in recovery

@@ -7,7 +7,7 @@ use Rattle.world.specs.Step.{WorldStep}
 use Rattle.world.specs.Run.{Leads, WorldRun}
 use Rattle.world.specs.Limits.{KeepsLimits}
 use Rattle.world.specs.FreezeLaws.{HoldsWhatEntriesSay, HeldAreEntries}
-use Rattle.world.proofs.Cases.{case_of}
+use Rattle.world.proofs.Steps.Cases.{case_of}
 use Rattle.world.proofs.Kept.{case_keeps, opening_keeps}
 use Rattle.world.proofs.Reaching.{AllReached, case_reaches}
 use Rattle.world.proofs.Held.{case_holds}

@@ -13,9 +13,9 @@ use Rattle.world.specs.Lookups.{is_active, is_waiting, is_of, active_count, ccb_
 use Rattle.world.specs.Event.{Event, Reply}
 use Rattle.world.specs.CcbSteps.{ccb_meets_limit, run_meets_limit}
 use Rattle.world.specs.Limits.{AreRising}
-use Rattle.world.proofs.Found.{leave, found_key}
-use Rattle.world.proofs.Rising.{found_among}
-use Rattle.world.proofs.Cases.{Case, refuses, submits, dispatches, finishes_one, recovers_one, recovers_unfrozen, freezes_one, releases_one, goes_on_one, gives_back, requeues_one, exits}
+use Rattle.world.proofs.Lists.Found.{leave, found_key}
+use Rattle.world.proofs.Lists.Rising.{found_among}
+use Rattle.world.proofs.Steps.Cases.{Case, refuses, submits, dispatches, finishes_one, recovers_one, recovers_unfrozen, freezes_one, releases_one, goes_on_one, gives_back, requeues_one, exits}
 
 abbrev pub ccb_key : LiveCcb → ℕ
 ccb_key live = live.ccb.number.0

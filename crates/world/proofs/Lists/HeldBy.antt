@@ -10,8 +10,8 @@ use Rattle.freeze_ledger.proofs.Numbered.{without_lower}
 use Rattle.helpers.specs.Rules.{is_held}
 use Rattle.world.specs.RunSteps.{is_run}
 use Rattle.world.specs.FreezeLaws.{entries_of, held_by}
-use Rattle.world.proofs.Found.{at_head, at_tail}
-use Rattle.world.proofs.Entries.{entry_bounds}
+use Rattle.world.proofs.Lists.Found.{at_head, at_tail}
+use Rattle.world.proofs.Lists.Entries.{entry_bounds}
 
 abbrev pub freeze_key : Freeze → ℕ
 freeze_key freeze = freeze.number

@@ -13,7 +13,7 @@ use Rattle.bpf_machine.specs.Step.{private_step, request_at, Allowed}
 use Rattle.bpf_machine.specs.Stuck.{is_stuck}
 use Rattle.bpf_machine.specs.Reached.{Steps, Reached, Safe, Within}
 use Rattle.world.specs.Lawful.{IsLawfulQueue, IsLawful}
-use Rattle.world.proofs.Worked.{program, queue_of, one_queue}
+use Rattle.world.proofs.Rows.Worked.{program, queue_of, one_queue}
 
 -- a machine in the outermost function
 abbrev machine : ℕ → List (Option ℕ) → List ℕ → List ℕ → Bool → MachineState

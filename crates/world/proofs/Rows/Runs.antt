@@ -18,7 +18,7 @@ use Rattle.world.specs.CcbLaws.{finished_in}
 use Rattle.world.specs.Headline.{steps_of, requeues_of, exits_of}
 use Rattle.world.specs.Flat.{flat}
 use Rattle.world.specs.TotalsOf.{TotalsOf}
-use Rattle.world.proofs.Worked.{one_queue, outcome_of, next, answer}
+use Rattle.world.proofs.Rows.Worked.{one_queue, outcome_of, next, answer}
 
 abbrev submitted_one : HelperLimits → World
 submitted_one l = next (one_queue l) (opening (one_queue l)) (submit 0 10 3)

@@ -7,9 +7,9 @@ use Rattle.std.proofs.lemmas.Bool.{cases_Bool, cases_eq, cond-true, cond-false, 
 use Rattle.world.specs.World.{LiveCcb}
 use Rattle.world.specs.Lookups.{is_waiting, is_of, ccb_of, starts_before, next_waiting}
 use Rattle.world.specs.Limits.{AreRising}
-use Rattle.world.proofs.Found.{at, at_head, at_tail}
-use Rattle.world.proofs.Rising.{found_among}
-use Rattle.world.proofs.Moves.{ccb_key}
+use Rattle.world.proofs.Lists.Found.{at, at_head, at_tail}
+use Rattle.world.proofs.Lists.Rising.{found_among}
+use Rattle.world.proofs.Steps.Moves.{ccb_key}
 
 -- the CCBs of the queue that wait
 abbrev pub waiting_on : ℕ → List LiveCcb → List LiveCcb

@@ -19,12 +19,12 @@ use Rattle.world.specs.Lookups.{run_of, with_run}
 use Rattle.world.specs.Event.{submit, dispatch, complete, guest_freeze, guest_release, Event, Reply, run_started, refused}
 use Rattle.world.specs.CcbSteps.{is_completion}
 use Rattle.world.specs.Limits.{RunLimits}
-use Rattle.world.proofs.Found.{leave, at_head, found_in_push, missing_push, put_other, leave_same, leave_other}
-use Rattle.world.proofs.Rising.{missing_high}
+use Rattle.world.proofs.Lists.Found.{leave, at_head, found_in_push, missing_push, put_other, leave_same, leave_other}
+use Rattle.world.proofs.Lists.Rising.{missing_high}
 use Rattle.world.proofs.Kept.{room_from}
-use Rattle.world.proofs.Cases.{Recovers, RecoversUnfrozen, Case, refuses, submits, dispatches, finishes_one, recovers_one, recovers_unfrozen, freezes_one, releases_one, goes_on_one, gives_back, requeues_one, exits}
-use Rattle.world.proofs.Moves.{run_key, run_found}
-use Rattle.world.proofs.Fates.{machine_of, Begins, Newly}
+use Rattle.world.proofs.Steps.Cases.{Recovers, RecoversUnfrozen, Case, refuses, submits, dispatches, finishes_one, recovers_one, recovers_unfrozen, freezes_one, releases_one, goes_on_one, gives_back, requeues_one, exits}
+use Rattle.world.proofs.Steps.Moves.{run_key, run_found}
+use Rattle.world.proofs.Steps.Fates.{machine_of, Begins, Newly}
 
 -- the run that a completion starts, with a freeze and without
 pub begins_frozen : (setup : Setup) (before : World) (event : Event) (reply : Reply) (after : World) → Recovers setup before event reply after → (run : LiveRun) × Begins setup before event reply after run

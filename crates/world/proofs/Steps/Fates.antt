@@ -16,9 +16,9 @@ use Rattle.world.specs.Event.{release, requeue, Instruction, private, call, exit
 use Rattle.world.specs.CcbSteps.{is_completion}
 use Rattle.world.specs.RunSteps.{is_run}
 use Rattle.world.specs.Headline.{is_step_of}
-use Rattle.world.proofs.Found.{leave, found_key, found_push, put_same, put_other, leave_same, leave_other}
-use Rattle.world.proofs.Cases.{may_refuse, Case, refuses, submits, dispatches, finishes_one, recovers_one, recovers_unfrozen, freezes_one, releases_one, goes_on_one, gives_back, requeues_one, exits}
-use Rattle.world.proofs.Moves.{run_key, run_found}
+use Rattle.world.proofs.Lists.Found.{leave, found_key, found_push, put_same, put_other, leave_same, leave_other}
+use Rattle.world.proofs.Steps.Cases.{may_refuse, Case, refuses, submits, dispatches, finishes_one, recovers_one, recovers_unfrozen, freezes_one, releases_one, goes_on_one, gives_back, requeues_one, exits}
+use Rattle.world.proofs.Steps.Moves.{run_key, run_found}
 
 -- the run that a run becomes, with this machine
 abbrev pub machine_of : LiveRun → MachineState → LiveRun

@@ -1,19 +1,15 @@
 -- Frozen counts move as the entries do.
-use Rattle.std.proofs.Common.{◌≡◌, ℕ, ◌+◌, List, [], ◌∷◌, ◌++◌, Bool, true, false, cond, eqb, Option, Some, None, refl, ap, sym, subst, ◌∙◌, arith}
-use Rattle.std.proofs.lemmas.Bool.{ne_eqb, cond-false}
-use Rattle.ccb.specs.ControlBlock.{completed}
+use Rattle.std.proofs.Common.{◌≡◌, ℕ, ◌+◌, List, true, false, cond, eqb, Some, refl, ap, sym, subst, ◌∙◌, arith}
+use Rattle.std.proofs.lemmas.Bool.{ne_eqb}
 use Rattle.freeze_ledger.specs.declared.entries.Freeze.{Freeze}
-use Rattle.freeze_ledger.specs.declared.entries.Holder.TheVariants.{Run}
 use Rattle.freeze_ledger.specs.Freezes.{frozen, entry_of, without}
 use Rattle.world.specs.declared.history.Refusal.{Refusal}
 use Rattle.world.specs.World.{Setup, World}
-use Rattle.world.specs.Event.{release, requeue, private, call, exit, Event, submit, dispatch, complete, guest_freeze, guest_release, executes, Reply, run_started, refused}
-use Rattle.world.specs.FreezeSteps.{froze, thawed}
-use Rattle.world.specs.CcbSteps.{run_starts}
+use Rattle.world.specs.Event.{Event, submit, dispatch, complete, guest_freeze, guest_release, executes, Reply, run_started, refused}
 use Rattle.world.specs.Limits.{KeepsLimits}
 use Rattle.world.specs.FreezeLaws.{OneFewer, MovesCounts, CountsAreEntries}
-use Rattle.world.proofs.Entries.{frozen_push, frozen_without, entry_bounds}
-use Rattle.world.proofs.Cases.{may_refuse, Case, case_of, refuses, submits, dispatches, finishes_one, recovers_one, recovers_unfrozen, freezes, releases_one, goes_on_one, gives_back, requeues_one, exits}
+use Rattle.world.proofs.Lists.Entries.{frozen_push, frozen_without, entry_bounds}
+use Rattle.world.proofs.Steps.Cases.{may_refuse, Case, case_of, refuses, submits, dispatches, finishes_one, recovers_one, recovers_unfrozen, freezes_one, releases_one, goes_on_one, gives_back, requeues_one, exits}
 use Rattle.world.proofs.Leads.{limits_are_kept}
 
 -- the count after the freeze of this number went
@@ -54,7 +50,7 @@ case_moves setup before event reply after kept (recovers_one it) =
 case_moves setup before event reply after kept (recovers_unfrozen it) =
     let reply_is : reply ≡ run_started (before.greatest_run + 1) 0 = ap (λ (x : Reply × World). x.0) it.starts_is in
     rw (it.fails.event_is, reply_is) (it.fails.live, it.fails.found, λ other. omega (arith, ap (λ (x : Reply × World). frozen other x.1.freezes) it.starts_is))
-case_moves setup before event reply after kept (freezes it) =
+case_moves setup before event reply after kept (freezes_one it) =
     rw (it.event_is, it.reply_is) (λ other. ap (λ (w : World). frozen other w.freezes) it.after_is ∙ frozen_push other before.freezes _)
 case_moves setup before event reply after kept (releases_one it) =
     rw it.event_is (_, it.reply_is, goes setup before after it.number it.freeze kept it.entry (ap (λ (w : World). w.freezes) it.after_is))

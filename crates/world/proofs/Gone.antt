@@ -1,5 +1,5 @@
 -- A number that was given up, or whose freeze is gone, is never held again.
-use Rattle.std.proofs.Common.{◌≡◌, ℕ, ◌+◌, ◌<◌, ◌≤◌, List, [], ◌∷◌, ◌++◌, Option, Some, None, IsSome, refl, ap, sym, subst, ◌∙◌, arith}
+use Rattle.std.proofs.Common.{◌≡◌, ℕ, ◌≤◌, List, [], ◌∷◌, Option, Some, None, IsSome, refl, ap, sym, subst, ◌∙◌, arith}
 use Rattle.freeze_ledger.specs.declared.entries.Freeze.{Freeze}
 use Rattle.freeze_ledger.specs.Freezes.{entry_of, without}
 use Rattle.helpers.specs.declared.call.Request.TheVariants.{Release}
@@ -8,12 +8,12 @@ use Rattle.world.specs.World.{Setup, LiveRun, World, opening}
 use Rattle.world.specs.Lookups.{run_of}
 use Rattle.world.specs.Event.{release, call, Event, Reply, guest_release, executes}
 use Rattle.world.specs.Step.{WorldStep}
-use Rattle.world.specs.Run.{Leads, WorldRun}
+use Rattle.world.specs.Run.{Leads}
 use Rattle.world.specs.Limits.{KeepsLimits}
-use Rattle.world.specs.FreezeLaws.{IsHeld, OneFewer, AsksFor, GivenUpStaysGivenUp, GivenUpByRunStaysGivenUp, GoneStaysGone}
-use Rattle.world.proofs.Entries.{entry_push, entry_without, entry_removed, entry_bounds, none_since}
-use Rattle.world.proofs.Cases.{case_of, guest_release_parts, release_parts}
-use Rattle.world.proofs.Moves.{FreezeMove, freezes_stay, freeze_enters, freeze_leaves, freeze_move}
+use Rattle.world.specs.FreezeLaws.{IsHeld, AsksFor, GivenUpStaysGivenUp, GivenUpByRunStaysGivenUp, GoneStaysGone}
+use Rattle.world.proofs.Lists.Entries.{entry_push, entry_without, entry_removed, entry_bounds, none_since}
+use Rattle.world.proofs.Steps.Cases.{case_of, guest_release_parts, release_parts}
+use Rattle.world.proofs.Steps.Moves.{FreezeMove, freezes_stay, freeze_enters, freeze_leaves, freeze_move}
 use Rattle.world.proofs.Kept.{known_queue, step_keeps}
 use Rattle.world.proofs.Leads.{leads_split, leads_keeps, limits_are_kept}
 
@@ -74,7 +74,7 @@ given_up_stays_given_up setup xs ys number reply world run held =
     let it = guest_release_parts setup before number reply after parts.2.1 in
     let same : it.number ≡ number = let e : guest_release number ≡ guest_release it.number = it.event_is in cc in
     let past = removed_past setup before after number it.freeze kept (subst (λ (n : ℕ). entry_of n before.freezes ≡ Some it.freeze) same it.entry)
-      (ap (λ (w : World). w.freezes) it.after_is) (ap (λ (w : World). w.greatest_freeze) it.after_is) in
+    (ap (λ (w : World). w.freezes) it.after_is) (ap (λ (w : World). w.greatest_freeze) it.after_is) in
     none_held number world (leads_past setup after ys world number (step_keeps setup before (guest_release number) reply after parts.2.1 kept) parts.2.2 past).none held
 
 -- two requests of one run at one moment are one
@@ -93,7 +93,7 @@ given_up_by_run_stays_given_up setup xs ys run number reply before world first a
     let named : it.it.number ≡ run = let e : executes run (call release) ≡ executes it.it.number (call release) = it.it.event_is in cc in
     let same : it.number ≡ number = same_request before run number it.number it.it.run (subst (λ (n : ℕ). run_of n before.runs ≡ Some it.it.run) named it.it.found) it.call_is asks in
     let past = removed_past setup before after number it.freeze kept (subst (λ (n : ℕ). entry_of n before.freezes ≡ Some it.freeze) same it.entry)
-      (ap (λ (x : Reply × World). x.1.freezes) it.answer) (ap (λ (x : Reply × World). x.1.greatest_freeze) it.answer) in
+    (ap (λ (x : Reply × World). x.1.freezes) it.answer) (ap (λ (x : Reply × World). x.1.greatest_freeze) it.answer) in
     none_held number world (leads_past setup after ys world number (step_keeps setup before (executes run (call release)) reply after second.1 kept) second.2 past).none held
 
 pub gone_stays_gone : GoneStaysGone

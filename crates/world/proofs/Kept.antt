@@ -1,27 +1,26 @@
 -- Each step keeps the limits.
-use Rattle.std.proofs.Common.{◌≡◌, ℕ, ◌+◌, ◌<◌, ◌≤◌, List, [], ◌∷◌, ◌++◌, length, length-append, map, Bool, true, false, not, cond, eqb, leb, Option, Some, None, ◌⊎◌, inl, inr, refl, ap, sym, subst, ◌∙◌, arith, slice_index}
-use Rattle.std.specs.Prelude.{◌&&◌, slice_index_or}
-use Rattle.std.specs.List.{All, count_by}
-use Rattle.std.proofs.lemmas.Bool.{cases_Bool, leb-false, or_parts, cases_eq, eq-eqb, ne_eqb, and_left, and_right}
-use Rattle.std.proofs.lemmas.List.Elements.{All-push, All-filter, All-nil}
+use Rattle.std.proofs.Common.{◌≡◌, ℕ, ◌+◌, ◌<◌, ◌≤◌, List, [], ◌∷◌, ◌++◌, length, length-append, Bool, true, false, not, cond, eqb, Some, inl, inr, refl, ap, sym, subst, arith, slice_index}
+use Rattle.std.specs.Prelude.{◌&&◌}
+use Rattle.std.specs.List.{count_by}
+use Rattle.std.proofs.lemmas.Bool.{leb-false, or_parts, cases_eq, eq-eqb, ne_eqb, and_left, and_right}
+use Rattle.std.proofs.lemmas.List.Elements.{All-push, All-filter}
 use Rattle.std.proofs.lemmas.List.Sums.{sum_by_push, length-filter, count_by-le-length}
 use Rattle.ccb.specs.ControlBlock.{submitted}
-use Rattle.freeze_ledger.specs.declared.entries.Holder.{Holder}
 use Rattle.freeze_ledger.specs.declared.entries.Freeze.{Freeze}
 use Rattle.freeze_ledger.specs.Freezes.{frozen, meets_limit, entry_of, without}
 use Rattle.freeze_ledger.proofs.Numbered.{numbered_push}
 use Rattle.world.specs.World.{Setup, queue_count, queue_setup, waiting, LiveCcb, LiveRun, World, opening}
-use Rattle.world.specs.Lookups.{is_active, is_of, live_count, active_count, ccb_of, with_ccb, run_of}
+use Rattle.world.specs.Lookups.{is_active, is_of, live_count, active_count, ccb_of, with_ccb}
 use Rattle.world.specs.Event.{Event, Reply}
-use Rattle.world.specs.CcbSteps.{ccb_meets_limit, run_meets_limit}
+use Rattle.world.specs.CcbSteps.{ccb_meets_limit}
 use Rattle.world.specs.Step.{WorldStep}
-use Rattle.world.specs.Limits.{AreRising, FreezeLimits, CcbLimits, RunLimits, KeepsLimits}
-use Rattle.world.proofs.Found.{put, leave, put_keys}
-use Rattle.world.proofs.Rising.{rising_push, rising_leave, count_put, count_leave}
-use Rattle.world.proofs.Each.{all_found, all_put, put_length}
-use Rattle.world.proofs.Entries.{frozen_push, frozen_without, numbered_without, length_without, entry_bounds}
-use Rattle.world.proofs.Cases.{Case, case_of}
-use Rattle.world.proofs.Moves.{ccb_key, run_key, CcbMove, ccbs_stay, ccb_enters, ccb_changes, ccb_leaves, ccb_move, openings_stay, FreezeMove, freezes_stay, freeze_enters, freeze_leaves, freeze_move, RunMove, runs_stay, run_enters, run_changes, run_leaves, run_move}
+use Rattle.world.specs.Limits.{FreezeLimits, CcbLimits, RunLimits, KeepsLimits}
+use Rattle.world.proofs.Lists.Found.{put, leave, put_keys}
+use Rattle.world.proofs.Lists.Rising.{rising_push, rising_leave, count_put, count_leave}
+use Rattle.world.proofs.Lists.Each.{all_found, all_put, put_length}
+use Rattle.world.proofs.Lists.Entries.{frozen_push, frozen_without, numbered_without, length_without, entry_bounds}
+use Rattle.world.proofs.Steps.Cases.{Case, case_of}
+use Rattle.world.proofs.Steps.Moves.{ccb_key, run_key, CcbMove, ccbs_stay, ccb_enters, ccb_changes, ccb_leaves, ccb_move, openings_stay, FreezeMove, freezes_stay, freeze_enters, freeze_leaves, freeze_move, RunMove, runs_stay, run_enters, run_changes, run_leaves, run_move}
 
 -- below every limit of freezes
 pub record HasRoom (queue : ℕ) (freezes : List Freeze) (greatest : ℕ) : Type 0 where

@@ -1,9 +1,9 @@
 -- Runs of the world, joined and split, and what holds along them.
-use Rattle.std.proofs.Common.{◌≡◌, ℕ, List, [], ◌∷◌, ◌++◌, refl, sym, subst}
+use Rattle.std.proofs.Common.{List, [], ◌∷◌, ◌++◌, refl, sym, subst}
 use Rattle.world.specs.World.{Setup, World, opening}
 use Rattle.world.specs.Event.{Event, Reply}
 use Rattle.world.specs.Step.{WorldStep}
-use Rattle.world.specs.Run.{Leads, WorldRun}
+use Rattle.world.specs.Run.{Leads}
 use Rattle.world.specs.Limits.{KeepsLimits, LimitsAreKept}
 use Rattle.world.proofs.Kept.{step_keeps, opening_keeps}
 

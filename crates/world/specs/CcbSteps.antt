@@ -110,7 +110,8 @@ completes setup world outcome (Some live) =
     else if is_success outcome.status then (done, finishes world live.ccb outcome.status)
     else recovers setup world live.ccb outcome
 
--- a completion that a device can report: it says more than that the CCB is in progress, and brings at most 64 sense bytes
+-- A completion that a device can report: it says more than that the CCB is in progress, its SCSI status is a byte, and
+-- it brings at most 64 sense bytes.
 abbrev pub is_completion : Outcome → Bool
 is_completion outcome =
     not (code_of outcome.status == code_of RequestInProgress) && nat_lt outcome.scsi 256

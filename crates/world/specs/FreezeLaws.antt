@@ -1,13 +1,14 @@
--- The laws of frozen counts and freezes: what holds in every run of every setup.
-use Rattle.std.specs.Prelude.{◌≡◌, ℕ, ◌+◌, ◌==◌, true, if◌then◌else◌, List, [], ◌∷◌, ◌++◌, map, filter, IsSome, Some}
+-- The laws of frozen counts and freezes: what holds in every run of the world.
+use Rattle.std.specs.Prelude.{◌≡◌, ℕ, ◌+◌, ◌==◌, true, if◌then◌else◌, List, ◌∷◌, ◌++◌, map, filter, IsSome, Some}
 use Rattle.freeze_ledger.specs.declared.entries.Freeze.{Freeze}
 use Rattle.freeze_ledger.specs.Freezes.{frozen, entry_of}
 use Rattle.ccb.specs.Completion.{Outcome}
 use Rattle.helpers.specs.declared.call.Request.TheVariants.{Release}
 use Rattle.bpf_machine.specs.Step.{request_at}
 use Rattle.world.specs.World.{Setup, LiveCcb, LiveRun, World}
+use Rattle.world.specs.Lawful.{IsLawful}
 use Rattle.world.specs.Lookups.{ccb_of, run_of}
-use Rattle.world.specs.Event.{release, requeue, private, call, exit, Event, submit, dispatch, complete, guest_freeze, guest_release, executes, Reply, ccb_given, done, run_started, freeze_given, count_left, went_on, result, refused}
+use Rattle.world.specs.Event.{release, call, Event, complete, guest_freeze, guest_release, executes, Reply, done, run_started, freeze_given, count_left, result, refused}
 use Rattle.world.specs.RunSteps.{is_run}
 use Rattle.world.specs.Step.{WorldStep}
 use Rattle.world.specs.Run.{Leads, WorldRun}
@@ -37,12 +38,7 @@ pub record OneFewer (before : World) (number count : ℕ) (after : World) : Type
 abbrev pub MovesByFreeze : World → ℕ → Reply → World → Type 0
 MovesByFreeze before queue (freeze_given number) after = OneMore before queue after
 MovesByFreeze before queue (refused refusal) after = after ≡ before
-MovesByFreeze before queue (ccb_given ccb) after = ⊥
-MovesByFreeze before queue done after = ⊥
-MovesByFreeze before queue (run_started run freeze) after = ⊥
-MovesByFreeze before queue (count_left count) after = ⊥
-MovesByFreeze before queue went_on after = ⊥
-MovesByFreeze before queue (result r0) after = ⊥
+MovesByFreeze before queue reply after = ⊥
 
 -- a completion, by its reply: one more of the CCB's queue where a run started with a freeze, which has a number above 0
 abbrev pub MovesByCompletion : World → Outcome → Reply → World → Type 0
@@ -53,11 +49,7 @@ MovesByCompletion before outcome (run_started run freeze) after =
     ≡ frozen other before.freezes + (if freeze == 0 then 0 else if live.ccb.queue.0 == other then 1 else 0))
 MovesByCompletion before outcome done after = KeepsFreezes before after
 MovesByCompletion before outcome (refused refusal) after = after ≡ before
-MovesByCompletion before outcome (ccb_given ccb) after = ⊥
-MovesByCompletion before outcome (freeze_given number) after = ⊥
-MovesByCompletion before outcome (count_left count) after = ⊥
-MovesByCompletion before outcome went_on after = ⊥
-MovesByCompletion before outcome (result r0) after = ⊥
+MovesByCompletion before outcome reply after = ⊥
 
 -- the freeze that the run asks to give back
 abbrev pub AsksFor : World → ℕ → ℕ → Type 0
@@ -74,11 +66,7 @@ MovesCounts before (guest_release number) reply after =
     (count : ℕ) × (reply ≡ count_left count) × OneFewer before number count after
 MovesCounts before (executes run (call release)) reply after =
     (number count : ℕ) × AsksFor before run number × (reply ≡ result count) × OneFewer before number count after
-MovesCounts before (executes run (call requeue)) reply after = KeepsFreezes before after
-MovesCounts before (executes run private) reply after = KeepsFreezes before after
-MovesCounts before (executes run exit) reply after = KeepsFreezes before after
-MovesCounts before (submit queue priority retries) reply after = KeepsFreezes before after
-MovesCounts before (dispatch queue) reply after = KeepsFreezes before after
+MovesCounts before event reply after = KeepsFreezes before after
 
 -- at every moment of every run each frozen count moves as its entries do
 abbrev pub CountsAreEntries : Type 0
@@ -107,9 +95,13 @@ GoneStaysGone =
     Leads setup held ys gone → (IsHeld number gone → ⊥) →
     Leads setup gone zs later → IsHeld number later → ⊥
 
--- the numbers of the freezes that a run holds, in their order
+-- the entries that name the run as their holder, in their order
+abbrev pub entries_of : ℕ → List Freeze → List Freeze
+entries_of run freezes = filter (λ freeze. is_run run freeze.holder) freezes
+
+-- the numbers of the freezes that a run holds
 abbrev pub held_by : ℕ → List Freeze → List ℕ
-held_by run freezes = map (λ freeze. freeze.number) (filter (λ freeze. is_run run freeze.holder) freezes)
+held_by run freezes = map (λ freeze. freeze.number) (entries_of run freezes)
 
 -- What the machine of each live run holds is what the entries say that the run holds, and no entry names a run that is
 -- not live.
@@ -117,5 +109,6 @@ pub record HoldsWhatEntriesSay (world : World) : Type 0 where
   pub machines : (number : ℕ) (run : LiveRun) → run_of number world.runs ≡ Some run → run.machine.held ≡ held_by number world.freezes
   pub entries : (number run : ℕ) (freeze : Freeze) → entry_of number world.freezes ≡ Some freeze → is_run run freeze.holder ≡ true → IsSome (run_of run world.runs)
 
+-- at every moment of every run of a lawful setup
 abbrev pub HeldAreEntries : Type 0
-HeldAreEntries = (setup : Setup) (xs : List (Event × Reply)) (world : World) → WorldRun setup xs world → HoldsWhatEntriesSay world
+HeldAreEntries = (setup : Setup) → IsLawful setup → (xs : List (Event × Reply)) (world : World) → WorldRun setup xs world → HoldsWhatEntriesSay world

@@ -13,4 +13,6 @@ pub mod Flat
 pub mod TotalsOf
 pub mod Limits
 pub mod FreezeLaws
+pub mod Headline
+pub mod CcbLaws
 pub mod RefusalText

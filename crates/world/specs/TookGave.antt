@@ -5,19 +5,13 @@ use Rattle.helpers.specs.declared.call.Request.TheVariants.{Release, Requeue}
 use Rattle.bpf_machine.specs.Step.{request_at}
 use Rattle.world.specs.World.{Setup, LiveRun, World}
 use Rattle.world.specs.Lookups.{run_of}
-use Rattle.world.specs.Event.{release, requeue, private, call, exit, Event, submit, dispatch, complete, guest_freeze, guest_release, executes, Reply, ccb_given, done, run_started, freeze_given, count_left, went_on, result, refused}
+use Rattle.world.specs.Event.{release, call, Event, executes, Reply, run_started}
 use Rattle.world.specs.Run.{Leads}
 
 -- the freeze that a reply gives to this run: that of its start, if it got one
 abbrev pub taken_by : ℕ → Reply → List ℕ
 taken_by run (run_started number freeze) = if number == run && not (freeze == 0) then freeze ∷ [] else []
-taken_by run (ccb_given ccb) = []
-taken_by run done = []
-taken_by run (freeze_given freeze) = []
-taken_by run (count_left count) = []
-taken_by run went_on = []
-taken_by run (result r0) = []
-taken_by run (refused refusal) = []
+taken_by run reply = []
 
 -- the freeze that a helper call asks to give back
 abbrev pub asked : Option Request → List ℕ
@@ -34,14 +28,7 @@ request_of_run (Some run) = request_at run.program run.machine
 abbrev pub given_by : ℕ → World → Event → List ℕ
 given_by run world (executes number (call release)) =
     if number == run then asked (request_of_run (run_of run world.runs)) else []
-given_by run world (executes number (call requeue)) = []
-given_by run world (executes number private) = []
-given_by run world (executes number exit) = []
-given_by run world (submit queue priority retries) = []
-given_by run world (dispatch queue) = []
-given_by run world (complete outcome) = []
-given_by run world (guest_freeze queue guest) = []
-given_by run world (guest_release freeze) = []
+given_by run world event = []
 
 -- all that a run got, in order
 abbrev pub took : ℕ → List (Event × Reply) → List ℕ

@@ -1,9 +1,8 @@
 -- The cases of a step: what holds before it, what is answered, and what is after it. A proof about steps goes by these.
-use Rattle.std.proofs.Common.{◌≡◌, ℕ, ◌+◌, ◌<◌, ◌≤◌, List, [], ◌∷◌, ◌++◌, length, Bool, true, false, not, cond, eqb, leb, ltb, Option, Some, None, ◌⊎◌, inl, inr, refl, ap, sym, subst, ◌∙◌, arith}
+use Rattle.std.proofs.Common.{◌≡◌, ℕ, ◌+◌, ◌<◌, ◌≤◌, [], ◌∷◌, ◌++◌, Bool, true, false, not, leb, ltb, Option, Some, None, inl, inr, refl, ap, sym, ◌∙◌, arith}
 use Rattle.std.specs.Prelude.{◌&&◌, slice_index}
 use Rattle.std.specs.Option.{option_map, option_and_then}
-use Rattle.std.proofs.lemmas.Bool.{cases_Bool, cond-true, cond-false, leb-true, leb-false, ltb-false, or_parts, and_parts, not-true, not-false}
-use Rattle.ccb.specs.declared.control_block.Ccb.{Ccb}
+use Rattle.std.proofs.lemmas.Bool.{cases_Bool, cond-true, cond-false, leb-true, leb-false, ltb-false, and_parts, not-true, not-false}
 use Rattle.ccb.specs.Completion.{Outcome}
 use Rattle.ccb.specs.ControlBlock.{submitted, started, completed, requeued}
 use Rattle.freeze_ledger.specs.declared.entries.Holder.TheVariants.{Run, Guest}
@@ -17,9 +16,9 @@ use Rattle.world.specs.declared.history.Refusal.{Refusal}
 use Rattle.world.specs.declared.history.Refusal.TheVariants.{Unknown, Limit, NotActive, Frozen, NoOpening, NothingWaits}
 use Rattle.world.specs.World.{Setup, queue_count, waiting, active, LiveCcb, LiveRun, World}
 use Rattle.world.specs.Lookups.{is_active, active_count, ccb_of, with_ccb, next_waiting, run_of}
-use Rattle.world.specs.Event.{Helper, release, requeue, Instruction, private, call, exit, Event, submit, dispatch, complete, guest_freeze, guest_release, executes, Reply, ccb_given, done, freeze_given, count_left, went_on, result, refused}
+use Rattle.world.specs.Event.{release, requeue, Instruction, private, call, exit, Event, submit, dispatch, complete, guest_freeze, guest_release, executes, Reply, ccb_given, done, freeze_given, count_left, went_on, result, refused}
 use Rattle.world.specs.FreezeSteps.{is_guest, froze, thawed, step_guest_release}
-use Rattle.world.specs.CcbSteps.{ccb_meets_limit, starts, is_success, run_meets_limit, finishes, run_starts, recovers, completes, is_completion}
+use Rattle.world.specs.CcbSteps.{ccb_meets_limit, starts, is_success, run_meets_limit, finishes, run_starts, completes, is_completion}
 use Rattle.world.specs.RunSteps.{is_run, goes_on, answers, releases, requeues, step_call, ends, step_run, step_executes}
 use Rattle.world.specs.Step.{WorldStep}
 
@@ -172,7 +171,7 @@ pub data Case (setup : Setup) (before : World) (event : Event) (reply : Reply) (
   finishes_one : Finishes before event reply after → Case setup before event reply after
   recovers_one : Recovers setup before event reply after → Case setup before event reply after
   recovers_unfrozen : RecoversUnfrozen setup before event reply after → Case setup before event reply after
-  freezes : Freezes setup before event reply after → Case setup before event reply after
+  freezes_one : Freezes setup before event reply after → Case setup before event reply after
   releases_one : Releases before event reply after → Case setup before event reply after
   goes_on_one : GoesOn before event reply after → Case setup before event reply after
   gives_back : GivesBack before event reply after → Case setup before event reply after
@@ -306,7 +305,7 @@ guest_freeze_case setup before queue guest reply after e =
             | inl full ↦ refused_case setup before _ reply after Limit refl (inner ∙ cond-true (meets_limit queue before.freezes before.greatest_freeze) _ _ full)
             | inr room ↦
                 let last = inner ∙ cond-false (meets_limit queue before.freezes before.greatest_freeze) _ _ room in
-                freezes (record {
+                freezes_one (record {
                   queue = queue;
                   guest = guest;
                   event_is = refl;
@@ -351,14 +350,14 @@ release_found before event reply after it number call_is None entry e = absurd c
 release_found before event reply after it number call_is (Some f) entry e =
     elim (cases_Bool (is_run it.run.number f.holder)) [
       | inl held ↦ record {
-          it = it;
-          number = number;
-          call_is = call_is;
-          freeze = f;
-          entry = entry;
-          held = held;
-          answer = some_is _ _ (sym (cond-true (is_run it.run.number f.holder) _ _ held) ∙ e);
-        }
+        it = it;
+        number = number;
+        call_is = call_is;
+        freeze = f;
+        entry = entry;
+        held = held;
+        answer = some_is _ _ (sym (cond-true (is_run it.run.number f.holder) _ _ held) ∙ e);
+      }
       | inr other ↦ let none = sym (cond-false (is_run it.run.number f.holder) _ _ other) ∙ e in absurd cc
     ]
 
@@ -401,9 +400,9 @@ executes_found before number instruction reply after None found e = absurd cc
 executes_found before number instruction reply after (Some run) found e =
     elim (cases_Bool run.out) [
       | inl out ↦ record {
-          it = record { number = number; event_is = refl; run = run; found = found; out = out };
-          step = sym (cond-true run.out _ _ out) ∙ e;
-        }
+        it = record { number = number; event_is = refl; run = run; found = found; out = out };
+        step = sym (cond-true run.out _ _ out) ∙ e;
+      }
       | inr parked ↦ let none = sym (cond-false run.out _ _ parked) ∙ e in absurd cc
     ]
 

@@ -1,25 +1,21 @@
 -- What a step does to each list of the world: nothing, one more at the end, a change of one, or one fewer.
-use Rattle.std.proofs.Common.{◌≡◌, ℕ, ◌+◌, ◌<◌, ◌≤◌, List, [], ◌∷◌, ◌++◌, length, map, Bool, true, false, not, cond, eqb, leb, Option, Some, None, ◌⊎◌, inl, inr, refl, ap, sym, subst, ◌∙◌, arith, slice_index}
+use Rattle.std.proofs.Common.{◌≡◌, ℕ, ◌+◌, ◌<◌, List, [], ◌∷◌, ◌++◌, map, true, false, Some, ◌⊎◌, inl, inr, refl, ap, sym, subst, slice_index}
 use Rattle.std.specs.Prelude.{◌&&◌}
-use Rattle.std.specs.List.{list_all, All}
 use Rattle.std.proofs.lemmas.Bool.{and_parts, eqb-true}
 use Rattle.ccb.specs.ControlBlock.{submitted, started, completed, requeued}
-use Rattle.ccb.specs.Context.{context_of}
 use Rattle.freeze_ledger.specs.declared.entries.Holder.{Holder}
 use Rattle.freeze_ledger.specs.declared.entries.Holder.TheVariants.{Run, Guest}
 use Rattle.freeze_ledger.specs.declared.entries.Freeze.{Freeze}
-use Rattle.freeze_ledger.specs.Freezes.{frozen, meets_limit, entry_of, without}
-use Rattle.helpers.specs.declared.call.Request.TheVariants.{Release, Requeue}
-use Rattle.bpf_machine.specs.MachineState.{MachineState, entry}
-use Rattle.bpf_machine.specs.Step.{answered}
+use Rattle.freeze_ledger.specs.Freezes.{meets_limit, entry_of, without}
+use Rattle.bpf_machine.specs.MachineState.{MachineState}
 use Rattle.world.specs.World.{Setup, queue_count, queue_setup, waiting, active, in_recovery, LiveCcb, LiveRun, World}
-use Rattle.world.specs.Lookups.{is_active, is_waiting, is_of, active_count, starts_before, ccb_of, with_ccb, next_waiting, run_of, with_run}
+use Rattle.world.specs.Lookups.{is_active, is_waiting, is_of, active_count, ccb_of, with_ccb, next_waiting, run_of, with_run}
 use Rattle.world.specs.Event.{Event, Reply}
 use Rattle.world.specs.CcbSteps.{ccb_meets_limit, run_meets_limit}
 use Rattle.world.specs.Limits.{AreRising}
-use Rattle.world.proofs.Found.{at, put, leave, found_key}
-use Rattle.world.proofs.Rising.{found_among}
-use Rattle.world.proofs.Cases.{Fails, Dispatches, Case, refuses, submits, dispatches, finishes_one, recovers_one, recovers_unfrozen, freezes, releases_one, goes_on_one, gives_back, requeues_one, exits}
+use Rattle.world.proofs.Lists.Found.{leave, found_key}
+use Rattle.world.proofs.Lists.Rising.{found_among}
+use Rattle.world.proofs.Steps.Cases.{Case, refuses, submits, dispatches, finishes_one, recovers_one, recovers_unfrozen, freezes_one, releases_one, goes_on_one, gives_back, requeues_one, exits}
 
 abbrev pub ccb_key : LiveCcb → ℕ
 ccb_key live = live.ccb.number.0
@@ -70,7 +66,7 @@ ccb_move setup before event reply after rising (recovers_unfrozen it) =
     ccb_changes it.fails.live (record { ccb = completed it.fails.live.ccb it.fails.outcome false; state = in_recovery })
     (ccb_found _ before.live it.fails.live it.fails.found) refl (inl refl)
     (ap (λ (x : Reply × World). x.1.live) it.starts_is) (ap (λ (x : Reply × World). x.1.greatest_ccb) it.starts_is)
-ccb_move setup before event reply after rising (freezes it) = ccbs_stay (ap (λ (w : World). w.live) it.after_is) (ap (λ (w : World). w.greatest_ccb) it.after_is)
+ccb_move setup before event reply after rising (freezes_one it) = ccbs_stay (ap (λ (w : World). w.live) it.after_is) (ap (λ (w : World). w.greatest_ccb) it.after_is)
 ccb_move setup before event reply after rising (releases_one it) = ccbs_stay (ap (λ (w : World). w.live) it.after_is) (ap (λ (w : World). w.greatest_ccb) it.after_is)
 ccb_move setup before event reply after rising (goes_on_one it) = ccbs_stay (ap (λ (w : World). w.live) it.after_is) (ap (λ (w : World). w.greatest_ccb) it.after_is)
 ccb_move setup before event reply after rising (gives_back it) = ccbs_stay (ap (λ (x : Reply × World). x.1.live) it.answer) (ap (λ (x : Reply × World). x.1.greatest_ccb) it.answer)
@@ -88,7 +84,7 @@ openings_stay setup before event reply after (dispatches it) = ap (λ (w : World
 openings_stay setup before event reply after (finishes_one it) = ap (λ (w : World). w.openings) it.after_is
 openings_stay setup before event reply after (recovers_one it) = ap (λ (x : Reply × World). x.1.openings) it.starts_is
 openings_stay setup before event reply after (recovers_unfrozen it) = ap (λ (x : Reply × World). x.1.openings) it.starts_is
-openings_stay setup before event reply after (freezes it) = ap (λ (w : World). w.openings) it.after_is
+openings_stay setup before event reply after (freezes_one it) = ap (λ (w : World). w.openings) it.after_is
 openings_stay setup before event reply after (releases_one it) = ap (λ (w : World). w.openings) it.after_is
 openings_stay setup before event reply after (goes_on_one it) = ap (λ (w : World). w.openings) it.after_is
 openings_stay setup before event reply after (gives_back it) = ap (λ (x : Reply × World). x.1.openings) it.answer
@@ -111,7 +107,7 @@ freeze_move setup before event reply after known (recovers_one it) =
     freeze_enters it.fails.live.ccb.queue.0 (Run (before.greatest_run + 1)) (known _ it.fails.live it.fails.found) it.free
     (ap (λ (x : Reply × World). x.1.freezes) it.starts_is) (ap (λ (x : Reply × World). x.1.greatest_freeze) it.starts_is)
 freeze_move setup before event reply after known (recovers_unfrozen it) = freezes_stay (ap (λ (x : Reply × World). x.1.freezes) it.starts_is) (ap (λ (x : Reply × World). x.1.greatest_freeze) it.starts_is)
-freeze_move setup before event reply after known (freezes it) =
+freeze_move setup before event reply after known (freezes_one it) =
     freeze_enters it.queue (Guest it.guest) it.known it.room (ap (λ (w : World). w.freezes) it.after_is) (ap (λ (w : World). w.greatest_freeze) it.after_is)
 freeze_move setup before event reply after known (releases_one it) =
     freeze_leaves it.number it.freeze it.entry (ap (λ (w : World). w.freezes) it.after_is) (ap (λ (w : World). w.greatest_freeze) it.after_is)
@@ -144,7 +140,7 @@ run_move setup before event reply after known (recovers_one it) =
 run_move setup before event reply after known (recovers_unfrozen it) =
     run_enters _ refl (known _ it.fails.live it.fails.found) refl it.fails.room
     (ap (λ (x : Reply × World). x.1.runs) it.starts_is) (ap (λ (x : Reply × World). x.1.greatest_run) it.starts_is)
-run_move setup before event reply after known (freezes it) = runs_stay (ap (λ (w : World). w.runs) it.after_is) (ap (λ (w : World). w.greatest_run) it.after_is)
+run_move setup before event reply after known (freezes_one it) = runs_stay (ap (λ (w : World). w.runs) it.after_is) (ap (λ (w : World). w.greatest_run) it.after_is)
 run_move setup before event reply after known (releases_one it) = runs_stay (ap (λ (w : World). w.runs) it.after_is) (ap (λ (w : World). w.greatest_run) it.after_is)
 run_move setup before event reply after known (goes_on_one it) =
     run_changes it.it.run it.machine (run_found _ before.runs it.it.run it.it.found) (ap (λ (w : World). w.runs) it.after_is) (ap (λ (w : World). w.greatest_run) it.after_is)

@@ -8,7 +8,7 @@ use Rattle.bpf_insn.specs.declared.program.Slot.TheVariants.{First}
 use Rattle.bpf_machine.specs.MachineState.{MachineState, entry, unwritten_frame}
 use Rattle.bpf_machine.specs.Step.{private_step, request_at, exit_at, answered}
 use Rattle.bpf_machine.specs.Stuck.{is_stuck}
-use Rattle.world.proofs.Worked.{program}
+use Rattle.world.proofs.Rows.Worked.{program}
 
 -- the registers of a machine at a place of the program, after its first instructions
 abbrev machine : ℕ → List (Option ℕ) → List ℕ → Bool → MachineState

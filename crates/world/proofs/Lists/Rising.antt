@@ -1,11 +1,11 @@
 -- What rising numbers say of a list: numbers tell its elements apart, so a change of one by its number is a change of
 -- one alone.
-use Rattle.std.proofs.Common.{◌≡◌, ℕ, ◌+◌, ◌<◌, ◌≤◌, List, [], ◌∷◌, ◌++◌, map, length, Bool, true, false, not, cond, eqb, Option, Some, None, ◌⊎◌, inl, inr, refl, ap, sym, subst, ◌∙◌, arith}
+use Rattle.std.proofs.Common.{◌≡◌, ℕ, ◌+◌, ◌<◌, ◌≤◌, List, [], ◌∷◌, ◌++◌, map, Bool, true, not, cond, eqb, Some, None, inl, inr, refl, ap, sym, subst, ◌∙◌, arith}
 use Rattle.std.specs.List.{find, filter, count_by}
-use Rattle.std.proofs.lemmas.Bool.{cases_Bool, cases_eq, cond-true, cond-false, cond_both, eq-eqb, ne_eqb, eqb-true, eqb-false, not_from_true, not_from_false, not-true}
+use Rattle.std.proofs.lemmas.Bool.{cases_Bool, cases_eq, cond-true, cond-false, cond_both, eq-eqb, ne_eqb, not_from_false}
 use Rattle.std.proofs.lemmas.List.Sums.{sum_by-cons}
 use Rattle.world.specs.Limits.{AreRising}
-use Rattle.world.proofs.Found.{at, put, leave, at_head, at_tail}
+use Rattle.world.proofs.Lists.Found.{at, put, leave, at_head, at_tail}
 
 pub rising_lower : (low lower : ℕ) (ns : List ℕ) (high : ℕ) → lower ≤ low → AreRising low ns high → AreRising lower ns high
 rising_lower low lower [] high le h = omega arith

@@ -9,7 +9,7 @@ use Rattle.world.specs.World.{waiting, active, in_recovery, World, opening}
 use Rattle.world.specs.Lookups.{active_count}
 use Rattle.world.specs.Event.{private, submit, dispatch, complete, guest_freeze, executes, ccb_given, done, run_started, refused}
 use Rattle.world.specs.Step.{step}
-use Rattle.world.proofs.Worked.{program, one_queue, two_queues, with_freezes, with_ccbs, ccb_in, outcome_of, next, answer}
+use Rattle.world.proofs.Rows.Worked.{program, one_queue, two_queues, with_freezes, with_ccbs, ccb_in, outcome_of, next, answer}
 
 -- of three CCBs the one of the lowest priority number starts first, and of two with the same priority the first submitted
 abbrev three : HelperLimits → World

@@ -1,20 +1,24 @@
 -- A worked run: a CCB times out, its queue is frozen, and the queue's program gives the freeze back and makes the CCB
 -- wait again.
-use Rattle.std.proofs.Common.{◌≡◌, false, List, [], ◌∷◌, Ok, refl}
-use Rattle.ccb.specs.declared.status.CamStatus.TheVariants.{CommandTimeout, RequestInProgress}
+use Rattle.std.proofs.Common.{◌≡◌, false, List, [], ◌∷◌, map, Some, None, Ok, refl}
+use Rattle.ccb.specs.declared.status.CamStatus.TheVariants.{CommandTimeout, RequestInProgress, RequestCompleted}
 use Rattle.freeze_ledger.specs.declared.entries.Holder.TheVariants.{Run}
 use Rattle.helpers.specs.declared.limits.HelperLimits.{HelperLimits}
 use Rattle.world.specs.declared.history.Completed.TheVariants.{Started}
 use Rattle.world.specs.declared.history.StoppedAt.TheVariants.{Release, Requeue, Exit}
 use Rattle.world.specs.declared.history.Record.{Record}
 use Rattle.world.specs.declared.history.Record.TheVariants.{Submit, Dispatch, Complete, Advance}
-use Rattle.world.specs.World.{waiting, World, opening}
-use Rattle.world.specs.Event.{release, requeue, private, call, exit, Event, submit, dispatch, complete, executes, Reply, ccb_given, run_started, went_on, result}
+use Rattle.world.specs.declared.history.Refusal.TheVariants.{NotActive, Frozen}
+use Rattle.world.specs.World.{waiting, LiveRun, World, opening}
+use Rattle.world.specs.Event.{release, requeue, private, call, exit, Event, submit, dispatch, complete, executes, Reply, ccb_given, run_started, went_on, result, refused}
+use Rattle.world.specs.Step.{step}
 use Rattle.world.specs.Run.{WorldRun}
 use Rattle.world.specs.TookGave.{took, gave}
+use Rattle.world.specs.CcbLaws.{finished_in}
+use Rattle.world.specs.Headline.{steps_of, requeues_of, exits_of}
 use Rattle.world.specs.Flat.{flat}
 use Rattle.world.specs.TotalsOf.{TotalsOf}
-use Rattle.world.proofs.Worked.{one_queue, outcome_of, next}
+use Rattle.world.proofs.Rows.Worked.{one_queue, outcome_of, next, answer}
 
 abbrev submitted_one : HelperLimits → World
 submitted_one l = next (one_queue l) (opening (one_queue l)) (submit 0 10 3)
@@ -145,3 +149,52 @@ it_gave l = refl
 -- in between the queue was frozen by the run, and its CCB was in recovery
 its_freeze : (l : HelperLimits) → (failed l).freezes ≡ record { number = 1; queue = record { 0 = 0 }; holder = Run 1 } ∷ []
 its_freeze l = refl
+
+-- the run's seven steps are its budget; it made its CCB wait again once, and exited
+its_steps : (steps_of 1 events ≡ 7) × (requeues_of 1 events ≡ 1) × (exits_of 1 events ≡ 1)
+its_steps = (refl, refl, refl)
+
+-- no CCB ended
+none_ended : finished_in events ≡ []
+none_ended = refl
+
+-- while the run holds its freeze, the queue starts nothing
+abbrev another_waits : HelperLimits → World
+another_waits l = next (one_queue l) (failed l) (submit 0 10 3)
+
+frozen_by_the_run : (l : HelperLimits) → answer (one_queue l) (another_waits l) (dispatch 0) ≡ Some (refused Frozen)
+frozen_by_the_run l = refl
+
+then_it_starts : (l : HelperLimits) → answer (one_queue l) (next (one_queue l) (released l) (submit 0 10 3)) (dispatch 0) ≡ Some (ccb_given 2)
+then_it_starts l = refl
+
+-- the CCB is in recovery, so that a second completion of it is refused
+completed_again : (l : HelperLimits) → answer (one_queue l) (failed l) (complete (outcome_of 1 CommandTimeout)) ≡ Some (refused NotActive)
+completed_again l = refl
+
+-- at the call of helper 2 that call is the run's one step, and there is no run 2
+no_private : (l : HelperLimits) → step (one_queue l) (at_release l) (executes 1 private) ≡ None
+no_private l = refl
+
+no_requeue : (l : HelperLimits) → step (one_queue l) (at_release l) (executes 1 (call requeue)) ≡ None
+no_requeue l = refl
+
+no_exit : (l : HelperLimits) → step (one_queue l) (at_release l) (executes 1 exit) ≡ None
+no_exit l = refl
+
+no_other_run : (l : HelperLimits) → step (one_queue l) (at_release l) (executes 2 (call release)) ≡ None
+no_other_run l = refl
+
+-- a run that is not out executes nothing
+abbrev parked : LiveRun → LiveRun
+parked run = record run { out = false }
+
+not_out : (l : HelperLimits) → step (one_queue l) (record (failed l) { runs = map parked (failed l).runs }) (executes 1 private) ≡ None
+not_out l = refl
+
+-- the first run made the CCB wait again, which is started again and then succeeds; it ends with its code
+starts_again : (l : HelperLimits) → answer (one_queue l) at_end (dispatch 0) ≡ Some (ccb_given 1)
+starts_again l = refl
+
+succeeds_at_last : (l : HelperLimits) → (next (one_queue l) (next (one_queue l) at_end (dispatch 0)) (complete (outcome_of 1 RequestCompleted))).ended ≡ record { number = 1; code = 1 } ∷ []
+succeeds_at_last l = refl

@@ -10,7 +10,7 @@ use Rattle.world.specs.Step.{step}
 use Rattle.world.specs.Run.{WorldRun}
 use Rattle.world.specs.Flat.{flat}
 use Rattle.world.specs.TotalsOf.{TotalsOf}
-use Rattle.world.proofs.Worked.{one_queue, with_freezes, freeze_of}
+use Rattle.world.proofs.Rows.Worked.{one_queue, with_freezes, freeze_of}
 
 -- a guest freezes queue 0 and gives the freeze back
 two_lines : (l : HelperLimits) → WorldRun (one_queue l) ((guest_freeze 0 7, freeze_given 1) ∷ (guest_release 1, count_left 0) ∷ []) (with_freezes [] 1)

@@ -1,10 +1,10 @@
 -- What holds of each element of a list whose elements bear numbers: of the one that is found, and after a change.
-use Rattle.std.proofs.Common.{◌≡◌, ℕ, List, [], ◌∷◌, map, length, Bool, cond, eqb, Option, Some, None, inl, inr, refl, ap, sym, subst, ◌∙◌}
+use Rattle.std.proofs.Common.{◌≡◌, ℕ, List, [], ◌∷◌, length, cond, eqb, Some, None, inl, inr, sym, subst, ◌∙◌}
 use Rattle.std.specs.List.{All}
 use Rattle.std.proofs.lemmas.Bool.{cases_eq, cond_both}
 use Rattle.std.proofs.lemmas.List.{length-map}
 use Rattle.std.proofs.lemmas.List.Elements.{All-nil, All-cons, All-head, All-tail}
-use Rattle.world.proofs.Found.{at, put, at_head, at_tail}
+use Rattle.world.proofs.Lists.Found.{at, put, at_head, at_tail}
 
 module _ {A : Type 0} (key : A → ℕ) where
   pub all_found : (P : A → Type 0) (n : ℕ) (xs : List A) (x : A) → All P xs → at key n xs ≡ Some x → P x

@@ -1,0 +1,190 @@
+-- Each CCB number that was given is live or ended, and ended once.
+use Rattle.std.proofs.Common.{◌≡◌, ℕ, ◌+◌, ◌<◌, List, [], ◌∷◌, ◌++◌, Bool, cond, eqb, Option, Some, None, ◌⊎◌, inl, inr, refl, ap, sym, subst, ◌∙◌, arith, append_assoc}
+use Rattle.std.proofs.lemmas.Bool.{cases_eq, cases_lt, eq-eqb, ne_eqb}
+use Rattle.std.proofs.lemmas.List.{append-nil}
+use Rattle.std.proofs.lemmas.List.Sums.{sum_by_push}
+use Rattle.ccb.specs.Status.{code_of}
+use Rattle.world.specs.declared.history.Refusal.{Refusal}
+use Rattle.world.specs.World.{Setup, LiveCcb, EndedCcb, World, opening}
+use Rattle.world.specs.Lookups.{ccb_of, with_ccb}
+use Rattle.world.specs.Event.{Event, submit, dispatch, complete, guest_freeze, guest_release, executes, Reply, refused}
+use Rattle.world.specs.Run.{Leads}
+use Rattle.world.specs.Limits.{KeepsLimits}
+use Rattle.world.specs.CcbLaws.{ended_times, AreAccounted, finished_by, finished_in, EachIsLiveOrEnded}
+use Rattle.world.proofs.Lists.Found.{leave, at_head, at_tail, found_key, found_push, missing_push, put_same, put_other, leave_same, leave_other}
+use Rattle.world.proofs.Kept.{step_keeps, opening_keeps}
+use Rattle.world.proofs.Steps.Cases.{Case, case_of, refuses, submits, dispatches, finishes_one, recovers_one, recovers_unfrozen, freezes_one, releases_one, goes_on_one, gives_back, requeues_one, exits}
+use Rattle.world.proofs.Steps.Moves.{ccb_key, ccb_found, next_found}
+
+absent : (o : Option LiveCcb) (x : LiveCcb) → o ≡ None → o ≡ Some x → ⊥
+absent o x none some = let bad : None ≡ Some x = sym none ∙ some in cc
+
+accounts_from : (live live' : List LiveCcb) (ended ended' : List EndedCcb) (greatest greatest' : ℕ) → live' ≡ live → ended' ≡ ended → greatest' ≡ greatest → AreAccounted live ended greatest → AreAccounted live' ended' greatest'
+accounts_from live live' ended ended' greatest greatest' p q r accounts =
+    subst (λ (n : ℕ). AreAccounted live' ended' n) (sym r)
+    (subst (λ (d : List EndedCcb). AreAccounted live' d greatest) (sym q)
+    (subst (λ (l : List LiveCcb). AreAccounted l ended greatest) (sym p) accounts))
+
+-- one more, of the next number
+accounts_push : (live : List LiveCcb) (ended : List EndedCcb) (greatest : ℕ) (new : LiveCcb) → new.ccb.number.0 ≡ greatest + 1 → AreAccounted live ended greatest → AreAccounted (live ++ new ∷ []) ended (greatest + 1)
+accounts_push live ended greatest new named accounts =
+    record {
+      each = λ n positive most.
+          elim (cases_lt greatest n) [
+            | inl above ↦
+                let none = accounts.no_other n (inr above) in
+                inl (new, missing_push ccb_key n live new none.0 ∙ at_head ccb_key n new [] (omega (arith, named, above, most)), none.1)
+            | inr below ↦
+                elim (accounts.each n positive below) [
+                  | inl it ↦ inl (it.0, found_push ccb_key n live new it.0 it.1, it.2)
+                  | inr it ↦ inr (missing_push ccb_key n live new it.0 ∙ at_tail ccb_key n new [] (λ e. omega (arith, e, named, below)), it.1)
+                ]
+          ];
+      no_other = λ n outside.
+          let beyond : (n ≡ 0) ⊎ (greatest < n) = elim outside [ inl zero_is ↦ inl zero_is | inr above ↦ inr (omega (arith, above)) ] in
+          let apart : new.ccb.number.0 ≡ n → ⊥ = λ e. elim outside [ inl zero_is ↦ omega (arith, e, named, zero_is) | inr above ↦ omega (arith, e, named, above) ] in
+          let none = accounts.no_other n beyond in
+          (missing_push ccb_key n live new none.0 ∙ at_tail ccb_key n new [] apart, none.1);
+    }
+
+-- one that is changed in its place
+accounts_put : (live : List LiveCcb) (ended : List EndedCcb) (greatest : ℕ) (old new : LiveCcb) → ccb_of new.ccb.number.0 live ≡ Some old → AreAccounted live ended greatest → AreAccounted (with_ccb new live) ended greatest
+accounts_put live ended greatest old new found accounts =
+    record {
+      each = λ n positive most.
+          elim (cases_eq new.ccb.number.0 n) [
+            | inl same ↦
+                let was : ccb_of n live ≡ Some old = subst (λ (k : ℕ). ccb_of k live ≡ Some old) same found in
+                let is : ccb_of n (with_ccb new live) ≡ Some new = subst (λ (k : ℕ). ccb_of k (with_ccb new live) ≡ Some new) same (put_same ccb_key new live old found) in
+                elim (accounts.each n positive most) [
+                  | inl it ↦ inl (new, is, it.2)
+                  | inr it ↦ absurd (absent (ccb_of n live) old it.0 was)
+                ]
+            | inr apart ↦
+                let stays = put_other ccb_key new n live apart in
+                elim (accounts.each n positive most) [
+                  | inl it ↦ inl (it.0, stays ∙ it.1, it.2)
+                  | inr it ↦ inr (stays ∙ it.0, it.1)
+                ]
+          ];
+      no_other = λ n outside.
+          let none = accounts.no_other n outside in
+          let apart : new.ccb.number.0 ≡ n → ⊥ = λ same. absent (ccb_of n live) old none.0 (subst (λ (k : ℕ). ccb_of k live ≡ Some old) same found) in
+          (put_other ccb_key new n live apart ∙ none.0, none.1);
+    }
+
+-- one that is finished
+accounts_leave : (live : List LiveCcb) (ended : List EndedCcb) (greatest number code : ℕ) (old : LiveCcb) → ccb_of number live ≡ Some old → AreAccounted live ended greatest → AreAccounted (leave ccb_key number live) (ended ++ record { number = number; code = code } ∷ []) greatest
+accounts_leave live ended greatest number code old found accounts =
+    let last : EndedCcb = record { number = number; code = code } in
+    let times : (n : ℕ) → ended_times n (ended ++ last ∷ []) ≡ ended_times n ended + cond {A = ℕ} (eqb number n) 1 0 = λ n.
+    sum_by_push (λ (one : EndedCcb). cond (eqb one.number n) 1 0) ended last in
+    record {
+      each = λ n positive most.
+          elim (cases_eq number n) [
+            | inl same ↦
+                let was : ccb_of n live ≡ Some old = subst (λ (k : ℕ). ccb_of k live ≡ Some old) same found in
+                let once : cond {A = ℕ} (eqb number n) 1 0 ≡ 1 = ap (λ (b : Bool). cond {A = ℕ} b 1 0) (eq-eqb _ _ same) in
+                elim (accounts.each n positive most) [
+                  | inl it ↦ inr (subst (λ (k : ℕ). ccb_of n (leave ccb_key k live) ≡ None) (sym same) (leave_same ccb_key n live), omega (arith, times n, once, it.2))
+                  | inr it ↦ absurd (absent (ccb_of n live) old it.0 was)
+                ]
+            | inr apart ↦
+                let stays = leave_other ccb_key number n live apart in
+                let never : cond {A = ℕ} (eqb number n) 1 0 ≡ 0 = ap (λ (b : Bool). cond {A = ℕ} b 1 0) (ne_eqb _ _ apart) in
+                elim (accounts.each n positive most) [
+                  | inl it ↦ inl (it.0, stays ∙ it.1, omega (arith, times n, never, it.2))
+                  | inr it ↦ inr (stays ∙ it.0, omega (arith, times n, never, it.1))
+                ]
+          ];
+      no_other = λ n outside.
+          let none = accounts.no_other n outside in
+          let apart : number ≡ n → ⊥ = λ same. absent (ccb_of n live) old none.0 (subst (λ (k : ℕ). ccb_of k live ≡ Some old) same found) in
+          let never : cond {A = ℕ} (eqb number n) 1 0 ≡ 0 = ap (λ (b : Bool). cond {A = ℕ} b 1 0) (ne_eqb _ _ apart) in
+          (leave_other ccb_key number n live apart ∙ none.0, omega (arith, times n, never, none.1));
+    }
+
+abbrev Accounts : World → Type 0
+Accounts world = AreAccounted world.live world.ended world.greatest_ccb
+
+-- the CCBs are as they were
+accounts_stay : (before after : World) → after.live ≡ before.live → after.ended ≡ before.ended → after.greatest_ccb ≡ before.greatest_ccb → Accounts before → Accounts after
+accounts_stay before after p q r accounts = accounts_from before.live after.live before.ended after.ended before.greatest_ccb after.greatest_ccb p q r accounts
+
+case_accounts : (setup : Setup) (before : World) (event : Event) (reply : Reply) (after : World) → KeepsLimits setup before → Accounts before → Case setup before event reply after → Accounts after
+case_accounts setup before event reply after kept accounts (refuses it) = accounts_stay before after (ap (λ (w : World). w.live) it.after_is) (ap (λ (w : World). w.ended) it.after_is) (ap (λ (w : World). w.greatest_ccb) it.after_is) accounts
+case_accounts setup before event reply after kept accounts (submits it) =
+    accounts_from _ after.live before.ended after.ended _ after.greatest_ccb (ap (λ (w : World). w.live) it.after_is) (ap (λ (w : World). w.ended) it.after_is) (ap (λ (w : World). w.greatest_ccb) it.after_is)
+    (accounts_push before.live before.ended before.greatest_ccb _ refl accounts)
+case_accounts setup before event reply after kept accounts (dispatches it) =
+    accounts_from _ after.live before.ended after.ended before.greatest_ccb after.greatest_ccb (ap (λ (w : World). w.live) it.after_is) (ap (λ (w : World). w.ended) it.after_is) (ap (λ (w : World). w.greatest_ccb) it.after_is)
+    (accounts_put before.live before.ended before.greatest_ccb it.next _ (next_found it.queue before.live before.greatest_ccb it.next kept.ccbs.rising it.next_is).found accounts)
+case_accounts setup before event reply after kept accounts (finishes_one it) =
+    accounts_from _ after.live _ after.ended before.greatest_ccb after.greatest_ccb (ap (λ (w : World). w.live) it.after_is) (ap (λ (w : World). w.ended) it.after_is) (ap (λ (w : World). w.greatest_ccb) it.after_is)
+    (accounts_leave before.live before.ended before.greatest_ccb it.live.ccb.number.0 _ it.live (ccb_found it.outcome.ccb.0 before.live it.live it.found) accounts)
+case_accounts setup before event reply after kept accounts (recovers_one it) =
+    accounts_from _ after.live before.ended after.ended before.greatest_ccb after.greatest_ccb (ap (λ (x : Reply × World). x.1.live) it.starts_is) (ap (λ (x : Reply × World). x.1.ended) it.starts_is) (ap (λ (x : Reply × World). x.1.greatest_ccb) it.starts_is)
+    (accounts_put before.live before.ended before.greatest_ccb it.fails.live _ (ccb_found it.fails.outcome.ccb.0 before.live it.fails.live it.fails.found) accounts)
+case_accounts setup before event reply after kept accounts (recovers_unfrozen it) =
+    accounts_from _ after.live before.ended after.ended before.greatest_ccb after.greatest_ccb (ap (λ (x : Reply × World). x.1.live) it.starts_is) (ap (λ (x : Reply × World). x.1.ended) it.starts_is) (ap (λ (x : Reply × World). x.1.greatest_ccb) it.starts_is)
+    (accounts_put before.live before.ended before.greatest_ccb it.fails.live _ (ccb_found it.fails.outcome.ccb.0 before.live it.fails.live it.fails.found) accounts)
+case_accounts setup before event reply after kept accounts (freezes_one it) = accounts_stay before after (ap (λ (w : World). w.live) it.after_is) (ap (λ (w : World). w.ended) it.after_is) (ap (λ (w : World). w.greatest_ccb) it.after_is) accounts
+case_accounts setup before event reply after kept accounts (releases_one it) = accounts_stay before after (ap (λ (w : World). w.live) it.after_is) (ap (λ (w : World). w.ended) it.after_is) (ap (λ (w : World). w.greatest_ccb) it.after_is) accounts
+case_accounts setup before event reply after kept accounts (goes_on_one it) = accounts_stay before after (ap (λ (w : World). w.live) it.after_is) (ap (λ (w : World). w.ended) it.after_is) (ap (λ (w : World). w.greatest_ccb) it.after_is) accounts
+case_accounts setup before event reply after kept accounts (gives_back it) = accounts_stay before after (ap (λ (x : Reply × World). x.1.live) it.answer) (ap (λ (x : Reply × World). x.1.ended) it.answer) (ap (λ (x : Reply × World). x.1.greatest_ccb) it.answer) accounts
+case_accounts setup before event reply after kept accounts (requeues_one it) =
+    accounts_from _ after.live before.ended after.ended before.greatest_ccb after.greatest_ccb (ap (λ (x : Reply × World). x.1.live) it.answer) (ap (λ (x : Reply × World). x.1.ended) it.answer) (ap (λ (x : Reply × World). x.1.greatest_ccb) it.answer)
+    (accounts_put before.live before.ended before.greatest_ccb it.live _ (ccb_found it.it.run.ccb before.live it.live it.found) accounts)
+case_accounts setup before event reply after kept accounts (exits it) = accounts_stay before after (ap (λ (w : World). w.live) it.after_is) (ap (λ (w : World). w.ended) it.after_is) (ap (λ (w : World). w.greatest_ccb) it.after_is) accounts
+
+abbrev one_ended : ℕ → ℕ → List EndedCcb
+one_ended number code = record { number = number; code = code } ∷ []
+
+-- what ended is what the event finished
+nothing_more : (before after : World) (event : Event) (reply : Reply) → finished_by event reply ≡ [] → after.ended ≡ before.ended → after.ended ≡ before.ended ++ finished_by event reply
+nothing_more before after event reply none e = e ∙ sym (ap (λ (l : List EndedCcb). before.ended ++ l) none ∙ append-nil before.ended)
+
+refusal_finishes : (event : Event) (refusal : Refusal) → finished_by event (refused refusal) ≡ []
+refusal_finishes (submit queue priority retries) refusal = refl
+refusal_finishes (dispatch queue) refusal = refl
+refusal_finishes (complete outcome) refusal = refl
+refusal_finishes (guest_freeze queue guest) refusal = refl
+refusal_finishes (guest_release freeze) refusal = refl
+refusal_finishes (executes run instruction) refusal = refl
+
+case_ends : (setup : Setup) (before : World) (event : Event) (reply : Reply) (after : World) → Case setup before event reply after → after.ended ≡ before.ended ++ finished_by event reply
+case_ends setup before event reply after (refuses it) =
+    nothing_more before after event reply (ap (finished_by event) it.reply_is ∙ refusal_finishes event it.refusal) (ap (λ (w : World). w.ended) it.after_is)
+case_ends setup before event reply after (submits it) = nothing_more before after event reply (ap (λ (x : Event). finished_by x reply) it.event_is) (ap (λ (w : World). w.ended) it.after_is)
+case_ends setup before event reply after (dispatches it) = nothing_more before after event reply (ap (λ (x : Event). finished_by x reply) it.event_is) (ap (λ (w : World). w.ended) it.after_is)
+case_ends setup before event reply after (finishes_one it) =
+    let named : it.live.ccb.number.0 ≡ it.outcome.ccb.0 = found_key ccb_key it.outcome.ccb.0 before.live it.live it.found in
+    let by : finished_by event reply ≡ record { number = it.outcome.ccb.0; code = code_of it.outcome.status } ∷ [] =
+    ap (λ (x : Event). finished_by x reply) it.event_is ∙ ap (finished_by (complete it.outcome)) it.reply_is in
+    ap (λ (w : World). w.ended) it.after_is
+    ∙ (ap (λ (n : ℕ). before.ended ++ one_ended n (code_of it.outcome.status)) named
+    ∙ sym (ap (λ (l : List EndedCcb). before.ended ++ l) by))
+case_ends setup before event reply after (recovers_one it) =
+    nothing_more before after event reply (ap (λ (x : Event). finished_by x reply) it.fails.event_is ∙ ap (finished_by (complete it.fails.outcome)) (ap (λ (x : Reply × World). x.0) it.starts_is)) (ap (λ (x : Reply × World). x.1.ended) it.starts_is)
+case_ends setup before event reply after (recovers_unfrozen it) =
+    nothing_more before after event reply (ap (λ (x : Event). finished_by x reply) it.fails.event_is ∙ ap (finished_by (complete it.fails.outcome)) (ap (λ (x : Reply × World). x.0) it.starts_is)) (ap (λ (x : Reply × World). x.1.ended) it.starts_is)
+case_ends setup before event reply after (freezes_one it) = nothing_more before after event reply (ap (λ (x : Event). finished_by x reply) it.event_is) (ap (λ (w : World). w.ended) it.after_is)
+case_ends setup before event reply after (releases_one it) = nothing_more before after event reply (ap (λ (x : Event). finished_by x reply) it.event_is) (ap (λ (w : World). w.ended) it.after_is)
+case_ends setup before event reply after (goes_on_one it) = nothing_more before after event reply (ap (λ (x : Event). finished_by x reply) it.it.event_is) (ap (λ (w : World). w.ended) it.after_is)
+case_ends setup before event reply after (gives_back it) = nothing_more before after event reply (ap (λ (x : Event). finished_by x reply) it.it.event_is) (ap (λ (x : Reply × World). x.1.ended) it.answer)
+case_ends setup before event reply after (requeues_one it) = nothing_more before after event reply (ap (λ (x : Event). finished_by x reply) it.it.event_is) (ap (λ (x : Reply × World). x.1.ended) it.answer)
+case_ends setup before event reply after (exits it) = nothing_more before after event reply (ap (λ (x : Event). finished_by x reply) it.it.event_is) (ap (λ (w : World). w.ended) it.after_is)
+
+leads_accounts : (setup : Setup) (before : World) (xs : List (Event × Reply)) (after : World) → KeepsLimits setup before → Leads setup before xs after → Accounts before → Accounts after × (after.ended ≡ before.ended ++ finished_in xs)
+leads_accounts setup before [] after kept run accounts = (subst Accounts run accounts, sym (ap (λ (w : World). w.ended) run) ∙ sym (append-nil before.ended))
+leads_accounts setup before (x ∷ xs) after kept run accounts =
+    let between : World = run.0 in
+    let it = case_of setup before x.0 x.1 between run.1 in
+    let rest = leads_accounts setup between xs after (step_keeps setup before x.0 x.1 between run.1 kept) run.2 (case_accounts setup before x.0 x.1 between kept accounts it) in
+    (rest.0, rest.1 ∙ (ap (λ (l : List EndedCcb). l ++ finished_in xs) (case_ends setup before x.0 x.1 between it) ∙ append_assoc before.ended (finished_by x.0 x.1) (finished_in xs)))
+
+opening_accounts : (setup : Setup) → Accounts (opening setup)
+opening_accounts setup = record { each = λ n positive most. absurd (omega (arith, positive, most)); no_other = λ n outside. (refl, refl) }
+
+pub each_is_live_or_ended : EachIsLiveOrEnded
+each_is_live_or_ended setup xs world run = leads_accounts setup (opening setup) xs world (opening_keeps setup) run (opening_accounts setup)

@@ -1,0 +1,257 @@
+-- A run holds exactly the freezes that it got and did not give up yet.
+use Rattle.std.proofs.Common.{◌≡◌, ℕ, ◌+◌, ◌≤◌, List, [], ◌∷◌, ◌++◌, Bool, true, false, not, cond, eqb, Option, Some, None, inl, inr, refl, ap, sym, subst, ◌∙◌, arith}
+use Rattle.std.specs.Prelude.{◌&&◌}
+use Rattle.std.specs.List.{filter}
+use Rattle.std.proofs.lemmas.Bool.{cases_Bool, cases_eq, cond-true, cond-false, eq-eqb, ne_eqb, not_from_true, not_from_false}
+use Rattle.std.proofs.lemmas.List.Sums.{sum_by-cons, sum_by-append}
+use Rattle.freeze_ledger.specs.declared.entries.Freeze.{Freeze}
+use Rattle.freeze_ledger.specs.Freezes.{entry_of}
+use Rattle.freeze_ledger.specs.Invariant.{AreNumbered}
+use Rattle.world.specs.World.{Setup, LiveRun, World}
+use Rattle.world.specs.Lawful.{IsLawful}
+use Rattle.world.specs.Lookups.{run_of}
+use Rattle.world.specs.Event.{release, requeue, Instruction, private, call, exit, Event, submit, dispatch, complete, guest_freeze, guest_release, executes, Reply}
+use Rattle.world.specs.RunSteps.{is_run}
+use Rattle.world.specs.Step.{WorldStep}
+use Rattle.world.specs.Run.{Leads}
+use Rattle.world.specs.TookGave.{taken_by, asked, request_of_run, given_by, took, gave}
+use Rattle.world.specs.FreezeLaws.{held_by}
+use Rattle.world.specs.Headline.{is_step_of, times_in}
+use Rattle.world.proofs.Lists.Found.{at_head, at_tail}
+use Rattle.world.proofs.Lists.Entries.{entry_bounds}
+use Rattle.world.proofs.Steps.Cases.{Case, case_of, refuses, submits, dispatches, finishes_one, recovers_one, recovers_unfrozen, freezes_one, releases_one, goes_on_one, gives_back, requeues_one, exits}
+use Rattle.world.proofs.Steps.Fates.{machine_of, Fate, stands, goes_privately, goes_releasing, goes_requeuing, leaves_world, fate_of}
+use Rattle.world.proofs.Steps.Private.{private_keeps}
+use Rattle.world.proofs.Lists.HeldBy.{freeze_key, held_head, held_tail}
+use Rattle.world.proofs.Held.{live_given}
+use Rattle.world.proofs.Reaching.{same_found, reached_goes, lawful_exit}
+use Rattle.world.proofs.Steps.Beginnings.{no_some}
+use Rattle.world.proofs.Sound.{IsSound, step_sound}
+use Rattle.world.proofs.Lives.{gone_stands, rises, stays_over}
+use Rattle.world.proofs.Steps.Moves.{run_move}
+use Rattle.world.proofs.Kept.{known_queue}
+
+-- numbers in a list
+
+abbrev one : Bool → ℕ
+one b = cond b 1 0
+
+times_cons : (n k : ℕ) (ns : List ℕ) → times_in n (k ∷ ns) ≡ one (eqb k n) + times_in n ns
+times_cons n k ns = sum_by-cons (λ (other : ℕ). one (eqb other n)) k ns
+
+pub times_one : (n k : ℕ) → times_in n (k ∷ []) ≡ one (eqb k n)
+times_one n k = let is = times_cons n k [] in omega (arith, is)
+
+pub times_append : (n : ℕ) (ks ns : List ℕ) → times_in n (ks ++ ns) ≡ times_in n ks + times_in n ns
+times_append n ks ns = sum_by-append (λ (other : ℕ). one (eqb other n)) ks ns
+
+-- a number that is taken out is there no more, and any other as often as before
+times_out : (n m : ℕ) (ns : List ℕ) → times_in n (filter (λ k. not (eqb k m)) ns) + cond (eqb m n) (times_in n ns) 0 ≡ times_in n ns
+times_out n m [] = cond_same (eqb m n) 0
+  where
+    cond_same : (b : Bool) (x : ℕ) → 0 + cond b 0 0 ≡ 0
+    cond_same true x = refl
+    cond_same false x = refl
+times_out n m (k ∷ ns) =
+    let rest = times_out n m ns in
+    let all = times_cons n k ns in
+    elim (cases_eq k m) [
+      | inl same ↦
+          let out : times_in n (filter (λ (x : ℕ). not (eqb x m)) (k ∷ ns)) ≡ times_in n (filter (λ (x : ℕ). not (eqb x m)) ns) =
+          ap (times_in n) (cond-false (not (eqb k m)) _ _ (not_from_true _ (eq-eqb _ _ same))) in
+          elim (cases_eq m n) [
+            | inl this ↦
+                let now : cond (eqb m n) (times_in n (k ∷ ns)) 0 ≡ times_in n (k ∷ ns) = cond-true (eqb m n) _ 0 (eq-eqb _ _ this) in
+                let was : cond (eqb m n) (times_in n ns) 0 ≡ times_in n ns = cond-true (eqb m n) _ 0 (eq-eqb _ _ this) in
+                omega (arith, rest, all, out, now, was)
+            | inr that ↦
+                let now : cond (eqb m n) (times_in n (k ∷ ns)) 0 ≡ 0 = cond-false (eqb m n) _ 0 (ne_eqb _ _ that) in
+                let was : cond (eqb m n) (times_in n ns) 0 ≡ 0 = cond-false (eqb m n) _ 0 (ne_eqb _ _ that) in
+                let none : one (eqb k n) ≡ 0 = ap one (ne_eqb _ _ (λ e. that (sym same ∙ e))) in
+                omega (arith, rest, all, out, now, was, none)
+          ]
+      | inr apart ↦
+          let out : times_in n (filter (λ (x : ℕ). not (eqb x m)) (k ∷ ns)) ≡ times_in n (k ∷ filter (λ (x : ℕ). not (eqb x m)) ns) =
+          ap (times_in n) (cond-true (not (eqb k m)) _ _ (not_from_false _ (ne_eqb _ _ apart))) in
+          let kept = times_cons n k (filter (λ (x : ℕ). not (eqb x m)) ns) in
+          elim (cases_eq m n) [
+            | inl this ↦
+                let now : cond (eqb m n) (times_in n (k ∷ ns)) 0 ≡ times_in n (k ∷ ns) = cond-true (eqb m n) _ 0 (eq-eqb _ _ this) in
+                let was : cond (eqb m n) (times_in n ns) 0 ≡ times_in n ns = cond-true (eqb m n) _ 0 (eq-eqb _ _ this) in
+                let none : one (eqb k n) ≡ 0 = ap one (ne_eqb _ _ (λ e. apart (e ∙ sym this))) in
+                omega (arith, rest, all, out, kept, now, was, none)
+            | inr that ↦
+                let now : cond (eqb m n) (times_in n (k ∷ ns)) 0 ≡ 0 = cond-false (eqb m n) _ 0 (ne_eqb _ _ that) in
+                let was : cond (eqb m n) (times_in n ns) 0 ≡ 0 = cond-false (eqb m n) _ 0 (ne_eqb _ _ that) in
+                omega (arith, rest, all, out, kept, now, was)
+          ]
+    ]
+
+-- the numbers of entries are apart
+
+times_below : (r n low : ℕ) (fs : List Freeze) (high : ℕ) → AreNumbered low fs high → n ≤ low → times_in n (held_by r fs) ≡ 0
+times_below r n low [] high h le = refl
+times_below r n low (g ∷ fs) high h le =
+    let rest = times_below r n g.number fs high h.1 (omega (arith, le, h.0)) in
+    elim (cases_Bool (is_run r g.holder)) [
+      | inl its ↦
+          let none : one (eqb g.number n) ≡ 0 = ap one (ne_eqb _ _ (λ e. omega (arith, e, le, h.0))) in
+          let all = times_cons n g.number (held_by r fs) in
+          let is : times_in n (held_by r (g ∷ fs)) ≡ times_in n (g.number ∷ held_by r fs) = ap (times_in n) (held_head r g fs its) in
+          omega (arith, is, all, none, rest)
+      | inr other ↦ ap (times_in n) (held_tail r g fs other) ∙ rest
+    ]
+
+-- what an entry says that the run holds is held once
+times_held : (r n low : ℕ) (fs : List Freeze) (high : ℕ) (f : Freeze) → AreNumbered low fs high → entry_of n fs ≡ Some f → is_run r f.holder ≡ true → times_in n (held_by r fs) ≡ 1
+times_held r n low [] high f h entry its = absurd (let bad : None ≡ Some f = entry in cc)
+times_held r n low (g ∷ fs) high f h entry its =
+    elim (cases_eq g.number n) [
+      | inl same ↦
+          let both : Some g ≡ Some f = sym (at_head freeze_key n g fs same) ∙ entry in
+          let is_f : g ≡ f = cc in
+          let is : times_in n (held_by r (g ∷ fs)) ≡ times_in n (g.number ∷ held_by r fs) = ap (times_in n) (held_head r g fs (subst (λ (x : Freeze). is_run r x.holder ≡ true) (sym is_f) its)) in
+          let all = times_cons n g.number (held_by r fs) in
+          let this : one (eqb g.number n) ≡ 1 = ap one (eq-eqb _ _ same) in
+          let none = times_below r n g.number fs high h.1 (omega (arith, same)) in
+          omega (arith, is, all, this, none)
+      | inr apart ↦
+          let rest = times_held r n g.number fs high f h.1 (sym (at_tail freeze_key n g fs apart) ∙ entry) its in
+          elim (cases_Bool (is_run r g.holder)) [
+            | inl own ↦
+                let is : times_in n (held_by r (g ∷ fs)) ≡ times_in n (g.number ∷ held_by r fs) = ap (times_in n) (held_head r g fs own) in
+                let all = times_cons n g.number (held_by r fs) in
+                let none : one (eqb g.number n) ≡ 0 = ap one (ne_eqb _ _ apart) in
+                omega (arith, is, all, none, rest)
+            | inr other ↦ ap (times_in n) (held_tail r g fs other) ∙ rest
+          ]
+    ]
+
+-- what a step gives to a run that was there, and takes from it
+
+nothing_taken : (setup : Setup) (before : World) (event : Event) (reply : Reply) (after : World) (number : ℕ) → number ≤ before.greatest_run → Case setup before event reply after → taken_by number reply ≡ []
+nothing_taken setup before event reply after number given (refuses it) = ap (taken_by number) it.reply_is
+nothing_taken setup before event reply after number given (submits it) = ap (taken_by number) it.reply_is
+nothing_taken setup before event reply after number given (dispatches it) = ap (taken_by number) it.reply_is
+nothing_taken setup before event reply after number given (finishes_one it) = ap (taken_by number) it.reply_is
+nothing_taken setup before event reply after number given (recovers_one it) =
+    ap (λ (x : Reply × World). taken_by number x.0) it.starts_is
+    ∙ ap (λ (b : Bool). cond (b && not (eqb (before.greatest_freeze + 1) 0)) ((before.greatest_freeze + 1) ∷ []) []) (ne_eqb _ _ (λ e. omega (arith, e, given)))
+nothing_taken setup before event reply after number given (recovers_unfrozen it) =
+    ap (λ (x : Reply × World). taken_by number x.0) it.starts_is
+    ∙ ap (λ (b : Bool). cond (b && false) (0 ∷ []) []) (ne_eqb _ _ (λ e. omega (arith, e, given)))
+nothing_taken setup before event reply after number given (freezes_one it) = ap (taken_by number) it.reply_is
+nothing_taken setup before event reply after number given (releases_one it) = ap (taken_by number) it.reply_is
+nothing_taken setup before event reply after number given (goes_on_one it) = ap (taken_by number) it.reply_is
+nothing_taken setup before event reply after number given (gives_back it) = ap (λ (x : Reply × World). taken_by number x.0) it.answer
+nothing_taken setup before event reply after number given (requeues_one it) = ap (λ (x : Reply × World). taken_by number x.0) it.answer
+nothing_taken setup before event reply after number given (exits it) = ap (taken_by number) it.reply_is
+
+nothing_given : (number : ℕ) (world : World) (event : Event) → is_step_of number event ≡ false → given_by number world event ≡ []
+nothing_given number world (executes run private) other = refl
+nothing_given number world (executes run (call release)) other = cond-false (eqb run number) _ _ other
+nothing_given number world (executes run (call requeue)) other = refl
+nothing_given number world (executes run exit) other = refl
+nothing_given number world (submit queue priority retries) other = refl
+nothing_given number world (dispatch queue) other = refl
+nothing_given number world (complete outcome) other = refl
+nothing_given number world (guest_freeze queue guest) other = refl
+nothing_given number world (guest_release freeze) other = refl
+
+rising_run : (setup : Setup) (before : World) (event : Event) (reply : Reply) (after : World) (number : ℕ) (now : LiveRun) → IsSound setup before → WorldStep setup before event reply after → run_of number before.runs ≡ Some now → number ≤ after.greatest_run
+rising_run setup before event reply after number now sound step found =
+    let it = case_of setup before event reply after step in
+    omega (arith, live_given setup before number now sound.kept found, rises setup before after (run_move setup before event reply after (known_queue setup before sound.kept.ccbs) it))
+
+-- of one number: how often the run got it, and gave it up
+pub data Balance (n number got given : ℕ) (world : World) : Type 0 where
+  has : (now : LiveRun) → run_of number world.runs ≡ Some now → got ≡ times_in n now.machine.held + given → Balance n number got given world
+  had : run_of number world.runs ≡ None → number ≤ world.greatest_run → got ≡ given → Balance n number got given world
+
+balance_step : (setup : Setup) (n number got given : ℕ) (before : World) (event : Event) (reply : Reply) (after : World) → IsLawful setup → IsSound setup before → WorldStep setup before event reply after → Balance n number got given before → Balance n number got (given + times_in n (given_by number before event)) after
+balance_step setup n number got given before event reply after lawful sound step (had none number_given same) =
+    let still = stays_over setup before event reply after number sound.kept none number_given step in
+    let nothing : times_in n (given_by number before event) ≡ 0 = ap (times_in n) (nothing_given number before event (gone_stands setup before event reply after number none step)) in
+    had still.0 still.1 (omega (arith, same, nothing))
+balance_step setup n number got given before event reply after lawful sound step (has now found same) =
+    by_fate (fate_of setup before event reply after number now found (case_of setup before event reply after step))
+  where
+    nothing_by : (instruction : Instruction) → event ≡ executes number instruction → given_by number before (executes number instruction) ≡ [] → times_in n (given_by number before event) ≡ 0
+    nothing_by instruction event_is none = ap (λ (x : Event). times_in n (given_by number before x)) event_is ∙ ap (times_in n) none
+
+    by_fate : Fate before event after number now → Balance n number got (given + times_in n (given_by number before event)) after
+    by_fate (stands other is) =
+        let nothing : times_in n (given_by number before event) ≡ 0 = ap (times_in n) (nothing_given number before event other) in
+        has now is (omega (arith, same, nothing))
+    by_fate (goes_privately machine event_is private_is is freezes live) =
+        let nothing = nothing_by private event_is refl in
+        let held : times_in n machine.held ≡ times_in n now.machine.held = ap (times_in n) (private_keeps now.program now.machine machine private_is).held in
+        has (machine_of now machine) is (omega (arith, same, nothing, held))
+    by_fate (goes_releasing wanted freeze event_is call_is entry own is freezes live) =
+        let named = entry_bounds 0 before.freezes before.greatest_freeze wanted freeze sound.kept.freezes.numbered entry in
+        let gives : given_by number before event ≡ wanted ∷ [] =
+        ap (given_by number before) event_is
+        ∙ (cond-true (eqb number number) (asked (request_of_run (run_of number before.runs))) [] (eq-eqb number number refl)
+        ∙ (ap (λ (o : Option LiveRun). asked (request_of_run o)) found ∙ ap asked call_is)) in
+        let asked_one : times_in n (given_by number before event) ≡ times_in n (wanted ∷ []) = ap (times_in n) gives in
+        let one_of : times_in n (wanted ∷ []) ≡ one (eqb wanted n) + 0 = times_cons n wanted [] in
+        let given_now : times_in n (given_by number before event) ≡ one (eqb wanted n) = omega (arith, asked_one, one_of) in
+        let once : times_in wanted now.machine.held ≡ 1 =
+        ap (times_in wanted) (sound.held.machines number now found) ∙ times_held number wanted 0 before.freezes before.greatest_freeze freeze sound.kept.freezes.numbered entry own in
+        let out = times_out n freeze.number now.machine.held in
+        elim (cases_eq wanted n) [
+          | inl this ↦
+              let counted : one (eqb wanted n) ≡ 1 = ap one (eq-eqb _ _ this) in
+              let there : times_in n now.machine.held ≡ 1 = subst (λ (k : ℕ). times_in k now.machine.held ≡ 1) this once in
+              let all : cond (eqb freeze.number n) (times_in n now.machine.held) 0 ≡ times_in n now.machine.held = cond-true (eqb freeze.number n) _ 0 (eq-eqb _ _ (named.0 ∙ this)) in
+              has (machine_of now _) is (omega (arith, same, given_now, counted, there, all, out))
+          | inr that ↦
+              let counted : one (eqb wanted n) ≡ 0 = ap one (ne_eqb _ _ that) in
+              let none : cond (eqb freeze.number n) (times_in n now.machine.held) 0 ≡ 0 = cond-false (eqb freeze.number n) _ 0 (ne_eqb _ _ (λ e. that (sym named.0 ∙ e))) in
+              has (machine_of now _) is (omega (arith, same, given_now, counted, none, out))
+        ]
+    by_fate (goes_requeuing retries event_is call_is fresh is freezes) =
+        let nothing = nothing_by (call requeue) event_is refl in
+        has (machine_of now _) is (omega (arith, same, nothing))
+    by_fate (leaves_world r0 event_is exit_is none freezes) =
+        let nothing = nothing_by exit event_is refl in
+        let goes = reached_goes setup lawful before sound.kept.runs number now found (sound.reached number now found) in
+        let empty : times_in n now.machine.held ≡ 0 = ap (times_in n) (lawful_exit now.program setup.limits now.machine r0 goes exit_is).0 in
+        had none (rising_run setup before event reply after number now sound step found) (omega (arith, same, nothing, empty))
+
+-- along a run of the world
+pub record Balanced (n number got given : ℕ) (after : World) (more gave_up : List ℕ) : Type 0 where
+  pub nothing_more : times_in n more ≡ 0
+  pub balance : Balance n number got (given + times_in n gave_up) after
+
+pub balance_leads : (setup : Setup) (n number got given : ℕ) (before : World) (xs : List (Event × Reply)) (after : World) → IsLawful setup → IsSound setup before → number ≤ before.greatest_run → (run : Leads setup before xs after) → Balance n number got given before → Balanced n number got given after (took number xs) (gave number setup before xs after run)
+balance_leads setup n number got given before [] after lawful sound number_given run balance =
+    let same : given ≡ given + 0 = omega arith in
+    record {
+      nothing_more = refl;
+      balance = subst (λ (k : ℕ). Balance n number got k after) same (subst (Balance n number got given) run balance);
+    }
+balance_leads setup n number got given before (x ∷ xs) after lawful sound number_given run balance =
+    let between : World = run.0 in
+    let it = case_of setup before x.0 x.1 between run.1 in
+    let now = balance_step setup n number got given before x.0 x.1 between lawful sound run.1 balance in
+    let further : number ≤ between.greatest_run = omega (arith, number_given, rises setup before between (run_move setup before x.0 x.1 between (known_queue setup before sound.kept.ccbs) it)) in
+    let rest = balance_leads setup n number got (given + times_in n (given_by number before x.0)) between xs after lawful (step_sound setup before x.0 x.1 between lawful run.1 sound) further run.2 now in
+    let taken : times_in n (taken_by number x.1) ≡ 0 = ap (times_in n) (nothing_taken setup before x.0 x.1 between number number_given it) in
+    let first = times_append n (taken_by number x.1) (took number xs) in
+    let second = times_append n (given_by number before x.0) (gave number setup between xs after run.2) in
+    let sum : given + times_in n (given_by number before x.0) + times_in n (gave number setup between xs after run.2) ≡ given + times_in n (given_by number before x.0 ++ gave number setup between xs after run.2) = omega (arith, second) in
+    record {
+      nothing_more = omega (arith, first, taken, rest.nothing_more);
+      balance = subst (λ (k : ℕ). Balance n number got k after) sum rest.balance;
+    }
+
+-- what the balance says of a run that is live, and of one that is gone
+pub live_balance : (n number got given : ℕ) (world : World) (now : LiveRun) → run_of number world.runs ≡ Some now → Balance n number got given world → got ≡ times_in n now.machine.held + given
+live_balance n number got given world now found (has its found_too same) =
+    subst (λ (r : LiveRun). got ≡ times_in n r.machine.held + given) (same_found world number its now found_too found) same
+live_balance n number got given world now found (had none number_given same) = absurd (no_some (run_of number world.runs) now none found)
+
+pub gone_balance : (n number got given : ℕ) (world : World) → run_of number world.runs ≡ None → Balance n number got given world → got ≡ given
+gone_balance n number got given world none (has its found same) = absurd (no_some (run_of number world.runs) its none found)
+gone_balance n number got given world none (had none_too number_given same) = same

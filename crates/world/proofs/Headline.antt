@@ -1,0 +1,208 @@
+-- The laws of runs, read off their lives.
+use Rattle.std.proofs.Common.{◌≡◌, ℕ, ◌+◌, ◌<◌, ◌≤◌, List, [], ◌∷◌, Bool, true, false, not, cond, eqb, Some, None, inl, inr, refl, ap, sym, subst, ◌∙◌, arith}
+use Rattle.std.specs.Prelude.{◌&&◌}
+use Rattle.std.proofs.lemmas.Bool.{cases_Bool, eq-eqb}
+use Rattle.ccb.specs.Completion.{Outcome}
+use Rattle.bpf_machine.specs.Reached.{Reached}
+use Rattle.world.specs.World.{Setup, queue_setup, LiveRun, World}
+use Rattle.world.specs.Lawful.{IsLawful}
+use Rattle.world.specs.Lookups.{ccb_of, run_of}
+use Rattle.world.specs.Event.{Instruction, complete, executes, Event, Reply, run_started}
+use Rattle.world.specs.Run.{Leads}
+use Rattle.world.specs.Headline.{is_step_of, steps_of, requeues_of, exits_of, StartedRun, KeepsWithin, WithinBudget, InRecoveryBy, DisposedOnce, OthersLeaveIt, GoneRunStaysGone, times_in, ExactFreezes}
+use Rattle.world.proofs.Lists.Found.{found_key}
+use Rattle.world.proofs.Steps.Cases.{case_of}
+use Rattle.world.specs.Limits.{KeepsLimits}
+use Rattle.world.proofs.Steps.Moves.{ccb_key, run_move}
+use Rattle.world.proofs.Kept.{known_queue, step_keeps}
+use Rattle.world.proofs.Leads.{leads_keeps, limits_are_kept}
+use Rattle.world.proofs.Held.{live_given, others_entries}
+use Rattle.world.proofs.Steps.Fates.{Begins, Fate, stands, goes_privately, goes_releasing, goes_requeuing, leaves_world, fate_of}
+use Rattle.world.proofs.Steps.Beginnings.{no_some, begun_found, started_begins, begins_at_entry}
+use Rattle.world.proofs.Reaching.{same_found}
+use Rattle.world.proofs.Sound.{IsSound, step_sound, run_sound, leads_sound}
+use Rattle.world.specs.TookGave.{taken_by, took}
+use Rattle.world.proofs.Exact.{has, times_append, times_one, balance_leads, live_balance, gone_balance}
+use Rattle.world.proofs.Lives.{Life, alive, over, recount, rises, stays_over, life_leads, within}
+
+-- a run from its start on
+record Story (setup : Setup) (outcome : Outcome) (run : ℕ) (ys : List (Event × Reply)) (world : World) (started : World) : Type 0 where
+  start : LiveRun
+  found : run_of run started.runs ≡ Some start
+  ccb_is : start.ccb ≡ outcome.ccb.0
+  sound : IsSound setup world
+  life : Life setup start run (steps_of run ys) (requeues_of run ys) (exits_of run ys) world
+
+story : (setup : Setup) → IsLawful setup → (outcome : Outcome) (run : ℕ) (ys : List (Event × Reply)) (world : World) (it : StartedRun setup outcome run ys world) → Story setup outcome run ys world it.started
+story setup lawful outcome run ys world it =
+    let before : World = it.before in
+    let started : World = it.started in
+    let sound = run_sound setup it.xs before lawful it.run_before in
+    let begun = started_begins setup before outcome run it.freeze started (case_of setup before (complete outcome) (run_started run it.freeze) started it.step) in
+    let begins = begun.1 in
+    let same_event : complete begins.outcome ≡ complete outcome = sym begins.event_is in
+    let same_outcome : begins.outcome ≡ outcome = cc in
+    let same_reply : run_started run it.freeze ≡ run_started (before.greatest_run + 1) begins.freeze = begins.reply_is in
+    let named : before.greatest_run + 1 ≡ run = cc in
+    let there = subst (λ (n : ℕ). run_of n started.runs ≡ Some begun.0) named (begun_found setup before (complete outcome) (run_started run it.freeze) started begun.0 sound.kept.runs begins) in
+    let began : Life setup begun.0 run 0 0 0 started =
+    alive begun.0 there refl refl (begins_at_entry setup before (complete outcome) (run_started run it.freeze) started begun.0 begins)
+    (inl (ap (λ (r : LiveRun). r.machine.disposed) begins.run_is, refl)) refl in
+    let after_start = step_sound setup before (complete outcome) (run_started run it.freeze) started lawful it.step sound in
+    record {
+      start = begun.0;
+      found = there;
+      ccb_is =
+          ap (λ (r : LiveRun). r.ccb) begins.run_is
+          ∙ (found_key ccb_key begins.outcome.ccb.0 before.live begins.live begins.found ∙ ap (λ (o : Outcome). o.ccb.0) same_outcome);
+      sound = leads_sound setup started ys world lawful it.goes_on after_start;
+      life = recount setup begun.0 run _ _ _ _ _ _ world (omega arith) (omega arith) (omega arith) (life_leads setup begun.0 run 0 0 0 started ys world lawful after_start it.goes_on began);
+    }
+
+keeps_within : (setup : Setup) (start : LiveRun) (run k j e : ℕ) (world : World) → IsLawful setup → IsSound setup world → Life setup start run k j e world → KeepsWithin setup run start k world
+keeps_within setup start run k j e world lawful sound (alive now found queue ccb reached disposed none_yet) =
+    record {
+      budget = subst (λ (q : ℕ). k ≤ (queue_setup setup q).budget) queue ((within setup world run now lawful sound found k now.machine reached).0);
+      reached = λ it found_too. subst (λ (r : LiveRun). (r.queue ≡ start.queue) × Reached r.program k r.machine) (same_found world run now it found found_too) (queue, reached);
+    }
+keeps_within setup start run k j e world lawful sound (over none given most used gone) =
+    record { budget = most; reached = λ it found_too. absurd (no_some (run_of run world.runs) it none found_too) }
+
+pub within_budget : WithinBudget
+within_budget setup lawful outcome run ys world it =
+    let s = story setup lawful outcome run ys world it in
+    (s.start, s.found, keeps_within setup s.start run (steps_of run ys) (requeues_of run ys) (exits_of run ys) world lawful s.sound s.life)
+
+-- what the life of a run says of its CCB
+record Disposes (run ccb j e : ℕ) (world : World) : Type 0 where
+  most : j ≤ 1
+  at_exit : 0 < e → j ≡ 1
+  until_then : j ≡ 0 → InRecoveryBy run ccb world
+
+disposes : (setup : Setup) (start : LiveRun) (run k j e : ℕ) (world : World) → IsSound setup world → Life setup start run k j e world → Disposes run start.ccb j e world
+disposes setup start run k j e world sound (alive now found queue ccb reached (inl fresh) none_yet) =
+    let recovery = sound.recovering.ccbs run now found fresh.0 in
+    record {
+      most = omega (arith, fresh.1);
+      at_exit = λ some. absurd (omega (arith, some, none_yet));
+      until_then = λ none. record {
+        live = recovery.live;
+        found = subst (λ (n : ℕ). ccb_of n world.live ≡ Some recovery.live) ccb recovery.found;
+        state = recovery.state;
+        now = now;
+        is_live = found;
+        fresh = fresh.0;
+        alone = λ other its there same unspent_too. sound.recovering.alone other run its now there found (same ∙ sym ccb) unspent_too fresh.0;
+      };
+    }
+disposes setup start run k j e world sound (alive now found queue ccb reached (inr spent) none_yet) =
+    record {
+      most = omega (arith, spent.1);
+      at_exit = λ some. absurd (omega (arith, some, none_yet));
+      until_then = λ none. absurd (omega (arith, none, spent.1));
+    }
+disposes setup start run k j e world sound (over none given most used gone) =
+    record { most = omega (arith, used); at_exit = λ some. used; until_then = λ zero_yet. absurd (omega (arith, zero_yet, used)) }
+
+pub disposed_once : DisposedOnce
+disposed_once setup lawful outcome run ys world it =
+    let s = story setup lawful outcome run ys world it in
+    let d = disposes setup s.start run (steps_of run ys) (requeues_of run ys) (exits_of run ys) world s.sound s.life in
+    (d.most, d.at_exit, λ none. subst (λ (n : ℕ). InRecoveryBy run n world) s.ccb_is (d.until_then none))
+
+-- what a run holds at its start is what it got
+start_balance : (setup : Setup) (before : World) (event : Event) (reply : Reply) (after : World) (run : ℕ) (start : LiveRun) (n : ℕ) → before.greatest_run + 1 ≡ run → Begins setup before event reply after start → (times_in n (taken_by run reply) ≡ times_in n start.machine.held) × (times_in n (taken_by run reply) ≤ 1)
+start_balance setup before event reply after run start n named it =
+    let got : taken_by run reply ≡ cond (not (eqb it.freeze 0)) (it.freeze ∷ []) [] =
+    ap (taken_by run) it.reply_is
+    ∙ ap (λ (b : Bool). cond (b && not (eqb it.freeze 0)) (it.freeze ∷ []) []) (eq-eqb _ _ named) in
+    let held : start.machine.held ≡ cond (eqb it.freeze 0) [] (it.freeze ∷ []) = ap (λ (r : LiveRun). r.machine.held) it.run_is in
+    let same : taken_by run reply ≡ start.machine.held = got ∙ (turned (eqb it.freeze 0) ∙ sym held) in
+    let all : times_in n (taken_by run reply) ≡ times_in n start.machine.held = ap (times_in n) same in
+    let few : times_in n start.machine.held ≤ 1 = subst (λ (ns : List ℕ). times_in n ns ≤ 1) (sym held) (at_most (eqb it.freeze 0)) in
+    (all, omega (arith, all, few))
+  where
+    turned : (b : Bool) → cond (not b) (it.freeze ∷ []) [] ≡ cond b [] (it.freeze ∷ [])
+    turned true = refl
+    turned false = refl
+
+    at_most : (b : Bool) → times_in n (cond b [] (it.freeze ∷ [])) ≤ 1
+    at_most true = omega arith
+    at_most false =
+        elim (cases_Bool (eqb it.freeze n)) [
+          | inl yes_it ↦ let is : times_in n (it.freeze ∷ []) ≡ 1 = times_one n it.freeze ∙ ap (λ (b : Bool). cond {A = ℕ} b 1 0) yes_it in omega (arith, is)
+          | inr not_it ↦ let is : times_in n (it.freeze ∷ []) ≡ 0 = times_one n it.freeze ∙ ap (λ (b : Bool). cond {A = ℕ} b 1 0) not_it in omega (arith, is)
+        ]
+
+pub exact_freezes : ExactFreezes
+exact_freezes setup lawful outcome run ys world it =
+    let before : World = it.before in
+    let started : World = it.started in
+    let event : Event = complete outcome in
+    let reply : Reply = run_started run it.freeze in
+    let sound = run_sound setup it.xs before lawful it.run_before in
+    let begun = started_begins setup before outcome run it.freeze started (case_of setup before event reply started it.step) in
+    let same_reply : run_started run it.freeze ≡ run_started (before.greatest_run + 1) begun.1.freeze = begun.1.reply_is in
+    let named : before.greatest_run + 1 ≡ run = cc in
+    let there = subst (λ (n : ℕ). run_of n started.runs ≡ Some begun.0) named (begun_found setup before event reply started begun.0 sound.kept.runs begun.1) in
+    let after_start = step_sound setup before event reply started lawful it.step sound in
+    let given = live_given setup started run begun.0 after_start.kept there in
+    let at_start = λ (n : ℕ). start_balance setup before event reply started run begun.0 n named begun.1 in
+    let balanced = λ (n : ℕ).
+    balance_leads setup n run (times_in n (taken_by run reply)) 0 started ys world lawful after_start given it.goes_on
+    (has begun.0 there (omega (arith, (at_start n).0))) in
+    let all = λ (n : ℕ). times_append n (taken_by run reply) (took run ys) in
+    record {
+      once = λ n. omega (arith, all n, (balanced n).nothing_more, (at_start n).1);
+      live = λ now found n.
+          let now_is = live_balance n run _ _ world now found (balanced n).balance in
+          omega (arith, all n, (balanced n).nothing_more, now_is);
+      gone = λ none n.
+          let then_is = gone_balance n run _ _ world none (balanced n).balance in
+          omega (arith, all n, (balanced n).nothing_more, then_is);
+    }
+
+-- what is a step of the run's own
+own : (number : ℕ) (instruction : Instruction) (event : Event) → event ≡ executes number instruction → is_step_of number event ≡ false → ⊥
+own number instruction event e other =
+    let its : is_step_of number event ≡ true = ap (is_step_of number) e ∙ eq-eqb number number refl in
+    let bad : true ≡ false = sym its ∙ other in cc
+
+-- a step that is not the run's
+not_its_step : (before : World) (event : Event) (after : World) (number : ℕ) (run : LiveRun) → is_step_of number event ≡ false → Fate before event after number run → run_of number after.runs ≡ Some run
+not_its_step before event after number run other (stands same is) = is
+not_its_step before event after number run other (goes_privately machine event_is step is freezes live) = absurd (own number _ event event_is other)
+not_its_step before event after number run other (goes_releasing asked freeze event_is call_is entry own_one is freezes live) = absurd (own number _ event event_is other)
+not_its_step before event after number run other (goes_requeuing retries event_is call_is fresh is freezes) = absurd (own number _ event event_is other)
+not_its_step before event after number run other (leaves_world r0 event_is exit_is none freezes) = absurd (own number _ event event_is other)
+
+pub others_leave_it : OthersLeaveIt
+others_leave_it setup xs before first event reply after e number run found other =
+    let it = case_of setup before event reply after e in (
+      not_its_step before event after number run other (fate_of setup before event reply after number run found it),
+      others_entries setup before event reply after number run (limits_are_kept setup xs before first) found other it,
+    )
+
+-- run numbers only rise, and a run that is over stays over
+leads_over : (setup : Setup) (before : World) (xs : List (Event × Reply)) (after : World) (number : ℕ) → KeepsLimits setup before → Leads setup before xs after → run_of number before.runs ≡ None → number ≤ before.greatest_run → run_of number after.runs ≡ None
+leads_over setup before [] after number kept run none given = subst (λ (w : World). run_of number w.runs ≡ None) run none
+leads_over setup before (x ∷ xs) after number kept run none given =
+    let still = stays_over setup before x.0 x.1 run.0 number kept none given run.1 in
+    leads_over setup run.0 xs after number (step_keeps setup before x.0 x.1 run.0 run.1 kept) run.2 still.0 still.1
+
+leads_rise : (setup : Setup) (before : World) (xs : List (Event × Reply)) (after : World) → KeepsLimits setup before → Leads setup before xs after → before.greatest_run ≤ after.greatest_run
+leads_rise setup before [] after kept run = rw run (omega arith)
+leads_rise setup before (x ∷ xs) after kept run =
+    let it = case_of setup before x.0 x.1 run.0 run.1 in
+    omega (
+      arith,
+      rises setup before run.0 (run_move setup before x.0 x.1 run.0 (known_queue setup before kept.ccbs) it),
+      leads_rise setup run.0 xs after (step_keeps setup before x.0 x.1 run.0 run.1 kept) run.2,
+    )
+
+pub gone_run_stays_gone : GoneRunStaysGone
+gone_run_stays_gone setup xs ys zs number run live gone later first found second none third =
+    let kept = limits_are_kept setup xs live first in
+    let given = live_given setup live number run kept found in
+    leads_over setup gone zs later number (leads_keeps setup live ys gone second kept) third none
+    (omega (arith, given, leads_rise setup live ys gone kept second))

@@ -1,0 +1,142 @@
+-- The freezes that a run holds, as the entries say, after one entry more and one fewer.
+use Rattle.std.proofs.Common.{◌≡◌, ℕ, List, [], ◌∷◌, ◌++◌, map, Bool, true, false, not, eqb, Some, None, inl, inr, refl, ap, sym, subst, ◌∙◌, arith}
+use Rattle.std.specs.List.{filter}
+use Rattle.std.specs.Prelude.{◌||◌}
+use Rattle.std.proofs.lemmas.Bool.{or_left, cases_Bool, cases_eq, cond-true, cond-false, eq-eqb, ne_eqb, not_from_true, not_from_false}
+use Rattle.freeze_ledger.specs.declared.entries.Freeze.{Freeze}
+use Rattle.freeze_ledger.specs.Freezes.{entry_of, without}
+use Rattle.freeze_ledger.specs.Invariant.{AreNumbered}
+use Rattle.freeze_ledger.proofs.Numbered.{without_lower}
+use Rattle.helpers.specs.Rules.{is_held}
+use Rattle.world.specs.RunSteps.{is_run}
+use Rattle.world.specs.FreezeLaws.{entries_of, held_by}
+use Rattle.world.proofs.Lists.Found.{at_head, at_tail}
+use Rattle.world.proofs.Lists.Entries.{entry_bounds}
+
+abbrev pub freeze_key : Freeze → ℕ
+freeze_key freeze = freeze.number
+
+-- the first entry is the run's, or it is not
+pub entries_head : (r : ℕ) (g : Freeze) (fs : List Freeze) → is_run r g.holder ≡ true → entries_of r (g ∷ fs) ≡ g ∷ entries_of r fs
+entries_head r g fs e = cond-true (is_run r g.holder) (g ∷ entries_of r fs) (entries_of r fs) e
+
+pub entries_tail : (r : ℕ) (g : Freeze) (fs : List Freeze) → is_run r g.holder ≡ false → entries_of r (g ∷ fs) ≡ entries_of r fs
+entries_tail r g fs e = cond-false (is_run r g.holder) (g ∷ entries_of r fs) (entries_of r fs) e
+
+pub held_head : (r : ℕ) (g : Freeze) (fs : List Freeze) → is_run r g.holder ≡ true → held_by r (g ∷ fs) ≡ g.number ∷ held_by r fs
+held_head r g fs e = ap (map freeze_key) (entries_head r g fs e)
+
+pub held_tail : (r : ℕ) (g : Freeze) (fs : List Freeze) → is_run r g.holder ≡ false → held_by r (g ∷ fs) ≡ held_by r fs
+held_tail r g fs e = ap (map freeze_key) (entries_tail r g fs e)
+
+-- one more at the end
+pub held_push_own : (r : ℕ) (fs : List Freeze) (f : Freeze) → is_run r f.holder ≡ true → held_by r (fs ++ f ∷ []) ≡ held_by r fs ++ f.number ∷ []
+held_push_own r [] f e = held_head r f [] e
+held_push_own r (g ∷ fs) f e =
+    elim (cases_Bool (is_run r g.holder)) [
+      | inl its ↦ held_head r g (fs ++ f ∷ []) its ∙ (ap (λ (ns : List ℕ). g.number ∷ ns) (held_push_own r fs f e) ∙ sym (ap (λ (ns : List ℕ). ns ++ f.number ∷ []) (held_head r g fs its)))
+      | inr other ↦ held_tail r g (fs ++ f ∷ []) other ∙ (held_push_own r fs f e ∙ sym (ap (λ (ns : List ℕ). ns ++ f.number ∷ []) (held_tail r g fs other)))
+    ]
+
+pub entries_push_other : (r : ℕ) (fs : List Freeze) (f : Freeze) → is_run r f.holder ≡ false → entries_of r (fs ++ f ∷ []) ≡ entries_of r fs
+entries_push_other r [] f e = entries_tail r f [] e
+entries_push_other r (g ∷ fs) f e =
+    elim (cases_Bool (is_run r g.holder)) [
+      | inl its ↦ entries_head r g (fs ++ f ∷ []) its ∙ (ap (λ (gs : List Freeze). g ∷ gs) (entries_push_other r fs f e) ∙ sym (entries_head r g fs its))
+      | inr other ↦ entries_tail r g (fs ++ f ∷ []) other ∙ (entries_push_other r fs f e ∙ sym (entries_tail r g fs other))
+    ]
+
+-- one fewer of its own
+pub held_without_own : (r n : ℕ) (fs : List Freeze) → held_by r (without n fs) ≡ filter (λ k. not (eqb k n)) (held_by r fs)
+held_without_own r n [] = refl
+held_without_own r n (g ∷ fs) =
+    elim (cases_eq g.number n) [
+      | inl same ↦
+          ap (held_by r) (cond-false (not (eqb g.number n)) (g ∷ without n fs) (without n fs) (not_from_true _ (eq-eqb _ _ same)))
+          ∙ (held_without_own r n fs
+          ∙ elim (cases_Bool (is_run r g.holder)) [
+            | inl its ↦
+                sym (ap (filter (λ (k : ℕ). not (eqb k n))) (held_head r g fs its)
+                ∙ cond-false (not (eqb g.number n)) (g.number ∷ filter (λ (k : ℕ). not (eqb k n)) (held_by r fs)) (filter (λ (k : ℕ). not (eqb k n)) (held_by r fs)) (not_from_true _ (eq-eqb _ _ same)))
+            | inr other ↦ sym (ap (filter (λ (k : ℕ). not (eqb k n))) (held_tail r g fs other))
+          ])
+      | inr apart ↦
+          ap (held_by r) (cond-true (not (eqb g.number n)) (g ∷ without n fs) (without n fs) (not_from_false _ (ne_eqb _ _ apart)))
+          ∙ elim (cases_Bool (is_run r g.holder)) [
+            | inl its ↦
+                held_head r g (without n fs) its
+                ∙ (ap (λ (ns : List ℕ). g.number ∷ ns) (held_without_own r n fs)
+                ∙ sym (ap (filter (λ (k : ℕ). not (eqb k n))) (held_head r g fs its)
+                ∙ cond-true (not (eqb g.number n)) (g.number ∷ filter (λ (k : ℕ). not (eqb k n)) (held_by r fs)) (filter (λ (k : ℕ). not (eqb k n)) (held_by r fs)) (not_from_false _ (ne_eqb _ _ apart))))
+            | inr other ↦
+                held_tail r g (without n fs) other
+                ∙ (held_without_own r n fs ∙ sym (ap (filter (λ (k : ℕ). not (eqb k n))) (held_tail r g fs other)))
+          ]
+    ]
+
+-- one fewer of another holder
+pub entries_without_other : (r n low : ℕ) (fs : List Freeze) (high : ℕ) (f : Freeze) → AreNumbered low fs high → entry_of n fs ≡ Some f → is_run r f.holder ≡ false → entries_of r (without n fs) ≡ entries_of r fs
+entries_without_other r n low [] high f h entry e = refl
+entries_without_other r n low (g ∷ fs) high f h entry e =
+    elim (cases_eq g.number n) [
+      | inl same ↦
+          let both : Some g ≡ Some f = sym (at_head freeze_key n g fs same) ∙ entry in
+          let is : g ≡ f = cc in
+          ap (entries_of r) (cond-false (not (eqb g.number n)) (g ∷ without n fs) (without n fs) (not_from_true _ (eq-eqb _ _ same))
+          ∙ without_lower n g.number fs high (omega (arith, same)) h.1)
+          ∙ sym (entries_tail r g fs (subst (λ (x : Freeze). is_run r x.holder ≡ false) (sym is) e))
+      | inr apart ↦
+          let rest = entries_without_other r n g.number fs high f h.1 (sym (at_tail freeze_key n g fs apart) ∙ entry) e in
+          ap (entries_of r) (cond-true (not (eqb g.number n)) (g ∷ without n fs) (without n fs) (not_from_false _ (ne_eqb _ _ apart)))
+          ∙ elim (cases_Bool (is_run r g.holder)) [
+            | inl its ↦ entries_head r g (without n fs) its ∙ (ap (λ (gs : List Freeze). g ∷ gs) rest ∙ sym (entries_head r g fs its))
+            | inr other ↦ entries_tail r g (without n fs) other ∙ (rest ∙ sym (entries_tail r g fs other))
+          ]
+    ]
+
+-- a run that no entry names holds nothing
+pub held_none : (r low : ℕ) (fs : List Freeze) (high : ℕ) → AreNumbered low fs high → ((n : ℕ) (f : Freeze) → entry_of n fs ≡ Some f → is_run r f.holder ≡ false) → held_by r fs ≡ []
+held_none r low [] high h none = refl
+held_none r low (g ∷ fs) high h none =
+    held_tail r g fs (none g.number g (at_head freeze_key g.number g fs refl))
+    ∙ held_none r g.number fs high h.1 (λ n f entry. none n f (at_tail freeze_key n g fs (λ e. let up = entry_bounds g.number fs high n f h.1 entry in omega (arith, e, up.1)) ∙ entry))
+
+first_is : (n k : ℕ) (ns : List ℕ) → k ≡ n → is_held (k ∷ ns) n ≡ true
+first_is n k ns same = or_left (eqb k n) (is_held ns n) (eq-eqb _ _ same)
+
+later_is : (n k : ℕ) (ns : List ℕ) → (k ≡ n → ⊥) → is_held (k ∷ ns) n ≡ is_held ns n
+later_is n k ns apart = ap (λ (b : Bool). b || is_held ns n) (ne_eqb _ _ apart)
+
+-- what an entry says that the run holds is among what it holds
+pub is_among : (r n : ℕ) (fs : List Freeze) (f : Freeze) → entry_of n fs ≡ Some f → is_run r f.holder ≡ true → is_held (held_by r fs) n ≡ true
+is_among r n [] f entry e = absurd (let bad : None ≡ Some f = entry in cc)
+is_among r n (g ∷ fs) f entry e =
+    elim (cases_eq g.number n) [
+      | inl same ↦
+          let both : Some g ≡ Some f = sym (at_head freeze_key n g fs same) ∙ entry in
+          let is : g ≡ f = cc in
+          ap (λ (ns : List ℕ). is_held ns n) (held_head r g fs (subst (λ (x : Freeze). is_run r x.holder ≡ true) (sym is) e))
+          ∙ first_is n g.number (held_by r fs) same
+      | inr apart ↦
+          let rest = is_among r n fs f (sym (at_tail freeze_key n g fs apart) ∙ entry) e in
+          elim (cases_Bool (is_run r g.holder)) [
+            | inl its ↦ ap (λ (ns : List ℕ). is_held ns n) (held_head r g fs its) ∙ (later_is n g.number (held_by r fs) apart ∙ rest)
+            | inr other ↦ ap (λ (ns : List ℕ). is_held ns n) (held_tail r g fs other) ∙ rest
+          ]
+    ]
+
+-- and what is among that has such an entry
+pub among_is : (r n low : ℕ) (fs : List Freeze) (high : ℕ) → AreNumbered low fs high → is_held (held_by r fs) n ≡ true → (f : Freeze) × (entry_of n fs ≡ Some f) × (is_run r f.holder ≡ true)
+among_is r n low [] high h e = absurd (let bad : false ≡ true = e in cc)
+among_is r n low (g ∷ fs) high h e =
+    let further : is_held (held_by r fs) n ≡ true → (f : Freeze) × (entry_of n (g ∷ fs) ≡ Some f) × (is_run r f.holder ≡ true) = λ among.
+    let it = among_is r n g.number fs high h.1 among in
+    (it.0, at_tail freeze_key n g fs (λ same. let up = entry_bounds g.number fs high n it.0 h.1 it.1 in omega (arith, same, up.1)) ∙ it.1, it.2) in
+    elim (cases_Bool (is_run r g.holder)) [
+      | inl its ↦
+          elim (cases_eq g.number n) [
+            | inl same ↦ (g, at_head freeze_key n g fs same, its)
+            | inr apart ↦ further (sym (ap (λ (ns : List ℕ). is_held ns n) (held_head r g fs its) ∙ later_is n g.number (held_by r fs) apart) ∙ e)
+          ]
+      | inr other ↦ further (sym (ap (λ (ns : List ℕ). is_held ns n) (held_tail r g fs other)) ∙ e)
+    ]

@@ -1,0 +1,132 @@
+-- The headline of runs: what holds of every run of a recovery program, in every run of the world of every lawful setup.
+use Rattle.std.specs.Prelude.{◌≡◌, ℕ, ◌+◌, ◌<◌, ◌≤◌, ◌==◌, Bool, true, false, List, ◌∷◌, Some, None, count_by}
+use Rattle.ccb.specs.Completion.{Outcome}
+use Rattle.bpf_machine.specs.Stuck.{is_stuck}
+use Rattle.bpf_machine.specs.Reached.{Reached}
+use Rattle.world.specs.World.{Setup, queue_setup, in_recovery, LiveCcb, LiveRun, World}
+use Rattle.world.specs.Lawful.{IsLawful}
+use Rattle.world.specs.Lookups.{ccb_of, run_of}
+use Rattle.world.specs.Event.{requeue, Instruction, call, exit, Event, complete, executes, Reply, run_started}
+use Rattle.world.specs.Step.{WorldStep}
+use Rattle.world.specs.Run.{Leads, WorldRun}
+use Rattle.world.specs.TookGave.{took, gave}
+use Rattle.world.specs.FreezeLaws.{entries_of}
+
+-- the event is a step of this run
+abbrev pub is_step_of : ℕ → Event → Bool
+is_step_of run (executes number instruction) = number == run
+is_step_of run event = false
+
+-- the event is this run's call that makes its CCB wait again
+abbrev pub is_requeue_of : ℕ → Event → Bool
+is_requeue_of run (executes number (call requeue)) = number == run
+is_requeue_of run event = false
+
+-- the event is this run's exit
+abbrev pub is_exit_of : ℕ → Event → Bool
+is_exit_of run (executes number exit) = number == run
+is_exit_of run event = false
+
+-- how many steps, requeues and exits of this run there are in a list of events
+abbrev pub steps_of : ℕ → List (Event × Reply) → ℕ
+steps_of run xs = count_by (λ x. is_step_of run x.0) xs
+
+abbrev pub requeues_of : ℕ → List (Event × Reply) → ℕ
+requeues_of run xs = count_by (λ x. is_requeue_of run x.0) xs
+
+abbrev pub exits_of : ℕ → List (Event × Reply) → ℕ
+exits_of run xs = count_by (λ x. is_exit_of run x.0) xs
+
+-- exactly one instruction of the run is an event, with exactly one reply
+pub record HasOneStep (setup : Setup) (world : World) (run : ℕ) : Type 0 where
+  pub instruction : Instruction
+  pub reply : Reply
+  pub after : World
+  pub step : WorldStep setup world (executes run instruction) reply after
+  pub only : (other : Instruction) (another : Reply) (elsewhere : World) →
+      WorldStep setup world (executes run other) another elsewhere → (other ≡ instruction) × (another ≡ reply)
+
+-- No live run is stuck, at no moment of any run of the world; and each that is out has its one step.
+abbrev pub NeverStuck : Type 0
+NeverStuck =
+    (setup : Setup) → IsLawful setup → (xs : List (Event × Reply)) (world : World) → WorldRun setup xs world →
+    (number : ℕ) (run : LiveRun) → run_of number world.runs ≡ Some run →
+    (is_stuck run.program setup.limits run.machine ≡ false) × (run.out ≡ true → HasOneStep setup world number)
+
+-- A completion starts a run at some moment of a run of the world, which goes on from there.
+pub record StartedRun (setup : Setup) (outcome : Outcome) (run : ℕ) (ys : List (Event × Reply)) (world : World) : Type 0 where
+  pub xs : List (Event × Reply)
+  pub before : World
+  pub run_before : WorldRun setup xs before
+  pub freeze : ℕ
+  pub started : World
+  pub step : WorldStep setup before (complete outcome) (run_started run freeze) started
+  pub goes_on : Leads setup started ys world
+
+-- It was started as this one: its steps are within the budget of the queue's program, and as long as it is live its
+-- machine was reached in exactly so many instructions.
+pub record KeepsWithin (setup : Setup) (run : ℕ) (start : LiveRun) (steps : ℕ) (world : World) : Type 0 where
+  pub budget : steps ≤ (queue_setup setup start.queue).budget
+  pub reached : (now : LiveRun) → run_of run world.runs ≡ Some now →
+      (now.queue ≡ start.queue) × Reached now.program steps now.machine
+
+-- From its start on a run executes at most as many instructions as its queue's budget says, private ones, helper calls
+-- and the exit together.
+abbrev pub WithinBudget : Type 0
+WithinBudget =
+    (setup : Setup) → IsLawful setup → (outcome : Outcome) (run : ℕ) (ys : List (Event × Reply)) (world : World) →
+    (it : StartedRun setup outcome run ys world) →
+    (start : LiveRun) × (run_of run it.started.runs ≡ Some start) × KeepsWithin setup run start (steps_of run ys) world
+
+-- The CCB is in recovery by this run alone.
+pub record InRecoveryBy (run ccb : ℕ) (world : World) : Type 0 where
+  pub live : LiveCcb
+  pub found : ccb_of ccb world.live ≡ Some live
+  pub state : live.state ≡ in_recovery
+  pub now : LiveRun
+  pub is_live : run_of run world.runs ≡ Some now
+  pub fresh : now.machine.disposed ≡ false
+  pub alone : (other : ℕ) (its : LiveRun) → run_of other world.runs ≡ Some its → its.ccb ≡ ccb → its.machine.disposed ≡ false → other ≡ run
+
+-- From its start on a run disposes of its CCB at most once, and exactly once if it exited; until then the CCB is in
+-- recovery by this run alone.
+abbrev pub DisposedOnce : Type 0
+DisposedOnce =
+    (setup : Setup) → IsLawful setup → (outcome : Outcome) (run : ℕ) (ys : List (Event × Reply)) (world : World) →
+    StartedRun setup outcome run ys world →
+    (requeues_of run ys ≤ 1) × (0 < exits_of run ys → requeues_of run ys ≡ 1)
+    × (requeues_of run ys ≡ 0 → InRecoveryBy run outcome.ccb.0 world)
+
+-- how often a number is in a list
+abbrev pub times_in : ℕ → List ℕ → ℕ
+times_in number numbers = count_by (λ other. other == number) numbers
+
+-- What a run got, each freeze once, is what its machine holds and what it gave up; and where the run is gone, what it
+-- gave up alone.
+pub record HoldsExactly (run : ℕ) (got given : List ℕ) (world : World) : Type 0 where
+  pub once : (number : ℕ) → times_in number got ≤ 1
+  pub live : (now : LiveRun) → run_of run world.runs ≡ Some now → (number : ℕ) → times_in number got ≡ times_in number now.machine.held + times_in number given
+  pub gone : run_of run world.runs ≡ None → (number : ℕ) → times_in number got ≡ times_in number given
+
+-- From its start on a run holds exactly the freezes that it got and did not give up yet, and at its end it gave up each.
+abbrev pub ExactFreezes : Type 0
+ExactFreezes =
+    (setup : Setup) → IsLawful setup → (outcome : Outcome) (run : ℕ) (ys : List (Event × Reply)) (world : World) →
+    (it : StartedRun setup outcome run ys world) →
+    HoldsExactly run (took run ((complete outcome, run_started run it.freeze) ∷ ys)) (gave run setup it.started ys world it.goes_on) world
+
+-- a step of anyone else leaves a run and the entries that name it as they are
+abbrev pub OthersLeaveIt : Type 0
+OthersLeaveIt =
+    (setup : Setup) (xs : List (Event × Reply)) (before : World) → WorldRun setup xs before →
+    (event : Event) (reply : Reply) (after : World) → WorldStep setup before event reply after →
+    (number : ℕ) (run : LiveRun) → run_of number before.runs ≡ Some run → is_step_of number event ≡ false →
+    (run_of number after.runs ≡ Some run) × (entries_of number after.freezes ≡ entries_of number before.freezes)
+
+-- a run that is gone never comes back
+abbrev pub GoneRunStaysGone : Type 0
+GoneRunStaysGone =
+    (setup : Setup) (xs ys zs : List (Event × Reply)) (number : ℕ) (run : LiveRun) (live gone later : World) →
+    WorldRun setup xs live → run_of number live.runs ≡ Some run →
+    Leads setup live ys gone → run_of number gone.runs ≡ None →
+    Leads setup gone zs later → run_of number later.runs ≡ None

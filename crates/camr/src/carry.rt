@@ -1,12 +1,12 @@
-// A plan, carried out over the bytes of its files. It relies on the readers, on `session` and on `printer`.
+// A plan, carried out over the bytes of its files. It relies on the readers, on `host` and on `printer`.
 
 ghost use Rattle.std.specs.Prelude.{◌≡◌, ◌≤◌, length};
 
+use crate::host::RunFault;
 use crate::manifest::{ManifestError, ManifestFault};
 use crate::plans::Plan;
 use crate::scenario::ScenarioError;
-use crate::session::RunFault;
-use crate::{manifest, printer, scenario, session};
+use crate::{host, manifest, printer, scenario};
 use std::alloc::Global;
 use std::io::Write;
 use thiserror::Error;
@@ -112,7 +112,7 @@ fn run<'a>(alloc: Global, files: [(&'a str, &[u8]); 2]) -> Result<engine_core::T
     let scenario = text(scenario)?;
     let config = manifest::read(alloc, manifest)?;
     let steps = scenario::read(alloc, scenario)?;
-    Ok(session::run(alloc, config, &steps)?)
+    Ok(host::run(alloc, config, &steps)?)
 }
 
 fn text<'a, 'b>(file: (&'a str, &'b [u8])) -> Result<&'b str, Fault<'a>> {

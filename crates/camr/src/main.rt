@@ -6,11 +6,11 @@ ghost use Rattle.std.specs.Prelude.{◌≡◌, length, IfOk};
 
 mod carry;
 mod command_line;
+mod host;
 mod manifest;
 mod plans;
 mod printer;
 mod scenario;
-mod session;
 #[cfg(test)]
 mod tests;
 

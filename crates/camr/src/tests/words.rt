@@ -47,7 +47,7 @@ const HELP: &str = "A CAM transport whose error recovery is written as BPF progr
     -h, --help  Print help\n";
 
 const RUN_HELP: &str = "Runs a scenario and prints its trace\n\n\
-    Usage: run [OPTIONS] <MANIFEST> <SCENARIO>\n\n\
+    Usage: camr run [OPTIONS] <MANIFEST> <SCENARIO>\n\n\
     Arguments:\n  \
     <MANIFEST>  The queues, their programs and their tables\n  \
     <SCENARIO>  What happens, a command a line\n\n\
@@ -69,12 +69,12 @@ fn mistakes_and_help(rt: HostRuntime) -> Result<(), Fail> {
         (
             "run m.toml",
             2,
-            "error: the following required arguments were not provided:\n  <SCENARIO>\n\nUsage: run <MANIFEST> <SCENARIO>\n\nFor more information, try '--help'.\n",
+            "error: the following required arguments were not provided:\n  <SCENARIO>\n\nUsage: camr run <MANIFEST> <SCENARIO>\n\nFor more information, try '--help'.\n",
         ),
         (
             "run m.toml s.txt t.txt",
             2,
-            "error: unexpected argument 't.txt' found\n\nUsage: run [OPTIONS] <MANIFEST> <SCENARIO>\n\nFor more information, try '--help'.\n",
+            "error: unexpected argument 't.txt' found\n\nUsage: camr run [OPTIONS] <MANIFEST> <SCENARIO>\n\nFor more information, try '--help'.\n",
         ),
         (
             "run --workers 0 m.toml s.txt",

@@ -1,4 +1,5 @@
-// A scenario's run on an engine, with the tokens that its guests hold. It relies on `engine_core`.
+// The host of the guests: it runs a scenario on an engine, and keeps the tokens of the guests' freezes. It
+// relies on `engine_core`.
 
 use crate::scenario::{Command, Step};
 use ccb::QueueId;
@@ -22,26 +23,26 @@ impl From<AllocError> for RunFault {
 
 /// Runs the steps in order. Tokens that are out at the end are forfeited.
 pub fn run(alloc: Global, config: Config, steps: &[Step]) -> Result<Trace, RunFault> {
-    let mut session = Session::open(alloc, config)?;
+    let mut host = Host::open(alloc, config)?;
     for step in steps {
-        if let Err(fault) = session.carry_out(*step) {
-            let _ = session.close();
+        if let Err(fault) = host.carry_out(*step) {
+            let _ = host.close();
             return Err(fault);
         }
     }
-    Ok(session.close())
+    Ok(host.close())
 }
 
-struct Session {
+struct Host {
     engine: Engine,
     // The guests' tokens that are out, in the order in which they were taken.
     tokens: Vec<FreezeToken>,
 }
 
-impl Session {
+impl Host {
     fn open(alloc: Global, config: Config) -> Result<Self, AllocError> {
         match Engine::open(alloc, config) {
-            Ok(engine) => Ok(Session {
+            Ok(engine) => Ok(Host {
                 engine,
                 tokens: Vec::new(alloc),
             }),
@@ -91,7 +92,7 @@ impl Session {
     }
 
     fn close(self) -> Trace {
-        let Session { engine, mut tokens } = self;
+        let Host { engine, mut tokens } = self;
         while let Some(token) = tokens.pop() {
             token.forfeit();
         }

@@ -1,0 +1,3 @@
+pub mod RunCommand
+pub mod RunLine
+pub mod FoundPlan

@@ -1,3 +1,6 @@
 pub mod RunCommand
 pub mod RunLine
 pub mod FoundPlan
+pub mod Status
+pub mod Inputs
+pub mod Faults

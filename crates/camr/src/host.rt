@@ -1,6 +1,9 @@
 // The host of the guests: it runs a scenario on an engine, and keeps the tokens of the guests' freezes. It
 // relies on `engine_core`.
 
+ghost use Rattle.std.specs.Prelude.{◌≡◌};
+ghost use Rattle.camr.specs.declared.host.RunFault.TheVariants.{OutOfMemory};
+
 use crate::scenario::{Command, Step};
 use ccb::QueueId;
 use engine_core::{CallFault, Config, Engine, ReleaseFault, Trace};
@@ -16,6 +19,8 @@ pub enum RunFault {
 }
 
 impl From<AllocError> for RunFault {
+    ghost from_gives = { λ _ fault. fault ≡ OutOfMemory };
+
     fn from(_: AllocError) -> Self {
         RunFault::OutOfMemory
     }

@@ -1,6 +1,9 @@
 // The manifest, version 1, as far as it speaks of queues: TOML that is read untyped with `toml`. Tables and
 // programs are known keys whose content is not read.
 
+ghost use Rattle.std.specs.Prelude.{◌≡◌};
+ghost use Rattle.camr.specs.declared.manifest.ManifestError.TheVariants.{Fault, OutOfMemory};
+
 use engine_core::Config;
 use std::alloc::{AllocError, Global};
 use thiserror::Error;
@@ -34,12 +37,16 @@ pub enum ManifestError {
 }
 
 impl From<AllocError> for ManifestError {
+    ghost from_gives = { λ _ error. error ≡ OutOfMemory };
+
     fn from(_: AllocError) -> Self {
         ManifestError::OutOfMemory
     }
 }
 
 impl From<ManifestFault> for ManifestError {
+    ghost from_gives = { λ fault error. error ≡ Fault fault };
+
     fn from(fault: ManifestFault) -> Self {
         ManifestError::Fault(fault)
     }

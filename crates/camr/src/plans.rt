@@ -1,5 +1,8 @@
 // What the program can be asked to do. It relies on nothing.
 
+ghost use Rattle.std.specs.Prelude.{◌≡◌, map};
+ghost use Rattle.camr.specs.Inputs.{input_paths};
+
 /// What is to be done, with the paths of the files in the order of the line.
 #[derive(Debug, Drop)]
 pub enum Plan {
@@ -9,7 +12,9 @@ pub enum Plan {
 
 impl Plan {
     /// The paths of the files that are read, in the order of the line.
-    pub fn inputs(&self) -> [&str; 2] {
+    pub fn inputs(&self) -> [&str; 2]
+        ensures { map (λ path. path.now) result ≡ input_paths self.now }
+    {
         match self {
             Plan::Run(_, manifest, scenario) => [manifest.as_str(), scenario.as_str()],
         }

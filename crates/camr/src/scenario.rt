@@ -1,5 +1,8 @@
 // The scenario: what happens, one command a line. It relies on nothing but text.
 
+ghost use Rattle.std.specs.Prelude.{◌≡◌};
+ghost use Rattle.camr.specs.declared.scenario.ScenarioError.TheVariants.{OutOfMemory};
+
 use ccb::QueueId;
 use std::alloc::{AllocError, Global};
 
@@ -28,6 +31,8 @@ pub enum ScenarioError {
 }
 
 impl From<AllocError> for ScenarioError {
+    ghost from_gives = { λ _ error. error ≡ OutOfMemory };
+
     fn from(_: AllocError) -> Self {
         ScenarioError::OutOfMemory
     }

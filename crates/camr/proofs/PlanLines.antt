@@ -5,11 +5,13 @@ use Rattle.clap.specs.Words.{HasKind, Row, Text, fault_of, first_of, kind_of, on
 use Rattle.clap.specs.ValueTests.{accepts}
 use Rattle.clap.specs.declared.error.Error.{Error}
 use Rattle.clap.specs.declared.error.kind.ErrorKind.TheVariants as kind
-use Rattle.camr.specs.FoundPlan.{HasFound, HasFoundIn, PlansFound}
+use Rattle.camr.specs.FoundPlan.{HasFound, HasFoundBehind, HasFoundIn, PlansFound}
 use Rattle.camr.specs.RunCommand.{camr_command}
 use Rattle.camr.specs.RunLine.{IsPlain, IsRun, RunLine, SpellsNoLawfulNumber}
 use Rattle.camr.specs.declared.plans.Plan.{Plan}
+use Rattle.camr.specs.declared.plans.Plan.TheVariants.{Check, Run}
 use Rattle.camr.proofs.Numbers.{accepted_number, refused_number, same_word}
+use Rattle.camr.proofs.Planned.{check_not_run}
 use Rattle.camr.proofs.Readings.{line_reading, one_to_sixteen}
 
 module _ (words : List Text) (number manifest scenario : Text) (line : RunLine words number manifest scenario)
@@ -27,8 +29,12 @@ module _ (words : List Text) (number manifest scenario : Text) (line : RunLine w
   line_plan plan found =
       let read = line_reading words number manifest scenario line plain_n plain_m plain_s in
       let here : HasFound (Some (codes "run", read.rows)) plan = subst (λ f. HasFound f plan) read.enters found in
-      go plan read.rows here.1 read.says.workers read.says.manifest_is read.says.scenario_is
+      go plan read.rows (run_found plan read.rows here) read.says.workers read.says.manifest_is read.says.scenario_is
     where
+      run_found : (plan : Plan) (rows : List Row) → HasFoundBehind (codes "run") rows plan → HasFoundIn rows plan
+      run_found (Run workers a b) rows found = found.1
+      run_found (Check path) rows found = absurd (check_not_run (sym found.0))
+
       go : (plan : Plan) (rows : List Row) → HasFoundIn rows plan → one_of (codes "workers") rows ≡ Some (without_minus number)
           → first_of (codes "MANIFEST") rows ≡ Some manifest → first_of (codes "SCENARIO") rows ≡ Some scenario → IsRun number manifest scenario plan
       go plan rows found w m s =

@@ -13,11 +13,11 @@ abbrev pub run_shape : Shape
 run_shape = unwrap_or (find (λ s. answers_to (codes "run") (label_of s)) (built camr_command).subs) (new_shape [])
 
 -- a walk that stopped at a subcommand
-abbrev stopped_at : Held → Waiting → ℕ → Bool → Text → List Text → Walk
+abbrev pub stopped_at : Held → Waiting → ℕ → Bool → Text → List Text → Walk
 stopped_at h waiting position trailing name seen =
     record { held = h; waiting = waiting; position = position; is_trailing = trailing; stopped = Some (name, seen) }
 
-stays_stopped : (c : List Rule) (names : Names) (h : Held) (waiting : Waiting) (position : ℕ) (trailing : Bool) (name : Text) (seen rest : List Text)
+pub stays_stopped : (c : List Rule) (names : Names) (h : Held) (waiting : Waiting) (position : ℕ) (trailing : Bool) (name : Text) (seen rest : List Text)
     → fold (walked c names) (stopped_at h waiting position trailing name seen) rest ≡ stopped_at h waiting position trailing name (seen ++ rest)
 unfolding walked
 stays_stopped c names h waiting position trailing name seen [] = rw append-nil refl
@@ -32,13 +32,13 @@ stopped_faultless s names h waiting position trailing name seen [] = refl
 stopped_faultless s names h waiting position trailing name seen (x ∷ rest) =
     stopped_faultless s names h waiting position trailing name (seen ++ x ∷ []) rest
 
-abbrev top : Shape
+abbrev pub top : Shape
 top = (built camr_command).top
 
-abbrev top_names : Names
+abbrev pub top_names : Names
 top_names = names_of (built camr_command)
 
-abbrev top_walk : List Text → Walk
+abbrev pub top_walk : List Text → Walk
 top_walk words = walk top.rules top_names nothing_held words
 
 walk_is : (rest : List Text) → top_walk (codes "run" ∷ rest) ≡ stopped_at nothing_held idle 1 false (codes "run") rest

@@ -24,6 +24,9 @@ abbrev pub run_command : App
 run_command = with_rule (with_rule (with_rule (new_app (codes "run")) workers_rule)
     (path_rule (codes "MANIFEST"))) (path_rule (codes "SCENARIO"))
 
+abbrev pub check_command : App
+check_command = with_rule (new_app (codes "check")) (path_rule (codes "MANIFEST"))
+
 abbrev pub bare_command : App
 bare_command = let a = new_app (codes "camr") in record a {
   top = record a.top {
@@ -33,8 +36,12 @@ bare_command = let a = new_app (codes "camr") in record a {
   };
 }
 
+-- with `check` alone
+abbrev pub checking_command : App
+checking_command = with_subcommand bare_command check_command.top
+
 abbrev pub camr_command : App
-camr_command = with_subcommand bare_command run_command.top
+camr_command = with_subcommand checking_command run_command.top
 
 -- ---- what is made for `clap`
 

@@ -6,7 +6,7 @@ use Rattle.clap.specs.Words.{Text, kind_of}
 use Rattle.clap.specs.declared.error.Error.{Error}
 use Rattle.clap.specs.declared.error.kind.ErrorKind.TheVariants as kind
 use Rattle.camr.specs.declared.plans.Plan.{Plan}
-use Rattle.camr.specs.declared.plans.Plan.TheVariants.{Run}
+use Rattle.camr.specs.declared.plans.Plan.TheVariants.{Check, Run}
 
 -- a word that does not begin with a hyphen
 abbrev pub begins_with_hyphen : Text → Bool
@@ -41,10 +41,12 @@ IsLawfulNumber workers = (1 ≤ workers) × (workers ≤ 16)
 abbrev pub IsRun : Text → Text → Text → Plan → Type 0
 IsRun number manifest scenario (Run workers a b) = Spells number workers
     × (string_bytes a ≡ manifest) × (string_bytes b ≡ scenario)
+IsRun number manifest scenario (Check path) = ⊥
 
--- it has 1 to 16 workers
+-- a run has 1 to 16 workers
 abbrev pub HasLawfulNumber : Plan → Type 0
 HasLawfulNumber (Run workers a b) = IsLawfulNumber workers
+HasLawfulNumber (Check path) = Unit {0}
 
 -- no number of workers that there can be is spelled so
 abbrev pub SpellsNoLawfulNumber : Text → Type 0

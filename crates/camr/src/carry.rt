@@ -1,15 +1,19 @@
-// A plan, carried out over the bytes of its files. It relies on the readers, on `host` and on `printer`.
+// A plan, carried out over the bytes of its files. It relies on the readers, on `host`,
+// and on `printer` and `verdicts` for what goes out.
 
 ghost use Rattle.std.specs.Prelude.{◌≡◌, ◌≤◌, ◌⊎◌, Contains, IsErrAnd, IsUtf8, MatchResult, length};
 ghost use Rattle.camr.specs.Faults.{fault_of_manifest, fault_of_run, fault_of_scenario};
+ghost use Rattle.camr.specs.Inputs.{input_paths};
 ghost use Rattle.camr.specs.Status.{status_of};
 
 use crate::host::RunFault;
-use crate::manifest::{ManifestError, ManifestFault};
+use crate::manifest::{Manifest, ManifestError, ManifestFault};
 use crate::plans::Plan;
 use crate::scenario::ScenarioError;
-use crate::{host, manifest, printer, scenario};
+use crate::{host, manifest, printer, scenario, verdicts};
+use engine_core::Trace;
 use std::alloc::Global;
+use std::io;
 use std::io::Write;
 use thiserror::Error;
 
@@ -97,20 +101,44 @@ pub fn carry<W: Write, E: Write>(
     out: &mut W,
     err: &mut E,
 ) -> u8
-    requires { length inputs.now ≡ 2 }
+    requires { length inputs.now ≡ length (input_paths plan.now) }
     ensures status { result ≤ 2 }
     ensures no_text { (input : _) → Contains inputs.now input → ¬ (IsUtf8 input.items) → result ≡ 2 }
 {
-    let Plan::Run(_, manifest, scenario) = plan;
-    let manifest = (manifest.as_str(), inputs[0].as_slice());
-    let scenario = (scenario.as_str(), inputs[1].as_slice());
-    match run(alloc, manifest, scenario) {
-        Ok(trace) => match printer::print(&trace, out) {
-            Ok(()) => 0,
-            Err(_) => 2,
-        },
-        Err(fault) => fault.tell(err),
+    match plan {
+        Plan::Check(manifest) => {
+            let manifest = (manifest.as_str(), inputs[0].as_slice());
+            match check(alloc, manifest) {
+                Ok(manifest) => status(verdicts::print(&manifest.programs, out)),
+                Err(fault) => fault.tell(err),
+            }
+        }
+        Plan::Run(_, manifest, scenario) => {
+            let manifest = (manifest.as_str(), inputs[0].as_slice());
+            let scenario = (scenario.as_str(), inputs[1].as_slice());
+            match run(alloc, manifest, scenario) {
+                Ok(trace) => status(printer::print(&trace, out)),
+                Err(fault) => fault.tell(err),
+            }
+        }
     }
+}
+
+// What is to go out went out, or a writer failed.
+fn status(written: io::Result<()>) -> u8
+    ensures { result ≤ 2 }
+{
+    match written {
+        Ok(()) => 0,
+        Err(_) => 2,
+    }
+}
+
+// A manifest, a path and its bytes, with its programs verified.
+fn check<'a>(alloc: Global, file: (&'a str, &[u8])) -> Result<Manifest, Fault<'a>>
+    ensures { ¬ (IsUtf8 file.entry.1.now) → IsErrAnd result (λ e. status_of e ≡ 2) }
+{
+    Ok(manifest::read(alloc, text(file)?)?)
 }
 
 // The trace of a manifest and a scenario, each a path and its bytes.
@@ -118,15 +146,15 @@ fn run<'a>(
     alloc: Global,
     manifest: (&'a str, &[u8]),
     scenario: (&'a str, &[u8]),
-) -> Result<engine_core::Trace, Fault<'a>>
+) -> Result<Trace, Fault<'a>>
     ensures manifest { ¬ (IsUtf8 manifest.entry.1.now) → IsErrAnd result (λ e. status_of e ≡ 2) }
     ensures scenario { ¬ (IsUtf8 scenario.entry.1.now) → IsErrAnd result (λ e. status_of e ≡ 2) }
 {
     let manifest = text(manifest)?;
     let scenario = text(scenario)?;
-    let config = manifest::read(alloc, manifest)?;
+    let manifest = manifest::read(alloc, manifest)?;
     let steps = scenario::read(alloc, scenario)?;
-    Ok(host::run(alloc, config, &steps)?)
+    Ok(host::run(alloc, manifest.config, &steps)?)
 }
 
 fn text<'a, 'b>(file: (&'a str, &'b [u8])) -> Result<&'b str, Fault<'a>>

@@ -4,9 +4,12 @@
 ghost use Rattle.std.specs.Prelude.{◌≡◌, IfOk, map, string_bytes};
 ghost use Rattle.clap.specs.Words.{FailsBy, Text, fault_of, found_of, rows_of, subcommand_of};
 ghost use Rattle.clap.specs.Words.{subcommand_rows_of};
-ghost use Rattle.camr.specs.FoundPlan.{HasFound, PlansFound, PlansRows, ReadsWorkers};
-ghost use Rattle.camr.specs.RunCommand.{IsArgument, IsCommand, camr_command, path_rule};
-ghost use Rattle.camr.specs.RunCommand.{run_command, workers_rule};
+ghost use Rattle.camr.specs.FoundPlan.{HasFound, PlansCheck, PlansFound, PlansRows};
+ghost use Rattle.camr.specs.FoundPlan.{ReadsWorkers};
+ghost use Rattle.camr.specs.CheckLine.{IsCheck, check_line};
+ghost use Rattle.camr.specs.RunCommand.{IsArgument, IsCommand, camr_command, check_command};
+ghost use Rattle.camr.specs.RunCommand.{checking_command};
+ghost use Rattle.camr.specs.RunCommand.{path_rule, run_command, workers_rule};
 ghost use Rattle.camr.specs.RunLine.{GivesRun, HasLawfulNumber, IsPlain, RunLine};
 
 use crate::plans::Plan;
@@ -18,7 +21,8 @@ use std::alloc::{AllocError, Global};
 /// `exit_code` is the status to end with.
 pub type UsageFault = Error;
 
-/// Reads the words after the program's name. A line that asks for a run gives that run, or an error where its
+/// Reads the words after the program's name. A line that asks for a check gives that check or an error. A line
+/// that asks for a run gives that run, or an error where its
 /// number is none from 1 to 16 or memory is refused. Whatever the words are, a run has 1 to 16 workers and the
 /// paths that `clap` found in their places.
 pub fn plan(alloc: Global, words: &[String]) -> Result<Plan, UsageFault>
@@ -28,6 +32,9 @@ pub fn plan(alloc: Global, words: &[String]) -> Result<Plan, UsageFault>
         → RunLine (map string_bytes words.now) number manifest scenario
         → IsPlain number → IsPlain manifest → IsPlain scenario
         → GivesRun number manifest scenario result }
+    ensures checks { (manifest : Text)
+        → map string_bytes words.now ≡ check_line manifest → IsPlain manifest
+        → IfOk result (IsCheck manifest) }
 {
     let matches = matches(alloc, words)?;
     match planned(alloc, &matches)? {
@@ -50,6 +57,7 @@ fn planned(alloc: Global, matches: &ArgMatches) -> Result<Option<Plan>, AllocErr
     ensures { IfOk result (PlansFound (subcommand_rows_of matches.now)) }
 {
     match matches.subcommand() {
+        Some(("check", check)) => check_plan(alloc, check),
         Some(("run", run)) => run_plan(alloc, run),
         _ => Ok(None),
     }
@@ -71,13 +79,35 @@ fn command<'a>(alloc: Global) -> Result<Command<'a>, AllocError>
     ensures { IfOk result (IsCommand camr_command) }
 {
     let run = run_command(alloc)?;
+    let check = check_command(alloc)?;
+    checking_command(alloc, check)?.subcommand(run)
+}
+
+// The command with `check` alone.
+fn checking_command<'a>(alloc: Global, check: Command<'a>) -> Result<Command<'a>, AllocError>
+    requires { IsCommand check_command check }
+    ensures { IfOk result (IsCommand checking_command) }
+{
     Command::new(alloc, "camr")
         .about("A CAM transport whose error recovery is written as BPF programs")
         .no_binary_name(true)
         .subcommand_required(true)
         .arg_required_else_help(true)
         .bin_name("camr")?
-        .subcommand(run)
+        .subcommand(check)
+}
+
+fn check_command<'a>(alloc: Global) -> Result<Command<'a>, AllocError>
+    ensures { IfOk result (IsCommand check_command) }
+{
+    let manifest = path(
+        alloc,
+        "MANIFEST",
+        "The queues, their programs and their tables",
+    );
+    Command::new(alloc, "check")
+        .about("Verifies the programs of a manifest and prints their budgets")
+        .arg(manifest)
 }
 
 fn run_command<'a>(alloc: Global) -> Result<Command<'a>, AllocError>
@@ -111,6 +141,16 @@ fn path<'a>(alloc: Global, name: &'a str, help: &'a str) -> Arg<'a>
     ensures { IsArgument (path_rule name.entry.now) result }
 {
     Arg::new(alloc, name).required(true).help(help)
+}
+
+// The plan of what clap found behind `check`.
+fn check_plan(alloc: Global, check: &ArgMatches) -> Result<Option<Plan>, AllocError>
+    ensures { IfOk result (PlansCheck (rows_of (found_of check.now))) }
+{
+    let Some(manifest) = check.get_str("MANIFEST") else {
+        return Ok(None);
+    };
+    Ok(Some(Plan::Check(String::from_str(alloc, manifest)?)))
 }
 
 // The plan of what clap found behind `run`.

@@ -7,6 +7,7 @@ use Rattle.camr.specs.FoundPlan.{PlansFound}
 use Rattle.camr.specs.RunCommand.{camr_command}
 use Rattle.camr.specs.RunLine.{GivesRun, SpellsNoLawfulNumber}
 use Rattle.camr.specs.declared.plans.Plan.{Plan}
+use Rattle.camr.proofs.CheckWords.{check_plan}
 use Rattle.camr.proofs.PlanLines.{line_fault, line_has_plan, line_plan}
 use Rattle.camr.proofs.command_line.plan.Goals as goal
 
@@ -37,3 +38,11 @@ returns-clause-lines c n m s line pn pm ps =
     subst (λ o. PlansFound (subcommand_of camr_command words) o) c.in-None.is
     (subst (λ f. PlansFound f c.in_ok-plan.field-0) c.in_ok-matches.ensures.rows c.in_ok-plan.ensures) in
     absurd (line_has_plan words n m s line pn pm ps c.in_ok-matches.ensures.faults found)
+
+pub returns-in-Some-clause-checks : goal.returns-in-Some-clause-checks
+returns-in-Some-clause-checks c manifest line plain =
+    let words = map string_bytes c.args.words.now in
+    let found : PlansFound (subcommand_of camr_command words) (Some c.in-Some.plan) =
+    subst (λ o. PlansFound (subcommand_of camr_command words) o) c.in-Some.is
+    (subst (λ f. PlansFound f c.in_ok-plan.field-0) c.in_ok-matches.ensures.rows c.in_ok-plan.ensures) in
+    check_plan words manifest c.in-Some.plan line plain found.0

@@ -4,3 +4,4 @@ pub mod FoundPlan
 pub mod Status
 pub mod Inputs
 pub mod Faults
+pub mod Numeral

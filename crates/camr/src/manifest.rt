@@ -1,7 +1,7 @@
 // The manifest, version 1, as far as it speaks of queues: TOML that is read untyped with `toml`. Tables and
 // programs are known keys whose content is not read.
 
-ghost use Rattle.std.specs.Prelude.{◌≡◌};
+ghost use Rattle.std.specs.Prelude.{◌≡◌, ◌≤◌, IfSome};
 ghost use Rattle.camr.specs.declared.manifest.ManifestError.TheVariants.{Fault, OutOfMemory};
 
 use engine_core::Config;
@@ -128,7 +128,9 @@ fn has_queue_form(queue: &Value) -> bool {
 }
 
 // The queue's openings, where they are 1 to 255.
-fn openings_of(queue: &Value) -> Option<u8> {
+fn openings_of(queue: &Value) -> Option<u8>
+    ensures { IfSome result (λ openings. 1 ≤ openings) }
+{
     let openings = queue.as_table()?.get("openings")?.as_integer()?;
     match u8::try_from(openings) {
         Ok(openings) if openings > 0 => Some(openings),

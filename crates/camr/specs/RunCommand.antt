@@ -20,10 +20,12 @@ workers_rule = record (new_rule (codes "workers")) {
 abbrev pub path_rule : Text → Rule
 path_rule name = record (new_rule name) { required = true }
 
+-- `run`, with its option and its two paths in their order
 abbrev pub run_command : App
 run_command = with_rule (with_rule (with_rule (new_app (codes "run")) workers_rule)
     (path_rule (codes "MANIFEST"))) (path_rule (codes "SCENARIO"))
 
+-- the program, whose words begin behind its own name; where there are none it shows its help
 abbrev pub bare_command : App
 bare_command = let a = new_app (codes "camr") in record a {
   top = record a.top {
@@ -33,13 +35,16 @@ bare_command = let a = new_app (codes "camr") in record a {
   };
 }
 
+-- the whole command line
 abbrev pub camr_command : App
 camr_command = with_subcommand bare_command run_command.top
 
 -- ---- what is made for `clap`
 
+-- the argument has that rule, and is for its own command alone
 abbrev pub IsArgument : Rule → Arg → Type 0
 IsArgument rule a = (rule_of a ≡ rule) × (a.global ≡ false)
 
+-- the command is that one, and has no argument for other commands
 abbrev pub IsCommand : App → Command → Type 0
 IsCommand app c = (app_of c ≡ app) × ((out-Command c).has_globals ≡ false)

@@ -5,3 +5,4 @@ pub mod FoundPlan
 pub mod Status
 pub mod Inputs
 pub mod Faults
+pub mod Numeral

@@ -20,13 +20,16 @@ workers_rule = record (new_rule (codes "workers")) {
 abbrev pub path_rule : Text → Rule
 path_rule name = record (new_rule name) { required = true }
 
+-- `run`, with its option and its two paths in their order
 abbrev pub run_command : App
 run_command = with_rule (with_rule (with_rule (new_app (codes "run")) workers_rule)
     (path_rule (codes "MANIFEST"))) (path_rule (codes "SCENARIO"))
 
+-- `check` with its manifest
 abbrev pub check_command : App
 check_command = with_rule (new_app (codes "check")) (path_rule (codes "MANIFEST"))
 
+-- the program, whose words begin behind its own name; where there are none it shows its help
 abbrev pub bare_command : App
 bare_command = let a = new_app (codes "camr") in record a {
   top = record a.top {
@@ -40,13 +43,16 @@ bare_command = let a = new_app (codes "camr") in record a {
 abbrev pub checking_command : App
 checking_command = with_subcommand bare_command check_command.top
 
+-- the whole command line
 abbrev pub camr_command : App
 camr_command = with_subcommand checking_command run_command.top
 
 -- ---- what is made for `clap`
 
+-- the argument has that rule, and is for its own command alone
 abbrev pub IsArgument : Rule → Arg → Type 0
 IsArgument rule a = (rule_of a ≡ rule) × (a.global ≡ false)
 
+-- the command is that one, and has no argument for other commands
 abbrev pub IsCommand : App → Command → Type 0
 IsCommand app c = (app_of c ≡ app) × ((out-Command c).has_globals ≡ false)

@@ -16,6 +16,7 @@ begins_with_hyphen (x ∷ rest) = x == 45
 abbrev pub IsPlain : Text → Type 0
 IsPlain word = begins_with_hyphen word ≡ false
 
+-- the option and its number in one word
 abbrev pub joined : Text → Text
 joined number = codes "--workers=" ++ number
 
@@ -34,6 +35,7 @@ pub data RunLine : List Text → Text → Text → Text → Type 0 where
 abbrev pub Spells : Text → ℕ → Type 0
 Spells word n = IsNumeral 10 (without_leading_plus word) × (n ≡ digits_value 10 (without_leading_plus word))
 
+-- there can be 1 to 16 workers
 abbrev pub IsLawfulNumber : ℕ → Type 0
 IsLawfulNumber workers = (1 ≤ workers) × (workers ≤ 16)
 

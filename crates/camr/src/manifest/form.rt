@@ -1,6 +1,8 @@
 // The form of a manifest: its keys, their types, ranges, and how many there are of each. It relies on `code`
 // for the form of a program's text.
 
+ghost use Rattle.std.specs.Prelude.{◌≤◌, IfSome};
+
 use super::{ManifestFault, code, elements, text_of};
 use toml::{Table, Value};
 
@@ -98,7 +100,9 @@ fn integer_of(table: &Value, key: &str) -> Option<i64> {
 }
 
 /// A queue's openings, where they are 1 to 255.
-pub fn openings_of(queue: &Value) -> Option<u8> {
+pub fn openings_of(queue: &Value) -> Option<u8>
+    ensures { IfSome result (λ openings. 1 ≤ openings) }
+{
     match u8::try_from(integer_of(queue, "openings")?) {
         Ok(openings) if openings > 0 => Some(openings),
         _ => None,
@@ -106,7 +110,9 @@ pub fn openings_of(queue: &Value) -> Option<u8> {
 }
 
 /// How many words a table has, where they are 1 to 4096.
-pub fn length_of(table: &Value) -> Option<u16> {
+pub fn length_of(table: &Value) -> Option<u16>
+    ensures { IfSome result (λ length. (1 ≤ length) × (length ≤ 4096)) }
+{
     match u16::try_from(integer_of(table, "length")?) {
         Ok(length) if 0 < length && length <= WORDS => Some(length),
         _ => None,

@@ -1,7 +1,7 @@
 -- What `clap` makes of the line that asks for a check, and what follows for its plan.
-use Rattle.std.proofs.Common.{◌≡◌, List, [], ◌∷◌, Option, Some, false, codes, refl, sym, subst, ◌∙◌, ap}
+use Rattle.std.proofs.Common.{◌≡◌, List, [], ◌∷◌, Option, Some, false, codes, sym, subst, ◌∙◌, ap}
 use Rattle.std.specs.Prelude.{find, string_bytes, unwrap_or}
-use Rattle.clap.specs.Words.{Row, Rule, Shape, Text, first_of, subcommand_of}
+use Rattle.clap.specs.Words.{Row, Rule, Text, first_of, subcommand_of}
 use Rattle.clap.specs.Walk.{Walk, answers_to, arg_by_index, finished, idle, nothing_held, rows_after, to_positional, walked}
 use Rattle.clap.specs.Simple.{built, entered, label_of, new_shape}
 use Rattle.camr.specs.CheckLine.{IsCheck, check_line}

@@ -1,13 +1,19 @@
-// A plan, carried out over the bytes of its files. It relies on the readers, on `session` and on `printer`.
+// A plan, carried out over the bytes of its files. It relies on the readers, on `host`,
+// and on `printer` and `verdicts` for what goes out.
 
-ghost use Rattle.std.specs.Prelude.{◌≡◌, ◌≤◌, length};
+ghost use Rattle.std.specs.Prelude.{◌≡◌, ◌≤◌, ◌⊎◌, Contains, IsErrAnd, IsUtf8, MatchResult, length};
+ghost use Rattle.camr.specs.Faults.{fault_of_manifest, fault_of_run, fault_of_scenario};
+ghost use Rattle.camr.specs.Inputs.{input_paths};
+ghost use Rattle.camr.specs.Status.{status_of};
 
-use crate::manifest::{ManifestError, ManifestFault};
+use crate::host::RunFault;
+use crate::manifest::{Manifest, ManifestError, ManifestFault};
 use crate::plans::Plan;
 use crate::scenario::ScenarioError;
-use crate::session::RunFault;
-use crate::{manifest, printer, scenario, session};
+use crate::{host, manifest, printer, scenario, verdicts};
+use engine_core::Trace;
 use std::alloc::Global;
+use std::io;
 use std::io::Write;
 use thiserror::Error;
 
@@ -32,7 +38,7 @@ pub enum Fault<'a> {
 impl Fault<'_> {
     // 2 for files and memory, 1 for what is refused.
     fn status(&self) -> u8
-        ensures { result ≤ 2 }
+        ensures { result ≡ status_of self.now }
     {
         match self {
             Fault::OutOfMemory | Fault::File(_) => 2,
@@ -40,9 +46,10 @@ impl Fault<'_> {
         }
     }
 
-    /// Writes the fault's one line and answers the status: 2 also where the line cannot be written.
+    /// Writes the fault's one line and answers the status: 1 or 2, and 2 also where the line cannot be written.
     pub fn tell<E: Write>(&self, err: &mut E) -> u8
-        ensures { result ≤ 2 }
+        ensures told { (result ≡ status_of self.now) ⊎ (result ≡ 2) }
+        ensures status { (1 ≤ result) × (result ≤ 2) }
     {
         match writeln!(err, "camr: {self}") {
             Ok(()) => self.status(),
@@ -52,6 +59,8 @@ impl Fault<'_> {
 }
 
 impl<'a> From<ManifestError> for Fault<'a> {
+    ghost from_gives = { λ error fault. fault ≡ fault_of_manifest error };
+
     fn from(error: ManifestError) -> Self {
         match error {
             ManifestError::OutOfMemory => Fault::OutOfMemory,
@@ -61,6 +70,8 @@ impl<'a> From<ManifestError> for Fault<'a> {
 }
 
 impl<'a> From<ScenarioError> for Fault<'a> {
+    ghost from_gives = { λ error fault. fault ≡ fault_of_scenario error };
+
     fn from(error: ScenarioError) -> Self {
         match error {
             ScenarioError::OutOfMemory => Fault::OutOfMemory,
@@ -70,6 +81,8 @@ impl<'a> From<ScenarioError> for Fault<'a> {
 }
 
 impl<'a> From<RunFault> for Fault<'a> {
+    ghost from_gives = { λ error fault. fault ≡ fault_of_run error };
+
     fn from(fault: RunFault) -> Self {
         match fault {
             RunFault::OutOfMemory => Fault::OutOfMemory,
@@ -88,34 +101,66 @@ pub fn carry<W: Write, E: Write>(
     out: &mut W,
     err: &mut E,
 ) -> u8
-    requires { length inputs.now ≡ 2 }
-    ensures { result ≤ 2 }
+    requires { length inputs.now ≡ length (input_paths plan.now) }
+    ensures status { result ≤ 2 }
+    ensures no_text { (input : _) → Contains inputs.now input → ¬ (IsUtf8 input.items) → result ≡ 2 }
 {
-    let Plan::Run(_, manifest, scenario) = plan;
-    let texts = [
-        (manifest.as_str(), inputs[0].as_slice()),
-        (scenario.as_str(), inputs[1].as_slice()),
-    ];
-    match run(alloc, texts) {
-        Ok(trace) => match printer::print(&trace, out) {
-            Ok(()) => 0,
-            Err(_) => 2,
-        },
-        Err(fault) => fault.tell(err),
+    match plan {
+        Plan::Check(manifest) => {
+            let manifest = (manifest.as_str(), inputs[0].as_slice());
+            match check(alloc, manifest) {
+                Ok(manifest) => status(verdicts::print(&manifest.programs, out)),
+                Err(fault) => fault.tell(err),
+            }
+        }
+        Plan::Run(_, manifest, scenario) => {
+            let manifest = (manifest.as_str(), inputs[0].as_slice());
+            let scenario = (scenario.as_str(), inputs[1].as_slice());
+            match run(alloc, manifest, scenario) {
+                Ok(trace) => status(printer::print(&trace, out)),
+                Err(fault) => fault.tell(err),
+            }
+        }
     }
 }
 
-// The trace of a manifest and a scenario, each a path and its bytes.
-fn run<'a>(alloc: Global, files: [(&'a str, &[u8]); 2]) -> Result<engine_core::Trace, Fault<'a>> {
-    let [manifest, scenario] = files;
-    let manifest = text(manifest)?;
-    let scenario = text(scenario)?;
-    let config = manifest::read(alloc, manifest)?;
-    let steps = scenario::read(alloc, scenario)?;
-    Ok(session::run(alloc, config, &steps)?)
+// What is to go out went out, or a writer failed.
+fn status(written: io::Result<()>) -> u8
+    ensures { result ≤ 2 }
+{
+    match written {
+        Ok(()) => 0,
+        Err(_) => 2,
+    }
 }
 
-fn text<'a, 'b>(file: (&'a str, &'b [u8])) -> Result<&'b str, Fault<'a>> {
+// A manifest, a path and its bytes, with its programs verified.
+fn check<'a>(alloc: Global, file: (&'a str, &[u8])) -> Result<Manifest, Fault<'a>>
+    ensures { ¬ (IsUtf8 file.entry.1.now) → IsErrAnd result (λ e. status_of e ≡ 2) }
+{
+    Ok(manifest::read(alloc, text(file)?)?)
+}
+
+// The trace of a manifest and a scenario, each a path and its bytes.
+fn run<'a>(
+    alloc: Global,
+    manifest: (&'a str, &[u8]),
+    scenario: (&'a str, &[u8]),
+) -> Result<Trace, Fault<'a>>
+    ensures manifest { ¬ (IsUtf8 manifest.entry.1.now) → IsErrAnd result (λ e. status_of e ≡ 2) }
+    ensures scenario { ¬ (IsUtf8 scenario.entry.1.now) → IsErrAnd result (λ e. status_of e ≡ 2) }
+{
+    let manifest = text(manifest)?;
+    let scenario = text(scenario)?;
+    let manifest = manifest::read(alloc, manifest)?;
+    let steps = scenario::read(alloc, scenario)?;
+    Ok(host::run(alloc, manifest.config, &steps)?)
+}
+
+fn text<'a, 'b>(file: (&'a str, &'b [u8])) -> Result<&'b str, Fault<'a>>
+    ensures { MatchResult result (λ t. (t.now ≡ file.entry.1.now) × IsUtf8 file.entry.1.now)
+        (λ e. (status_of e ≡ 2) × ¬ (IsUtf8 file.entry.1.now)) }
+{
     match str::from_utf8(file.1) {
         Ok(text) => Ok(text),
         Err(_) => Err(Fault::File(file.0)),

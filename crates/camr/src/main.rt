@@ -3,16 +3,18 @@
 #![tactic(auto)]
 
 ghost use Rattle.std.specs.Prelude.{◌≡◌, length, IfOk};
+ghost use Rattle.camr.specs.Inputs.{input_paths};
 
 mod carry;
 mod command_line;
+mod host;
 mod manifest;
 mod plans;
 mod printer;
 mod scenario;
-mod session;
 #[cfg(test)]
 mod tests;
+mod verdicts;
 
 use carry::{Fault, carry};
 use clap::error::ErrorKind;
@@ -66,10 +68,11 @@ fn read_inputs<'a, R: Files + AllocGlobal>(
     rt: &R,
     plan: &'a Plan,
 ) -> Result<Vec<Vec<u8>>, Fault<'a>>
-    ensures { IfOk result (λ inputs. length inputs.items ≡ 2) }
+    ensures { IfOk result (λ inputs. length inputs.items ≡ length (input_paths plan.entry.now)) }
 {
     let mut inputs = Vec::new(rt.alloc());
-    for path in plan.inputs() {
+    for place in 0..plan.input_count() {
+        let path = plan.input(place);
         match fs::read(rt, path) {
             Ok(input) => inputs.push(input).map_err(|_| Fault::OutOfMemory)?,
             Err(error) => return Err(unread(&error, path)),

@@ -1,13 +1,34 @@
-// The manifest, version 1, as far as it speaks of queues: TOML that is read untyped with `toml`. Tables and
-// programs are known keys whose content is not read.
+// The manifest, version 1: TOML that is read untyped with `toml`. It relies on `form` and `names` for what a
+// manifest has to be, and on `programs` for what its programs are.
 
+mod code;
+mod form;
+mod names;
+mod programs;
+
+ghost use Rattle.std.specs.Prelude.{◌≡◌};
+ghost use Rattle.camr.specs.declared.manifest.ManifestError.TheVariants.{Fault, OutOfMemory};
+
+use bpf_decode::DecodeFault;
 use engine_core::Config;
+use helpers::{HelperLimits, TableLengths};
+pub use programs::NamedProgram;
 use std::alloc::{AllocError, Global};
 use thiserror::Error;
 use toml::{Table, Value};
+use verifier::Refusal;
 
-/// What is wrong with a manifest. Where several faults hold the lowest is told.
-#[derive(Clone, Copy, Debug, PartialEq, Eq, Error)]
+/// What a manifest says.
+#[derive(Drop)]
+pub struct Manifest {
+    pub config: Config,
+    /// All programs in the text's order, also those that no queue names.
+    pub programs: Vec<NamedProgram>,
+}
+
+/// What is wrong with a manifest. Where several faults hold the lowest is told, and of M7 and M8 that of the
+/// first program with one.
+#[derive(Debug, Drop, Error)]
 pub enum ManifestFault {
     /// The text is no TOML.
     #[error("M1")]
@@ -18,113 +39,97 @@ pub enum ManifestFault {
     /// A value is of another type or form.
     #[error("M3")]
     Form,
-    /// `version` is not 1, or `openings` not 1 to 255.
+    /// `version` is not 1, `openings` not 1 to 255, or `length` not 1 to 4096.
     #[error("M4")]
     Range,
-    /// There is no queue, or there are more than 64.
+    /// There is no queue or no program, or there are more than 64 of them or 16 tables.
     #[error("M5")]
     Number,
+    /// A name is not of the form, is repeated, or is of no program.
+    #[error("M6")]
+    Name,
+    /// The program of that name is not decoded.
+    #[error("M7 {0} {1}")]
+    Undecoded(String, DecodeFault),
+    /// The program of that name is not accepted.
+    #[error("M8 {0} {1}")]
+    Unaccepted(String, Refusal),
 }
 
 /// Why a manifest was not read.
-#[derive(Clone, Copy, Debug, PartialEq, Eq)]
+#[derive(Debug, Drop)]
 pub enum ManifestError {
     OutOfMemory,
     Fault(ManifestFault),
 }
 
 impl From<AllocError> for ManifestError {
+    ghost from_gives = { λ _ error. error ≡ OutOfMemory };
+
     fn from(_: AllocError) -> Self {
         ManifestError::OutOfMemory
     }
 }
 
 impl From<ManifestFault> for ManifestError {
+    ghost from_gives = { λ fault error. error ≡ Fault fault };
+
     fn from(fault: ManifestFault) -> Self {
         ManifestError::Fault(fault)
     }
 }
 
-/// Reads a manifest's configuration.
-pub fn read(alloc: Global, text: &str) -> Result<Config, ManifestError> {
+/// Reads a manifest and verifies its programs.
+pub fn read(alloc: Global, text: &str) -> Result<Manifest, ManifestError> {
     let table = match toml::table_from_str(alloc, text) {
         Ok(table) => table,
         Err(error) if error.is_memory() => return Err(ManifestError::OutOfMemory),
         Err(_) => return Err(ManifestError::Fault(ManifestFault::Text)),
     };
-    if let Some(fault) = fault_of(&table) {
+    if let Some(fault) = form::fault_of(&table) {
         return Err(ManifestError::Fault(fault));
     }
+    if !names::are_lawful(&table) {
+        return Err(ManifestError::Fault(ManifestFault::Name));
+    }
+    let config = config_of(alloc, &table)?;
+    let limits = limits_of(alloc, config.queues(), &table)?;
+    let programs = programs::read(alloc, elements(&table, "program"), &limits)?;
+    Ok(Manifest { config, programs })
+}
+
+fn config_of(alloc: Global, manifest: &Table) -> Result<Config, ManifestError> {
     let mut openings = Vec::new(alloc);
-    for queue in queues(&table) {
+    for queue in elements(manifest, "queue") {
         openings
-            .push(openings_of(queue).unwrap_or(0))
+            .push(form::openings_of(queue).unwrap_or(0))
             .map_err(AllocError::from)?;
     }
     Config::new(openings).ok_or(ManifestError::Fault(ManifestFault::Number))
 }
 
-// The lowest fault but M1.
-fn fault_of(table: &Table) -> Option<ManifestFault> {
-    if !has_keys(table, &["version", "queue", "program"], &["table"])
-        || !queues(table).iter().all(has_queue_keys)
-    {
-        return Some(ManifestFault::Key);
+fn limits_of(alloc: Global, queues: u32, manifest: &Table) -> Result<HelperLimits, AllocError> {
+    let mut lengths = Vec::new(alloc);
+    for table in elements(manifest, "table") {
+        lengths
+            .push(form::length_of(table).unwrap_or(0))
+            .map_err(AllocError::from)?;
     }
-    if !table.get("version").is_some_and(Value::is_integer)
-        || !table.get("queue").is_some_and(Value::is_array)
-        || !queues(table).iter().all(has_queue_form)
-    {
-        return Some(ManifestFault::Form);
-    }
-    if table.get("version").and_then(Value::as_integer) != Some(1)
-        || !queues(table)
-            .iter()
-            .all(|queue| openings_of(queue).is_some())
-    {
-        return Some(ManifestFault::Range);
-    }
-    None
+    Ok(HelperLimits {
+        queues,
+        table_lengths: TableLengths::new(lengths),
+    })
 }
 
-// The elements of `queue`, where it is an array.
-fn queues(table: &Table) -> &[Value] {
-    match table.get("queue") {
-        Some(Value::Array(queues)) => queues.as_slice(),
+// The elements of an array, and none where the key is of no array.
+fn elements<'a>(table: &'a Table, key: &str) -> &'a [Value] {
+    match table.get(key) {
+        Some(Value::Array(elements)) => elements.as_slice(),
         _ => &[],
     }
 }
 
-// All required keys are there, and beside them only optional ones.
-fn has_keys(table: &Table, required: &[&str], optional: &[&str]) -> bool {
-    required.iter().all(|key| table.contains_key(*key))
-        && table.keys().all(|key| required.contains(&key.as_str())
-            || optional.contains(&key.as_str()))
-}
-
-// What is no table has no keys that could be wrong.
-fn has_queue_keys(queue: &Value) -> bool {
-    match queue {
-        Value::Table(queue) => has_keys(queue, &["openings", "program"], &[]),
-        _ => true,
-    }
-}
-
-fn has_queue_form(queue: &Value) -> bool {
-    match queue {
-        Value::Table(queue) => {
-            queue.get("openings").is_some_and(Value::is_integer)
-                && queue.get("program").is_some_and(Value::is_str)
-        }
-        _ => false,
-    }
-}
-
-// The queue's openings, where they are 1 to 255.
-fn openings_of(queue: &Value) -> Option<u8> {
-    let openings = queue.as_table()?.get("openings")?.as_integer()?;
-    match u8::try_from(openings) {
-        Ok(openings) if openings > 0 => Some(openings),
-        _ => None,
-    }
+// The text of a key of a table.
+fn text_of<'a>(table: &'a Value, key: &str) -> Option<&'a str> {
+    table.as_table()?.get(key)?.as_str()
 }

@@ -1,5 +1,11 @@
 // The scenario: what happens, one command a line. It relies on nothing but text.
 
+ghost use Rattle.std.specs.Prelude.{◌≡◌, ℕ, MatchOption};
+ghost use Rattle.std.specs.Char.{is_ascii_digit};
+ghost use Rattle.std.specs.List.{list_all};
+ghost use Rattle.camr.specs.Numeral.{IsNumber};
+ghost use Rattle.camr.specs.declared.scenario.ScenarioError.TheVariants.{OutOfMemory};
+
 use ccb::QueueId;
 use std::alloc::{AllocError, Global};
 
@@ -28,6 +34,8 @@ pub enum ScenarioError {
 }
 
 impl From<AllocError> for ScenarioError {
+    ghost from_gives = { λ _ error. error ≡ OutOfMemory };
+
     fn from(_: AllocError) -> Self {
         ScenarioError::OutOfMemory
     }
@@ -76,11 +84,20 @@ fn command_of(line: &str) -> Option<Command> {
 }
 
 // A number below 2^32 in decimal digits, without a sign and without leading zeros.
-fn number(word: &str) -> Option<u32> {
-    let is_spelled = word == "0" || !word.starts_with('0');
-    if is_spelled && word.bytes().all(|byte| byte.is_ascii_digit()) {
-        word.parse().ok()
-    } else {
-        None
+fn number(word: &str) -> Option<u32>
+    ensures { MatchOption result ((n : ℕ) → ¬ (IsNumber word.now n)) (IsNumber word.now) }
+{
+    if word != "0" && word.starts_with('0') {
+        return None;
     }
+    if !has_digits_alone(word) {
+        return None;
+    }
+    word.parse().ok()
+}
+
+fn has_digits_alone(word: &str) -> bool
+    ensures { result ≡ list_all is_ascii_digit word.now }
+{
+    word.bytes().all(|byte| byte.is_ascii_digit())
 }

@@ -1,7 +1,9 @@
 // Rows of the program, on `carry`. Expected texts are worked out by hand.
 
 mod faults;
+mod manifests;
 mod memory;
+mod programs;
 mod words;
 
 use crate::carry::carry;
@@ -11,10 +13,20 @@ use std::fmt::Write;
 use std::process::Abort;
 use std::test::Fail;
 
-const ONE_QUEUE: &str =
-    "version = 1\n[[queue]]\nopenings = 2\nprogram = \"p1\"\n[[program]]\nname = \"p1\"\ncode = \"95 00 00 00 00 00 00 00\"\n";
+// The two paths have 5 and 7 instructions: jeq r2, 0, +2; mov64 r1, r2; call 2; mov64 r1, 1; call 4;
+// mov64 r0, 0; exit.
+const ONE_QUEUE: &str = "version = 1\n[[queue]]\nopenings = 2\nprogram = \"p1\"\n\
+    [[program]]\nname = \"p1\"\ncode = \"\"\"\n\
+    15 02 02 00 00 00 00 00\n\
+    bf 21 00 00 00 00 00 00\n\
+    85 00 00 00 02 00 00 00\n\
+    b7 01 00 00 01 00 00 00\n\
+    85 00 00 00 04 00 00 00\n\
+    b7 00 00 00 00 00 00 00\n\
+    95 00 00 00 00 00 00 00\n\
+    \"\"\"\n";
 
-// What carrying out a run answers and writes.
+// What carrying out a plan answers and writes.
 #[derive(Drop)]
 struct Outcome {
     status: u8,
@@ -32,6 +44,19 @@ fn run(alloc: Global, manifest: &[u8], scenario: &[u8]) -> Result<Outcome, Alloc
     let mut out = Vec::new(alloc);
     let mut err = Vec::new(alloc);
     let status = if inputs.len() == 2 {
+        carry(alloc, &plan, &inputs, &mut out, &mut err)
+    } else {
+        2
+    };
+    Ok(Outcome { status, out, err })
+}
+
+fn check(alloc: Global, manifest: &[u8]) -> Result<Outcome, AllocError> {
+    let plan = Plan::Check(String::from_str(alloc, "m.toml")?);
+    let inputs = vec![in alloc; manifest.to_vec(alloc)?]?;
+    let mut out = Vec::new(alloc);
+    let mut err = Vec::new(alloc);
+    let status = if inputs.len() == 1 {
         carry(alloc, &plan, &inputs, &mut out, &mut err)
     } else {
         2

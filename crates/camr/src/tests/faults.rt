@@ -1,4 +1,4 @@
-// What is refused: lines, manifests, files that are no text, and writers that fail.
+// What is refused: lines, files that are no text, and writers that fail.
 
 use super::{ONE_QUEUE, expect, run};
 use crate::carry::carry;
@@ -54,101 +54,6 @@ fn scenarios(rt: HostRuntime) -> Result<(), Fail> {
         let outcome = run(rt.alloc(), ONE_QUEUE.as_bytes(), scenario.as_bytes())?;
         expect(&rt, scenario, &outcome, 1, "", line);
     }
-    Ok(())
-}
-
-// The lowest fault is told, and a manifest's before any of the scenario's.
-#[test]
-fn manifests(rt: HostRuntime) -> Result<(), Fail> {
-    for (manifest, line) in [
-        ("version = ", "camr: M1\n"),
-        ("version = 1\nversion = 1\n", "camr: M1\n"),
-        // keys: none, one that is missing, one that is unknown
-        ("", "camr: M2\n"),
-        (
-            "version = 1\n[[queue]]\nopenings = 2\nprogram = \"p\"\n",
-            "camr: M2\n",
-        ),
-        ("version = 1\n[[program]]\n", "camr: M2\n"),
-        (
-            "[[queue]]\nopenings = 2\nprogram = \"p\"\n[[program]]\n",
-            "camr: M2\n",
-        ),
-        (
-            "version = 1\n[[queue]]\nprogram = \"p\"\n[[program]]\n",
-            "camr: M2\n",
-        ),
-        (
-            "version = 1\n[[queue]]\nopenings = 2\n[[program]]\n",
-            "camr: M2\n",
-        ),
-        (
-            "version = \"1\"\nx = 1\n[[queue]]\nopenings = 0\nprogram = 1\n[[program]]\n",
-            "camr: M2\n",
-        ),
-        (
-            "version = 1\n[[queue]]\nopenings = 2\nprogram = \"p\"\nx = 1\n[[program]]\n",
-            "camr: M2\n",
-        ),
-        // types
-        (
-            "version = \"1\"\n[[queue]]\nopenings = 2\nprogram = \"p\"\n[[program]]\n",
-            "camr: M3\n",
-        ),
-        (
-            "version = 1.0\n[[queue]]\nopenings = 2\nprogram = \"p\"\n[[program]]\n",
-            "camr: M3\n",
-        ),
-        ("version = 2\nqueue = 1\n[[program]]\n", "camr: M3\n"),
-        ("version = 1\nqueue = [1]\n[[program]]\n", "camr: M3\n"),
-        (
-            "version = 1\n[[queue]]\nopenings = \"2\"\nprogram = \"p\"\n[[program]]\n",
-            "camr: M3\n",
-        ),
-        (
-            "version = 2\n[[queue]]\nopenings = 0\nprogram = 1\n[[program]]\n",
-            "camr: M3\n",
-        ),
-        // values
-        (
-            "version = 2\n[[queue]]\nopenings = 2\nprogram = \"p\"\n[[program]]\n",
-            "camr: M4\n",
-        ),
-        (
-            "version = 1\n[[queue]]\nopenings = 0\nprogram = \"p\"\n[[program]]\n",
-            "camr: M4\n",
-        ),
-        (
-            "version = 1\n[[queue]]\nopenings = 256\nprogram = \"p\"\n[[program]]\n",
-            "camr: M4\n",
-        ),
-        (
-            "version = 1\n[[queue]]\nopenings = -1\nprogram = \"p\"\n[[program]]\n",
-            "camr: M4\n",
-        ),
-        ("version = 2\nqueue = []\n[[program]]\n", "camr: M4\n"),
-        ("version = 1\nqueue = []\n[[program]]\n", "camr: M5\n"),
-    ] {
-        let outcome = run(rt.alloc(), manifest.as_bytes(), "thaw".as_bytes())?;
-        expect(&rt, manifest, &outcome, 1, "", line);
-    }
-    Ok(())
-}
-
-// 64 queues are taken, and the last of them is there; a further one is too many.
-#[test]
-fn queues(rt: HostRuntime) -> Result<(), Fail> {
-    let mut manifest = String::from_str(rt.alloc(), "version = 1\n[[program]]\n")?;
-    for _ in 0..64 {
-        manifest.push_str("[[queue]]\nopenings = 255\nprogram = \"p\"\n")?;
-    }
-    let text = "camr-trace 1\ngfreeze 63 7 = freeze 1\ngfreeze 64 7 = C1\nend 2 1 0 0\n";
-    let scenario = "gfreeze 63 7\ngfreeze 64 7\n";
-    let outcome = run(rt.alloc(), manifest.as_bytes(), scenario.as_bytes())?;
-    expect(&rt, "64 queues", &outcome, 0, text, "");
-    manifest.push_str("[[queue]]\nopenings = 1\nprogram = \"p\"\n")?;
-    let outcome = run(rt.alloc(), manifest.as_bytes(), scenario.as_bytes())?;
-    expect(&rt, "65 queues", &outcome, 1, "", "camr: M5\n");
     Ok(())
 }
 

@@ -1,4 +1,5 @@
-// A run of two lines with one allocation refused, and the same run again.
+// A run of two lines with one allocation refused, and the same run again. Which one is refused is set from
+// outside, by `rt try --test --fail-alloc N`: here there are 37, of which the 28 from the 6th on are `carry`'s.
 
 use super::{ONE_QUEUE, expect, run};
 use std::test::Fail;

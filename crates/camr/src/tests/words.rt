@@ -32,6 +32,20 @@ fn lawful_words(rt: HostRuntime) -> Result<(), Fail> {
                 assert_eq!(rt; manifest.as_str(), first, "{line}");
                 assert_eq!(rt; scenario.as_str(), second, "{line}");
             }
+            Ok(plan) => return Err(Fail::new(format_args!("{line}: {plan:?}"))),
+            Err(fault) => return Err(Fail::new(format_args!("{line}: {fault}"))),
+        }
+    }
+    Ok(())
+}
+
+#[test]
+fn lawful_checks(rt: HostRuntime) -> Result<(), Fail> {
+    for (line, path) in [("check m.toml", "m.toml"), ("check -- -m", "-m")] {
+        let words = words(rt.alloc(), line)?;
+        match plan(rt.alloc(), words.as_slice()) {
+            Ok(Plan::Check(manifest)) => assert_eq!(rt; manifest.as_str(), path, "{line}"),
+            Ok(plan) => return Err(Fail::new(format_args!("{line}: {plan:?}"))),
             Err(fault) => return Err(Fail::new(format_args!("{line}: {fault}"))),
         }
     }
@@ -41,13 +55,14 @@ fn lawful_words(rt: HostRuntime) -> Result<(), Fail> {
 const HELP: &str = "A CAM transport whose error recovery is written as BPF programs\n\n\
     Usage: camr <COMMAND>\n\n\
     Commands:\n  \
-    run   Runs a scenario and prints its trace\n  \
-    help  Print this message or the help of the given subcommand(s)\n\n\
+    check  Verifies the programs of a manifest and prints their budgets\n  \
+    run    Runs a scenario and prints its trace\n  \
+    help   Print this message or the help of the given subcommand(s)\n\n\
     Options:\n  \
     -h, --help  Print help\n";
 
 const RUN_HELP: &str = "Runs a scenario and prints its trace\n\n\
-    Usage: run [OPTIONS] <MANIFEST> <SCENARIO>\n\n\
+    Usage: camr run [OPTIONS] <MANIFEST> <SCENARIO>\n\n\
     Arguments:\n  \
     <MANIFEST>  The queues, their programs and their tables\n  \
     <SCENARIO>  What happens, a command a line\n\n\
@@ -62,19 +77,29 @@ fn mistakes_and_help(rt: HostRuntime) -> Result<(), Fail> {
         ("--help", 0, HELP),
         ("run --help", 0, RUN_HELP),
         (
-            "check x",
+            "replay m.toml t.txt",
             2,
-            "error: unrecognized subcommand 'check'\n\nUsage: camr <COMMAND>\n\nFor more information, try '--help'.\n",
+            "error: unrecognized subcommand 'replay'\n\nUsage: camr <COMMAND>\n\nFor more information, try '--help'.\n",
+        ),
+        (
+            "check",
+            2,
+            "error: the following required arguments were not provided:\n  <MANIFEST>\n\nUsage: camr check <MANIFEST>\n\nFor more information, try '--help'.\n",
+        ),
+        (
+            "check m.toml s.txt",
+            2,
+            "error: unexpected argument 's.txt' found\n\nUsage: camr check <MANIFEST>\n\nFor more information, try '--help'.\n",
         ),
         (
             "run m.toml",
             2,
-            "error: the following required arguments were not provided:\n  <SCENARIO>\n\nUsage: run <MANIFEST> <SCENARIO>\n\nFor more information, try '--help'.\n",
+            "error: the following required arguments were not provided:\n  <SCENARIO>\n\nUsage: camr run <MANIFEST> <SCENARIO>\n\nFor more information, try '--help'.\n",
         ),
         (
             "run m.toml s.txt t.txt",
             2,
-            "error: unexpected argument 't.txt' found\n\nUsage: run [OPTIONS] <MANIFEST> <SCENARIO>\n\nFor more information, try '--help'.\n",
+            "error: unexpected argument 't.txt' found\n\nUsage: camr run [OPTIONS] <MANIFEST> <SCENARIO>\n\nFor more information, try '--help'.\n",
         ),
         (
             "run --workers 0 m.toml s.txt",

@@ -1,4 +1,8 @@
-// A scenario's run on an engine, with the tokens that its guests hold. It relies on `engine_core`.
+// The host of the guests: it runs a scenario on an engine, and keeps the tokens of the guests' freezes. It
+// relies on `engine_core`.
+
+ghost use Rattle.std.specs.Prelude.{◌≡◌};
+ghost use Rattle.camr.specs.declared.host.RunFault.TheVariants.{OutOfMemory};
 
 use crate::scenario::{Command, Step};
 use ccb::QueueId;
@@ -15,6 +19,8 @@ pub enum RunFault {
 }
 
 impl From<AllocError> for RunFault {
+    ghost from_gives = { λ _ fault. fault ≡ OutOfMemory };
+
     fn from(_: AllocError) -> Self {
         RunFault::OutOfMemory
     }
@@ -22,26 +28,26 @@ impl From<AllocError> for RunFault {
 
 /// Runs the steps in order. Tokens that are out at the end are forfeited.
 pub fn run(alloc: Global, config: Config, steps: &[Step]) -> Result<Trace, RunFault> {
-    let mut session = Session::open(alloc, config)?;
+    let mut host = Host::open(alloc, config)?;
     for step in steps {
-        if let Err(fault) = session.carry_out(*step) {
-            let _ = session.close();
+        if let Err(fault) = host.carry_out(*step) {
+            let _ = host.close();
             return Err(fault);
         }
     }
-    Ok(session.close())
+    Ok(host.close())
 }
 
-struct Session {
+struct Host {
     engine: Engine,
     // The guests' tokens that are out, in the order in which they were taken.
     tokens: Vec<FreezeToken>,
 }
 
-impl Session {
+impl Host {
     fn open(alloc: Global, config: Config) -> Result<Self, AllocError> {
         match Engine::open(alloc, config) {
-            Ok(engine) => Ok(Session {
+            Ok(engine) => Ok(Host {
                 engine,
                 tokens: Vec::new(alloc),
             }),
@@ -91,7 +97,7 @@ impl Session {
     }
 
     fn close(self) -> Trace {
-        let Session { engine, mut tokens } = self;
+        let Host { engine, mut tokens } = self;
         while let Some(token) = tokens.pop() {
             token.forfeit();
         }

@@ -1,0 +1,58 @@
+-- The command line as `clap` sees it.
+use Rattle.std.specs.Prelude.{◌≡◌, [], ◌∷◌, Some, true, false, codes, pos}
+use Rattle.clap.specs.Words.{App, Rule, Text, app_of, new_app, new_rule, rule_of, with_rule}
+use Rattle.clap.specs.Words.{with_subcommand}
+use Rattle.clap.specs.declared.builder.arg.Arg.{Arg}
+use Rattle.clap.specs.declared.builder.command.Command.{Command}
+use Rattle.clap.specs.declared.builder.command.Command.TheViews.{out-Command}
+use Rattle.clap.specs.declared.builder.value_parser.ValueParser.TheVariants as value_parser
+
+-- the option `--workers N`, a number from 1 to 16, which is 1 where it is not given
+abbrev pub workers_rule : Rule
+workers_rule = record (new_rule (codes "workers")) {
+  long = Some (codes "workers");
+  value_names = 1;
+  defaults = codes "1" ∷ [];
+  parser = Some (value_parser.Signed (pos 1) (pos 16));
+}
+
+-- a path that has to be there
+abbrev pub path_rule : Text → Rule
+path_rule name = record (new_rule name) { required = true }
+
+-- `run`, with its option and its two paths in their order
+abbrev pub run_command : App
+run_command = with_rule (with_rule (with_rule (new_app (codes "run")) workers_rule)
+    (path_rule (codes "MANIFEST"))) (path_rule (codes "SCENARIO"))
+
+-- `check` with its manifest
+abbrev pub check_command : App
+check_command = with_rule (new_app (codes "check")) (path_rule (codes "MANIFEST"))
+
+-- the program, whose words begin behind its own name; where there are none it shows its help
+abbrev pub bare_command : App
+bare_command = let a = new_app (codes "camr") in record a {
+  top = record a.top {
+    no_binary_name = true;
+    arg_required_else_help = true;
+    subcommand_required = true;
+  };
+}
+
+-- with `check` alone
+abbrev pub checking_command : App
+checking_command = with_subcommand bare_command check_command.top
+
+-- the whole command line
+abbrev pub camr_command : App
+camr_command = with_subcommand checking_command run_command.top
+
+-- ---- what is made for `clap`
+
+-- the argument has that rule, and is for its own command alone
+abbrev pub IsArgument : Rule → Arg → Type 0
+IsArgument rule a = (rule_of a ≡ rule) × (a.global ≡ false)
+
+-- the command is that one, and has no argument for other commands
+abbrev pub IsCommand : App → Command → Type 0
+IsCommand app c = (app_of c ≡ app) × ((out-Command c).has_globals ≡ false)

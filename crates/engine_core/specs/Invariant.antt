@@ -9,5 +9,5 @@ use Rattle.engine_core.specs.State.{world_of}
 
 pub record IsKept (setup : Setup) (history : List Record) (ledger : LedgerState) : Type 0 where
   -- the fields, read as a world, are the run of the stored history
-  pub run : WorldRun setup (flat history) (world_of ledger)
+  pub run : WorldRun setup (flat history) (world_of setup ledger)
   pub queues : ledger.queues ≡ queue_count setup

@@ -4,6 +4,9 @@ pub use Rattle.world.specs.Run
 pub use Rattle.world.specs.Flat
 pub use Rattle.world.specs.TotalsOf
 pub use Rattle.world.specs.Headline
+pub use Rattle.world.specs.Limits
+pub use Rattle.world.specs.FreezeLaws
+pub use Rattle.world.specs.CcbLaws
 pub mod Lawful
 pub mod State
 pub mod Invariant

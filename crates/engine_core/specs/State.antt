@@ -6,7 +6,7 @@ use Rattle.world.specs.declared.history.Record.{Record}
 use Rattle.world.specs.declared.history.Refusal.{Refusal}
 use Rattle.world.specs.World.{Setup, World, opening}
 use Rattle.world.specs.Event.{Reply, freeze_given, refused}
-use Rattle.world.specs.Step.{is_guest}
+use Rattle.world.specs.FreezeSteps.{is_guest}
 use Rattle.world.specs.Run.{Leads, WorldRun}
 use Rattle.world.specs.Flat.{events_of, flat}
 
@@ -15,9 +15,9 @@ pub record EngineState : Type 0 where
   pub history : List Record
   pub world : World
 
--- a ledger, read as a world
-abbrev pub world_of : LedgerState → World
-world_of ledger = record { freezes = ledger.freezes; greatest_freeze = ledger.greatest }
+-- a ledger, read as a world in which no CCB was submitted yet
+abbrev pub world_of : Setup → LedgerState → World
+world_of setup ledger = record (opening setup) { freezes = ledger.freezes; greatest_freeze = ledger.greatest }
 
 abbrev pub opened : Setup → EngineState
 opened setup = record { setup = setup; history = []; world = opening setup }

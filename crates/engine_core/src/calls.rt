@@ -5,7 +5,7 @@ ghost use Rattle.std.specs.Prelude.{◌≡◌, IfOk, IfErr, MatchResult, Ok, Err
 ghost use Rattle.freeze_ledger.specs.declared.entries.Holder.TheVariants.{Guest};
 ghost use Rattle.world.specs.declared.history.Record.TheVariants.{GuestFreeze, GuestRelease};
 ghost use Rattle.world.specs.World.{Setup, queue_count};
-ghost use Rattle.world.specs.Step.{step_guest_freeze};
+ghost use Rattle.world.specs.FreezeSteps.{step_guest_freeze};
 ghost use Rattle.world.specs.TotalsOf.{TotalsOf, totals_in};
 ghost use Rattle.engine_core.specs.State.{EngineState, opened, IsRun, Records, world_of, taken_reply, GuestHolds};
 ghost use Rattle.engine_core.specs.Faults.{FaultIs, HoldsUnlessTold};
@@ -35,7 +35,7 @@ impl Model for Engine {
     ghost use Rattle.engine_core.specs.State.{world_of};
     ghost use Rattle.engine_core.specs.Invariant.{IsKept};
 
-    ghost view = { λ e. record { setup = e.config; history = e.history.items; world = world_of e.ledger } };
+    ghost view = { λ e. record { setup = e.config; history = e.history.items; world = world_of e.config e.ledger } };
 
     ghost invariant = { λ e. IsKept e.config e.history.items e.ledger };
 }
@@ -43,7 +43,7 @@ impl Model for Engine {
 // A further freeze of the queue for a guest, or why there is none.
 fn guests_freeze(ledger: &mut Ledger, queue: QueueId, guest: u32) -> Result<FreezeToken, Refusal>
     ensures step { (setup : Setup) → queue_count setup ≡ ledger.old.queues →
-        step_guest_freeze setup (world_of ledger.old) queue.0 guest ≡ (taken_reply result, world_of ledger.new) }
+        step_guest_freeze setup (world_of setup ledger.old) queue.0 guest ≡ (taken_reply result, world_of setup ledger.new) }
     ensures token { IfOk result (λ token. (token.queue ≡ queue) × (token.holder ≡ Guest guest)) }
     ensures queues { ledger.new.queues ≡ ledger.old.queues }
 {

@@ -1,7 +1,8 @@
 // What an engine is opened with. It relies on nothing.
 
-ghost use Rattle.std.specs.Prelude.{◌≡◌, ◌≤◌, ◌↔◌, length, IsSome, IfSome};
-ghost use Rattle.engine_core.specs.Lawful.{IsLawful};
+ghost use Rattle.std.specs.Prelude.{◌≡◌, ◌≤◌, ◌↔◌, IsSome, IfSome};
+ghost use Rattle.world.specs.World.{queue_count};
+ghost use Rattle.engine_core.specs.Lawful.{IsLawful, setup_of};
 
 use std::marker::Model;
 
@@ -9,7 +10,7 @@ use std::marker::Model;
 const QUEUES: usize = 64;
 
 /// The openings of each device queue, in the order of the queues' numbers. Contracts see it as the world's
-/// setup.
+/// setup, whose queues have no programs yet.
 #[derive(Debug, Drop)]
 pub struct Config {
     openings: Vec<u8>,
@@ -20,9 +21,9 @@ impl Model for Config {
 
     ghost Value = { Setup };
 
-    ghost use Rattle.engine_core.specs.Lawful.{IsLawful};
+    ghost use Rattle.engine_core.specs.Lawful.{IsLawful, setup_of};
 
-    ghost view = { λ c. record { openings = c.openings.items } };
+    ghost view = { λ c. setup_of c.openings.items };
 
     ghost invariant = { λ c. IsLawful c.openings.items };
 }
@@ -32,7 +33,7 @@ impl Config {
     /// no memory.
     pub fn new(openings: Vec<u8>) -> Option<Self>
         ensures lawful { IsSome result ↔ IsLawful openings.items }
-        ensures value { IfSome result (λ config. config.openings ≡ openings.items) }
+        ensures value { IfSome result (λ config. config ≡ setup_of openings.items) }
     {
         let queues = openings.len();
         if queues == 0 || queues > QUEUES || openings.contains(&0) {
@@ -43,7 +44,7 @@ impl Config {
 
     /// How many device queues there are, 1 to 64.
     pub fn queues(&self) -> u32
-        ensures value { result ≡ length self.now.openings }
+        ensures value { result ≡ queue_count self.now }
         ensures bound { result ≤ 64 }
     {
         self.openings.len() as u32

@@ -1,13 +1,31 @@
 // The laws of the world, each the contract of a function without arguments. They rely on `world` alone.
 
-ghost use Rattle.world.specs.Headline.{CountsAreEntries, LimitsAreKept, GivenUpStaysGivenUp, GoneStaysGone};
+ghost use Rattle.world.specs.Limits.{LimitsAreKept};
+ghost use Rattle.world.specs.FreezeLaws.{CountsAreEntries, HeldAreEntries};
+ghost use Rattle.world.specs.FreezeLaws.{GivenUpStaysGivenUp, GivenUpByRunStaysGivenUp, GoneStaysGone};
+ghost use Rattle.world.specs.CcbLaws.{EachIsLiveOrEnded};
+ghost use Rattle.world.specs.Headline.{NeverStuck, WithinBudget, DisposedOnce, ExactFreezes, OthersLeaveIt, GoneRunStaysGone};
 
-/// The headline for guests' freezes and releases, for every run of every setup: each queue's frozen count is
-/// at every moment the number of entries that name it, and no limit is passed; a number that a guest gave up
-/// is never held again; and a number whose freeze is gone never has one again.
+/// The headline. For every setup of accepted programs and every interleaving, instruction by instruction, of
+/// submissions, dispatches, completions, guests and runs: no run is ever stuck, and each that is out has
+/// exactly one next step; each executes at most its budget; if it ends it has released exactly the freezes
+/// that it took, and it disposed of its CCB once; and every queue's frozen count is at every moment the number
+/// of entries that name it. And: what a machine holds is what the entries say of its run; no limit is passed;
+/// each CCB number is of a live CCB or of one that ended, once, with its code; a step of anyone else leaves a
+/// run as it is; and a freeze that was given up, a freeze number that is gone and a run that is gone never
+/// come back.
 pub fn headline()
+    ensures never_stuck { NeverStuck }
+    ensures within_budget { WithinBudget }
+    ensures exact_freezes { ExactFreezes }
+    ensures disposed_once { DisposedOnce }
     ensures exact_counts { CountsAreEntries }
+    ensures held { HeldAreEntries }
     ensures limits { LimitsAreKept }
+    ensures ccbs { EachIsLiveOrEnded }
+    ensures others { OthersLeaveIt }
     ensures given_up { GivenUpStaysGivenUp }
+    ensures given_up_by_run { GivenUpByRunStaysGivenUp }
     ensures gone { GoneStaysGone }
+    ensures gone_run { GoneRunStaysGone }
 {}

@@ -1,14 +1,25 @@
-use Rattle.world.proofs.Laws.{counts_are_entries, limits_are_kept, given_up_stays_given_up, gone_stays_gone}
+use Rattle.world.proofs.NeverStuck.{never_stuck}
+use Rattle.world.proofs.Headline.{within_budget, disposed_once, exact_freezes, others_leave_it, gone_run_stays_gone}
+use Rattle.world.proofs.Counts.{counts_are_entries}
+use Rattle.world.proofs.Sound.{held_are_entries}
+use Rattle.world.proofs.Leads.{limits_are_kept}
+use Rattle.world.proofs.Accounts.{each_is_live_or_ended}
+use Rattle.world.proofs.Gone.{given_up_stays_given_up, given_up_by_run_stays_given_up, gone_stays_gone}
 use Rattle.engine_core.proofs.laws.headline.Goals as goal
 
-pub returns-clause-exact_counts : goal.returns-clause-exact_counts
-returns-clause-exact_counts c = counts_are_entries
-
-pub returns-clause-limits : goal.returns-clause-limits
-returns-clause-limits c = limits_are_kept
-
-pub returns-clause-given_up : goal.returns-clause-given_up
-returns-clause-given_up c = given_up_stays_given_up
-
-pub returns-clause-gone : goal.returns-clause-gone
-returns-clause-gone c = gone_stays_gone
+pub returns : goal.returns
+returns c = record {
+  never_stuck = never_stuck;
+  within_budget = within_budget;
+  disposed_once = disposed_once;
+  exact_freezes = exact_freezes;
+  exact_counts = counts_are_entries;
+  held = held_are_entries;
+  limits = limits_are_kept;
+  ccbs = each_is_live_or_ended;
+  others = others_leave_it;
+  given_up = given_up_stays_given_up;
+  given_up_by_run = given_up_by_run_stays_given_up;
+  gone = gone_stays_gone;
+  gone_run = gone_run_stays_gone;
+}

@@ -1,7 +1,7 @@
 use Rattle.std.proofs.Common.{◌≡◌, true, refl, rules}
 use Rattle.freeze_ledger.specs.declared.entries.Freeze.{Freeze}
 use Rattle.world.specs.declared.history.Record.TheVariants.{GuestRelease}
-use Rattle.world.specs.Step.{is_guest}
+use Rattle.world.specs.FreezeSteps.{is_guest}
 use Rattle.engine_core.specs.State.{world_of}
 use Rattle.engine_core.proofs.Recorded.{recorded, releases}
 use Rattle.engine_core.proofs.calls.Engine.guest_release.Goals as goal

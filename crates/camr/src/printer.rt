@@ -1,6 +1,7 @@
 // The trace as text, version 1: a header, a line a record, and the sums. It relies on `engine_core`.
 
-use engine_core::{Record, Trace};
+use ccb::{CcbId, Completion};
+use engine_core::{Completed, Record, Refusal, StoppedAt, Trace};
 use std::io;
 use std::io::Write;
 
@@ -20,16 +21,85 @@ pub fn print<W: Write>(trace: &Trace, out: &mut W) -> io::Result<()> {
 
 fn print_record<W: Write>(record: &Record, out: &mut W) -> io::Result<()> {
     match *record {
+        Record::Submit {
+            queue,
+            priority,
+            retries,
+            answer,
+        } => {
+            write!(out, "submit {} {priority} {retries} = ", queue.0)?;
+            print_ccb(answer, out)
+        }
+        Record::Dispatch { queue, answer } => {
+            write!(out, "dispatch {} = ", queue.0)?;
+            print_ccb(answer, out)
+        }
+        Record::Complete { completion, answer } => {
+            print_completion(&completion, out)?;
+            print_completed(answer, out)
+        }
+        Record::Advance {
+            run,
+            instructions,
+            stop,
+            r0,
+        } => {
+            let stop = match stop {
+                StoppedAt::Release => "helper 2",
+                StoppedAt::Requeue => "helper 4",
+                StoppedAt::Exit => "exit",
+            };
+            writeln!(out, "advance {run} {instructions} {stop} = {r0}")
+        }
         Record::GuestFreeze {
             queue,
             guest,
-            answer: Ok(freeze),
-        } => writeln!(out, "gfreeze {} {guest} = freeze {freeze}", queue.0),
-        Record::GuestFreeze {
-            queue,
-            guest,
-            answer: Err(refusal),
-        } => writeln!(out, "gfreeze {} {guest} = {refusal}", queue.0),
+            answer,
+        } => {
+            write!(out, "gfreeze {} {guest} = ", queue.0)?;
+            print_freeze(answer, out)
+        }
         Record::GuestRelease { freeze, count } => writeln!(out, "grelease {freeze} = {count}"),
     }
+}
+
+fn print_ccb<W: Write>(answer: Result<CcbId, Refusal>, out: &mut W) -> io::Result<()> {
+    match answer {
+        Ok(ccb) => writeln!(out, "ccb {}", ccb.0),
+        Err(refusal) => writeln!(out, "{refusal}"),
+    }
+}
+
+fn print_freeze<W: Write>(answer: Result<u32, Refusal>, out: &mut W) -> io::Result<()> {
+    match answer {
+        Ok(freeze) => writeln!(out, "freeze {freeze}"),
+        Err(refusal) => writeln!(out, "{refusal}"),
+    }
+}
+
+fn print_completed<W: Write>(answer: Result<Completed, Refusal>, out: &mut W) -> io::Result<()> {
+    match answer {
+        Ok(Completed::Done) => writeln!(out, "done"),
+        Ok(Completed::Started { run, freeze }) => writeln!(out, "run {run} freeze {freeze}"),
+        Err(refusal) => writeln!(out, "{refusal}"),
+    }
+}
+
+// The status, the SCSI status and the sense bytes are pairs of hexadecimal digits, and no bytes are `-`.
+fn print_completion<W: Write>(completion: &Completion, out: &mut W) -> io::Result<()> {
+    let status = completion.status().code();
+    let scsi = completion.scsi();
+    write!(
+        out,
+        "complete {} {status:02x} {scsi:02x} ",
+        completion.ccb().0
+    )?;
+    let sense = completion.sense();
+    if sense.is_empty() {
+        write!(out, "-")?;
+    }
+    for byte in sense.as_slice() {
+        write!(out, "{byte:02x}")?;
+    }
+    write!(out, " = ")
 }

@@ -13,4 +13,4 @@ mod tests;
 pub use answers::{CallFault, ReleaseFault, Trace};
 pub use calls::Engine;
 pub use configuration::Config;
-pub use world::{Record, Refusal, Totals};
+pub use world::{Completed, Record, Refusal, StoppedAt, Totals};

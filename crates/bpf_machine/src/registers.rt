@@ -10,6 +10,7 @@ ghost use Rattle.bpf_insn.specs.Target.{target};
 ghost use Rattle.bpf_machine.specs.MachineState.{entry, register, with_register, moved_to};
 ghost use Rattle.bpf_machine.specs.Step.{operand, private_step, request_at, exit_at, after_call, answered};
 ghost use Rattle.bpf_machine.specs.Stops.{stop_at};
+ghost use Rattle.bpf_machine.specs.Reached.{IsEntry};
 
 use crate::stop::Stop;
 use bpf_insn::{AluOp, Callee, Condition, Insn, Operand, Program, Reg, Width, jump_target};
@@ -50,7 +51,8 @@ impl Machine {
     /// A run's first machine, over its context and with the freeze of that number, or with none as 0: R1 is
     /// the context's address, R2 the number, R10 the frame pointer, and all else is unwritten.
     pub fn entry(context: &[u8; 96], freeze: u32) -> Self
-        ensures { result ≡ entry context.now freeze }
+        ensures value { result ≡ entry context.now freeze }
+        ensures entry { IsEntry result }
     {
         let mut registers = [None; 11];
         registers[1] = Some(CONTEXT_ADDRESS);

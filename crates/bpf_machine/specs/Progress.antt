@@ -1,6 +1,6 @@
 -- The law that ties being stuck to the steps: a machine that is not stuck has exactly one next private step, or stands
 -- at a helper call whose rule holds, or at the outermost exit with nothing held and its CCB disposed of.
-use Rattle.std.specs.Prelude.{◌≡◌, ℕ, Bool, true, false, List, [], Some, None, ◌⊎◌}
+use Rattle.std.specs.Prelude.{◌≡◌, ℕ, true, false, List, [], Some, None, ◌⊎◌}
 use Rattle.bpf_insn.specs.declared.program.Slot.{Slot}
 use Rattle.helpers.specs.declared.limits.HelperLimits.{HelperLimits}
 use Rattle.helpers.specs.declared.call.Request.{Request}

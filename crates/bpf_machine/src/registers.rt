@@ -2,15 +2,19 @@
 // writes the stack or opens a call, so neither is stored, and a run holds the freeze of its start or none. It
 // relies on `bpf_insn` for instructions and on `helpers` for the calls.
 
-ghost use Rattle.std.specs.Prelude.{◌≡◌, ◌+◌, ◌<◌, if◌then◌else◌};
+ghost use Rattle.std.specs.Prelude.{◌≡◌, ◌+◌, ◌<◌, ◌==◌, not, filter, if◌then◌else◌};
+ghost use Rattle.std.specs.Option.{option_to_list};
 ghost use Rattle.bpf_insn.specs.declared.program.TheConstants.{MAX_SLOTS};
 ghost use Rattle.helpers.specs.Rules.{request_of};
 ghost use Rattle.bpf_insn.specs.Target.{target};
 ghost use Rattle.bpf_machine.specs.MachineState.{entry, register, with_register, moved_to};
-ghost use Rattle.bpf_machine.specs.Step.{operand, private_step, request_at, exit_at};
+ghost use Rattle.bpf_machine.specs.Step.{operand, private_step, request_at, exit_at, after_call, answered};
+ghost use Rattle.bpf_machine.specs.Stops.{stop_at};
+ghost use Rattle.bpf_machine.specs.Reached.{IsEntry};
 
+use crate::stop::Stop;
 use bpf_insn::{AluOp, Callee, Condition, Insn, Operand, Program, Reg, Width, jump_target};
-use helpers::Request;
+use helpers::{Answer, Request};
 use std::marker::Model;
 
 /// Where the context lies.
@@ -47,7 +51,8 @@ impl Machine {
     /// A run's first machine, over its context and with the freeze of that number, or with none as 0: R1 is
     /// the context's address, R2 the number, R10 the frame pointer, and all else is unwritten.
     pub fn entry(context: &[u8; 96], freeze: u32) -> Self
-        ensures { result ≡ entry context.now freeze }
+        ensures value { result ≡ entry context.now freeze }
+        ensures entry { IsEntry result }
     {
         let mut registers = [None; 11];
         registers[1] = Some(CONTEXT_ADDRESS);
@@ -118,6 +123,51 @@ impl Machine {
             Insn::Exit => self.register(Reg::R0),
             Insn::Alu { .. } | Insn::JumpIf { .. } | Insn::Call(_) => None,
         }
+    }
+
+    /// The helper call or the outermost exit at which the machine stands; `None` exactly where it stands at
+    /// neither, or what is asked there is unwritten or has no helper.
+    pub fn stop(&self, program: &Program) -> Option<Stop>
+        ensures { result ≡ stop_at program.now self.now }
+    {
+        match self.request(program) {
+            Some(request) => Some(Stop::Helper(request)),
+            None => self.exit(program).map(Stop::Exit),
+        }
+    }
+
+    /// The machine behind a helper call that was answered, where it stands at a slot of a program: R0 is the
+    /// answer and R1 to R5 are unwritten. A freeze that was released is held no more, and a CCB that waits
+    /// again is disposed of.
+    pub fn answered(&self, request: &Request, answer: &Answer) -> Self
+        requires { self.now.place < MAX_SLOTS }
+        ensures { result ≡ answered request.now answer.now self.now }
+    {
+        let mut next = self.after_call(answer.r0);
+        match *request {
+            Request::Release { freeze } => next.held = self.held_without(freeze),
+            Request::Requeue { retries: _ } => next.disposed = true,
+        }
+        next
+    }
+
+    // The freeze that the run holds, unless it is this one.
+    fn held_without(&self, freeze: u64) -> Option<u32>
+        ensures { option_to_list result ≡ filter (λ number. not (number == freeze)) self.now.held }
+    {
+        self.held.filter(|number| u64::from(*number) != freeze)
+    }
+
+    // At the next slot, with an answer in R0 and nothing in R1 to R5.
+    fn after_call(&self, r0: u64) -> Self
+        requires { self.now.place < MAX_SLOTS }
+        ensures { result ≡ after_call self.now r0 }
+    {
+        let [_, _, _, _, _, _, r6, r7, r8, r9, r10] = self.registers;
+        let mut next = *self;
+        next.registers = [Some(r0), None, None, None, None, None, r6, r7, r8, r9, r10];
+        next.place = self.place + 1;
+        next
     }
 
     // What an operand stands for: a constant is sign-extended.

@@ -2,7 +2,7 @@
 
 use super::*;
 use bpf_insn::{AluOp, Callee, Condition, Insn, Operand, Program, Reg, Width};
-use helpers::Request;
+use helpers::{Answer, Request};
 use std::test::Fail;
 
 const fn moves(dst: Reg, src: Operand) -> Insn {
@@ -43,11 +43,18 @@ fn steps(rt: HostRuntime) -> Result<(), Fail> {
     assert_eq!(rt; at_move.place(), 1);
     let at_call = at_move.step(&program).ok_or("no step")?;
     assert_eq!(rt; at_call.step(&program), None);
-    assert_eq!(rt;
-        at_call.request(&program),
-        Some(Request::Release { freeze: 5 })
-    );
     assert_eq!(rt; at_call.exit(&program), None);
+    let release = Request::Release { freeze: 5 };
+    assert_eq!(rt; at_call.request(&program), Some(release));
+    assert_eq!(rt; at_call.stop(&program), Some(Stop::Helper(release)));
+
+    // Behind the release R0 is its answer, and the argument is unwritten.
+    let released = at_call.answered(&release, &Answer { r0: 2 });
+    assert_eq!(rt; released.place(), 3);
+    assert_eq!(rt; released.register(Reg::R0), Some(2));
+    assert_eq!(rt; released.register(Reg::R1), None);
+    assert_eq!(rt; released.register(Reg::R10), Some(0x2000_0200));
+    assert_eq!(rt; released.stop(&program), None);
 
     // Without a freeze it is, and the exit tells R0, sign-extended.
     let at_result = Machine::entry(&context, 0).step(&program).ok_or("no step")?;
@@ -55,5 +62,6 @@ fn steps(rt: HostRuntime) -> Result<(), Fail> {
     let at_exit = at_result.step(&program).ok_or("no step")?;
     assert_eq!(rt; at_exit.exit(&program), Some(u64::MAX));
     assert_eq!(rt; at_exit.request(&program), None);
+    assert_eq!(rt; at_exit.stop(&program), Some(Stop::Exit(u64::MAX)));
     Ok(())
 }

@@ -1,0 +1,177 @@
+-- Worked rows, computed by the definitions themselves. The program is that of the two paths: with a freeze it gives
+-- the freeze back first, and without one it jumps to the requeue.
+use Rattle.std.proofs.Common.{◌≡◌, ℕ, ℤ, pos, negsuc, true, false, List, [], ◌∷◌, Some, None, refl, replicate}
+use Rattle.bpf_insn.specs.declared.insn.Insn.{Insn}
+use Rattle.bpf_insn.specs.declared.insn.Insn.TheVariants.{Alu, JumpIf, Call, Exit}
+use Rattle.bpf_insn.specs.declared.insn.Callee.TheVariants.{Helper}
+use Rattle.bpf_insn.specs.declared.insn.Operand.TheVariants.{Immediate, Register}
+use Rattle.bpf_insn.specs.declared.insn.Width.TheVariants.{Bits64}
+use Rattle.bpf_insn.specs.declared.insn.AluOp.TheVariants.{Mov}
+use Rattle.bpf_insn.specs.declared.insn.Condition.TheVariants.{Equal}
+use Rattle.bpf_insn.specs.declared.reg.Reg.{Reg}
+use Rattle.bpf_insn.specs.declared.reg.Reg.TheVariants.{R0, R1, R2, R3, R10}
+use Rattle.bpf_insn.specs.declared.program.Slot.{Slot}
+use Rattle.bpf_insn.specs.Program.{layout}
+use Rattle.helpers.specs.declared.limits.HelperLimits.{HelperLimits}
+use Rattle.helpers.specs.declared.call.Request.TheVariants.{Release, Requeue}
+use Rattle.bpf_machine.specs.declared.stop.Stop.TheVariants.{Helper as AtHelper, Exit as AtExit}
+use Rattle.bpf_machine.specs.MachineState.{MachineState, entry, register, with_register, moved_to}
+use Rattle.bpf_machine.specs.Step.{private_step, request_at, exit_at, answered}
+use Rattle.bpf_machine.specs.Stops.{stop_at}
+use Rattle.bpf_machine.specs.Stuck.{is_stuck}
+
+abbrev mov : Reg → ℤ → Insn
+mov dst value = Alu Bits64 Mov dst (Immediate value)
+
+abbrev copy : Reg → Reg → Insn
+copy dst src = Alu Bits64 Mov dst (Register src)
+
+abbrev jeq : Reg → ℤ → ℤ → Insn
+jeq dst value offset = JumpIf Bits64 Equal dst (Immediate value) offset
+
+abbrev call : ℤ → Insn
+call number = Call (Helper number)
+
+abbrev two_paths : List Slot
+two_paths = layout (jeq R2 (pos 0) (pos 2) ∷ copy R1 R2 ∷ call (pos 2) ∷ mov R1 (pos 1) ∷ call (pos 4) ∷ mov R0 (pos 0) ∷ Exit ∷ [])
+
+-- one instruction, at which a machine of place 0 stands
+abbrev one : Insn → List Slot
+one insn = layout (insn ∷ [])
+
+abbrev zeros : List ℕ
+zeros = replicate 96 0
+
+abbrev limits : HelperLimits
+limits = record { queues = 1; table_lengths = [] }
+
+-- a run with freeze 7, and one without
+abbrev with_freeze : MachineState
+with_freeze = entry zeros 7
+
+abbrev without_freeze : MachineState
+without_freeze = entry zeros 0
+
+-- a run that has given its freeze back and whose CCB waits again
+abbrev done : ℕ → MachineState
+done r0 = record (with_register without_freeze R0 r0) { disposed = true }
+
+entry_context : register with_freeze R1 ≡ Some 0x10000000
+entry_context = refl
+
+entry_freeze : register with_freeze R2 ≡ Some 7
+entry_freeze = refl
+
+entry_frame : register with_freeze R10 ≡ Some 0x20000200
+entry_frame = refl
+
+entry_unwritten : register with_freeze R0 ≡ None
+entry_unwritten = refl
+
+entry_held : with_freeze.held ≡ 7 ∷ []
+entry_held = refl
+
+-- R2 is 0, and there is no freeze 0
+entry_no_freeze : register without_freeze R2 ≡ Some 0
+entry_no_freeze = refl
+
+entry_none_held : without_freeze.held ≡ []
+entry_none_held = refl
+
+-- a constant
+mov_constant : private_step (one (mov R3 (pos 5))) with_freeze ≡ Some (moved_to (with_register with_freeze R3 5) 1)
+mov_constant = refl
+
+-- -1 is sign-extended to 64 bits
+mov_negative : private_step (one (mov R3 (negsuc 0))) with_freeze ≡ Some (moved_to (with_register with_freeze R3 0xffffffffffffffff) 1)
+mov_negative = refl
+
+mov_register : private_step (one (copy R3 R2)) with_freeze ≡ Some (moved_to (with_register with_freeze R3 7) 1)
+mov_register = refl
+
+-- R2 is 0: two slots behind the next instruction
+jump_taken : private_step two_paths without_freeze ≡ Some (moved_to without_freeze 3)
+jump_taken = refl
+
+jump_not_taken : private_step two_paths with_freeze ≡ Some (moved_to with_freeze 1)
+jump_not_taken = refl
+
+-- an unwritten register cannot be compared
+jump_unwritten : private_step (one (jeq R3 (pos 0) (pos 0))) with_freeze ≡ None
+jump_unwritten = refl
+
+jump_unwritten_stuck : is_stuck (one (jeq R3 (pos 0) (pos 0))) limits with_freeze ≡ true
+jump_unwritten_stuck = refl
+
+-- a helper call is no private step
+release_request : request_at (one (call (pos 2))) (with_register with_freeze R1 7) ≡ Some (Release 7)
+release_request = refl
+
+release_is_no_step : private_step (one (call (pos 2))) (with_register with_freeze R1 7) ≡ None
+release_is_no_step = refl
+
+requeue_request : request_at (one (call (pos 4))) (with_register with_freeze R1 1) ≡ Some (Requeue 1)
+requeue_request = refl
+
+-- there is no helper 3
+no_helper : request_at (one (call (pos 3))) (with_register with_freeze R1 7) ≡ None
+no_helper = refl
+
+no_helper_stuck : is_stuck (one (call (pos 3))) limits (with_register with_freeze R1 7) ≡ true
+no_helper_stuck = refl
+
+-- the freeze that is held can be given back, and no other
+release_held : is_stuck (one (call (pos 2))) limits (with_register with_freeze R1 7) ≡ false
+release_held = refl
+
+release_not_held : is_stuck (one (call (pos 2))) limits (with_register with_freeze R1 8) ≡ true
+release_not_held = refl
+
+-- a requeue takes at most one retry, and comes once
+requeue_once : is_stuck (one (call (pos 4))) limits (with_register without_freeze R1 1) ≡ false
+requeue_once = refl
+
+requeue_of_two : is_stuck (one (call (pos 4))) limits (with_register without_freeze R1 2) ≡ true
+requeue_of_two = refl
+
+requeue_twice : is_stuck (one (call (pos 4))) limits (with_register (done 0) R1 1) ≡ true
+requeue_twice = refl
+
+-- the lawful exit tells R0
+lawful_exit : is_stuck (one Exit) limits (done 3) ≡ false
+lawful_exit = refl
+
+exit_tells : exit_at (one Exit) (done 3) ≡ Some 3
+exit_tells = refl
+
+exit_with_freeze : is_stuck (one Exit) limits (record (with_register with_freeze R0 0) { disposed = true }) ≡ true
+exit_with_freeze = refl
+
+exit_not_disposed : is_stuck (one Exit) limits (with_register without_freeze R0 0) ≡ true
+exit_not_disposed = refl
+
+exit_without_result : is_stuck (one Exit) limits (record without_freeze { disposed = true }) ≡ true
+exit_without_result = refl
+
+-- behind the last instruction there is none
+behind_the_end : is_stuck (one Exit) limits (moved_to (done 0) 1) ≡ true
+behind_the_end = refl
+
+-- where a run comes to the engine, and where it does not
+stops_at_call : stop_at (one (call (pos 2))) (with_register with_freeze R1 7) ≡ Some (AtHelper (Release 7))
+stops_at_call = refl
+
+stops_at_exit : stop_at (one Exit) (done 3) ≡ Some (AtExit 3)
+stops_at_exit = refl
+
+stops_nowhere_else : stop_at two_paths with_freeze ≡ None
+stops_nowhere_else = refl
+
+-- A release with a count of 2 as its answer: R0 is the count, R1 to R5 are unwritten, R6 to R10 are as they were, and
+-- the freeze is held no more.
+answered_release : answered (Release 7) (record { r0 = 2 }) (with_register with_freeze R1 7) ≡ record with_freeze { place = 1; registers = Some 2 ∷ None ∷ None ∷ None ∷ None ∷ None ∷ None ∷ None ∷ None ∷ None ∷ Some 0x20000200 ∷ []; held = [] }
+answered_release = refl
+
+-- a requeue disposes of the CCB and leaves the freezes
+answered_requeue : answered (Requeue 1) (record { r0 = 0 }) (with_register with_freeze R1 1) ≡ record with_freeze { place = 1; registers = Some 0 ∷ None ∷ None ∷ None ∷ None ∷ None ∷ None ∷ None ∷ None ∷ None ∷ Some 0x20000200 ∷ []; disposed = true }
+answered_requeue = refl

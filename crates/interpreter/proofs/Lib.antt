@@ -1,0 +1,5 @@
+pub mod Ways
+pub mod Room
+pub mod One
+pub mod Stops
+pub mod Rows

@@ -1,0 +1,4 @@
+pub use Rattle.bpf_machine.specs.Reached
+pub use Rattle.verifier.specs.Verdict
+pub mod Segments
+pub mod Laws

@@ -1,0 +1,8 @@
+// The laws of segments, each the contract of a function without arguments.
+
+ghost use Rattle.interpreter.specs.Laws.{OneSegment};
+
+/// From one machine a program has one segment: where it stops, and after how many instructions, is settled.
+pub fn one_segment()
+    ensures { OneSegment }
+{}

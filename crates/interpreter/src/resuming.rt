@@ -1,0 +1,21 @@
+// How a run goes on behind a helper call. It relies on `bpf_machine` for what an answer leaves.
+
+ghost use Rattle.std.specs.Prelude.{◌≡◌, ◌+◌, ℕ, List, Some};
+ghost use Rattle.bpf_insn.specs.declared.program.Slot.{Slot};
+ghost use Rattle.bpf_machine.specs.Step.{request_at, answered, IsAnswer};
+ghost use Rattle.bpf_machine.specs.Reached.{Reached};
+ghost use Rattle.interpreter.specs.Segments.{StandsAt};
+
+use bpf_machine::Machine;
+use helpers::{Answer, Request};
+
+/// The machine behind the helper call at which it stands, with an answer that the call may get. A program that
+/// reached the call has then reached this machine, by one instruction more. It takes no memory.
+pub fn resume(machine: &Machine, request: &Request, answer: &Answer) -> Machine
+    requires stands { StandsAt machine.now request.now }
+    requires allowed { IsAnswer request.now answer.now }
+    ensures machine { result ≡ answered request.now answer.now machine.now }
+    ensures reached { (program : List Slot) (n : ℕ) → Reached program n machine.now → request_at program machine.now ≡ Some request.now → Reached program (n + 1) result }
+{
+    machine.answered(request, answer)
+}

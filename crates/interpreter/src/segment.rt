@@ -1,0 +1,106 @@
+// A stretch of a run that nobody else sees: from a machine to the place where its run comes to the engine. Its
+// type keeps that each instruction on the way was a private step. It relies on `bpf_machine` for the steps.
+
+ghost use Rattle.std.specs.Prelude.{◌≡◌};
+ghost use Rattle.std.specs.Arc.{arc_value};
+ghost use Rattle.interpreter.specs.Segments.{IsSegment};
+
+use bpf_machine::{Machine, Stop};
+use std::marker::Model;
+use std::sync::Arc;
+use verifier::Accepted;
+
+/// What was executed of an accepted program: the private instructions from one machine to the helper call or
+/// outermost exit at which the other stands.
+#[derive(Debug, Drop)]
+pub struct Segment {
+    program: Arc<Accepted>,
+    from: Machine,
+    to: Machine,
+    steps: u32,
+    stop: Stop,
+}
+
+impl Model for Segment {
+    ghost use Rattle.std.specs.Arc.{arc_value};
+    ghost use Rattle.interpreter.specs.Segments.{SegmentState, IsSegment};
+
+    ghost Value = { SegmentState };
+
+    ghost view = { λ s. record {
+      program = arc_value s.program;
+      from = s.from;
+      to = s.to;
+      steps = s.steps;
+      stop = s.stop;
+    } };
+
+    ghost invariant = { λ s. IsSegment (record {
+      program = arc_value s.program;
+      from = s.from;
+      to = s.to;
+      steps = s.steps;
+      stop = s.stop;
+    }) };
+}
+
+impl Segment {
+    pub(crate) fn new(
+        program: Arc<Accepted>,
+        from: Machine,
+        to: Machine,
+        steps: u32,
+        stop: Stop,
+    ) -> Self
+        requires { IsSegment (record { program = arc_value program; from = from; to = to; steps = steps; stop = stop }) }
+        ensures { result ≡ record { program = arc_value program; from = from; to = to; steps = steps; stop = stop } }
+    {
+        Segment {
+            program,
+            from,
+            to,
+            steps,
+            stop,
+        }
+    }
+
+    /// The program that was run.
+    pub fn program(&self) -> &Arc<Accepted>
+        ensures value { arc_value result.now ≡ self.now.program }
+        ensures segment { IsSegment self.now }
+    {
+        &self.program
+    }
+
+    /// The machine before the first instruction.
+    pub fn from(&self) -> &Machine
+        ensures value { result.now ≡ self.now.from }
+        ensures segment { IsSegment self.now }
+    {
+        &self.from
+    }
+
+    /// The machine that stands at the stop: the helper call or exit there is not yet executed.
+    pub fn to(&self) -> &Machine
+        ensures value { result.now ≡ self.now.to }
+        ensures segment { IsSegment self.now }
+    {
+        &self.to
+    }
+
+    /// How many instructions the segment has, from 1: the private ones, and the helper call or exit at its end.
+    pub fn steps(&self) -> u32
+        ensures value { result ≡ self.now.steps }
+        ensures segment { IsSegment self.now }
+    {
+        self.steps
+    }
+
+    /// Where the run comes to the engine.
+    pub fn stop(&self) -> Stop
+        ensures value { result ≡ self.now.stop }
+        ensures segment { IsSegment self.now }
+    {
+        self.stop
+    }
+}

@@ -1,20 +1,18 @@
 -- The longest path from a place, by its instruction and the longest paths from where it leads.
-use Rattle.std.proofs.Common.{◌≡◌, ℕ, zero, suc, ◌+◌, ◌-◌, ◌<◌, ◌≤◌, List, length, Option, Some, None, inl, inr, ◌⊎◌, refl, ap, sym, subst, ◌∙◌, arith, false, true, Bool, add-one, ℤ, leb}
+use Rattle.std.proofs.Common.{◌≡◌, ℕ, zero, suc, ◌+◌, ◌-◌, ◌<◌, ◌≤◌, List, length, Option, Some, inl, inr, ◌⊎◌, refl, ap, sym, subst, ◌∙◌, arith, false, add-one, ℤ, leb}
 use Rattle.std.specs.Prelude.{max}
 use Rattle.std.proofs.lemmas.Bool.{leb-false, cases_lt, cases_eq}
 use Rattle.std.specs.Option.{option_and_then, option_map_or}
 use Rattle.bpf_insn.specs.declared.insn.Insn.{Insn}
-use Rattle.bpf_insn.specs.declared.insn.Insn.TheVariants.{Alu, JumpIf, Call, Exit}
+use Rattle.bpf_insn.specs.declared.insn.Insn.TheVariants.{JumpIf, Exit}
 use Rattle.bpf_insn.specs.declared.insn.Width.{Width}
-use Rattle.bpf_insn.specs.declared.insn.AluOp.{AluOp}
 use Rattle.bpf_insn.specs.declared.insn.Condition.{Condition}
 use Rattle.bpf_insn.specs.declared.insn.Operand.{Operand}
-use Rattle.bpf_insn.specs.declared.insn.Callee.{Callee}
 use Rattle.bpf_insn.specs.declared.reg.Reg.{Reg}
 use Rattle.bpf_insn.specs.declared.program.Slot.{Slot}
 use Rattle.bpf_insn.specs.Program.{IsProgram, insn_at}
 use Rattle.bpf_insn.specs.Target.{target}
-use Rattle.call_shape.specs.Shape.{IsLawful, target_in, target_at, is_outside, is_backward}
+use Rattle.call_shape.specs.Shape.{IsLawful, target_in, target_at}
 use Rattle.call_shape.specs.StaticPath.{LeadsTo, StaticPath}
 use Rattle.call_shape.proofs.WaysOut.{last_is_exit}
 use Rattle.budget_path.specs.Longest.{IsLongest}

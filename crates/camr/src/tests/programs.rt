@@ -44,7 +44,7 @@ fn refused_programs(rt: HostRuntime) -> Result<(), Fail> {
         ("no bytes", ["", "", ""], "camr: M7 p1 E1\n"),
         (
             "a part of a slot",
-            ["1502020000000000", "bf21000000000000", "95"],
+            ["1502020000000000", "bf210000000000", ""],
             "camr: M7 p1 E2\n",
         ),
         (

@@ -4,6 +4,7 @@ mod faults;
 mod manifests;
 mod memory;
 mod programs;
+mod records;
 mod words;
 
 use crate::carry::carry;

@@ -7,3 +7,6 @@ mod limits;
 
 pub use call::{Answer, Request};
 pub use limits::{HelperLimits, TableLengths};
+
+#[cfg(test)]
+mod tests;

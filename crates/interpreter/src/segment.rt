@@ -80,7 +80,7 @@ impl Segment {
         &self.from
     }
 
-    /// The machine that stands at the stop: the helper call or exit there is not yet executed.
+    /// The machine that stands at the stop: the helper call or exit there is its next instruction.
     pub fn to(&self) -> &Machine
         ensures value { result.now ≡ self.now.to }
         ensures segment { IsSegment self.now }

@@ -8,6 +8,7 @@ use std::test::Fail;
 
 mod accepted;
 mod joins;
+mod memory;
 mod refused;
 mod texts;
 

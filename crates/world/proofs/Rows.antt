@@ -4,4 +4,3 @@ pub mod Guests
 pub mod Ccbs
 pub mod Runs
 pub mod Lawful
-pub mod Machines

@@ -1,5 +1,5 @@
 -- What a completion says, and which ones there are.
-use Rattle.std.specs.Prelude.{◌≢◌, ◌≤◌, ℕ, List, length}
+use Rattle.std.specs.Prelude.{◌≢◌, ◌<◌, ◌≤◌, ℕ, List, length, All}
 use Rattle.ccb.specs.declared.CcbId.{CcbId}
 use Rattle.ccb.specs.declared.status.CamStatus.{CamStatus}
 use Rattle.ccb.specs.declared.status.CamStatus.TheVariants.{RequestInProgress}
@@ -13,7 +13,9 @@ pub record Outcome : Type 0 where
   pub scsi : ℕ
   pub sense : List ℕ
 
--- the CCB is not still in progress, and its sense bytes are not too many
+-- the CCB is not still in progress, its sense bytes are not too many, and bytes are bytes
 pub record IsCompletion (c : Outcome) : Type 0 where
   pub finished : c.status ≢ RequestInProgress
+  pub scsi_byte : c.scsi < 256
   pub few : length c.sense ≤ most_sense_bytes
+  pub sense_bytes : All (λ byte. byte < 256) c.sense

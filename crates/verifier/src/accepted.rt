@@ -60,7 +60,8 @@ impl Accepted {
 
     /// The greatest number of stack frames that a run has at a time, 1 to 8.
     pub fn frames(&self) -> u8
-        ensures { result ≡ self.now.frames }
+        ensures value { result ≡ self.now.frames }
+        ensures accepted { IsAccepted self.now }
     {
         self.frames
     }
@@ -75,7 +76,8 @@ impl Accepted {
 
     /// The limits under which it was verified.
     pub fn limits(&self) -> &HelperLimits
-        ensures { result.now ≡ self.now.limits }
+        ensures value { result.now ≡ self.now.limits }
+        ensures accepted { IsAccepted self.now }
     {
         &self.limits
     }

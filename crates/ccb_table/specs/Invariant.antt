@@ -1,0 +1,16 @@
+-- What a table of CCBs keeps: numbers rise, each CCB is of a queue that there is, and each queue knows its CCBs.
+use Rattle.std.specs.Prelude.{◌<◌, ◌≤◌, List, length, map, All}
+use Rattle.dev_queue.specs.State.{QueueState}
+use Rattle.ccb_table.specs.State.{CcbsState}
+use Rattle.ccb_table.specs.Listed.{ListState, AreNumbered}
+use Rattle.ccb_table.specs.Queues.{AreTold}
+
+-- what contracts see
+abbrev pub seen : ListState → List QueueState → CcbsState
+seen list queues = record { live = list.live; openings = map (λ queue. queue.openings) queues; greatest = list.greatest }
+
+pub record IsKept (list : ListState) (queues : List QueueState) : Type 0 where
+  pub rising : AreNumbered list.live list.greatest
+  pub known : All (λ live. live.ccb.queue.0 < length queues) list.live
+  pub told : AreTold queues list.live
+  pub few : length queues ≤ 64

@@ -1,0 +1,11 @@
+-- The refusal by which the transport tells a fault of a device queue.
+use Rattle.dev_queue.specs.declared.fault.QueueFault.{QueueFault}
+use Rattle.dev_queue.specs.declared.fault.QueueFault.TheVariants.{Full, Frozen, NoOpening, NothingWaits}
+use Rattle.world.specs.declared.history.Refusal.{Refusal}
+use Rattle.world.specs.declared.history.Refusal.TheVariants as refusal
+
+abbrev pub refusal_of : QueueFault → Refusal
+refusal_of Full = refusal.Limit
+refusal_of Frozen = refusal.Frozen
+refusal_of NoOpening = refusal.NoOpening
+refusal_of NothingWaits = refusal.NothingWaits

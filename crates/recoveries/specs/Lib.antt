@@ -1,0 +1,4 @@
+pub mod State
+pub mod Live
+pub mod Invariant
+pub mod Admits

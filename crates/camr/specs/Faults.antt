@@ -19,3 +19,4 @@ fault_of_scenario (scenario.Line line) = fault.Line line
 abbrev pub fault_of_run : RunFault → Fault
 fault_of_run run.OutOfMemory = fault.OutOfMemory
 fault_of_run (run.NotHeld line) = fault.NotHeld line
+fault_of_run (run.Unended number) = fault.Unended number

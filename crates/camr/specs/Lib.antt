@@ -6,3 +6,4 @@ pub mod Status
 pub mod Inputs
 pub mod Faults
 pub mod Numeral
+pub mod Hexadecimal

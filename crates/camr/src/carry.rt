@@ -33,15 +33,18 @@ pub enum Fault<'a> {
     /// That line of the scenario gives back a freeze whose token is not held.
     #[error("N2 at {0}")]
     NotHeld(usize),
+    /// The run of that number did not end, which cannot be.
+    #[error("run {0}")]
+    Unended(u32),
 }
 
 impl Fault<'_> {
-    // 2 for files and memory, 1 for what is refused.
+    // 1 for what is refused, and 2 for files, for memory and for what cannot be.
     fn status(&self) -> u8
         ensures { result ≡ status_of self.now }
     {
         match self {
-            Fault::OutOfMemory | Fault::File(_) => 2,
+            Fault::OutOfMemory | Fault::File(_) | Fault::Unended(_) => 2,
             Fault::Manifest(_) | Fault::Line(_) | Fault::NotHeld(_) => 1,
         }
     }
@@ -87,6 +90,7 @@ impl<'a> From<RunFault> for Fault<'a> {
         match fault {
             RunFault::OutOfMemory => Fault::OutOfMemory,
             RunFault::NotHeld(line) => Fault::NotHeld(line),
+            RunFault::Unended(run) => Fault::Unended(run),
         }
     }
 }

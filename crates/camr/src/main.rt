@@ -7,6 +7,9 @@ ghost use Rattle.camr.specs.Inputs.{input_paths};
 
 mod carry;
 mod command_line;
+mod completions;
+mod driver;
+mod hexadecimal;
 mod host;
 mod manifest;
 mod plans;

@@ -14,6 +14,7 @@ use engine_core::Config;
 use helpers::{HelperLimits, TableLengths};
 pub use programs::NamedProgram;
 use std::alloc::{AllocError, Global};
+use std::sync::Arc;
 use thiserror::Error;
 use toml::{Table, Value};
 use verifier::Refusal;
@@ -92,23 +93,34 @@ pub fn read(alloc: Global, text: &str) -> Result<Manifest, ManifestError> {
     if !names::are_lawful(&table) {
         return Err(ManifestError::Fault(ManifestFault::Name));
     }
-    let config = config_of(alloc, &table)?;
-    let limits = limits_of(alloc, config.queues(), &table)?;
+    let limits = limits_of(alloc, &table)?;
     let programs = programs::read(alloc, elements(&table, "program"), &limits)?;
+    let config = config_of(alloc, &table, limits, &programs)?;
     Ok(Manifest { config, programs })
 }
 
-fn config_of(alloc: Global, manifest: &Table) -> Result<Config, ManifestError> {
-    let mut openings = Vec::new(alloc);
+// Each queue with its openings and the program that it names.
+fn config_of(
+    alloc: Global,
+    manifest: &Table,
+    limits: HelperLimits,
+    programs: &[NamedProgram],
+) -> Result<Config, ManifestError> {
+    let mut queues = Vec::new(alloc);
     for queue in elements(manifest, "queue") {
-        openings
-            .push(form::openings_of(queue).unwrap_or(0))
+        let openings = form::openings_of(queue).unwrap_or(0);
+        let Some(program) = programs::of_queue(queue, programs) else {
+            return Err(ManifestError::Fault(ManifestFault::Name));
+        };
+        queues
+            .push((openings, Arc::try_clone(&program.accepted)?))
             .map_err(AllocError::from)?;
     }
-    Config::new(openings).ok_or(ManifestError::Fault(ManifestFault::Number))
+    Config::new(limits, queues).ok_or(ManifestError::Fault(ManifestFault::Number))
 }
 
-fn limits_of(alloc: Global, queues: u32, manifest: &Table) -> Result<HelperLimits, AllocError> {
+fn limits_of(alloc: Global, manifest: &Table) -> Result<HelperLimits, AllocError> {
+    let queues = u32::try_from(elements(manifest, "queue").len()).unwrap_or(0);
     let mut lengths = Vec::new(alloc);
     for table in elements(manifest, "table") {
         lengths

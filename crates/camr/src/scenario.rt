@@ -1,4 +1,5 @@
-// The scenario: what happens, one command a line. It relies on nothing but text.
+// The scenario: what happens, one command a line. It relies on `hexadecimal` for bytes and on `ccb` for what a
+// completion may say.
 
 ghost use Rattle.std.specs.Prelude.{◌≡◌, ℕ, MatchOption};
 ghost use Rattle.std.specs.Char.{is_ascii_digit};
@@ -6,16 +7,38 @@ ghost use Rattle.std.specs.List.{list_all};
 ghost use Rattle.camr.specs.Numeral.{IsNumber};
 ghost use Rattle.camr.specs.declared.scenario.ScenarioError.TheVariants.{OutOfMemory};
 
-use ccb::QueueId;
+use crate::hexadecimal::byte_of;
+use ccb::{CamStatus, CcbId, Completion, QueueId};
 use std::alloc::{AllocError, Global};
 
 /// What a line asks for.
 #[derive(Clone, Copy, Debug, PartialEq, Eq)]
 pub enum Command {
+    /// `submit Q PRIORITY RETRIES`: a CCB is put to queue Q.
+    Submit {
+        queue: QueueId,
+        priority: u32,
+        retries: u32,
+    },
+    /// `dispatch Q`: the next CCB of queue Q starts.
+    Dispatch {
+        queue: QueueId,
+    },
+    /// `complete C STATUS SCSI -`: a device reports that it is done with CCB C, without sense bytes.
+    Complete {
+        completion: Completion,
+    },
+    /// `drain`: the completions that were reported are served.
+    Drain,
     /// `gfreeze Q G`: the guest G freezes queue Q.
-    GuestFreeze { queue: QueueId, guest: u32 },
+    GuestFreeze {
+        queue: QueueId,
+        guest: u32,
+    },
     /// `grelease F`: the guest that holds freeze F gives it back.
-    GuestRelease { freeze: u32 },
+    GuestRelease {
+        freeze: u32,
+    },
 }
 
 /// A command with its line, the first being 1.
@@ -63,24 +86,44 @@ pub fn read(alloc: Global, text: &str) -> Result<Vec<Step>, ScenarioError> {
     Ok(steps)
 }
 
-// A line's words are parted by one blank.
+// A line's words are parted by one blank: a command's name and up to four more.
 fn command_of(line: &str) -> Option<Command> {
     let mut words = line.split(' ');
-    let command = match words.next()? {
-        "gfreeze" => Command::GuestFreeze {
-            queue: QueueId(number(words.next()?)?),
-            guest: number(words.next()?)?,
-        },
-        "grelease" => Command::GuestRelease {
-            freeze: number(words.next()?)?,
-        },
-        _ => return None,
-    };
-    if words.next().is_none() {
-        Some(command)
-    } else {
-        None
+    let name = words.next()?;
+    let (first, second) = (words.next(), words.next());
+    let (third, fourth) = (words.next(), words.next());
+    if words.next().is_some() {
+        return None;
     }
+    match (name, first, second, third, fourth) {
+        ("submit", Some(queue), Some(priority), Some(retries), None) => Some(Command::Submit {
+            queue: QueueId(number(queue)?),
+            priority: number(priority)?,
+            retries: number(retries)?,
+        }),
+        ("dispatch", Some(queue), None, None, None) => Some(Command::Dispatch {
+            queue: QueueId(number(queue)?),
+        }),
+        ("complete", Some(ccb), Some(status), Some(scsi), Some("-")) => Some(Command::Complete {
+            completion: completion(ccb, status, scsi)?,
+        }),
+        ("drain", None, None, None, None) => Some(Command::Drain),
+        ("gfreeze", Some(queue), Some(guest), None, None) => Some(Command::GuestFreeze {
+            queue: QueueId(number(queue)?),
+            guest: number(guest)?,
+        }),
+        ("grelease", Some(freeze), None, None, None) => Some(Command::GuestRelease {
+            freeze: number(freeze)?,
+        }),
+        _ => None,
+    }
+}
+
+// What a device reports of a CCB, without sense bytes: never that it is still in progress.
+fn completion(ccb: &str, status: &str, scsi: &str) -> Option<Completion> {
+    let ccb = CcbId(number(ccb)?);
+    let status = CamStatus::from_code(byte_of(status)?)?;
+    Completion::new(ccb, status, byte_of(scsi)?, &[])
 }
 
 // A number below 2^32 in decimal digits, without a sign and without leading zeros.

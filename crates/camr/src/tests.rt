@@ -5,6 +5,7 @@ mod manifests;
 mod memory;
 mod programs;
 mod records;
+mod whole_scenarios;
 mod words;
 
 use crate::carry::carry;

@@ -4,6 +4,8 @@ use Rattle.engine_core.specs.declared.answers.CallFault.{CallFault}
 use Rattle.engine_core.specs.declared.answers.CallFault.TheVariants.{OutOfMemory, Refused}
 use Rattle.engine_core.specs.declared.answers.ReleaseFault.{ReleaseFault}
 use Rattle.engine_core.specs.declared.answers.ReleaseFault.TheVariants.{NotHeld, OutOfMemory as release_memory}
+use Rattle.engine_core.specs.declared.answers.AdvanceFault.{AdvanceFault}
+use Rattle.engine_core.specs.declared.answers.AdvanceFault.TheVariants.{NotOut, OutOfMemory as advance_memory}
 
 -- want of memory, or the refusal that is recorded
 abbrev pub FaultIs : CallFault → Type 0 → (Refusal → Type 0) → Type 0
@@ -14,3 +16,8 @@ FaultIs (Refused refusal) memory recorded = recorded refusal
 abbrev pub HoldsUnlessTold : ReleaseFault → Type 0 → Type 0
 HoldsUnlessTold NotHeld fact = fact → ⊥
 HoldsUnlessTold release_memory fact = fact
+
+-- the same of an advance
+abbrev pub AdmitsUnlessTold : AdvanceFault → Type 0 → Type 0
+AdmitsUnlessTold NotOut fact = fact → ⊥
+AdmitsUnlessTold advance_memory fact = fact

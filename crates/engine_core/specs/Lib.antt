@@ -7,7 +7,10 @@ pub use Rattle.world.specs.Headline
 pub use Rattle.world.specs.Limits
 pub use Rattle.world.specs.FreezeLaws
 pub use Rattle.world.specs.CcbLaws
-pub mod Lawful
+pub mod Configured
 pub mod State
 pub mod Invariant
 pub mod Faults
+pub mod Runs
+pub mod Answers
+pub mod Courses

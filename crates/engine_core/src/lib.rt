@@ -1,16 +1,20 @@
-// The engine: one call at a time on the world's device queues and freezes, each answer one record of a
-// history that is kept whole. It relies on `world` for what the calls mean and on `freeze_ledger` for the
-// freezes.
+// The engine: one call at a time on the world's device queues, CCBs, freezes and recovery runs, each answer one
+// record of a history that is kept whole. It relies on `world` for what the calls mean, on `ccb_table` for CCBs and on
+// `recoveries` for runs and freezes.
 #![tactic(auto)]
 
+mod advancing;
 mod answers;
 mod calls;
+mod completing;
 mod configuration;
 pub mod laws;
+mod run;
 #[cfg(test)]
 mod tests;
 
-pub use answers::{CallFault, ReleaseFault, Trace};
+pub use answers::{AdvanceAnswer, AdvanceFault, CallFault, CompleteAnswer, ReleaseFault, Trace};
 pub use calls::Engine;
 pub use configuration::Config;
+pub use run::Run;
 pub use world::{Completed, Record, Refusal, StoppedAt, Totals};

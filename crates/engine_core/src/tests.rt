@@ -1,25 +1,76 @@
 // An engine's calls one after another, with ample memory and with one allocation refused. What each call
 // answers is worked out by hand.
 
+mod recovery;
+
 use crate::{CallFault, Config, Engine, Record, ReleaseFault, Totals};
+use bpf_insn::{AluOp, Callee, Condition, Insn, Operand, Program, Reg, Width};
 use ccb::QueueId;
 use freeze_ledger::FreezeToken;
+use helpers::{HelperLimits, TableLengths};
 use std::alloc::{AllocError, Global};
 use std::process::Abort;
+use std::sync::Arc;
 use std::test::Fail;
+use verifier::{Accepted, VerifyError, verify};
 
-fn openings(alloc: Global) -> Result<Vec<u8>, AllocError> {
-    let mut openings = Vec::new(alloc);
-    openings.push(2)?;
-    Ok(openings)
+const fn mov(dst: Reg, src: Operand) -> Insn {
+    Insn::Alu {
+        width: Width::Bits64,
+        op: AluOp::Mov,
+        dst,
+        src,
+    }
+}
+
+// Where the run has a freeze it gives it back; then its CCB waits again, with one retry fewer.
+fn policy(alloc: Global) -> Result<Option<Program>, AllocError> {
+    Program::new(
+        alloc,
+        &[
+            Insn::JumpIf {
+                width: Width::Bits64,
+                condition: Condition::Equal,
+                dst: Reg::R2,
+                src: Operand::Immediate(0),
+                offset: 2,
+            },
+            mov(Reg::R1, Operand::Register(Reg::R2)),
+            Insn::Call(Callee::Helper(2)),
+            mov(Reg::R1, Operand::Immediate(1)),
+            Insn::Call(Callee::Helper(4)),
+            mov(Reg::R0, Operand::Immediate(0)),
+            Insn::Exit,
+        ],
+    )
+}
+
+fn limits(alloc: Global) -> HelperLimits {
+    HelperLimits {
+        queues: 1,
+        table_lengths: TableLengths::new(Vec::new(alloc)),
+    }
+}
+
+// The queues that are given, or none where the program is refused.
+fn given(alloc: Global) -> Result<Option<Vec<(u8, Arc<Accepted>)>>, AllocError> {
+    let Some(program) = policy(alloc)? else {
+        return Ok(None);
+    };
+    match verify(alloc, &program, &limits(alloc)) {
+        Ok(policy) => Ok(Some(vec![in alloc; (2, Arc::new(alloc, policy)?)]?)),
+        Err(VerifyError::OutOfMemory) => Err(AllocError),
+        Err(VerifyError::Refused(_)) => Ok(None),
+    }
 }
 
 fn one_queue(alloc: Global) -> Result<Config, Fail> {
-    let openings = match openings(alloc) {
-        Ok(openings) => openings,
-        Err(AllocError) => openings(alloc)?,
+    let queues = match given(alloc) {
+        Ok(queues) => queues,
+        Err(AllocError) => given(alloc)?,
     };
-    Ok(Config::new(openings).ok_or("one queue of 2 openings is refused")?)
+    let queues = queues.ok_or("the program is refused")?;
+    Ok(Config::new(limits(alloc), queues).ok_or("one queue of 2 openings is refused")?)
 }
 
 // Where memory is refused the configuration comes back, and the same call again succeeds.

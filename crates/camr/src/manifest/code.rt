@@ -1,5 +1,7 @@
-// Bytes as text: pairs of lower case hexadecimal digits, with blanks and line feeds between pairs.
+// Bytes as text: pairs of lower case hexadecimal digits, with blanks and line feeds between pairs. It relies on
+// `hexadecimal` for a pair.
 
+use crate::hexadecimal::{is_digit, pair};
 use std::alloc::{AllocError, Global};
 
 /// Whether a text is of the form.
@@ -11,9 +13,9 @@ pub fn is_code(text: &str) -> bool {
 pub fn bytes(alloc: Global, text: &str) -> Result<Vec<u8>, AllocError> {
     let mut bytes = Vec::new(alloc);
     for pairs in text.split(is_blank) {
-        for pair in pairs.as_bytes().chunks_exact(2) {
+        for digits in pairs.as_bytes().chunks_exact(2) {
             bytes
-                .push(digit(pair[0]) << 4 | digit(pair[1]))
+                .push(pair(digits[0], digits[1]))
                 .map_err(AllocError::from)?;
         }
     }
@@ -26,16 +28,4 @@ fn is_blank(character: char) -> bool {
 
 fn is_pairs(word: &str) -> bool {
     word.len() % 2 == 0 && word.bytes().all(is_digit)
-}
-
-fn is_digit(byte: u8) -> bool {
-    matches!(byte, b'0'..=b'9' | b'a'..=b'f')
-}
-
-fn digit(byte: u8) -> u8 {
-    match byte {
-        b'0'..=b'9' => byte - b'0',
-        b'a'..=b'f' => byte - b'a' + 10,
-        _ => 0,
-    }
 }

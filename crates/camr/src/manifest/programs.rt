@@ -5,6 +5,7 @@ use bpf_decode::{DecodeError, decode};
 use bpf_insn::Program;
 use helpers::HelperLimits;
 use std::alloc::{AllocError, Global};
+use std::sync::Arc;
 use toml::Value;
 use verifier::{Accepted, VerifyError, verify};
 
@@ -12,7 +13,7 @@ use verifier::{Accepted, VerifyError, verify};
 #[derive(Drop)]
 pub struct NamedProgram {
     pub name: String,
-    pub accepted: Accepted,
+    pub accepted: Arc<Accepted>,
 }
 
 // A program that was decoded, with its name.
@@ -63,10 +64,21 @@ fn accepted_program(
 ) -> Result<NamedProgram, ManifestError> {
     let name = String::from_str(alloc, decoded.name)?;
     match verify(alloc, &decoded.program, limits) {
-        Ok(accepted) => Ok(NamedProgram { name, accepted }),
+        Ok(accepted) => Ok(NamedProgram {
+            name,
+            accepted: Arc::new(alloc, accepted).map_err(AllocError::from)?,
+        }),
         Err(VerifyError::OutOfMemory) => Err(ManifestError::OutOfMemory),
         Err(VerifyError::Refused(refusal)) => {
             Err(ManifestError::Fault(ManifestFault::Unaccepted(name, refusal)))
         }
     }
+}
+
+/// The program that a queue names.
+pub fn of_queue<'a>(queue: &Value, programs: &'a [NamedProgram]) -> Option<&'a NamedProgram> {
+    let name = text_of(queue, "program")?;
+    programs
+        .iter()
+        .find(|program| program.name.as_str() == name)
 }

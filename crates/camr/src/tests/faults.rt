@@ -12,12 +12,17 @@ use std::test::Fail;
 #[test]
 fn scenarios(rt: HostRuntime) -> Result<(), Fail> {
     for (scenario, line) in [
-        // an unknown word, and words of commands that are not there
+        // unknown words
         ("thaw 1", "camr: N1 at 1\n"),
         ("GFREEZE 0 7", "camr: N1 at 1\n"),
-        ("submit 0 1 1", "camr: N1 at 1\n"),
-        ("drain", "camr: N1 at 1\n"),
         // too few words, too many
+        ("submit 0 1", "camr: N1 at 1\n"),
+        ("submit 0 1 1 1", "camr: N1 at 1\n"),
+        ("dispatch", "camr: N1 at 1\n"),
+        ("dispatch 0 0", "camr: N1 at 1\n"),
+        ("complete 1 0b 00", "camr: N1 at 1\n"),
+        ("complete 1 0b 00 - -", "camr: N1 at 1\n"),
+        ("drain 1", "camr: N1 at 1\n"),
         ("gfreeze", "camr: N1 at 1\n"),
         ("gfreeze 0", "camr: N1 at 1\n"),
         ("grelease", "camr: N1 at 1\n"),
@@ -40,7 +45,21 @@ fn scenarios(rt: HostRuntime) -> Result<(), Fail> {
         ("gfreeze 0 4294967296", "camr: N1 at 1\n"),
         ("gfreeze 0 x", "camr: N1 at 1\n"),
         ("gfreeze 0 0x7", "camr: N1 at 1\n"),
+        ("submit 0 01 1", "camr: N1 at 1\n"),
+        ("submit 0 1 4294967296", "camr: N1 at 1\n"),
+        // completions: in progress, no code, sense bytes, and what is no pair of lower case digits
+        ("complete 1 00 00 -", "camr: N1 at 1\n"),
+        ("complete 1 03 00 -", "camr: N1 at 1\n"),
+        ("complete 1 0b 00 70", "camr: N1 at 1\n"),
+        ("complete 1 0B 00 -", "camr: N1 at 1\n"),
+        ("complete 1 0b FF -", "camr: N1 at 1\n"),
+        ("complete 1 b 00 -", "camr: N1 at 1\n"),
+        ("complete 1 0b 0 -", "camr: N1 at 1\n"),
+        ("complete 1 0b 000 -", "camr: N1 at 1\n"),
+        ("complete 1 0b 0g -", "camr: N1 at 1\n"),
+        ("complete 01 0b 00 -", "camr: N1 at 1\n"),
         // what comes before or after
+        ("submit 0 0 0\ndispatch 0\nthaw\n", "camr: N1 at 3\n"),
         ("# a comment\n\ngfreeze 0 7\ngfreeze\n", "camr: N1 at 4\n"),
         ("grelease 1\ngfreeze 0 7\nthaw\n", "camr: N1 at 3\n"),
         ("thaw\ngfreeze\n", "camr: N1 at 1\n"),
@@ -50,6 +69,11 @@ fn scenarios(rt: HostRuntime) -> Result<(), Fail> {
         ("gfreeze 0 7\ngrelease 2\n", "camr: N2 at 2\n"),
         ("gfreeze 1 7\ngrelease 1\n", "camr: N2 at 2\n"),
         ("grelease 0\n", "camr: N2 at 1\n"),
+        // a run's freeze is no guest's
+        (
+            "submit 0 0 0\ndispatch 0\ncomplete 1 0b 00 -\ndrain\ngrelease 1\n",
+            "camr: N2 at 5\n",
+        ),
     ] {
         let outcome = run(rt.alloc(), ONE_QUEUE.as_bytes(), scenario.as_bytes())?;
         expect(&rt, scenario, &outcome, 1, "", line);

@@ -1,0 +1,99 @@
+-- Where a run stands at a stop: at a helper call whose rule holds, or at its lawful exit; and what the world has for it.
+use Rattle.std.proofs.Common.{◌≡◌, ℕ, ◌≤◌, List, [], ◌∷◌, map, true, not, leb, Option, Some, None, inl, inr, refl, ap, sym, ◌∙◌}
+use Rattle.std.specs.Prelude.{◌&&◌}
+use Rattle.std.specs.Option.{option_map, option_and_then}
+use Rattle.std.proofs.lemmas.Bool.{cond-true}
+use Rattle.freeze_ledger.specs.declared.entries.Freeze.{Freeze}
+use Rattle.freeze_ledger.specs.Freezes.{frozen, entry_of, without}
+use Rattle.helpers.specs.declared.limits.HelperLimits.{HelperLimits}
+use Rattle.helpers.specs.declared.call.Request.{Request}
+use Rattle.helpers.specs.declared.call.Request.TheVariants.{Release, Requeue}
+use Rattle.helpers.specs.Rules.{is_held, meets_rule}
+use Rattle.ccb.specs.ControlBlock.{requeued}
+use Rattle.bpf_machine.specs.declared.stop.Stop.{Stop}
+use Rattle.bpf_machine.specs.declared.stop.Stop.TheVariants.{Helper, Exit}
+use Rattle.bpf_machine.specs.Step.{request_at, exit_at}
+use Rattle.bpf_machine.specs.Stops.{stop_of, stop_at}
+use Rattle.bpf_machine.proofs.Progress.{progress_lem}
+use Rattle.world.specs.World.{Setup, waiting, LiveCcb, LiveRun, World}
+use Rattle.world.specs.Lawful.{IsLawful}
+use Rattle.world.specs.Lookups.{ccb_of, with_ccb, run_of}
+use Rattle.world.specs.Event.{release, requeue, call, exit, executes, result}
+use Rattle.world.specs.FreezeSteps.{thawed}
+use Rattle.world.specs.RunSteps.{is_run, answers, releases, requeues, ends, step_call, step_run, step_executes}
+use Rattle.world.specs.Step.{WorldStep}
+use Rattle.world.specs.FreezeLaws.{entries_of}
+use Rattle.world.proofs.Lists.Entries.{entry_bounds}
+use Rattle.world.proofs.Lists.HeldBy.{among_is}
+use Rattle.world.proofs.Reaching.{reached_goes}
+use Rattle.world.proofs.Sound.{IsSound}
+
+-- the machine stands at this stop, and may go on there
+pub data StandsLawfully (run : LiveRun) (limits : HelperLimits) (stop : Stop) : Type 0 where
+  at_call : (request : Request) → stop ≡ Helper request → request_at run.program run.machine ≡ Some request → meets_rule limits run.machine.held run.machine.disposed request ≡ true → StandsLawfully run limits stop
+  at_exit : (r0 : ℕ) → stop ≡ Exit r0 → exit_at run.program run.machine ≡ Some r0 → run.machine.held ≡ [] → StandsLawfully run limits stop
+
+same_stop : (a b : Stop) → Some a ≡ Some b → b ≡ a
+same_stop a b e = cc
+
+pub stands_lawfully : (setup : Setup) (world : World) (number : ℕ) (run : LiveRun) (stop : Stop) → IsLawful setup → IsSound setup world → run_of number world.runs ≡ Some run → stop_at run.program run.machine ≡ Some stop → StandsLawfully run setup.limits stop
+stands_lawfully setup world number run stop lawful sound found at =
+    let goes = reached_goes setup lawful world sound.kept.runs number run found (sound.reached number run found) in
+    elim (progress_lem run.program setup.limits run.machine goes) [
+      | inl it ↦
+          let none : stop_at run.program run.machine ≡ None = ap (λ (o : Option Request). stop_of o (exit_at run.program run.machine)) it.no_call ∙ ap (stop_of None) it.no_exit in
+          absurd (let bad : None ≡ Some stop = sym none ∙ at in cc)
+      | inr (inl it) ↦
+          let is : stop_at run.program run.machine ≡ Some (Helper it.request) = ap (λ (o : Option Request). stop_of o (exit_at run.program run.machine)) it.call in
+          at_call it.request (same_stop (Helper it.request) stop (sym is ∙ at)) it.call it.rule
+      | inr (inr it) ↦
+          let is : stop_at run.program run.machine ≡ Some (Exit it.r0) = ap (λ (o : Option Request). stop_of o (exit_at run.program run.machine)) it.no_call ∙ ap (stop_of None) it.exit in
+          at_exit it.r0 (same_stop (Exit it.r0) stop (sym is ∙ at)) it.exit it.released
+    ]
+
+-- the freeze that a run gives back is there, and is its own
+pub record GivesBack (world : World) (run : LiveRun) (freeze : ℕ) : Type 0 where
+  pub entry : Freeze
+  pub found : entry_of freeze world.freezes ≡ Some entry
+  pub number_is : entry.number ≡ freeze
+  pub bound : freeze ≤ world.greatest_freeze
+  pub its : is_run run.number entry.holder ≡ true
+
+pub gives_back : (setup : Setup) (world : World) (run : LiveRun) (freeze : ℕ) → IsSound setup world → run_of run.number world.runs ≡ Some run → is_held run.machine.held freeze ≡ true → GivesBack world run freeze
+gives_back setup world run freeze sound found held =
+    let among = among_is run.number freeze 0 world.freezes world.greatest_freeze sound.kept.freezes.numbered
+    (sym (ap (λ (ns : List ℕ). is_held ns freeze) (sound.held.machines run.number run found)) ∙ held) in
+    let bounds = entry_bounds 0 world.freezes world.greatest_freeze freeze among.0 sound.kept.freezes.numbered among.1 in
+    record { entry = among.0; found = among.1; number_is = bounds.0; bound = bounds.2; its = among.2 }
+
+-- its call of helper 2 is a step
+pub release_step : (setup : Setup) (world : World) (run : LiveRun) (freeze count : ℕ) → run_of run.number world.runs ≡ Some run → run.out ≡ true → request_at run.program run.machine ≡ Some (Release freeze) → (it : GivesBack world run freeze) → count ≡ frozen it.entry.queue.0 (without freeze world.freezes) → WorldStep setup world (executes run.number (call release)) (result count) (answers (thawed world freeze) run (Release freeze) count).1
+release_step setup world run freeze count found out call_is it count_is =
+    let given : releases world run (Some it.entry) ≡ Some (answers (thawed world it.entry.number) run (Release it.entry.number) (frozen it.entry.queue.0 (thawed world it.entry.number).freezes)) = cond-true (is_run run.number it.entry.holder) _ None it.its in
+    let named : releases world run (Some it.entry) ≡ Some (answers (thawed world freeze) run (Release freeze) count) =
+    given ∙ (ap (λ (n : ℕ). Some (answers (thawed world n) run (Release n) (frozen it.entry.queue.0 (thawed world n).freezes))) it.number_is
+    ∙ ap (λ (k : ℕ). Some (answers (thawed world freeze) run (Release freeze) k)) (sym count_is)) in
+    ap (step_executes world (call release)) found
+    ∙ (cond-true run.out (step_run world run (call release)) None out
+    ∙ (ap (option_and_then (step_call world run release)) call_is ∙ (ap (releases world run) it.found ∙ named)))
+
+-- its call of helper 4 is a step
+pub requeue_step : (setup : Setup) (world : World) (run : LiveRun) (retries : ℕ) (live : LiveCcb) → run_of run.number world.runs ≡ Some run → run.out ≡ true → request_at run.program run.machine ≡ Some (Requeue retries) → (leb retries 1 && not run.machine.disposed) ≡ true → ccb_of run.ccb world.live ≡ Some live → WorldStep setup world (executes run.number (call requeue)) (result 0) (answers (record world { live = with_ccb (record { ccb = requeued live.ccb retries; state = waiting }) world.live }) run (Requeue retries) 0).1
+requeue_step setup world run retries live found out call_is rule there =
+    ap (step_executes world (call requeue)) found
+    ∙ (cond-true run.out (step_run world run (call requeue)) None out
+    ∙ (ap (option_and_then (step_call world run requeue)) call_is
+    ∙ (cond-true (leb retries 1 && not run.machine.disposed) (requeues world run retries (ccb_of run.ccb world.live)) None rule ∙ ap (requeues world run retries) there)))
+
+-- its exit is a step
+pub exit_step : (setup : Setup) (world : World) (run : LiveRun) (r0 : ℕ) → run_of run.number world.runs ≡ Some run → run.out ≡ true → exit_at run.program run.machine ≡ Some r0 → WorldStep setup world (executes run.number exit) (result r0) (ends world run)
+exit_step setup world run r0 found out exit_is =
+    ap (step_executes world exit) found ∙ (cond-true run.out (step_run world run exit) None out ∙ ap (option_map _) exit_is)
+
+none_held : (freezes : List Freeze) → map (λ (freeze : Freeze). freeze.number) freezes ≡ [] → freezes ≡ []
+none_held [] e = refl
+none_held (freeze ∷ freezes) e = absurd (let bad : (freeze.number ∷ map (λ (freeze : Freeze). freeze.number) freezes) ≡ [] = e in cc)
+
+-- a run that holds nothing is named by no entry
+pub holds_nothing : (setup : Setup) (world : World) (run : LiveRun) → IsSound setup world → run_of run.number world.runs ≡ Some run → run.machine.held ≡ [] → entries_of run.number world.freezes ≡ []
+holds_nothing setup world run sound found none = none_held (entries_of run.number world.freezes) (sym (sound.held.machines run.number run found) ∙ none)

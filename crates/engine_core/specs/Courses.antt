@@ -1,0 +1,26 @@
+-- What is to be done about a completion.
+use Rattle.std.specs.Prelude.{◌≡◌, false, Some}
+use Rattle.ccb.specs.declared.control_block.Ccb.{Ccb}
+use Rattle.ccb.specs.Completion.{Outcome}
+use Rattle.world.specs.World.{Setup, active, World}
+use Rattle.world.specs.Lookups.{ccb_of}
+use Rattle.world.specs.Event.{Reply, done, refused}
+use Rattle.world.specs.CcbSteps.{run_meets_limit, finishes, recovers}
+use Rattle.engine_core.specs.declared.completing.Course.{Course}
+use Rattle.engine_core.specs.declared.completing.Course.TheVariants.{Refuse, Finish, Recover}
+
+-- where each course leads
+abbrev pub takes : Setup → World → Outcome → Course → Reply × World
+takes setup world outcome (Refuse refusal) = (refused refusal, world)
+takes setup world outcome (Finish ccb) = (done, finishes world ccb outcome.status)
+takes setup world outcome (Recover ccb) = recovers setup world ccb outcome
+
+-- the CCB is the one that is completed, and active
+abbrev pub IsActive : World → Outcome → Ccb → Type 0
+IsActive world outcome ccb = ccb_of outcome.ccb.0 world.live ≡ Some (record { ccb = ccb; state = active })
+
+-- what each course needs is there
+abbrev pub IsOpen : World → Outcome → Course → Type 0
+IsOpen world outcome (Refuse refusal) = Unit {0}
+IsOpen world outcome (Finish ccb) = IsActive world outcome ccb
+IsOpen world outcome (Recover ccb) = IsActive world outcome ccb × (run_meets_limit world ≡ false)

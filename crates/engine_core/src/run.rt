@@ -1,0 +1,93 @@
+// A run that is out: the right to take it further. It relies on `verifier` for its program and on `bpf_machine` for
+// its machine.
+
+ghost use Rattle.std.specs.Prelude.{◌≡◌};
+ghost use Rattle.std.specs.Arc.{arc_value};
+ghost use Rattle.engine_core.specs.Runs.{IsReached};
+
+use bpf_machine::Machine;
+use std::marker::Model;
+use std::sync::Arc;
+use verifier::Accepted;
+
+/// Stands for one run of a recovery program that was started and has not ended. It is neither copied nor dropped:
+/// each advance takes it and gives it back, its exit spends it, or it is forfeited. The freezes that the run holds
+/// are kept by its engine. Its type keeps that the machine is one that the program reaches.
+pub struct Run {
+    number: u32,
+    program: Arc<Accepted>,
+    machine: Machine,
+}
+
+impl Model for Run {
+    ghost use Rattle.std.specs.Arc.{arc_value};
+    ghost use Rattle.engine_core.specs.Runs.{RunState, IsReached};
+
+    ghost Value = { RunState };
+
+    ghost view = { λ r. record { number = r.number; program = arc_value r.program; machine = r.machine } };
+
+    ghost invariant = { λ r. IsReached (record { number = r.number; program = arc_value r.program; machine = r.machine }) };
+}
+
+impl Run {
+    /// Only an engine makes one, for a run that it has just started.
+    pub(crate) fn new(number: u32, program: Arc<Accepted>, machine: Machine) -> Self
+        requires { IsReached (record { number = number; program = arc_value program; machine = machine }) }
+        ensures { result ≡ record { number = number; program = arc_value program; machine = machine } }
+    {
+        Run {
+            number,
+            program,
+            machine,
+        }
+    }
+
+    /// The number of the run, from 1.
+    pub fn number(&self) -> u32
+        ensures { result ≡ self.now.number }
+    {
+        self.number
+    }
+
+    /// The machine in which the run goes on.
+    pub fn machine(&self) -> &Machine
+        ensures value { result.now ≡ self.now.machine }
+        ensures reached { IsReached self.now }
+    {
+        &self.machine
+    }
+
+    /// The program that it runs.
+    pub fn program(&self) -> &Arc<Accepted>
+        ensures { arc_value result.now ≡ self.now.program }
+    {
+        &self.program
+    }
+
+    /// Spends the run and changes no engine: it is for a run whose engine was shut.
+    pub fn forfeit(self) {
+        let Run {
+            number: _,
+            program: _,
+            machine: _,
+        } = self;
+    }
+
+    /// The same run with a machine further on.
+    pub(crate) fn moved(self, machine: Machine) -> Self
+        requires { IsReached (record self { machine = machine }) }
+        ensures { result ≡ record self { machine = machine } }
+    {
+        let Run {
+            number,
+            program,
+            machine: _,
+        } = self;
+        Run {
+            number,
+            program,
+            machine,
+        }
+    }
+}

@@ -2,7 +2,7 @@
 // writes the stack or opens a call, so neither is stored, and a run holds the freeze of its start or none. It
 // relies on `bpf_insn` for instructions and on `helpers` for the calls.
 
-ghost use Rattle.std.specs.Prelude.{◌≡◌, ◌+◌, ◌<◌, ◌==◌, not, filter, if◌then◌else◌};
+ghost use Rattle.std.specs.Prelude.{◌≡◌, ◌+◌, ◌<◌, ◌==◌, ◌↔◌, true, false, Some, None, IsTrue, not, filter, if◌then◌else◌};
 ghost use Rattle.std.specs.Option.{option_to_list};
 ghost use Rattle.bpf_insn.specs.declared.program.TheConstants.{MAX_SLOTS};
 ghost use Rattle.helpers.specs.Rules.{request_of};
@@ -74,6 +74,13 @@ impl Machine {
         self.place
     }
 
+    /// Whether both are one machine: the place is looked at first, since it tells most machines apart.
+    pub fn is_same(&self, other: &Self) -> bool
+        ensures { IsTrue result ↔ (self.now ≡ other.now) }
+    {
+        self.place == other.place && self == other
+    }
+
     /// What a register holds, where it is written.
     pub fn register(&self, reg: Reg) -> Option<u64>
         ensures { result ≡ register self.now reg }
@@ -81,26 +88,43 @@ impl Machine {
         self.registers[usize::from(reg.number())]
     }
 
-    /// The machine after its next instruction; `None` exactly where that is no private one (a helper call
-    /// or the outermost exit) or cannot be done.
-    pub fn step(&self, program: &Program) -> Option<Self>
-        ensures { result ≡ private_step program.now self.now }
+    /// Takes the next instruction, where that is a private one that can be done, and tells whether it was. A helper
+    /// call, the outermost exit, and what cannot be done leave the machine as it is.
+    pub fn step(&mut self, program: &Program) -> bool
+        ensures taken { result ≡ true → private_step program.now self.old ≡ Some self.new }
+        ensures none { result ≡ false → (private_step program.now self.old ≡ None) × (self.new ≡ self.old) }
     {
-        match program.fetch(self.place)? {
-            Insn::Alu {
-                width: Width::Bits64,
-                op: AluOp::Mov,
-                dst,
-                src,
-            } => Some(self.set(dst, self.value_of(src)?)),
-            Insn::JumpIf {
-                width: Width::Bits64,
-                condition: Condition::Equal,
-                dst,
-                src,
-                offset,
-            } => Some(self.jumped(self.register(dst)? == self.value_of(src)?, offset)),
-            Insn::Call(Callee::Helper(_)) | Insn::Exit => None,
+        match program.fetch(self.place) {
+            Some(
+                Insn::Alu {
+                    width: Width::Bits64,
+                    op: AluOp::Mov,
+                    dst,
+                    src,
+                },
+            ) => match self.value_of(src) {
+                Some(value) => {
+                    self.set(dst, value);
+                    true
+                }
+                None => false,
+            },
+            Some(
+                Insn::JumpIf {
+                    width: Width::Bits64,
+                    condition: Condition::Equal,
+                    dst,
+                    src,
+                    offset,
+                },
+            ) => match (self.register(dst), self.value_of(src)) {
+                (Some(left), Some(right)) => {
+                    self.jump(left == right, offset);
+                    true
+                }
+                _ => false,
+            },
+            Some(Insn::Call(Callee::Helper(_)) | Insn::Exit) | None => false,
         }
     }
 
@@ -180,29 +204,25 @@ impl Machine {
         }
     }
 
-    // At the next slot, with a register set.
-    fn set(&self, dst: Reg, value: u64) -> Self
-        requires { self.now.place < MAX_SLOTS }
-        ensures { result ≡ moved_to (with_register self.now dst value) (self.now.place + 1) }
+    // To the next slot, with a register set.
+    fn set(&mut self, dst: Reg, value: u64)
+        requires { self.old.place < MAX_SLOTS }
+        ensures { self.new ≡ moved_to (with_register self.old dst value) (self.old.place + 1) }
     {
-        let mut next = *self;
-        next.registers[usize::from(dst.number())] = Some(value);
-        next.place = self.place + 1;
-        next
+        self.registers[usize::from(dst.number())] = Some(value);
+        self.place += 1;
     }
 
-    // At the jump's target, or at the next slot.
-    fn jumped(&self, is_taken: bool, offset: i16) -> Self
-        requires { self.now.place < MAX_SLOTS }
-        ensures { result ≡ moved_to self.now (if is_taken then target self.now.place offset else self.now.place + 1) }
+    // To the jump's target, or to the next slot.
+    fn jump(&mut self, is_taken: bool, offset: i16)
+        requires { self.old.place < MAX_SLOTS }
+        ensures { self.new ≡ moved_to self.old (if is_taken then target self.old.place offset else self.old.place + 1) }
     {
-        let mut next = *self;
-        next.place = if is_taken {
+        self.place = if is_taken {
             jump_target(self.place, offset)
         } else {
             self.place + 1
         };
-        next
     }
 }
 

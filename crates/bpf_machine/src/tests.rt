@@ -14,6 +14,18 @@ const fn moves(dst: Reg, src: Operand) -> Insn {
     }
 }
 
+// The machine after its next instruction. Where there is none to take it is as it was.
+fn stepped(machine: &Machine, program: &Program) -> Option<Machine> {
+    let mut next = *machine;
+    if next.step(program) {
+        Some(next)
+    } else if next.is_same(machine) {
+        None
+    } else {
+        Some(next)
+    }
+}
+
 #[test]
 fn steps(rt: HostRuntime) -> Result<(), Fail> {
     let insns = [
@@ -39,10 +51,13 @@ fn steps(rt: HostRuntime) -> Result<(), Fail> {
     assert_eq!(rt; entry.register(Reg::R1), Some(0x1000_0000));
     assert_eq!(rt; entry.register(Reg::R10), Some(0x2000_0200));
     assert_eq!(rt; entry.register(Reg::R0), None);
-    let at_move = entry.step(&program).ok_or("no step")?;
+    assert_eq!(rt; entry.is_same(&Machine::entry(&context, 5)), true);
+    assert_eq!(rt; entry.is_same(&Machine::entry(&context, 6)), false);
+    let at_move = stepped(&entry, &program).ok_or("no step")?;
     assert_eq!(rt; at_move.place(), 1);
-    let at_call = at_move.step(&program).ok_or("no step")?;
-    assert_eq!(rt; at_call.step(&program), None);
+    assert_eq!(rt; at_move.is_same(&entry), false);
+    let at_call = stepped(&at_move, &program).ok_or("no step")?;
+    assert_eq!(rt; stepped(&at_call, &program), None);
     assert_eq!(rt; at_call.exit(&program), None);
     let release = Request::Release { freeze: 5 };
     assert_eq!(rt; at_call.request(&program), Some(release));
@@ -57,9 +72,9 @@ fn steps(rt: HostRuntime) -> Result<(), Fail> {
     assert_eq!(rt; released.stop(&program), None);
 
     // Without a freeze it is, and the exit tells R0, sign-extended.
-    let at_result = Machine::entry(&context, 0).step(&program).ok_or("no step")?;
+    let at_result = stepped(&Machine::entry(&context, 0), &program).ok_or("no step")?;
     assert_eq!(rt; at_result.place(), 3);
-    let at_exit = at_result.step(&program).ok_or("no step")?;
+    let at_exit = stepped(&at_result, &program).ok_or("no step")?;
     assert_eq!(rt; at_exit.exit(&program), Some(u64::MAX));
     assert_eq!(rt; at_exit.request(&program), None);
     assert_eq!(rt; at_exit.stop(&program), Some(Stop::Exit(u64::MAX)));

@@ -14,13 +14,12 @@ use Rattle.world.specs.Lookups.{is_waiting, is_active, ccb_of, with_ccb}
 use Rattle.world.specs.Limits.{AreRising}
 use Rattle.world.proofs.Lists.Found.{leave}
 use Rattle.world.proofs.Lists.Each.{all_found, all_put}
-use Rattle.world.proofs.Lists.Rising.{rising_push, rising_leave, missing_high}
+use Rattle.world.proofs.Lists.Rising.{rising_push, rising_leave, missing_high, found_counts}
 use Rattle.world.proofs.Steps.Moves.{ccb_key}
 use Rattle.ccb_table.specs.State.{CcbsState}
 use Rattle.ccb_table.specs.Listed.{ListState}
 use Rattle.ccb_table.specs.Queues.{is_recovering, waits_on, queue_state_of, queue_at, AreTold}
 use Rattle.ccb_table.specs.Invariant.{IsKept, seen}
-use Rattle.ccb_table.proofs.Places.{found_counts}
 use Rattle.ccb_table.proofs.Listed.{numbered_put, listed_as}
 use Rattle.ccb_table.proofs.Pairs.{waits_missing, waits_other}
 use Rattle.ccb_table.proofs.Told.{told_nothing, on, on_is, entered_other, changed_other, finished_other}

@@ -1,4 +1,3 @@
-pub mod Places
 pub mod Listed
 pub mod Pairs
 pub mod Told

@@ -11,10 +11,10 @@ use Rattle.world.specs.World.{LiveCcb}
 use Rattle.world.specs.Lookups.{is_active, ccb_of, with_ccb}
 use Rattle.world.specs.Limits.{AreRising}
 use Rattle.world.proofs.Lists.Found.{leave, put_keys}
-use Rattle.world.proofs.Lists.Rising.{rising_push, rising_leave, count_put}
+use Rattle.world.proofs.Lists.Rising.{rising_push, rising_leave, count_put, count_gone, found_counts}
+use Rattle.world.proofs.Lists.Placed.{found_at, set_is_put, remove_is_leave}
 use Rattle.world.proofs.Steps.Moves.{ccb_key}
 use Rattle.ccb_table.specs.Listed.{ListState, AreNumbered, IsListed, IsPlaceOf}
-use Rattle.ccb_table.proofs.Places.{found_at, set_at, remove_at, count_gone, found_counts}
 
 -- the list that contracts see
 abbrev pub listed_as : ℕ → List LiveCcb → ListState
@@ -49,10 +49,10 @@ listed_push v w greatest active c h few next items capacity number now number_is
 
 -- a change by place is one by number
 pub set_is : (ccbs : List LiveCcb) (greatest place : ℕ) (c : LiveCcb) → AreNumbered ccbs greatest → IsPlaceOf c.ccb.number.0 ccbs place → set ccbs place c ≡ with_ccb c ccbs
-set_is ccbs greatest place c rising p = set_at ccb_key 0 ccbs greatest place c p.within rising p.here
+set_is ccbs greatest place c rising p = set_is_put ccb_key 0 ccbs greatest place c c p.within rising (p.here c)
 
-pub remove_is : (ccbs : List LiveCcb) (greatest number place : ℕ) → AreNumbered ccbs greatest → IsPlaceOf number ccbs place → remove ccbs place ≡ leave ccb_key number ccbs
-remove_is ccbs greatest number place rising p = remove_at ccb_key 0 ccbs greatest place number p.within rising p.here
+pub remove_is : (ccbs : List LiveCcb) (greatest number place : ℕ) (it : LiveCcb) → AreNumbered ccbs greatest → IsPlaceOf number ccbs place → remove ccbs place ≡ leave ccb_key number ccbs
+remove_is ccbs greatest number place it rising p = remove_is_leave ccb_key 0 ccbs greatest place number it p.within rising (p.here it)
 
 pub listed_put : (v w : Vec LiveCcb Global) (greatest active place : ℕ) (c it : LiveCcb) → IsListed v greatest active → IsPlaceOf c.ccb.number.0 v.items place → it ≡ get_or v.items place it → w.items ≡ set v.items place c → vec_capacity w ≡ vec_capacity v → (now : ℕ) → now + counts it ≡ active + counts c → IsListed w greatest now
 listed_put v w greatest active place c it h p e items capacity now now_is =
@@ -67,7 +67,7 @@ listed_put v w greatest active place c it h p e items capacity now now_is =
 
 pub listed_remove : (v w : Vec LiveCcb Global) (greatest active place number : ℕ) (it : LiveCcb) → IsListed v greatest active → IsPlaceOf number v.items place → it ≡ get_or v.items place it → w.items ≡ remove v.items place → vec_capacity w ≡ vec_capacity v → (now : ℕ) → now + counts it ≡ active → IsListed w greatest now
 listed_remove v w greatest active place number it h p e items capacity now now_is =
-    let same : remove v.items place ≡ leave ccb_key number v.items = remove_is v.items greatest number place h.rising p in
+    let same : remove v.items place ≡ leave ccb_key number v.items = remove_is v.items greatest number place it h.rising p in
     let found = placed v.items greatest number place it h.rising p e in
     record {
       rising = rw (items, same) (rising_leave ccb_key 0 v.items greatest number h.rising);

@@ -1,15 +1,17 @@
 -- What the world's steps answer, read off what the table knows.
-use Rattle.std.proofs.Common.{◌≡◌, ℕ, ◌+◌, ◌<◌, List, [], ◌∷◌, ◌++◌, length, map, get_or, true, false, cond, eqb, leb, ltb, Some, None, ◌⊎◌, inl, inr, ap, sym, subst, ◌∙◌, arith}
-use Rattle.std.specs.Prelude.{◌||◌, nat_le}
-use Rattle.std.proofs.lemmas.Bool.{cases_Bool, cases_eq, cond-true, cond-false, or_left, or_right, or_cases, or_parts, or_from, lt-leb, le-ltb, eq-eqb, ne_eqb, not_from_true, not_from_false}
+use Rattle.std.proofs.Common.{◌≡◌, ℕ, ◌+◌, ◌<◌, List, [], ◌∷◌, ◌++◌, length, map, get_or, true, false, cond, eqb, leb, ltb, Some, None, inl, inr, ap, sym, subst, ◌∙◌, arith}
+use Rattle.std.specs.Prelude.{nat_le}
+use Rattle.std.proofs.lemmas.Bool.{cases_Bool, cases_eq, cond-true, cond-false, or_left, or_parts, or_from, lt-leb, le-ltb, eq-eqb, ne_eqb, not_from_true, not_from_false}
 use Rattle.std.proofs.lemmas.List.{length-map}
 use Rattle.ccb.specs.declared.CcbId.{CcbId}
 use Rattle.ccb.specs.declared.control_block.Ccb.{Ccb}
 use Rattle.ccb.specs.ControlBlock.{submitted, started}
 use Rattle.freeze_ledger.specs.Freezes.{frozen}
 use Rattle.dev_queue.specs.State.{QueueState, live}
-use Rattle.dev_queue.specs.Faults.{start_fault}
+use Rattle.dev_queue.specs.Faults.{insert_fault, start_fault}
+use Rattle.dev_queue.specs.declared.fault.QueueFault.{QueueFault}
 use Rattle.dev_queue.specs.declared.fault.QueueFault.TheVariants as fault
+use Rattle.world.specs.declared.history.Refusal.{Refusal}
 use Rattle.world.specs.declared.history.Refusal.TheVariants.{Limit}
 use Rattle.world.specs.World.{Setup, World, queue_count, waiting, LiveCcb}
 use Rattle.world.specs.Lookups.{live_count, active_count, with_ccb, next_waiting}
@@ -18,6 +20,7 @@ use Rattle.world.specs.CcbSteps.{ccb_meets_limit, step_submit, starts, step_disp
 use Rattle.ccb_table.specs.State.{CcbsState, with_ccbs}
 use Rattle.ccb_table.specs.Listed.{ListState, is_full}
 use Rattle.ccb_table.specs.Queues.{queue_at, queue_state_of}
+use Rattle.ccb_table.specs.Refusals.{refusal_of}
 use Rattle.ccb_table.specs.Invariant.{IsKept, seen}
 use Rattle.ccb_table.proofs.Listed.{listed_as}
 use Rattle.ccb_table.proofs.Told.{live_is}
@@ -31,13 +34,6 @@ crowd_is list queues queue h known = ap live (h.told queue known) ∙ live_is qu
 pub crowded_limit : (list : ListState) (queues : List QueueState) (queue : ℕ) (world : World) → IsKept list queues → queue < length queues → nat_le 256 (live (queue_at queues queue)) ≡ true → ccb_meets_limit queue (with_ccbs (seen list queues) world) ≡ true
 crowded_limit list queues queue world h known e =
     or_left _ _ (or_left _ _ (subst (λ (n : ℕ). nat_le 256 n ≡ true) (crowd_is list queues queue h known) e))
-
-pub full_limit : (list : ListState) (queues : List QueueState) (queue : ℕ) (world : World) → is_full list ≡ true → ccb_meets_limit queue (with_ccbs (seen list queues) world) ≡ true
-full_limit list queues queue world e =
-    elim (or_cases (nat_le 4096 (length list.live)) (nat_le 4294967295 list.greatest) e) [
-      | inl many ↦ or_left _ _ (or_right (nat_le 256 (live_count queue list.live)) (nat_le 4096 (length list.live)) many)
-      | inr used ↦ or_right (nat_le 256 (live_count queue list.live) || nat_le 4096 (length list.live)) (nat_le 4294967295 list.greatest) used
-    ]
 
 pub no_limit : (list : ListState) (queues : List QueueState) (queue : ℕ) (world : World) → IsKept list queues → queue < length queues → nat_le 256 (live (queue_at queues queue)) ≡ false → is_full list ≡ false → ccb_meets_limit queue (with_ccbs (seen list queues) world) ≡ false
 no_limit list queues queue world h known roomy open_to =
@@ -83,10 +79,31 @@ dispatch_starts setup world queue openings known openings_are e =
 known_to : (setup : Setup) (queues : List QueueState) (queue : ℕ) → queue < length queues → queue_count setup ≡ length (map (λ (q : QueueState). q.openings) queues) → queue < queue_count setup
 known_to setup queues queue known count = omega (arith, known, count, length-map queues (λ (q : QueueState). q.openings))
 
-pub limit_reply : (setup : Setup) (world : World) (list : ListState) (queues : List QueueState) (queue priority retries : ℕ) → IsKept list queues → queue < length queues → queue_count setup ≡ length (map (λ (q : QueueState). q.openings) queues) → (nat_le 256 (live (queue_at queues queue)) ≡ true) ⊎ (is_full list ≡ true) → step_submit setup (with_ccbs (seen list queues) world) queue priority retries ≡ (refused Limit, with_ccbs (seen list queues) world)
-limit_reply setup world list queues queue priority retries h known count which =
-    submit_limit setup (with_ccbs (seen list queues) world) queue priority retries (known_to setup queues queue known count)
-    (elim which [ inl crowded ↦ crowded_limit list queues queue world h known crowded | inr full ↦ full_limit list queues queue world full ])
+-- a queue that takes no further CCB has 256 live ones
+crowded_by : (state : QueueState) (f : QueueFault) → insert_fault state ≡ Some f → (nat_le 256 (live state) ≡ true) × (f ≡ fault.Full)
+crowded_by state f e =
+    elim (cases_Bool (nat_le 256 (live state))) [
+      | inl crowded ↦
+          let both : Some fault.Full ≡ Some f = sym (cond-true (nat_le 256 (live state)) (Some fault.Full) None crowded) ∙ e in
+          let is : f ≡ fault.Full = cc in
+          (crowded, is)
+      | inr roomy ↦ absurd (let bad : None ≡ Some f = sym (cond-false (nat_le 256 (live state)) (Some fault.Full) None roomy) ∙ e in cc)
+    ]
+
+pub roomy_by : (state : QueueState) → insert_fault state ≡ None → nat_le 256 (live state) ≡ false
+roomy_by state e =
+    elim (cases_Bool (nat_le 256 (live state))) [
+      | inl crowded ↦ absurd (let bad : Some fault.Full ≡ None = sym (cond-true (nat_le 256 (live state)) (Some fault.Full) None crowded) ∙ e in cc)
+      | inr roomy ↦ roomy
+    ]
+
+pub crowded_reply : (setup : Setup) (world : World) (list : ListState) (queues after : List QueueState) (queue priority retries : ℕ) (f : QueueFault) (refusal : Refusal) → IsKept list queues → queue < length queues → queue_count setup ≡ length (map (λ (q : QueueState). q.openings) queues) → insert_fault (queue_at queues queue) ≡ Some f → refusal ≡ refusal_of f → after ≡ queues → step_submit setup (with_ccbs (seen list queues) world) queue priority retries ≡ (refused refusal, with_ccbs (seen list after) world)
+crowded_reply setup world list queues after queue priority retries f refusal h known count e refusal_is after_is =
+    let told = crowded_by (queue_at queues queue) f e in
+    let is : Limit ≡ refusal = sym (refusal_is ∙ ap refusal_of told.1) in
+    submit_limit setup (with_ccbs (seen list queues) world) queue priority retries (known_to setup queues queue known count) (crowded_limit list queues queue world h known told.0)
+    ∙ (ap (λ (r : Refusal). (refused r, with_ccbs (seen list queues) world)) is
+    ∙ ap (λ (qs : List QueueState). (refused refusal, with_ccbs (seen list qs) world)) (sym after_is))
 
 -- the answer with this number, and the world with the CCB
 abbrev answered : World → ListState → List QueueState → ℕ → ℕ → ℕ → ℕ → Reply × World

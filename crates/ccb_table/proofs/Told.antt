@@ -9,11 +9,10 @@ use Rattle.dev_queue.specs.State.{QueueState, empty_queue, live, with_waiting, w
 use Rattle.world.specs.World.{CcbState, waiting, active, in_recovery, LiveCcb}
 use Rattle.world.specs.Lookups.{is_waiting, is_active, is_of, live_count, active_count, ccb_of, with_ccb}
 use Rattle.world.proofs.Lists.Found.{leave}
-use Rattle.world.proofs.Lists.Rising.{count_put}
+use Rattle.world.proofs.Lists.Rising.{count_put, count_gone}
 use Rattle.world.proofs.Steps.Moves.{ccb_key}
 use Rattle.ccb_table.specs.Listed.{AreNumbered}
 use Rattle.ccb_table.specs.Queues.{is_recovering, pairs_of, waits_on, recovers_on, queue_state_of}
-use Rattle.ccb_table.proofs.Places.{count_gone}
 use Rattle.ccb_table.proofs.Pairs.{pairs_no, pairs_length, pairs_push_yes, pairs_push_no, pairs_put_out, pairs_put_in, pairs_put_no, pairs_gone}
 
 -- the CCB is of the queue, and in a state of this kind

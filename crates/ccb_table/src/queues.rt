@@ -4,7 +4,7 @@ ghost use Rattle.std.specs.Prelude.{◌≡◌, ◌<◌, ◌≤◌, ◌++◌, [],
 ghost use Rattle.std.specs.Result.{result_err};
 ghost use Rattle.dev_queue.specs.Waiting.{IsLeastNumber, waits};
 ghost use Rattle.dev_queue.specs.State.{empty_queue, live, with_waiting, with_started, with_stopped, with_left};
-ghost use Rattle.dev_queue.specs.Faults.{start_fault};
+ghost use Rattle.dev_queue.specs.Faults.{insert_fault, start_fault};
 ghost use Rattle.ccb_table.specs.Queues.{queue_at};
 ghost use Rattle.ccb_table.specs.Refusals.{refusal_of};
 
@@ -13,9 +13,6 @@ use dev_queue::{DevQueue, Frozen, QueueFault};
 use std::alloc::{AllocError, Global};
 use std::marker::Model;
 use world::Refusal;
-
-/// How many CCBs of one queue are live at a time.
-const MOST_LIVE: u32 = 256;
 
 /// A queue that is frozen so many times.
 #[derive(Drop)]
@@ -84,25 +81,20 @@ impl QueueList {
         Ok(())
     }
 
-    /// Whether 256 CCBs of the queue are live.
-    pub(crate) fn is_crowded(&self, queue: QueueId) -> bool
-        requires { queue.0 < length self.now }
-        ensures { result ≡ nat_le 256 (live (queue_at self.now queue.0)) }
-    {
-        let (waiting, active, recovering) = self.queues[queue.0 as usize].counts();
-        waiting + active + recovering >= MOST_LIVE
-    }
-
-    /// One CCB more waits.
-    pub(crate) fn insert(&mut self, queue: QueueId, number: CcbId, priority: u32)
+    /// One CCB more waits. Q1, which changes nothing, exactly where 256 CCBs of the queue are live.
+    pub(crate) fn insert(
+        &mut self,
+        queue: QueueId,
+        number: CcbId,
+        priority: u32,
+    ) -> Result<(), QueueFault>
         requires known { queue.0 < length self.old }
-        requires room { live (queue_at self.old queue.0) < 256 }
         requires new { waits number (queue_at self.old queue.0).waiting ≡ false }
-        ensures { self.new ≡ slice_set self.old queue.0 (with_waiting number priority (queue_at self.old queue.0)) }
+        ensures fault { result_err result ≡ insert_fault (queue_at self.old queue.0) }
+        ensures waits { OnOk result (self.new ≡ slice_set self.old queue.0 (with_waiting number priority (queue_at self.old queue.0))) }
+        ensures refused { OnErr result (self.new ≡ self.old) }
     {
-        let Ok(()) = self.queues[queue.0 as usize].insert(number, priority) else {
-            unreachable!()
-        };
+        self.queues[queue.0 as usize].insert(number, priority)
     }
 
     /// Starts the waiting CCB of the queue that is least, where the queue is frozen so many times.

@@ -68,14 +68,18 @@ impl CcbTable {
         if queue.0 as usize >= self.queues.len() {
             return Err(Refusal::Unknown);
         }
-        if self.queues.is_crowded(queue) || self.ccbs.is_full() {
+        if self.ccbs.is_full() {
             return Err(Refusal::Limit);
         }
         let number = CcbId(self.ccbs.greatest() + 1);
-        let ccb = Ccb::new(number, queue, priority, retries);
-        self.queues.insert(queue, number, priority);
-        self.ccbs.enter(LiveCcb::new(ccb, CcbState::Waiting));
-        Ok(number)
+        match self.queues.insert(queue, number, priority) {
+            Err(fault) => Err(refusal(fault)),
+            Ok(()) => {
+                let ccb = Ccb::new(number, queue, priority, retries);
+                self.ccbs.enter(LiveCcb::new(ccb, CcbState::Waiting));
+                Ok(number)
+            }
+        }
     }
 
     /// Starts the waiting CCB of the queue that has the lowest priority number, and among these the lowest CCB number:
@@ -109,7 +113,6 @@ impl CcbTable {
         ensures numbered { IfSome result (λ live. live.ccb.number ≡ ccb) }
         ensures known { IfSome result (λ live. live.ccb.queue.0 < length self.now.openings) }
     {
-        let _ = &self.queues;
         self.ccbs.get(ccb)
     }
 

@@ -1,7 +1,7 @@
 -- What a run does up to a stop: its private instructions lead the world to one that differs in the run's machine alone.
-use Rattle.std.proofs.Common.{◌≡◌, ℕ, zero, suc, ◌+◌, ◌-◌, List, [], ◌∷◌, ◌++◌, map, replicate, true, not, cond, eqb, Some, None, inl, inr, refl, ap, sym, subst, ◌∙◌, arith}
+use Rattle.std.proofs.Common.{◌≡◌, ℕ, zero, suc, ◌+◌, ◌-◌, List, [], ◌∷◌, ◌++◌, map, replicate, true, Some, None, refl, ap, sym, subst, ◌∙◌, arith}
 use Rattle.std.specs.Option.{option_map}
-use Rattle.std.proofs.lemmas.Bool.{cases_eq, cond-true, cond-false, eq-eqb, ne_eqb, not_from_true, not_from_false}
+use Rattle.std.proofs.lemmas.Bool.{cond-true}
 use Rattle.bpf_machine.specs.MachineState.{MachineState}
 use Rattle.bpf_machine.specs.Reached.{PrivateSteps}
 use Rattle.world.specs.declared.history.StoppedAt.{StoppedAt}
@@ -14,65 +14,10 @@ use Rattle.world.specs.Step.{WorldStep}
 use Rattle.world.specs.Run.{Leads}
 use Rattle.world.specs.Flat.{stop_of, events_of}
 use Rattle.world.specs.Limits.{AreRising}
-use Rattle.world.proofs.Lists.Found.{at, put, leave, at_head, at_tail, put_same, put_keys}
-use Rattle.world.proofs.Lists.Rising.{put_low}
+use Rattle.world.proofs.Lists.Found.{put, put_same, put_keys, put_put}
+use Rattle.world.proofs.Lists.Rising.{put_self}
 use Rattle.world.proofs.Steps.Moves.{run_key}
 use Rattle.world.proofs.Leads.{leads_append}
-
-module _ {A : Type 0} (key : A → ℕ) where
-  -- of two changes of one element the later one stands
-  pub put_put : (a b : A) (xs : List A) → key a ≡ key b → put key b (put key a xs) ≡ put key b xs
-  put_put a b [] same = refl
-  put_put a b (y ∷ xs) same =
-      elim (cases_eq (key y) (key a)) [
-        | inl is ↦
-            let first : cond (eqb (key y) (key a)) a y ≡ a = cond-true (eqb (key y) (key a)) a y (eq-eqb _ _ is) in
-            let second : cond (eqb (key a) (key b)) b a ≡ b = cond-true (eqb (key a) (key b)) b a (eq-eqb _ _ same) in
-            let alone : cond (eqb (key y) (key b)) b y ≡ b = cond-true (eqb (key y) (key b)) b y (eq-eqb _ _ (is ∙ same)) in
-            ap (λ (z : A). cond (eqb (key z) (key b)) b z ∷ put key b (put key a xs)) first
-            ∙ (ap (λ (z : A). z ∷ put key b (put key a xs)) (second ∙ sym alone)
-            ∙ ap (λ (zs : List A). cond (eqb (key y) (key b)) b y ∷ zs) (put_put a b xs same))
-        | inr apart ↦
-            let first : cond (eqb (key y) (key a)) a y ≡ y = cond-false (eqb (key y) (key a)) a y (ne_eqb _ _ apart) in
-            ap (λ (z : A). cond (eqb (key z) (key b)) b z ∷ put key b (put key a xs)) first
-            ∙ ap (λ (zs : List A). cond (eqb (key y) (key b)) b y ∷ zs) (put_put a b xs same)
-      ]
-
-  -- to put an element where it stands changes nothing
-  pub put_self : (low : ℕ) (xs : List A) (high : ℕ) (x : A) → AreRising low (map key xs) high → at key (key x) xs ≡ Some x → put key x xs ≡ xs
-  put_self low [] high x h e = refl
-  put_self low (y ∷ xs) high x h e =
-      elim (cases_eq (key y) (key x)) [
-        | inl same ↦
-            let both : Some y ≡ Some x = sym (at_head key (key x) y xs same) ∙ e in
-            let is : x ≡ y = cc in
-            ap (λ (z : A). z ∷ put key x xs) (cond-true (eqb (key y) (key x)) x y (eq-eqb _ _ same) ∙ is)
-            ∙ ap (λ (zs : List A). y ∷ zs) (put_low key (key y) xs high x (omega (arith, same)) h.1)
-        | inr apart ↦
-            ap (λ (z : A). z ∷ put key x xs) (cond-false (eqb (key y) (key x)) x y (ne_eqb _ _ apart))
-            ∙ ap (λ (zs : List A). y ∷ zs) (put_self (key y) xs high x h.1 (sym (at_tail key (key x) y xs apart) ∙ e))
-      ]
-
-  -- to leave an element out it does not matter that it was changed
-  pub leave_put : (c : A) (xs : List A) → leave key (key c) (put key c xs) ≡ leave key (key c) xs
-  leave_put c [] = refl
-  leave_put c (y ∷ xs) =
-      elim (cases_eq (key y) (key c)) [
-        | inl same ↦
-            let first : cond (eqb (key y) (key c)) c y ≡ c = cond-true (eqb (key y) (key c)) c y (eq-eqb _ _ same) in
-            ap (λ (z : A). leave key (key c) (z ∷ put key c xs)) first
-            ∙ (gone c c (put key c xs) refl ∙ (leave_put c xs ∙ sym (gone c y xs same)))
-        | inr apart ↦
-            let first : cond (eqb (key y) (key c)) c y ≡ y = cond-false (eqb (key y) (key c)) c y (ne_eqb _ _ apart) in
-            ap (λ (z : A). leave key (key c) (z ∷ put key c xs)) first
-            ∙ (stays c y (put key c xs) apart ∙ (ap (λ (zs : List A). y ∷ zs) (leave_put c xs) ∙ sym (stays c y xs apart)))
-      ]
-    where
-      gone : (c y : A) (xs : List A) → key y ≡ key c → leave key (key c) (y ∷ xs) ≡ leave key (key c) xs
-      gone c y xs same = cond-false (not (eqb (key y) (key c))) (y ∷ leave key (key c) xs) (leave key (key c) xs) (not_from_true _ (eq-eqb _ _ same))
-
-      stays : (c y : A) (xs : List A) → (key y ≡ key c → ⊥) → leave key (key c) (y ∷ xs) ≡ y ∷ leave key (key c) xs
-      stays c y xs apart = cond-true (not (eqb (key y) (key c))) (y ∷ leave key (key c) xs) (leave key (key c) xs) (not_from_false _ (ne_eqb _ _ apart))
 
 abbrev pub with_machine : LiveRun → MachineState → LiveRun
 with_machine run machine = record run { machine = machine }

@@ -30,10 +30,10 @@ use Rattle.world.specs.Run.{Leads}
 use Rattle.world.specs.Flat.{events_of, stop_of}
 use Rattle.world.specs.Step.{WorldStep}
 use Rattle.world.specs.FreezeLaws.{entries_of}
-use Rattle.world.proofs.Lists.Found.{leave, put_same, found_key}
+use Rattle.world.proofs.Lists.Found.{leave, put_same, put_put, leave_put, found_key}
 use Rattle.world.proofs.Steps.Moves.{run_key}
 use Rattle.world.proofs.Sound.{IsSound, leads_sound}
-use Rattle.engine_core.proofs.PrivateWays.{put_put, leave_put, with_machine, private_leads, advance_leads}
+use Rattle.engine_core.proofs.PrivateWays.{with_machine, private_leads, advance_leads}
 use Rattle.engine_core.proofs.Standing.{StandsLawfully, at_call, at_exit, stands_lawfully, GivesBack, gives_back, release_step, requeue_step, exit_step, holds_nothing}
 
 -- A segment of a live run that is out: where its private instructions lead, and that all the world's laws hold there.
@@ -56,19 +56,19 @@ arrives setup world number program segment lawful sound is admitted =
     let named : run.number ≡ number = found_key run_key number world.runs run admitted.found in
     let found : run_of run.number world.runs ≡ Some run = subst (λ (n : ℕ). run_of n world.runs ≡ Some run) (sym named) admitted.found in
     let way : PrivateSteps run.program is.private run.machine segment.to =
-    subst (λ (p : List Slot). PrivateSteps p is.private run.machine segment.to) admitted.segment_program_is
-    (subst (λ (m : MachineState). PrivateSteps segment.program.program is.private m segment.to) admitted.start_is is.way) in
+    subst (λ (p : List Slot). PrivateSteps p is.private run.machine segment.to) admitted.next.segment_program_is
+    (subst (λ (m : MachineState). PrivateSteps segment.program.program is.private m segment.to) admitted.next.start_is is.way) in
     let between : World = goes_on world run segment.to in
     let leads = private_leads setup is.private world world.greatest_run run segment.to sound.kept.runs.rising found admitted.out way in
     let there : run_of run.number between.runs ≡ Some (with_machine run segment.to) = put_same run_key (with_machine run segment.to) world.runs run found in
     let sound_there = leads_sound setup world _ between lawful leads sound in
-    let at : stop_at run.program segment.to ≡ Some segment.stop = subst (λ (p : List Slot). stop_at p segment.to ≡ Some segment.stop) admitted.segment_program_is is.stands in
+    let at : stop_at run.program segment.to ≡ Some segment.stop = subst (λ (p : List Slot). stop_at p segment.to ≡ Some segment.stop) admitted.next.segment_program_is is.stands in
     record {
       run = run;
       found = admitted.found;
       number_is = named;
       out = admitted.out;
-      program_is = admitted.segment_program_is;
+      program_is = admitted.next.segment_program_is;
       between = between;
       between_is = refl;
       there = there;

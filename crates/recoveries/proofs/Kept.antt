@@ -20,12 +20,12 @@ use Rattle.world.specs.FreezeSteps.{is_guest}
 use Rattle.world.specs.FreezeLaws.{entries_of}
 use Rattle.world.proofs.Lists.Found.{put_keys}
 use Rattle.world.proofs.Lists.Rising.{rising_push, rising_leave}
+use Rattle.world.proofs.Lists.Placed.{below, apart}
 use Rattle.world.proofs.Lists.Entries.{numbered_without}
 use Rattle.world.proofs.Lists.HeldBy.{entries_push_other, entries_without_other}
 use Rattle.recoveries.specs.declared.runs.RunRecord.{RunRecord}
 use Rattle.recoveries.specs.Live.{live_of, lives_of, number_of}
 use Rattle.recoveries.specs.Invariant.{HoldsItsEntries, NamesStarted, IsKept}
-use Rattle.recoveries.proofs.Placed.{below, apart}
 use Rattle.recoveries.proofs.Records.{key_of, own, record_changed, record_removed}
 use Rattle.recoveries.proofs.Tokens.{other_run, guest_is_no_run, entries_push_own, entries_none, entries_without_own}
 

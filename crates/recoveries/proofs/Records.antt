@@ -1,16 +1,17 @@
 -- The records of runs, by place, and the live runs that they are: what is found, changed and removed.
-use Rattle.std.proofs.Common.{◌≡◌, ℕ, ◌<◌, ◌≤◌, List, [], ◌∷◌, map, length, get_or, set, not, eqb, Option, Some, None, inl, inr, refl, ap, sym, subst, ◌∙◌, arith}
+use Rattle.std.proofs.Common.{◌≡◌, ℕ, zero, suc, ◌<◌, ◌≤◌, List, [], ◌∷◌, map, length, get_or, set, not, eqb, Option, Some, None, inl, inr, refl, ap, sym, subst, ◌∙◌, arith}
 use Rattle.std.specs.List.{remove, AllWithin, HoldsAt, filter}
 use Rattle.std.specs.Option.{IfSome}
 use Rattle.std.proofs.lemmas.List.{length-map, get_or-map, map-set, set-get_or, get_or_default}
 use Rattle.std.proofs.lemmas.Bool.{cases_eq}
+use Rattle.std.proofs.lemmas.Simd.{map-map}
 use Rattle.world.specs.World.{LiveRun}
 use Rattle.world.specs.Limits.{AreRising}
 use Rattle.world.specs.Lookups.{run_of, with_run}
 use Rattle.world.proofs.Lists.Found.{at, at_head, at_tail, found_key}
+use Rattle.world.proofs.Lists.Placed.{rises, found_at, missing_at, set_is_put, remove_is_leave}
 use Rattle.recoveries.specs.declared.runs.RunRecord.{RunRecord}
 use Rattle.recoveries.specs.Live.{live_of, lives_of, number_of}
-use Rattle.recoveries.proofs.Placed.{map_remove, map_map, rises, found_at, missing_at, set_is_put, remove_is_leave}
 
 abbrev pub key_of : RunRecord → ℕ
 key_of it = it.number
@@ -20,7 +21,7 @@ Rises rs greatest = AreRising 0 (map number_of (lives_of rs)) greatest
 
 -- the records' own numbers rise
 pub own : (rs : List RunRecord) (greatest : ℕ) → Rises rs greatest → AreRising 0 (map key_of rs) greatest
-own rs greatest h = subst (λ (ns : List ℕ). AreRising 0 ns greatest) (map_map number_of live_of rs) h
+own rs greatest h = subst (λ (ns : List ℕ). AreRising 0 ns greatest) (map-map number_of live_of rs) h
 
 pub lives_length : (rs : List RunRecord) (k : ℕ) → k < length rs → k < length (lives_of rs)
 lives_length rs k l = omega (arith, length-map rs live_of)
@@ -50,7 +51,7 @@ missing_live n (r ∷ rs) e =
 
 pub record_missing : (rs : List RunRecord) (greatest k n : ℕ) → Rises rs greatest → AllWithin (λ (r : RunRecord). r.number < n) rs 0 k → AllWithin (λ (r : RunRecord). n ≤ r.number) rs k (length rs) → ((d : RunRecord) → k < length rs → (get_or rs k d).number ≡ n → ⊥) → run_of n (lives_of rs) ≡ None
 record_missing rs greatest k n h lower others other =
-    missing_live n rs (missing_at key_of 0 rs greatest k n (own rs greatest h) (λ j d l. lower j d (omega arith) l) others other)
+    missing_live n rs (missing_at key_of 0 rs greatest k n (own rs greatest h) (λ j d l w. lower j d (omega arith) l) others other)
 
 -- a change that keeps the number
 pub record_changed : (rs : List RunRecord) (greatest k : ℕ) (c d : RunRecord) → Rises rs greatest → k < length rs → (get_or rs k d).number ≡ c.number → lives_of (set rs k c) ≡ with_run (live_of c) (lives_of rs)
@@ -64,6 +65,12 @@ record_kept rs k r c l is same =
     map-set live_of rs k c
     ∙ (ap (λ (x : LiveRun). set (lives_of rs) k x) (same ∙ (ap live_of is ∙ sym (get_or-map live_of rs k r (live_of r) l)))
     ∙ set-get_or (lives_of rs) k (live_of r))
+
+-- one fewer, seen through a function
+map_remove : {A B : Type 0} (f : A → B) (xs : List A) (k : ℕ) → k < length xs → map f (remove xs k) ≡ remove (map f xs) k
+map_remove f [] k l = absurd (omega arith)
+map_remove f (x ∷ xs) zero l = refl
+map_remove f (x ∷ xs) (suc k) l = ap (λ ys. f x ∷ ys) (map_remove f xs k (omega arith))
 
 pub record_removed : (rs : List RunRecord) (greatest k n : ℕ) (d : RunRecord) → Rises rs greatest → k < length rs → (get_or rs k d).number ≡ n → lives_of (remove rs k) ≡ filter (λ (it : LiveRun). not (eqb it.number n)) (lives_of rs)
 record_removed rs greatest k n d h l e =

@@ -11,12 +11,9 @@ pub record IsNext (it : LiveRun) (program : List Slot) (segment : SegmentState) 
   pub segment_program_is : segment.program.program ≡ it.program
   pub start_is : segment.from ≡ it.machine
 
--- A run of that number is live and out, this is its program and that of the segment, and the segment begins in its
--- machine.
+-- A run of that number is live and out, and the segment is its next stretch.
 pub record IsOutAs (runs : List LiveRun) (number : ℕ) (program : List Slot) (segment : SegmentState) : Type 0 where
   pub it : LiveRun
   pub found : run_of number runs ≡ Some it
   pub out : it.out ≡ true
-  pub program_is : program ≡ it.program
-  pub segment_program_is : segment.program.program ≡ it.program
-  pub start_is : segment.from ≡ it.machine
+  pub next : IsNext it program segment

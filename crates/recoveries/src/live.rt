@@ -74,29 +74,13 @@ fn is_same_program(one: &Accepted, other: &Accepted) -> bool
     *one.program() == *other.program()
 }
 
-// The machine itself.
-fn copied(machine: &Machine) -> Machine
-    ensures { result ≡ machine.now }
-{
-    *machine
-}
-
-// Whether both are one machine.
-fn is_same_machine(one: &Machine, other: &Machine) -> bool
-    ensures { IsTrue result ↔ (one.now ≡ other.now) }
-{
-    let first = copied(one);
-    let second = copied(other);
-    first == second
-}
-
 // Whether the segment is the next stretch of the recorded run.
 fn is_next(it: &RunRecord, program: &Accepted, segment: &Segment) -> bool
     ensures { IsTrue result ↔ IsNext (live_of it.now) program.now.program segment.now }
 {
     is_same_program(program, &it.program)
         && is_same_program(segment.program(), &it.program)
-        && is_same_machine(segment.from(), &it.machine)
+        && segment.from().is_same(&it.machine)
 }
 
 impl Recoveries {

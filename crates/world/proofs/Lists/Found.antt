@@ -107,6 +107,22 @@ module _ {A : Type 0} (key : A → ℕ) where
         | inr apart ↦ ap (map key) (put_tail c y xs apart) ∙ ap (λ (ks : List ℕ). key y ∷ ks) (put_keys c xs)
       ]
 
+  -- of two changes of one element the later one stands
+  pub put_put : (a b : A) (xs : List A) → key a ≡ key b → put b (put a xs) ≡ put b xs
+  put_put a b [] same = refl
+  put_put a b (y ∷ xs) same =
+      elim (cases_eq (key y) (key a)) [
+        | inl is ↦
+            ap (put b) (put_head a y xs is)
+            ∙ (put_head b a (put a xs) same
+            ∙ (ap (λ (zs : List A). b ∷ zs) (put_put a b xs same) ∙ sym (put_head b y xs (is ∙ same))))
+        | inr apart ↦
+            let other : key y ≡ key b → ⊥ = λ e. apart (e ∙ sym same) in
+            ap (put b) (put_tail a y xs apart)
+            ∙ (put_tail b y (put a xs) other
+            ∙ (ap (λ (zs : List A). y ∷ zs) (put_put a b xs same) ∙ sym (put_tail b y xs other)))
+      ]
+
   -- one fewer
   leave_head : (m : ℕ) (y : A) (xs : List A) → key y ≡ m → leave m (y ∷ xs) ≡ leave m xs
   leave_head m y xs e = cond-false (not (eqb (key y) m)) _ _ (not_from_true _ (eq-eqb _ _ e))
@@ -135,4 +151,18 @@ module _ {A : Type 0} (key : A → ℕ) where
               | inl here ↦ at_head n y (leave m xs) here ∙ sym (at_head n y xs here)
               | inr there ↦ at_tail n y (leave m xs) there ∙ (leave_other m n xs other ∙ sym (at_tail n y xs there))
             ]
+      ]
+
+  -- to leave an element out it does not matter that it was changed
+  pub leave_put : (c : A) (xs : List A) → leave (key c) (put c xs) ≡ leave (key c) xs
+  leave_put c [] = refl
+  leave_put c (y ∷ xs) =
+      elim (cases_eq (key y) (key c)) [
+        | inl same ↦
+            ap (leave (key c)) (put_head c y xs same)
+            ∙ (leave_head (key c) c (put c xs) refl ∙ (leave_put c xs ∙ sym (leave_head (key c) y xs same)))
+        | inr apart ↦
+            ap (leave (key c)) (put_tail c y xs apart)
+            ∙ (leave_tail (key c) y (put c xs) apart
+            ∙ (ap (λ (zs : List A). y ∷ zs) (leave_put c xs) ∙ sym (leave_tail (key c) y xs apart)))
       ]

@@ -2,7 +2,7 @@
 -- one alone.
 use Rattle.std.proofs.Common.{◌≡◌, ℕ, ◌+◌, ◌<◌, ◌≤◌, List, [], ◌∷◌, ◌++◌, map, Bool, true, not, cond, eqb, Some, None, inl, inr, refl, ap, sym, subst, ◌∙◌, arith}
 use Rattle.std.specs.List.{find, filter, count_by}
-use Rattle.std.proofs.lemmas.Bool.{cases_Bool, cases_eq, cond-true, cond-false, cond_both, eq-eqb, ne_eqb, not_from_false}
+use Rattle.std.proofs.lemmas.Bool.{cases_Bool, cases_eq, cond-true, cond-false, cond_both, eq-eqb, ne_eqb, not_from_true, not_from_false}
 use Rattle.std.proofs.lemmas.List.Sums.{sum_by-cons}
 use Rattle.world.specs.Limits.{AreRising}
 use Rattle.world.proofs.Lists.Found.{at, put, leave, at_head, at_tail}
@@ -60,6 +60,21 @@ module _ {A : Type 0} (key : A → ℕ) where
       cond-true (not (eqb (key y) m)) _ _ (not_from_false _ (ne_eqb _ _ (λ e. omega (arith, e, le, h.0))))
       ∙ ap (λ (zs : List A). y ∷ zs) (leave_low (key y) xs high m (omega (arith, le, h.0)) h.1)
 
+  -- to put an element where it stands changes nothing
+  pub put_self : (low : ℕ) (xs : List A) (high : ℕ) (x : A) → AreRising low (map key xs) high → at key (key x) xs ≡ Some x → put key x xs ≡ xs
+  put_self low [] high x h e = refl
+  put_self low (y ∷ xs) high x h e =
+      elim (cases_eq (key y) (key x)) [
+        | inl same ↦
+            let both : Some y ≡ Some x = sym (at_head key (key x) y xs same) ∙ e in
+            let is : x ≡ y = cc in
+            ap (λ (z : A). z ∷ put key x xs) (cond-true (eqb (key y) (key x)) x y (eq-eqb _ _ same) ∙ is)
+            ∙ ap (λ (zs : List A). y ∷ zs) (put_low (key y) xs high x (omega (arith, same)) h.1)
+        | inr apart ↦
+            ap (λ (z : A). z ∷ put key x xs) (cond-false (eqb (key y) (key x)) x y (ne_eqb _ _ apart))
+            ∙ ap (λ (zs : List A). y ∷ zs) (put_self (key y) xs high x h.1 (sym (at_tail key (key x) y xs apart) ∙ e))
+      ]
+
   abbrev one : Bool → ℕ
   one b = cond b 1 0
 
@@ -96,6 +111,42 @@ module _ {A : Type 0} (key : A → ℕ) where
       let after = sum_by-cons (λ (z : A). cond (p z) 1 0) y (leave key m xs) in
       cond_both (not (eqb (key y) m)) (y ∷ leave key m xs) (leave key m xs) (λ ys. count_by p ys ≤ count_by p (y ∷ xs))
       (λ _. omega (arith, rest, all, after)) (λ _. omega (arith, rest, all))
+
+  -- one fewer takes itself alone from a count
+  pub count_gone : (p : A → Bool) (low : ℕ) (xs : List A) (high n : ℕ) (x : A) → AreRising low (map key xs) high → at key n xs ≡ Some x → count_by p (leave key n xs) + cond (p x) 1 0 ≡ count_by p xs
+  count_gone p low [] high n x h e = absurd (let bad : None ≡ Some x = e in cc)
+  count_gone p low (y ∷ xs) high n x h e =
+      let all = sum_by-cons (λ (z : A). cond (p z) 1 0) y xs in
+      elim (cases_eq (key y) n) [
+        | inl same ↦
+            let both : Some y ≡ Some x = sym (at_head key n y xs same) ∙ e in
+            let is : y ≡ x = cc in
+            let now : leave key n (y ∷ xs) ≡ xs =
+            cond-false (not (eqb (key y) n)) _ _ (not_from_true _ (eq-eqb _ _ same)) ∙ leave_low (key y) xs high n (omega (arith, same)) h.1 in
+            let left : count_by p (leave key n (y ∷ xs)) ≡ count_by p xs = ap (count_by p) now in
+            let one_is : cond {A = ℕ} (p y) 1 0 ≡ cond (p x) 1 0 = ap (λ (z : A). cond {A = ℕ} (p z) 1 0) is in
+            omega (arith, all, left, one_is)
+        | inr apart ↦
+            let rest = count_gone p (key y) xs high n x h.1 (sym (at_tail key n y xs apart) ∙ e) in
+            let now : leave key n (y ∷ xs) ≡ y ∷ leave key n xs = cond-true (not (eqb (key y) n)) _ _ (not_from_false _ (ne_eqb _ _ apart)) in
+            let left : count_by p (leave key n (y ∷ xs)) ≡ count_by p (y ∷ leave key n xs) = ap (count_by p) now in
+            let after = sum_by-cons (λ (z : A). cond (p z) 1 0) y (leave key n xs) in
+            omega (arith, all, rest, left, after)
+      ]
+
+  -- what is found is counted
+  pub found_counts : (p : A → Bool) (n : ℕ) (xs : List A) (x : A) → at key n xs ≡ Some x → cond {A = ℕ} (p x) 1 0 ≤ count_by p xs
+  found_counts p n [] x e = absurd (let bad : None ≡ Some x = e in cc)
+  found_counts p n (y ∷ xs) x e =
+      let all = sum_by-cons (λ (z : A). cond (p z) 1 0) y xs in
+      elim (cases_eq (key y) n) [
+        | inl same ↦
+            let both : Some y ≡ Some x = sym (at_head key n y xs same) ∙ e in
+            let is : y ≡ x = cc in
+            let one_is : cond {A = ℕ} (p y) 1 0 ≡ cond (p x) 1 0 = ap (λ (z : A). cond {A = ℕ} (p z) 1 0) is in
+            omega (arith, all, one_is)
+        | inr apart ↦ omega (arith, all, found_counts p n xs x (sym (at_tail key n y xs apart) ∙ e))
+      ]
 
   -- what a search among some of the elements finds is what its number finds
   pub found_among : (test some : A → Bool) (low : ℕ) (xs : List A) (high : ℕ) (x : A) → AreRising low (map key xs) high → find test (filter some xs) ≡ Some x → (at key (key x) xs ≡ Some x) × (some x ≡ true)

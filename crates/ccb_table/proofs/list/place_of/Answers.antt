@@ -3,8 +3,8 @@ use Rattle.std.proofs.lemmas.Bool.{eqb-false}
 use Rattle.std.proofs.lemmas.List.{get_or_default}
 use Rattle.ccb.specs.declared.CcbId.{CcbId}
 use Rattle.world.specs.World.{LiveCcb}
+use Rattle.world.proofs.Lists.Placed.{rises, missing_at}
 use Rattle.world.proofs.Steps.Moves.{ccb_key}
-use Rattle.ccb_table.proofs.Places.{rises, missing_at}
 use Rattle.ccb_table.proofs.list.place_of.Goals as goal
 use Rattle.ccb_table.proofs.list.place_of.Goals.{else-place-ccbs-via-then-place-ccbs+else-eq, else-place-ccbs-via-else-place-ccbs}
 

@@ -16,4 +16,4 @@ pub returns : goal.returns
 returns c =
     let found : IsPlaceOf c.args.number.0 c.deref.result.now c.in-Some.place = search rules in
     let place : IsPlaceOf c.args.number.0 c.self.inside.ccbs.items c.in-Some.place = subst (λ (xs : List LiveCcb). IsPlaceOf c.args.number.0 xs c.in-Some.place) c.deref.ensures.value found in
-    rw (← c.self.view_is) (ap (listed_as c.self.inside.greatest) (c.remove.ensures.items ∙ remove_is c.self.inside.ccbs.items c.self.inside.greatest c.args.number.0 c.in-Some.place c.self.invariant.rising place))
+    rw (← c.self.view_is) (ap (listed_as c.self.inside.greatest) (c.remove.ensures.items ∙ remove_is c.self.inside.ccbs.items c.self.inside.greatest c.args.number.0 c.in-Some.place c.index.result.now c.self.invariant.rising place))

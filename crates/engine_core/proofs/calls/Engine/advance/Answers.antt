@@ -22,7 +22,7 @@ moved-requires c =
     c.in-Some.is c.take_over-stop.ensures.goes out.it out.found in
     let sound = kept_sound c.self.inside.config c.push_reserved.new.self.items c.take_over-stop.new.ccbs c.take_over-stop.new.recoveries it.kept in
     let reached = sound.reached c.number-number.result (with_machine out.it c.in-Some.machine) there in
-    (reached.0, subst (λ (p : List Slot). Reached p reached.0 c.in-Some.machine) (sym out.program_is) reached.1)
+    (reached.0, subst (λ (p : List Slot). Reached p reached.0 c.in-Some.machine) (sym out.next.program_is) reached.1)
 
 pub invariant_of-self-in-Some : goal.invariant_of-self-in-Some
 invariant_of-self-in-Some c =
@@ -43,7 +43,7 @@ returns-in-Some-clause-goes c =
     let there : run_of c.number-number.result c.take_over-stop.new.recoveries.runs ≡ Some (with_machine out.it c.in-Some.machine) =
     subst (λ (o : Option MachineState). IfSome o (λ (m : MachineState). (it : LiveRun) → run_of c.number-number.result c.self.inside.recoveries.runs ≡ Some it → run_of c.number-number.result c.take_over-stop.new.recoveries.runs ≡ Some (with_machine it m)))
     c.in-Some.is c.take_over-stop.ensures.goes out.it out.found in
-    rw (c.moved.ensures) (refl, refl, record { it = with_machine out.it c.in-Some.machine; found = rw (← c.number-number.ensures) there; out = out.out; program_is = sym out.program_is; machine_is = refl })
+    rw (c.moved.ensures) (refl, refl, record { it = with_machine out.it c.in-Some.machine; found = rw (← c.number-number.ensures) there; out = out.out; program_is = sym out.next.program_is; machine_is = refl })
 
 pub returns-in-Some-clause-run : goal.returns-in-Some-clause-run
 returns-in-Some-clause-run c =

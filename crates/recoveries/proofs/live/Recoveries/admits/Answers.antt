@@ -14,22 +14,10 @@ use Rattle.recoveries.proofs.live.Recoveries.admits.Goals as goal
 -- a run is found once
 out_as : (runs : List LiveRun) (run : ℕ) (it : LiveRun) (program : List Slot) (segment : SegmentState) (b : Bool) → run_of run runs ≡ Some it → it.out ≡ true → Decides b (IsNext it program segment) → Decides b (IsOutAs runs run program segment)
 out_as runs run it program segment b found out next =
-    Decides-like b (λ n. record {
-      it = it;
-      found = found;
-      out = out;
-      program_is = n.program_is;
-      segment_program_is = n.segment_program_is;
-      start_is = n.start_is;
-    })
-    (λ o.
+    Decides-like b (λ n. record { it = it; found = found; out = out; next = n }) (λ o.
     let both : Some o.it ≡ Some it = sym o.found ∙ found in
     let same : o.it ≡ it = cc in
-    subst (λ (x : LiveRun). IsNext x program segment) same (record {
-      program_is = o.program_is;
-      segment_program_is = o.segment_program_is;
-      start_is = o.start_is;
-    }))
+    subst (λ (x : LiveRun). IsNext x program segment) same o.next)
     next
 
 pub returns : goal.returns

@@ -1,20 +1,11 @@
--- Lists whose elements bear rising numbers, by place: the element at a place is the one of its number.
+-- Lists whose elements bear rising numbers, by place: what stands at a place is what its number finds, so a change by
+-- place is one by number.
 use Rattle.std.proofs.Common.{◌≡◌, ℕ, zero, suc, ◌<◌, ◌≤◌, List, [], ◌∷◌, map, length, get_or, set, not, eqb, Some, None, refl, ap, sym, ◌∙◌, arith}
 use Rattle.std.specs.List.{remove}
 use Rattle.std.proofs.lemmas.Bool.{cond-true, cond-false, eq-eqb, ne_eqb, not_from_true, not_from_false}
 use Rattle.world.specs.Limits.{AreRising}
 use Rattle.world.proofs.Lists.Found.{at, put, leave, at_head, at_tail}
 use Rattle.world.proofs.Lists.Rising.{rising_high, missing_low, put_low, leave_low}
-
--- one fewer, seen through a function
-pub map_remove : {A B : Type 0} (f : A → B) (xs : List A) (k : ℕ) → k < length xs → map f (remove xs k) ≡ remove (map f xs) k
-map_remove f [] k l = absurd (omega arith)
-map_remove f (x ∷ xs) zero l = refl
-map_remove f (x ∷ xs) (suc k) l = ap (λ ys. f x ∷ ys) (map_remove f xs k (omega arith))
-
-pub map_map : {A B C : Type 0} (g : B → C) (f : A → B) (xs : List A) → map g (map f xs) ≡ map (λ x. g (f x)) xs
-map_map g f [] = refl
-map_map g f (x ∷ xs) = ap (λ ys. g (f x) ∷ ys) (map_map g f xs)
 
 module _ {A : Type 0} (key : A → ℕ) where
   pub above : (low : ℕ) (xs : List A) (high k : ℕ) (d : A) → k < length xs → AreRising low (map key xs) high → low < key (get_or xs k d)
@@ -51,16 +42,17 @@ module _ {A : Type 0} (key : A → ℕ) where
       let up = above (key x) xs high k d (omega arith) h.1 in
       at_tail key n x xs (λ same. omega (arith, up, same, e)) ∙ found_at (key x) xs high k n d (omega arith) h.1 e
 
-  -- nothing is found where all before a place are lower, and all from there are not, but the one there is another
-  pub missing_at : (low : ℕ) (xs : List A) (high k n : ℕ) → AreRising low (map key xs) high → ((j : ℕ) (d : A) → j < k → key (get_or xs j d) < n) → ((j : ℕ) (d : A) → k ≤ j → j < length xs → n ≤ key (get_or xs j d)) → ((d : A) → k < length xs → key (get_or xs k d) ≡ n → ⊥) → at key n xs ≡ None
+  -- where all before a place have lower numbers, and those from it on have others that are not lower, none has the number
+  pub missing_at : (low : ℕ) (xs : List A) (high k n : ℕ) → AreRising low (map key xs) high → ((j : ℕ) (d : A) → j < k → j < length xs → key (get_or xs j d) < n) → ((j : ℕ) (d : A) → k ≤ j → j < length xs → n ≤ key (get_or xs j d)) → ((d : A) → k < length xs → key (get_or xs k d) ≡ n → ⊥) → at key n xs ≡ None
   missing_at low [] high k n h lower others other = refl
   missing_at low (x ∷ xs) high zero n h lower others other =
-      at_tail key n x xs (λ e. other x (omega arith) e)
-      ∙ missing_low key (key x) xs high n (others 0 x (omega arith) (omega arith)) h.1
+      let le : n ≤ key x = others 0 x (omega arith) (omega arith) in
+      at_tail key n x xs (other x (omega arith)) ∙ missing_low key (key x) xs high n le h.1
   missing_at low (x ∷ xs) high (suc k) n h lower others other =
-      let first = lower 0 x (omega arith) in
-      at_tail key n x xs (λ e. omega (arith, e, first))
-      ∙ missing_at (key x) xs high k n h.1 (λ j d l. lower (suc j) d (omega arith)) (λ j d le l. others (suc j) d (omega arith) (omega arith)) (λ d l e. other d (omega arith) e)
+      let lt : key x < n = lower 0 x (omega arith) (omega arith) in
+      at_tail key n x xs (λ e. omega (arith, lt, e))
+      ∙ missing_at (key x) xs high k n h.1 (λ j d l w. lower (suc j) d (omega arith) (omega arith))
+      (λ j d l w. others (suc j) d (omega arith) (omega arith)) (λ d w. other d (omega arith))
 
   -- a change by place is one by number
   pub set_is_put : (low : ℕ) (xs : List A) (high k : ℕ) (c d : A) → k < length xs → AreRising low (map key xs) high → key (get_or xs k d) ≡ key c → set xs k c ≡ put key c xs

@@ -4,6 +4,7 @@ use super::*;
 use ccb::{CamStatus, Ccb, CcbId, Completion, QueueId};
 use freeze_ledger::{Holder, Ledger};
 use std::alloc::Global;
+use std::process::Abort;
 use std::test::Fail;
 use world::Refusal;
 
@@ -112,21 +113,43 @@ fn freeze(ledger: &mut Ledger, queue: u32) -> Result<(), Fail> {
     Ok(())
 }
 
-#[test]
-fn numbers_rise_over_all_queues(rt: HostRuntime) -> Result<(), Fail> {
-    let mut table = two_queues(rt.alloc())?;
-    assert_eq!(rt; submit(&mut table, 1, 0, 0), Ok(CcbId(1)));
-    assert_eq!(rt; submit(&mut table, 0, 0, 0), Ok(CcbId(2)));
-    assert_eq!(rt; submit(&mut table, 2, 0, 0), Err(Refusal::Unknown));
-    assert_eq!(rt; submit(&mut table, u32::MAX, 0, 0), Err(Refusal::Unknown));
-    assert_eq!(rt; submit(&mut table, 1, 7, 9), Ok(CcbId(3)));
-    let ccb = ccb_of(&table, 3)?;
+// The numbers of CCBs of both queues, and of one that is not there.
+fn submit_to_all(rt: &impl Abort, table: &mut CcbTable) -> Result<(), Fail> {
+    assert_eq!(rt; submit(table, 1, 0, 0), Ok(CcbId(1)));
+    assert_eq!(rt; submit(table, 0, 0, 0), Ok(CcbId(2)));
+    assert_eq!(rt; submit(table, 2, 0, 0), Err(Refusal::Unknown));
+    assert_eq!(rt; submit(table, u32::MAX, 0, 0), Err(Refusal::Unknown));
+    assert_eq!(rt; submit(table, 1, 7, 9), Ok(CcbId(3)));
+    let ccb = ccb_of(table, 3)?;
     assert_eq!(rt; (ccb.number, ccb.queue), (CcbId(3), QueueId(1)));
     assert_eq!(rt; (ccb.priority, ccb.retries, ccb.attempts), (7, 9, 0));
     for (number, want) in [(0, None), (3, Some(CcbState::Waiting)), (4, None)] {
-        assert_eq!(rt; state_of(&table, number), want);
+        assert_eq!(rt; state_of(table, number), want);
     }
-    assert_eq!(rt; active(&table), 0);
+    assert_eq!(rt; active(table), 0);
+    Ok(())
+}
+
+#[test]
+fn numbers_rise_over_all_queues(rt: HostRuntime) -> Result<(), Fail> {
+    let mut table = two_queues(rt.alloc())?;
+    submit_to_all(&rt, &mut table)
+}
+
+// Four CCBs of a queue of three openings, and one of another queue.
+fn start_by_priority(rt: &impl Abort, table: &mut CcbTable, ledger: &Ledger) -> Result<(), Fail> {
+    for priority in [5, 2, 9, 2] {
+        assert!(rt; submit(table, 1, priority, 0).is_ok());
+    }
+    // More urgent, and of another queue.
+    assert_eq!(rt; submit(table, 0, 0, 0), Ok(CcbId(5)));
+    for want in [2, 4, 1] {
+        assert_eq!(rt; dispatch(table, 1, ledger)?, Ok(CcbId(want)));
+        assert_eq!(rt; state_of(table, want), Some(CcbState::Active));
+    }
+    assert_eq!(rt; active(table), 3);
+    assert_eq!(rt; ccb_of(table, 4)?.attempts, 1);
+    assert_eq!(rt; state_of(table, 3), Some(CcbState::Waiting));
     Ok(())
 }
 
@@ -134,18 +157,26 @@ fn numbers_rise_over_all_queues(rt: HostRuntime) -> Result<(), Fail> {
 fn least_starts(rt: HostRuntime) -> Result<(), Fail> {
     let ledger = ledger_of_two(rt.alloc())?;
     let mut table = two_queues(rt.alloc())?;
-    for priority in [5, 2, 9, 2] {
-        assert!(rt; submit(&mut table, 1, priority, 0).is_ok());
-    }
-    // More urgent, and of another queue.
-    assert_eq!(rt; submit(&mut table, 0, 0, 0), Ok(CcbId(5)));
-    for want in [2, 4, 1] {
-        assert_eq!(rt; dispatch(&mut table, 1, &ledger)?, Ok(CcbId(want)));
-        assert_eq!(rt; state_of(&table, want), Some(CcbState::Active));
-    }
-    assert_eq!(rt; active(&table), 3);
-    assert_eq!(rt; ccb_of(&table, 4)?.attempts, 1);
-    assert_eq!(rt; state_of(&table, 3), Some(CcbState::Waiting));
+    start_by_priority(&rt, &mut table, &ledger)
+}
+
+// A queue of one opening without CCBs, with two, and frozen.
+fn refuse_to_start(rt: &impl Abort, table: &mut CcbTable, ledger: &mut Ledger) -> Result<(), Fail> {
+    assert_eq!(rt; dispatch(table, 2, ledger)?, Err(Refusal::Unknown));
+    assert_eq!(rt; dispatch(table, 0, ledger)?, Err(Refusal::NothingWaits));
+    assert_eq!(rt; submit(table, 0, 0, 0), Ok(CcbId(1)));
+    assert_eq!(rt; submit(table, 0, 0, 0), Ok(CcbId(2)));
+    assert_eq!(rt; dispatch(table, 0, ledger)?, Ok(CcbId(1)));
+    // The one opening is taken.
+    assert_eq!(rt; dispatch(table, 0, ledger)?, Err(Refusal::NoOpening));
+    freeze(ledger, 0)?;
+    // Frozen is told first, and of this queue alone.
+    assert_eq!(rt; dispatch(table, 0, ledger)?, Err(Refusal::Frozen));
+    assert_eq!(rt; dispatch(table, 1, ledger)?, Err(Refusal::NothingWaits));
+    assert_eq!(rt;
+        (active(table), state_of(table, 2)),
+        (1, Some(CcbState::Waiting))
+    );
     Ok(())
 }
 
@@ -153,27 +184,21 @@ fn least_starts(rt: HostRuntime) -> Result<(), Fail> {
 fn refusals_in_order(rt: HostRuntime) -> Result<(), Fail> {
     let mut ledger = ledger_of_two(rt.alloc())?;
     let mut table = two_queues(rt.alloc())?;
-    assert_eq!(rt; dispatch(&mut table, 2, &ledger)?, Err(Refusal::Unknown));
-    assert_eq!(rt;
-        dispatch(&mut table, 0, &ledger)?,
-        Err(Refusal::NothingWaits)
-    );
-    assert_eq!(rt; submit(&mut table, 0, 0, 0), Ok(CcbId(1)));
-    assert_eq!(rt; submit(&mut table, 0, 0, 0), Ok(CcbId(2)));
-    assert_eq!(rt; dispatch(&mut table, 0, &ledger)?, Ok(CcbId(1)));
-    // The one opening is taken.
-    assert_eq!(rt; dispatch(&mut table, 0, &ledger)?, Err(Refusal::NoOpening));
-    freeze(&mut ledger, 0)?;
-    // Frozen is told first, and of this queue alone.
-    assert_eq!(rt; dispatch(&mut table, 0, &ledger)?, Err(Refusal::Frozen));
-    assert_eq!(rt;
-        dispatch(&mut table, 1, &ledger)?,
-        Err(Refusal::NothingWaits)
-    );
-    assert_eq!(rt;
-        (active(&table), state_of(&table, 2)),
-        (1, Some(CcbState::Waiting))
-    );
+    refuse_to_start(&rt, &mut table, &mut ledger)
+}
+
+// Of three CCBs of a queue of one opening the first is finished.
+fn finish_first(rt: &impl Abort, table: &mut CcbTable, ledger: &Ledger) -> Result<(), Fail> {
+    for want in [1, 2, 3] {
+        assert_eq!(rt; submit(table, 0, 0, 0), Ok(CcbId(want)));
+    }
+    assert_eq!(rt; dispatch(table, 0, ledger)?, Ok(CcbId(1)));
+    finish(table, 1)?;
+    assert_eq!(rt; (active(table), state_of(table, 1)), (0, None));
+    // Its opening is free, and its number is not given again.
+    assert_eq!(rt; dispatch(table, 0, ledger)?, Ok(CcbId(2)));
+    assert_eq!(rt; submit(table, 0, 0, 0), Ok(CcbId(4)));
+    assert_eq!(rt; state_of(table, 3), Some(CcbState::Waiting));
     Ok(())
 }
 
@@ -181,16 +206,23 @@ fn refusals_in_order(rt: HostRuntime) -> Result<(), Fail> {
 fn finished_is_gone(rt: HostRuntime) -> Result<(), Fail> {
     let ledger = ledger_of_two(rt.alloc())?;
     let mut table = two_queues(rt.alloc())?;
-    for want in [1, 2, 3] {
-        assert_eq!(rt; submit(&mut table, 0, 0, 0), Ok(CcbId(want)));
+    finish_first(&rt, &mut table, &ledger)
+}
+
+// Of two CCBs of a queue of one opening the first is in recovery.
+fn recover_first(rt: &impl Abort, table: &mut CcbTable, ledger: &Ledger) -> Result<(), Fail> {
+    for want in [1, 2] {
+        assert_eq!(rt; submit(table, 0, 4, 0), Ok(CcbId(want)));
     }
-    assert_eq!(rt; dispatch(&mut table, 0, &ledger)?, Ok(CcbId(1)));
-    finish(&mut table, 1)?;
-    assert_eq!(rt; (active(&table), state_of(&table, 1)), (0, None));
-    // Its opening is free, and its number is not given again.
-    assert_eq!(rt; dispatch(&mut table, 0, &ledger)?, Ok(CcbId(2)));
-    assert_eq!(rt; submit(&mut table, 0, 0, 0), Ok(CcbId(4)));
-    assert_eq!(rt; state_of(&table, 3), Some(CcbState::Waiting));
+    assert_eq!(rt; dispatch(table, 0, ledger)?, Ok(CcbId(1)));
+    recover(table, 1)?;
+    let ccb = ccb_of(table, 1)?;
+    assert_eq!(rt; ccb.status, CamStatus::Busy);
+    assert_eq!(rt; ccb.sense.as_slice(), [0x70].as_slice());
+    assert_eq!(rt; state_of(table, 1), Some(CcbState::InRecovery));
+    // It takes no opening.
+    assert_eq!(rt; active(table), 0);
+    assert_eq!(rt; dispatch(table, 0, ledger)?, Ok(CcbId(2)));
     Ok(())
 }
 
@@ -198,18 +230,24 @@ fn finished_is_gone(rt: HostRuntime) -> Result<(), Fail> {
 fn in_recovery(rt: HostRuntime) -> Result<(), Fail> {
     let ledger = ledger_of_two(rt.alloc())?;
     let mut table = two_queues(rt.alloc())?;
+    recover_first(&rt, &mut table, &ledger)
+}
+
+// Of two CCBs of one priority the first fails twice.
+fn requeue_twice(rt: &impl Abort, table: &mut CcbTable, ledger: &Ledger) -> Result<(), Fail> {
     for want in [1, 2] {
-        assert_eq!(rt; submit(&mut table, 0, 4, 0), Ok(CcbId(want)));
+        assert_eq!(rt; submit(table, 0, 4, 3), Ok(CcbId(want)));
     }
-    assert_eq!(rt; dispatch(&mut table, 0, &ledger)?, Ok(CcbId(1)));
-    recover(&mut table, 1)?;
-    let ccb = ccb_of(&table, 1)?;
-    assert_eq!(rt; ccb.status, CamStatus::Busy);
-    assert_eq!(rt; ccb.sense.as_slice(), [0x70].as_slice());
-    assert_eq!(rt; state_of(&table, 1), Some(CcbState::InRecovery));
-    // It takes no opening.
-    assert_eq!(rt; active(&table), 0);
-    assert_eq!(rt; dispatch(&mut table, 0, &ledger)?, Ok(CcbId(2)));
+    // It starts before the higher number, each time.
+    for (used, left, attempts) in [(2, 1, 1), (5, 0, 2)] {
+        assert_eq!(rt; dispatch(table, 0, ledger)?, Ok(CcbId(1)));
+        recover(table, 1)?;
+        requeue(table, 1, used)?;
+        let ccb = ccb_of(table, 1)?;
+        assert_eq!(rt; (ccb.retries, ccb.attempts), (left, attempts));
+        assert_eq!(rt; ccb.status, CamStatus::RequestInProgress);
+        assert_eq!(rt; state_of(table, 1), Some(CcbState::Waiting));
+    }
     Ok(())
 }
 
@@ -217,19 +255,25 @@ fn in_recovery(rt: HostRuntime) -> Result<(), Fail> {
 fn requeued_keeps_its_number(rt: HostRuntime) -> Result<(), Fail> {
     let ledger = ledger_of_two(rt.alloc())?;
     let mut table = two_queues(rt.alloc())?;
-    for want in [1, 2] {
-        assert_eq!(rt; submit(&mut table, 0, 4, 3), Ok(CcbId(want)));
+    requeue_twice(&rt, &mut table, &ledger)
+}
+
+// A queue takes CCBs up to its limit, and again where one is gone.
+fn fill_a_queue(rt: &impl Abort, table: &mut CcbTable, ledger: &Ledger) -> Result<(), Fail> {
+    for number in 1..257 {
+        assert_eq!(rt; submit(table, 1, 257 - number, 0), Ok(CcbId(number)));
     }
-    // It starts before the higher number, each time.
-    for (used, left, attempts) in [(2, 1, 1), (5, 0, 2)] {
-        assert_eq!(rt; dispatch(&mut table, 0, &ledger)?, Ok(CcbId(1)));
-        recover(&mut table, 1)?;
-        requeue(&mut table, 1, used)?;
-        let ccb = ccb_of(&table, 1)?;
-        assert_eq!(rt; (ccb.retries, ccb.attempts), (left, attempts));
-        assert_eq!(rt; ccb.status, CamStatus::RequestInProgress);
-        assert_eq!(rt; state_of(&table, 1), Some(CcbState::Waiting));
+    assert_eq!(rt; submit(table, 1, 0, 0), Err(Refusal::Limit));
+    for want in [256, 255] {
+        assert_eq!(rt; dispatch(table, 1, ledger)?, Ok(CcbId(want)));
     }
+    // Those that are active or in recovery are live, too.
+    recover(table, 256)?;
+    assert_eq!(rt; submit(table, 1, 0, 0), Err(Refusal::Limit));
+    assert_eq!(rt; submit(table, 0, 0, 0), Ok(CcbId(257)));
+    finish(table, 255)?;
+    assert_eq!(rt; submit(table, 1, 0, 0), Ok(CcbId(258)));
+    assert_eq!(rt; submit(table, 1, 0, 0), Err(Refusal::Limit));
     Ok(())
 }
 
@@ -237,37 +281,28 @@ fn requeued_keeps_its_number(rt: HostRuntime) -> Result<(), Fail> {
 fn no_more_than_256_of_a_queue(rt: HostRuntime) -> Result<(), Fail> {
     let ledger = ledger_of_two(rt.alloc())?;
     let mut table = two_queues(rt.alloc())?;
-    for number in 1..257 {
-        assert_eq!(rt; submit(&mut table, 1, 257 - number, 0), Ok(CcbId(number)));
+    fill_a_queue(&rt, &mut table, &ledger)
+}
+
+// Sixteen full queues, and one more.
+fn fill_all(rt: &impl Abort, table: &mut CcbTable) -> Result<(), Fail> {
+    for _ in 0..17 {
+        add_queue(table, 255)?;
     }
-    assert_eq!(rt; submit(&mut table, 1, 0, 0), Err(Refusal::Limit));
-    for want in [256, 255] {
-        assert_eq!(rt; dispatch(&mut table, 1, &ledger)?, Ok(CcbId(want)));
+    for queue in 0..16 {
+        for _ in 0..256 {
+            assert!(rt; submit(table, queue, 0, 0).is_ok());
+        }
     }
-    // Those that are active or in recovery are live, too.
-    recover(&mut table, 256)?;
-    assert_eq!(rt; submit(&mut table, 1, 0, 0), Err(Refusal::Limit));
-    assert_eq!(rt; submit(&mut table, 0, 0, 0), Ok(CcbId(257)));
-    finish(&mut table, 255)?;
-    assert_eq!(rt; submit(&mut table, 1, 0, 0), Ok(CcbId(258)));
-    assert_eq!(rt; submit(&mut table, 1, 0, 0), Err(Refusal::Limit));
+    assert_eq!(rt; submit(table, 16, 0, 0), Err(Refusal::Limit));
+    assert_eq!(rt; submit(table, 17, 0, 0), Err(Refusal::Unknown));
+    assert_eq!(rt; ccb_of(table, 4096)?.queue, QueueId(15));
+    assert_eq!(rt; state_of(table, 4097), None);
     Ok(())
 }
 
 #[test]
 fn no_more_than_4096_in_all(rt: HostRuntime) -> Result<(), Fail> {
     let mut table = CcbTable::with_room(rt.alloc())?;
-    for _ in 0..17 {
-        add_queue(&mut table, 255)?;
-    }
-    for queue in 0..16 {
-        for _ in 0..256 {
-            assert!(rt; submit(&mut table, queue, 0, 0).is_ok());
-        }
-    }
-    assert_eq!(rt; submit(&mut table, 16, 0, 0), Err(Refusal::Limit));
-    assert_eq!(rt; submit(&mut table, 17, 0, 0), Err(Refusal::Unknown));
-    assert_eq!(rt; ccb_of(&table, 4096)?.queue, QueueId(15));
-    assert_eq!(rt; state_of(&table, 4097), None);
-    Ok(())
+    fill_all(&rt, &mut table)
 }

@@ -74,10 +74,11 @@ impl Machine {
         self.place
     }
 
-    /// Whether both are one machine: the place is looked at first, since it tells most machines apart.
+    /// Whether both are one machine.
     pub fn is_same(&self, other: &Self) -> bool
         ensures { IsTrue result ↔ (self.now ≡ other.now) }
     {
+        // The proof knows what a machine keeps where a field of it is read.
         self.place == other.place && self == other
     }
 

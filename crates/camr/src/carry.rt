@@ -130,7 +130,7 @@ pub fn carry<W: Write, E: Write>(
 
 // What is to go out went out, or a writer failed.
 fn status(written: io::Result<()>) -> u8
-    ensures { result ≤ 2 }
+    ensures { MatchResult written (λ _. result ≡ 0) (λ _. result ≡ 2) }
 {
     match written {
         Ok(()) => 0,

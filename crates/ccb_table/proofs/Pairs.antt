@@ -11,8 +11,8 @@ use Rattle.dev_queue.specs.declared.waiting.WaitingCcb.{WaitingCcb}
 use Rattle.dev_queue.specs.Waiting.{with_pair, without, waits}
 use Rattle.world.specs.World.{LiveCcb}
 use Rattle.world.specs.Limits.{AreRising}
-use Rattle.world.proofs.Lists.Found.{at, put, leave, at_head, at_tail}
-use Rattle.world.proofs.Lists.Rising.{rising_high, missing_low, put_low, leave_low, found_bounds}
+use Rattle.world.proofs.Lists.Found.{at, put, leave, at_head, at_tail, put_tail, leave_tail}
+use Rattle.world.proofs.Lists.Rising.{rising_high, missing_low, put_here, leave_here, found_bounds}
 use Rattle.world.proofs.Steps.Moves.{ccb_key}
 use Rattle.ccb_table.specs.Queues.{pair_of, pairs_of}
 
@@ -112,15 +112,6 @@ module _ (p : LiveCcb → Bool) where
             ∙ ap (λ (qs : List WaitingCcb). pair_of c ∷ qs) (sym (pairs_no y ys none)))
       ]
 
-  -- the list with one changed, where it stands in front and where it does not
-  put_here : (low : ℕ) (y c : LiveCcb) (ys : List LiveCcb) (high : ℕ) → AreRising low (map ccb_key (y ∷ ys)) high → ccb_key y ≡ ccb_key c → put ccb_key c (y ∷ ys) ≡ c ∷ ys
-  put_here low y c ys high h same =
-      ap (λ (z : LiveCcb). z ∷ put ccb_key c ys) (cond-true (eqb (ccb_key y) (ccb_key c)) c y (eq-eqb _ _ same))
-      ∙ ap (λ (zs : List LiveCcb). c ∷ zs) (put_low ccb_key (ccb_key y) ys high c (omega (arith, same)) h.1)
-
-  put_there : (y c : LiveCcb) (ys : List LiveCcb) → (ccb_key y ≡ ccb_key c → ⊥) → put ccb_key c (y ∷ ys) ≡ y ∷ put ccb_key c ys
-  put_there y c ys apart = ap (λ (z : LiveCcb). z ∷ put ccb_key c ys) (cond-false (eqb (ccb_key y) (ccb_key c)) c y (ne_eqb _ _ apart))
-
   -- one that passed, and does no more
   pub pairs_put_out : (low : ℕ) (xs : List LiveCcb) (high : ℕ) (c x : LiveCcb) → AreRising low (map ccb_key xs) high → at ccb_key (ccb_key c) xs ≡ Some x → p x ≡ true → p c ≡ false → pairs_of p (put ccb_key c xs) ≡ without c.ccb.number (pairs_of p xs)
   pairs_put_out low [] high c x h e was is = absurd (let bad : None ≡ Some x = e in cc)
@@ -129,14 +120,14 @@ module _ (p : LiveCcb → Bool) where
         | inl same ↦
             let both : Some y ≡ Some x = sym (at_head ccb_key (ccb_key c) y ys same) ∙ e in
             let is_x : y ≡ x = cc in
-            ap (pairs_of p) (put_here low y c ys high h same)
+            ap (pairs_of p) (put_here ccb_key low ys high c y h same)
             ∙ (pairs_no c ys is
             ∙ (sym (without_low c.ccb.number (ccb_key y) ys high (omega (arith, same)) h.1)
             ∙ (sym (cond-false (not (eqb (ccb_key y) (ccb_key c))) _ _ (not_from_true _ (eq-eqb _ _ same)))
             ∙ ap (without c.ccb.number) (sym (pairs_yes y ys (ap p is_x ∙ was))))))
         | inr apart ↦
             let rest = pairs_put_out (ccb_key y) ys high c x h.1 (sym (at_tail ccb_key (ccb_key c) y ys apart) ∙ e) was is in
-            ap (pairs_of p) (put_there y c ys apart)
+            ap (pairs_of p) (put_tail ccb_key c y ys apart)
             ∙ elim (cases_Bool (p y)) [
               | inl one ↦
                   pairs_yes y (put ccb_key c ys) one
@@ -155,7 +146,7 @@ module _ (p : LiveCcb → Bool) where
         | inl same ↦
             let both : Some y ≡ Some x = sym (at_head ccb_key (ccb_key c) y ys same) ∙ e in
             let is_x : y ≡ x = cc in
-            ap (pairs_of p) (put_here low y c ys high h same)
+            ap (pairs_of p) (put_here ccb_key low ys high c y h same)
             ∙ (pairs_yes c ys is
             ∙ (sym (with_low c (ccb_key y) ys high (omega (arith, same)) h.1)
             ∙ ap (with_pair (pair_of c)) (sym (pairs_no y ys (ap p is_x ∙ was)))))
@@ -163,7 +154,7 @@ module _ (p : LiveCcb → Bool) where
             let there = sym (at_tail ccb_key (ccb_key c) y ys apart) ∙ e in
             let rest = pairs_put_in (ccb_key y) ys high c x h.1 there was is in
             let up = (found_bounds ccb_key (ccb_key y) ys high (ccb_key c) x h.1 there).0 in
-            ap (pairs_of p) (put_there y c ys apart)
+            ap (pairs_of p) (put_tail ccb_key c y ys apart)
             ∙ elim (cases_Bool (p y)) [
               | inl one ↦
                   pairs_yes y (put ccb_key c ys) one
@@ -182,9 +173,9 @@ module _ (p : LiveCcb → Bool) where
         | inl same ↦
             let both : Some y ≡ Some x = sym (at_head ccb_key (ccb_key c) y ys same) ∙ e in
             let is_x : y ≡ x = cc in
-            ap (pairs_of p) (put_here low y c ys high h same) ∙ (pairs_no c ys is ∙ sym (pairs_no y ys (ap p is_x ∙ was)))
+            ap (pairs_of p) (put_here ccb_key low ys high c y h same) ∙ (pairs_no c ys is ∙ sym (pairs_no y ys (ap p is_x ∙ was)))
         | inr apart ↦
-            ap (pairs_of p) (put_there y c ys apart)
+            ap (pairs_of p) (put_tail ccb_key c y ys apart)
             ∙ pairs_both y (put ccb_key c ys) ys (pairs_put_no (ccb_key y) ys high c x h.1 (sym (at_tail ccb_key (ccb_key c) y ys apart) ∙ e) was is)
       ]
 
@@ -196,9 +187,9 @@ module _ (p : LiveCcb → Bool) where
         | inl same ↦
             let both : Some y ≡ Some x = sym (at_head ccb_key n y ys same) ∙ e in
             let is_x : y ≡ x = cc in
-            ap (pairs_of p) (cond-false (not (eqb (ccb_key y) n)) _ _ (not_from_true _ (eq-eqb _ _ same)) ∙ leave_low ccb_key (ccb_key y) ys high n (omega (arith, same)) h.1)
+            ap (pairs_of p) (leave_here ccb_key low ys high n y h same)
             ∙ sym (pairs_no y ys (ap p is_x ∙ was))
         | inr apart ↦
-            ap (pairs_of p) (cond-true (not (eqb (ccb_key y) n)) _ _ (not_from_false _ (ne_eqb _ _ apart)))
+            ap (pairs_of p) (leave_tail ccb_key n y ys apart)
             ∙ pairs_both y (leave ccb_key n ys) ys (pairs_gone (ccb_key y) ys high n x h.1 (sym (at_tail ccb_key n y ys apart) ∙ e) was)
       ]

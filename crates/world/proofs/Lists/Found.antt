@@ -67,10 +67,10 @@ module _ {A : Type 0} (key : A → ℕ) where
       ]
 
   -- one that is changed in its place
-  put_head : (c y : A) (xs : List A) → key y ≡ key c → put c (y ∷ xs) ≡ c ∷ put c xs
+  pub put_head : (c y : A) (xs : List A) → key y ≡ key c → put c (y ∷ xs) ≡ c ∷ put c xs
   put_head c y xs e = ap (λ (z : A). z ∷ put c xs) (cond-true (eqb (key y) (key c)) c y (eq-eqb _ _ e))
 
-  put_tail : (c y : A) (xs : List A) → (key y ≡ key c → ⊥) → put c (y ∷ xs) ≡ y ∷ put c xs
+  pub put_tail : (c y : A) (xs : List A) → (key y ≡ key c → ⊥) → put c (y ∷ xs) ≡ y ∷ put c xs
   put_tail c y xs apart = ap (λ (z : A). z ∷ put c xs) (cond-false (eqb (key y) (key c)) c y (ne_eqb _ _ apart))
 
   pub put_same : (c : A) (xs : List A) (x : A) → at (key c) xs ≡ Some x → at (key c) (put c xs) ≡ Some c
@@ -124,10 +124,10 @@ module _ {A : Type 0} (key : A → ℕ) where
       ]
 
   -- one fewer
-  leave_head : (m : ℕ) (y : A) (xs : List A) → key y ≡ m → leave m (y ∷ xs) ≡ leave m xs
+  pub leave_head : (m : ℕ) (y : A) (xs : List A) → key y ≡ m → leave m (y ∷ xs) ≡ leave m xs
   leave_head m y xs e = cond-false (not (eqb (key y) m)) _ _ (not_from_true _ (eq-eqb _ _ e))
 
-  leave_tail : (m : ℕ) (y : A) (xs : List A) → (key y ≡ m → ⊥) → leave m (y ∷ xs) ≡ y ∷ leave m xs
+  pub leave_tail : (m : ℕ) (y : A) (xs : List A) → (key y ≡ m → ⊥) → leave m (y ∷ xs) ≡ y ∷ leave m xs
   leave_tail m y xs apart = cond-true (not (eqb (key y) m)) _ _ (not_from_false _ (ne_eqb _ _ apart))
 
   pub leave_same : (m : ℕ) (xs : List A) → at m (leave m xs) ≡ None

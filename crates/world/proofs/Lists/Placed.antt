@@ -1,11 +1,10 @@
 -- Lists whose elements bear rising numbers, by place: what stands at a place is what its number finds, so a change by
 -- place is one by number.
-use Rattle.std.proofs.Common.{◌≡◌, ℕ, zero, suc, ◌<◌, ◌≤◌, List, [], ◌∷◌, map, length, get_or, set, not, eqb, Some, None, refl, ap, sym, ◌∙◌, arith}
+use Rattle.std.proofs.Common.{◌≡◌, ℕ, zero, suc, ◌<◌, ◌≤◌, List, [], ◌∷◌, map, length, get_or, set, Some, None, refl, ap, sym, ◌∙◌, arith}
 use Rattle.std.specs.List.{remove}
-use Rattle.std.proofs.lemmas.Bool.{cond-true, cond-false, eq-eqb, ne_eqb, not_from_true, not_from_false}
 use Rattle.world.specs.Limits.{AreRising}
-use Rattle.world.proofs.Lists.Found.{at, put, leave, at_head, at_tail}
-use Rattle.world.proofs.Lists.Rising.{rising_high, missing_low, put_low, leave_low}
+use Rattle.world.proofs.Lists.Found.{at, put, leave, at_head, at_tail, put_tail, leave_tail}
+use Rattle.world.proofs.Lists.Rising.{rising_high, missing_low, put_here, leave_here}
 
 module _ {A : Type 0} (key : A → ℕ) where
   pub above : (low : ℕ) (xs : List A) (high k : ℕ) (d : A) → k < length xs → AreRising low (map key xs) high → low < key (get_or xs k d)
@@ -58,20 +57,18 @@ module _ {A : Type 0} (key : A → ℕ) where
   pub set_is_put : (low : ℕ) (xs : List A) (high k : ℕ) (c d : A) → k < length xs → AreRising low (map key xs) high → key (get_or xs k d) ≡ key c → set xs k c ≡ put key c xs
   set_is_put low [] high k c d l h e = absurd (omega arith)
   set_is_put low (x ∷ xs) high zero c d l h e =
-      sym (ap (λ (z : A). z ∷ put key c xs) (cond-true (eqb (key x) (key c)) c x (eq-eqb _ _ e))
-      ∙ ap (λ (zs : List A). c ∷ zs) (put_low key (key x) xs high c (omega (arith, e)) h.1))
+      sym (put_here key low xs high c x h e)
   set_is_put low (x ∷ xs) high (suc k) c d l h e =
       let up = above (key x) xs high k d (omega arith) h.1 in
       ap (λ (zs : List A). x ∷ zs) (set_is_put (key x) xs high k c d (omega arith) h.1 e)
-      ∙ sym (ap (λ (z : A). z ∷ put key c xs) (cond-false (eqb (key x) (key c)) c x (ne_eqb _ _ (λ same. omega (arith, up, same, e)))))
+      ∙ sym (put_tail key c x xs (λ same. omega (arith, up, same, e)))
 
   -- so is a removal
   pub remove_is_leave : (low : ℕ) (xs : List A) (high k n : ℕ) (d : A) → k < length xs → AreRising low (map key xs) high → key (get_or xs k d) ≡ n → remove xs k ≡ leave key n xs
   remove_is_leave low [] high k n d l h e = absurd (omega arith)
   remove_is_leave low (x ∷ xs) high zero n d l h e =
-      sym (cond-false (not (eqb (key x) n)) (x ∷ leave key n xs) (leave key n xs) (not_from_true _ (eq-eqb _ _ e))
-      ∙ leave_low key (key x) xs high n (omega (arith, e)) h.1)
+      sym (leave_here key low xs high n x h e)
   remove_is_leave low (x ∷ xs) high (suc k) n d l h e =
       let up = above (key x) xs high k d (omega arith) h.1 in
       ap (λ (zs : List A). x ∷ zs) (remove_is_leave (key x) xs high k n d (omega arith) h.1 e)
-      ∙ sym (cond-true (not (eqb (key x) n)) (x ∷ leave key n xs) (leave key n xs) (not_from_false _ (ne_eqb _ _ (λ same. omega (arith, up, same, e)))))
+      ∙ sym (leave_tail key n x xs (λ same. omega (arith, up, same, e)))

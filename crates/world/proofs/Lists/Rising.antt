@@ -2,10 +2,10 @@
 -- one alone.
 use Rattle.std.proofs.Common.{◌≡◌, ℕ, ◌+◌, ◌<◌, ◌≤◌, List, [], ◌∷◌, ◌++◌, map, Bool, true, not, cond, eqb, Some, None, inl, inr, refl, ap, sym, subst, ◌∙◌, arith}
 use Rattle.std.specs.List.{find, filter, count_by}
-use Rattle.std.proofs.lemmas.Bool.{cases_Bool, cases_eq, cond-true, cond-false, cond_both, eq-eqb, ne_eqb, not_from_true, not_from_false}
+use Rattle.std.proofs.lemmas.Bool.{cases_Bool, cases_eq, cond-true, cond-false, cond_both}
 use Rattle.std.proofs.lemmas.List.Sums.{sum_by-cons}
 use Rattle.world.specs.Limits.{AreRising}
-use Rattle.world.proofs.Lists.Found.{at, put, leave, at_head, at_tail}
+use Rattle.world.proofs.Lists.Found.{at, put, leave, at_head, at_tail, put_head, put_tail, leave_head, leave_tail}
 
 pub rising_lower : (low lower : ℕ) (ns : List ℕ) (high : ℕ) → lower ≤ low → AreRising low ns high → AreRising lower ns high
 rising_lower low lower [] high le h = omega arith
@@ -51,14 +51,21 @@ module _ {A : Type 0} (key : A → ℕ) where
   pub put_low : (low : ℕ) (xs : List A) (high : ℕ) (c : A) → key c ≤ low → AreRising low (map key xs) high → put key c xs ≡ xs
   put_low low [] high c le h = refl
   put_low low (y ∷ xs) high c le h =
-      ap (λ (z : A). z ∷ put key c xs) (cond-false (eqb (key y) (key c)) c y (ne_eqb _ _ (λ e. omega (arith, e, le, h.0))))
+      put_tail key c y xs (λ e. omega (arith, e, le, h.0))
       ∙ ap (λ (zs : List A). y ∷ zs) (put_low (key y) xs high c (omega (arith, le, h.0)) h.1)
 
   pub leave_low : (low : ℕ) (xs : List A) (high m : ℕ) → m ≤ low → AreRising low (map key xs) high → leave key m xs ≡ xs
   leave_low low [] high m le h = refl
   leave_low low (y ∷ xs) high m le h =
-      cond-true (not (eqb (key y) m)) _ _ (not_from_false _ (ne_eqb _ _ (λ e. omega (arith, e, le, h.0))))
+      leave_tail key m y xs (λ e. omega (arith, e, le, h.0))
       ∙ ap (λ (zs : List A). y ∷ zs) (leave_low (key y) xs high m (omega (arith, le, h.0)) h.1)
+
+  -- where the first has the number, it alone is changed or left out
+  pub put_here : (low : ℕ) (xs : List A) (high : ℕ) (c y : A) → AreRising low (map key (y ∷ xs)) high → key y ≡ key c → put key c (y ∷ xs) ≡ c ∷ xs
+  put_here low xs high c y h same = put_head key c y xs same ∙ ap (λ (zs : List A). c ∷ zs) (put_low (key y) xs high c (omega (arith, same)) h.1)
+
+  pub leave_here : (low : ℕ) (xs : List A) (high m : ℕ) (y : A) → AreRising low (map key (y ∷ xs)) high → key y ≡ m → leave key m (y ∷ xs) ≡ xs
+  leave_here low xs high m y h same = leave_head key m y xs same ∙ leave_low (key y) xs high m (omega (arith, same)) h.1
 
   -- to put an element where it stands changes nothing
   pub put_self : (low : ℕ) (xs : List A) (high : ℕ) (x : A) → AreRising low (map key xs) high → at key (key x) xs ≡ Some x → put key x xs ≡ xs
@@ -68,10 +75,9 @@ module _ {A : Type 0} (key : A → ℕ) where
         | inl same ↦
             let both : Some y ≡ Some x = sym (at_head key (key x) y xs same) ∙ e in
             let is : x ≡ y = cc in
-            ap (λ (z : A). z ∷ put key x xs) (cond-true (eqb (key y) (key x)) x y (eq-eqb _ _ same) ∙ is)
-            ∙ ap (λ (zs : List A). y ∷ zs) (put_low (key y) xs high x (omega (arith, same)) h.1)
+            put_here low xs high x y h same ∙ ap (λ (z : A). z ∷ xs) is
         | inr apart ↦
-            ap (λ (z : A). z ∷ put key x xs) (cond-false (eqb (key y) (key x)) x y (ne_eqb _ _ apart))
+            put_tail key x y xs apart
             ∙ ap (λ (zs : List A). y ∷ zs) (put_self (key y) xs high x h.1 (sym (at_tail key (key x) y xs apart) ∙ e))
       ]
 
@@ -87,17 +93,13 @@ module _ {A : Type 0} (key : A → ℕ) where
         | inl same ↦
             let both : Some y ≡ Some x = sym (at_head key (key c) y xs same) ∙ e in
             let is : y ≡ x = cc in
-            let now : put key c (y ∷ xs) ≡ c ∷ xs =
-            ap (λ (z : A). z ∷ put key c xs) (cond-true (eqb (key y) (key c)) c y (eq-eqb _ _ same))
-            ∙ ap (λ (zs : List A). c ∷ zs) (put_low (key y) xs high c (omega (arith, same)) h.1) in
-            let left : count_by p (put key c (y ∷ xs)) ≡ count_by p (c ∷ xs) = ap (count_by p) now in
+            let left : count_by p (put key c (y ∷ xs)) ≡ count_by p (c ∷ xs) = ap (count_by p) (put_here low xs high c y h same) in
             let after = sum_by-cons (λ (z : A). cond (p z) 1 0) c xs in
             let one_is : cond {A = ℕ} (p y) 1 0 ≡ cond (p x) 1 0 = ap (λ (z : A). cond {A = ℕ} (p z) 1 0) is in
             omega (arith, all, left, after, one_is)
         | inr apart ↦
             let rest = count_put p (key y) xs high c x h.1 (sym (at_tail key (key c) y xs apart) ∙ e) in
-            let now : put key c (y ∷ xs) ≡ y ∷ put key c xs = ap (λ (z : A). z ∷ put key c xs) (cond-false (eqb (key y) (key c)) c y (ne_eqb _ _ apart)) in
-            let left : count_by p (put key c (y ∷ xs)) ≡ count_by p (y ∷ put key c xs) = ap (count_by p) now in
+            let left : count_by p (put key c (y ∷ xs)) ≡ count_by p (y ∷ put key c xs) = ap (count_by p) (put_tail key c y xs apart) in
             let after = sum_by-cons (λ (z : A). cond (p z) 1 0) y (put key c xs) in
             omega (arith, all, rest, left, after)
       ]
@@ -121,15 +123,12 @@ module _ {A : Type 0} (key : A → ℕ) where
         | inl same ↦
             let both : Some y ≡ Some x = sym (at_head key n y xs same) ∙ e in
             let is : y ≡ x = cc in
-            let now : leave key n (y ∷ xs) ≡ xs =
-            cond-false (not (eqb (key y) n)) _ _ (not_from_true _ (eq-eqb _ _ same)) ∙ leave_low (key y) xs high n (omega (arith, same)) h.1 in
-            let left : count_by p (leave key n (y ∷ xs)) ≡ count_by p xs = ap (count_by p) now in
+            let left : count_by p (leave key n (y ∷ xs)) ≡ count_by p xs = ap (count_by p) (leave_here low xs high n y h same) in
             let one_is : cond {A = ℕ} (p y) 1 0 ≡ cond (p x) 1 0 = ap (λ (z : A). cond {A = ℕ} (p z) 1 0) is in
             omega (arith, all, left, one_is)
         | inr apart ↦
             let rest = count_gone p (key y) xs high n x h.1 (sym (at_tail key n y xs apart) ∙ e) in
-            let now : leave key n (y ∷ xs) ≡ y ∷ leave key n xs = cond-true (not (eqb (key y) n)) _ _ (not_from_false _ (ne_eqb _ _ apart)) in
-            let left : count_by p (leave key n (y ∷ xs)) ≡ count_by p (y ∷ leave key n xs) = ap (count_by p) now in
+            let left : count_by p (leave key n (y ∷ xs)) ≡ count_by p (y ∷ leave key n xs) = ap (count_by p) (leave_tail key n y xs apart) in
             let after = sum_by-cons (λ (z : A). cond (p z) 1 0) y (leave key n xs) in
             omega (arith, all, rest, left, after)
       ]

@@ -4,3 +4,4 @@ pub mod SenseBytes
 pub mod Completion
 pub mod ControlBlock
 pub mod Context
+pub mod Rising

@@ -16,17 +16,17 @@ length-with_pair p (o ∷ os) =
 
 -- above a lower number, too
 lowered : (low lower : ℕ) (ps : List WaitingCcb) → lower ≤ low → AreInOrder low ps → AreInOrder lower ps
-lowered low lower [] le h = tt
-lowered low lower (p ∷ ps) le h = (omega arith, h.1)
+lowered low lower [] le h = omega arith
+lowered low lower (p ∷ ps) le h = (omega (arith, h.0), h.1)
 
 -- one more CCB, of a number that did not wait, keeps the order
-pub order_with_pair : (low : ℕ) (p : WaitingCcb) (ps : List WaitingCcb) → AreInOrder low ps → low ≤ p.number.0 → waits p.number ps ≡ false → AreInOrder low (with_pair p ps)
-order_with_pair low p [] h le new = (le, tt)
-order_with_pair low p (o ∷ os) h le new =
+pub order_with_pair : (low : ℕ) (p : WaitingCcb) (ps : List WaitingCcb) → AreInOrder low ps → low ≤ p.number.0 → p.number.0 < 2 ^ 32 → waits p.number ps ≡ false → AreInOrder low (with_pair p ps)
+order_with_pair low p [] h le small new = (omega (arith, le), omega (arith, small))
+order_with_pair low p (o ∷ os) h le small new =
     let other = or_parts (eqb o.number.0 p.number.0) _ new in
     cond_both (ltb p.number.0 o.number.0) _ _ (AreInOrder low)
-    (λ e. (le, (omega (arith, ltb-true _ _ e), h.1)))
-    (λ e. (h.0, order_with_pair (o.number.0 + 1) p os h.1 (omega (arith, ltb-false _ _ e, eqb-false _ _ other.0)) other.1))
+    (λ e. (omega (arith, le), (omega (arith, ltb-true _ _ e), h.1)))
+    (λ e. (h.0, order_with_pair (o.number.0 + 1) p os h.1 (omega (arith, ltb-false _ _ e, eqb-false _ _ other.0)) small other.1))
 
 -- put behind the lower numbers, it stands in its place
 pub insert_is : (low : ℕ) (p : WaitingCcb) (ps : List WaitingCcb) (k : ℕ) → AreInOrder low ps → waits p.number ps ≡ false → k ≤ length ps → AllWithin (λ (o : WaitingCcb). o.number.0 < p.number.0) ps 0 k → AllWithin (λ (o : WaitingCcb). p.number.0 ≤ o.number.0) ps k (length ps) → insert ps k p ≡ with_pair p ps
@@ -47,7 +47,7 @@ insert_is low p (o ∷ os) (suc k) h new le lower others =
 -- what stands in the list has at least the lowest number
 above : (low : ℕ) (ps : List WaitingCcb) (k : ℕ) (d : WaitingCcb) → k < length ps → AreInOrder low ps → low ≤ (get_or ps k d).number.0
 above low [] k d l h = absurd (omega arith)
-above low (p ∷ ps) zero d l h = h.0
+above low (p ∷ ps) zero d l h = omega (arith, h.0)
 above low (p ∷ ps) (suc k) d l h = omega (arith, above (p.number.0 + 1) ps k d (omega arith) h.1, h.0)
 
 -- numbers do not fall from place to place

@@ -1,7 +1,8 @@
 -- What a list of waiting CCBs says: which of them starts first, and the list with one more or one fewer.
-use Rattle.std.specs.Prelude.{◌≡◌, ℕ, ◌+◌, ◌<◌, ◌≤◌, Bool, not, ◌==◌, nat_lt, List, [], ◌∷◌, length, filter, All, Contains, if◌then◌else◌}
+use Rattle.std.specs.Prelude.{◌≡◌, ℕ, ◌+◌, ◌<◌, ◌≤◌, ◌^◌, Bool, not, ◌==◌, nat_lt, List, [], ◌∷◌, length, map, filter, All, Contains, if◌then◌else◌}
 use Rattle.std.specs.List.{list_any, HoldsAt}
 use Rattle.ccb.specs.declared.CcbId.{CcbId}
+use Rattle.ccb.specs.Rising.{AreRising}
 use Rattle.dev_queue.specs.declared.waiting.WaitingCcb.{WaitingCcb}
 
 -- a CCB starts no later than another: its priority number is not above the other's, and where both have the same,
@@ -26,10 +27,9 @@ IsLeastAt pairs place = (place < length pairs) × HoldsAt (λ pair. All (StartsF
 abbrev pub IsLeastNumber : List WaitingCcb → CcbId → Type 0
 IsLeastNumber pairs number = (priority : ℕ) × IsLeast pairs (record { priority = priority; number = number })
 
--- each number is at least `low` and above the one before
+-- each number is at least `low` and above the one before: counted from 1, they rise from above `low`
 abbrev pub AreInOrder : ℕ → List WaitingCcb → Type 0
-AreInOrder low [] = Unit {0}
-AreInOrder low (pair ∷ pairs) = (low ≤ pair.number.0) × AreInOrder (pair.number.0 + 1) pairs
+AreInOrder low pairs = AreRising low (map (λ pair. pair.number.0 + 1) pairs) (2 ^ 32)
 
 -- a CCB of this number waits
 abbrev pub waits : CcbId → List WaitingCcb → Bool

@@ -1,9 +1,11 @@
 -- Lists of freezes whose numbers rise: what a freeze at the end and a removal leave.
-use Rattle.std.proofs.Common.{◌≡◌, ℕ, zero, suc, ◌+◌, ◌<◌, ◌≤◌, List, [], ◌∷◌, ◌++◌, length, get_or, Bool, true, false, not, cond, eqb, Some, refl, ap, sym, ◌∙◌, arith}
-use Rattle.std.proofs.lemmas.Bool.{eq-eqb, ne_eqb, cond-true, cond-false, not_from_true, not_from_false}
+use Rattle.std.proofs.Common.{◌≡◌, ℕ, zero, suc, ◌+◌, ◌<◌, ◌≤◌, List, [], ◌∷◌, ◌++◌, length, map, get_or, Bool, true, false, not, cond, eqb, Some, refl, ap, sym, ◌∙◌, arith}
+use Rattle.std.proofs.lemmas.Bool.{eq-eqb, ne_eqb, cond-true, cond-false, cond_both, not_from_true, not_from_false}
 use Rattle.std.specs.List.{remove, find, filter}
+use Rattle.ccb.specs.Rising.{AreRising}
 use Rattle.freeze_ledger.specs.declared.entries.Freeze.{Freeze}
-use Rattle.freeze_ledger.specs.Freezes.{entry_of, without}
+use Rattle.freeze_ledger.specs.declared.entries.Holder.{Holder}
+use Rattle.freeze_ledger.specs.Freezes.{entry_of, holders_of, names, without}
 use Rattle.freeze_ledger.specs.Invariant.{AreNumbered}
 
 -- above a lower number, too
@@ -55,3 +57,18 @@ remove_at low (g ∷ fs) high (suc k) f l h e =
     let same = ap (λ (x : Freeze). x.number) e in
     ap (λ gs. g ∷ gs) (remove_at g.number fs high k f (omega arith) h.1 e)
     ∙ sym (cond-true (not (eqb g.number f.number)) _ _ (not_from_false _ (ne_eqb _ _ (λ q. omega (arith, up, same, q)))))
+
+-- rising numbers rise from a lower one, too
+rising_lower : (low lower : ℕ) (ns : List ℕ) (high : ℕ) → lower ≤ low → AreRising low ns high → AreRising lower ns high
+rising_lower low lower [] high le h = omega arith
+rising_lower low lower (n ∷ ns) high le h = (omega (arith, h.0), h.1)
+
+-- the numbers of one queue's freezes rise as those of all do
+pub holders_rise : (queue low : ℕ) (fs : List Freeze) (high : ℕ) → AreNumbered low fs high → AreRising low (map (λ (holder : ℕ × Holder). holder.0) (holders_of queue fs)) high
+holders_rise queue low [] high h = h
+holders_rise queue low (g ∷ fs) high h =
+    let rest = holders_rise queue g.number fs high h.1 in
+    let told : Freeze → ℕ × Holder = λ freeze. (freeze.number, freeze.holder) in
+    cond_both (names queue g) _ _ (λ (gs : List Freeze). AreRising low (map (λ (holder : ℕ × Holder). holder.0) (map told gs)) high)
+    (λ _. (h.0, rest))
+    (λ _. rising_lower g.number low (map (λ (holder : ℕ × Holder). holder.0) (holders_of queue fs)) high (omega (arith, h.0)) rest)

@@ -1,14 +1,14 @@
 -- What a ledger keeps: each stored count is the number of the queue's entries, numbers rise, and there is room.
-use Rattle.std.specs.Prelude.{◌≡◌, ℕ, ◌<◌, ◌≤◌, ◌^◌, List, [], ◌∷◌, length, slice_index, vec_capacity, All}
+use Rattle.std.specs.Prelude.{◌≡◌, ℕ, ◌<◌, ◌≤◌, ◌^◌, List, length, map, slice_index, vec_capacity, All}
 use Rattle.std.specs.declared.vec.Vec.{Vec}
 use Rattle.std.specs.declared.alloc.Global.{Global}
+use Rattle.ccb.specs.Rising.{AreRising}
 use Rattle.freeze_ledger.specs.declared.entries.Freeze.{Freeze}
 use Rattle.freeze_ledger.specs.Freezes.{frozen}
 
--- each number is above `low` and above the one before, and none is above `high`
+-- the freezes' numbers rise from above `low`, and none is above `high`
 abbrev pub AreNumbered : ℕ → List Freeze → ℕ → Type 0
-AreNumbered low [] high = low ≤ high
-AreNumbered low (freeze ∷ freezes) high = (low < freeze.number) × AreNumbered freeze.number freezes high
+AreNumbered low freezes high = AreRising low (map (λ freeze. freeze.number) freezes) high
 
 pub record IsKept (freezes : Vec Freeze Global) (counts : List ℕ) (greatest : ℕ) : Type 0 where
   pub counted : (queue : ℕ) → queue < length counts → slice_index counts queue ≡ frozen queue freezes.items

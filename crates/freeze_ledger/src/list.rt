@@ -1,7 +1,8 @@
 // The ledger as a plain list of entries in the order of their numbers, beside a stored count a queue.
 // It relies on `entries` for what an entry is and on `token` for the right to give one back.
 
-ghost use Rattle.std.specs.Prelude.{◌≡◌, ◌+◌, ◌<◌, ◌≤◌, ◌^◌, ◌++◌, ◌∷◌, ◌↔◌, [], length, IsTrue, IsSome, IsOk, IsNone, IfSome, IfNone, IfOk, IfErr, OnOk, Contains, slice_index_or};
+ghost use Rattle.std.specs.Prelude.{◌≡◌, ◌+◌, ◌<◌, ◌≤◌, ◌^◌, ◌++◌, ◌∷◌, ◌↔◌, [], length, map, IsTrue, IsSome, IsOk, IsNone, IfSome, IfNone, IfOk, IfErr, OnOk, Contains, slice_index_or};
+ghost use Rattle.ccb.specs.Rising.{AreRising};
 ghost use Rattle.freeze_ledger.specs.Freezes.{frozen, meets_limit, entry_of, without, holders_of};
 ghost use Rattle.freeze_ledger.specs.State.{LedgerState, empty_ledger, next_freeze, with_entry, with_freezes};
 
@@ -149,7 +150,8 @@ impl Ledger {
     /// The number and the holder of each freeze of the queue, by rising number.
     pub fn holders(&self, queue: QueueId) -> Holders<'_>
         requires { queue.0 < self.now.queues }
-        ensures { result ≡ holders_of queue.0 self.now.freezes }
+        ensures entries { result ≡ holders_of queue.0 self.now.freezes }
+        ensures rising { AreRising 0 (map (λ holder. holder.0) result) self.now.greatest }
     {
         Holders {
             queue,

@@ -64,7 +64,7 @@ impl Inbox {
         Ok(deal::<Brand>(queue, seat, put_passes, puts, take_passes, takes))
     }
 
-    /// Puts a completion behind all that were put before. It comes back, and the pass stays as it was, only where the inbox was full at some moment: not before all that the pass had seen, and not after the call.
+    /// Puts a completion behind all that were put before. It comes back, and the pass stays as it was, only where the inbox was full at some moment, not before all that the pass had seen. With one pass of its kind that binds the refusal; with several it binds it up to what the others may have done.
     ///
     /// Takes no memory. It may wait for other threads that are inside `put` or `take`.
     pub fn put<R: Wait>(
@@ -82,7 +82,7 @@ impl Inbox {
             .push_as::<Putting, R>(rt, &mut pass.seat, completion)
     }
 
-    /// Takes the oldest completion. There is none, and the pass stays as it was, only where the inbox was empty at some moment: not before all that the pass had seen, and not after the call.
+    /// Takes the oldest completion. There is none, and the pass stays as it was, only where the inbox was empty at some moment, not before all that the pass had seen. With one pass of its kind that binds the answer; with several it binds it up to what the others may have done.
     ///
     /// Takes no memory. It may wait for other threads that are inside `put` or `take`.
     pub fn take<R: Wait>(&self, rt: &R, pass: &mut TakePass) -> Option<Completion>

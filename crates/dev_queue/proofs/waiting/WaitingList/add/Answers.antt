@@ -15,7 +15,7 @@ invariant_of-self c =
     let new : waits c.args.pair.number c.self.inside.pairs.items ≡ false = rw c.self.view_is c.requires.new in
     let few : length c.self.inside.pairs.items < 256 = rw c.self.view_is c.requires.room in
     record {
-      ordered = rw (placed c new) (order_with_pair 0 c.args.pair c.self.inside.pairs.items c.self.invariant.ordered (omega arith) new);
+      ordered = rw (placed c new) (order_with_pair 0 c.args.pair c.self.inside.pairs.items c.self.invariant.ordered (omega arith) (omega arith) new);
       within = rw (placed c new) (omega (arith, length-with_pair, few));
       room = omega (arith, c.insert.ensures.capacity, c.self.invariant.room);
     }

@@ -1,5 +1,5 @@
 -- Lists of waiting CCBs in the order of their numbers: what one more and one fewer leave.
-use Rattle.std.proofs.Common.{◌≡◌, ℕ, zero, suc, ◌+◌, ◌<◌, ◌≤◌, List, [], ◌∷◌, length, get_or, false, not, eqb, ltb, refl, ap, sym, ◌∙◌, arith}
+use Rattle.std.proofs.Common.{◌≡◌, ℕ, zero, suc, ◌+◌, ◌^◌, ◌<◌, ◌≤◌, List, [], ◌∷◌, length, get_or, false, not, eqb, ltb, refl, ap, sym, ◌∙◌, arith}
 use Rattle.std.proofs.lemmas.Bool.{eq-eqb, ne_eqb, eqb-false, ltb-true, ltb-false, lt-ltb, le-ltb, or_parts, cond-true, cond-false, cond_both, not_from_true, not_from_false}
 use Rattle.std.specs.List.{insert, remove, AllWithin}
 use Rattle.ccb.specs.declared.CcbId.{CcbId}

@@ -49,17 +49,3 @@ impl Flags for CcbFlags {
         CcbFlags(bits)
     }
 }
-
-#[cfg(test)]
-mod tests {
-    use super::*;
-
-    #[test]
-    fn two_flags(rt: HostRuntime) {
-        for (name, bits) in [("DEV_QFRZN", 0x40), ("AUTOSNS_VALID", 0x80)] {
-            let found = CcbFlags::from_name(name);
-            assert_eq!(rt; found, Some(CcbFlags::from_bits_retain(bits)), "{name}");
-        }
-        assert_eq!(rt; CcbFlags::all().bits(), 0xc0);
-    }
-}

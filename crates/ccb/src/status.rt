@@ -56,20 +56,3 @@ impl CamStatus {
         }
     }
 }
-
-#[cfg(test)]
-mod tests {
-    use super::*;
-
-    #[test]
-    fn ten_bytes_are_codes(rt: HostRuntime) {
-        let codes = [0x00, 0x01, 0x02, 0x05, 0x0a, 0x0b, 0x0c, 0x0e, 0x17, 0x1b];
-        for code in 0..=255u8 {
-            let status = CamStatus::from_code(code);
-            assert_eq!(rt; status.is_some(), codes.contains(&code), "code {code}");
-            if let Some(status) = status {
-                assert_eq!(rt; status.code(), code, "{status:?}");
-            }
-        }
-    }
-}

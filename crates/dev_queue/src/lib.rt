@@ -13,6 +13,3 @@ pub use fault::QueueFault;
 pub use freezes::Frozen;
 pub use queue::DevQueue;
 pub use waiting::WaitingCcb;
-
-#[cfg(test)]
-mod tests;

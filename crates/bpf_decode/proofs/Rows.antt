@@ -12,7 +12,7 @@ use Rattle.bpf_insn.specs.declared.insn.AluOp.TheVariants.{Mov}
 use Rattle.bpf_insn.specs.declared.insn.Condition.TheVariants.{Equal}
 use Rattle.bpf_insn.specs.Reg.{number_of}
 use Rattle.bpf_decode.specs.declared.fields.Fields.{Fields}
-use Rattle.bpf_decode.specs.Fault.{fault_of}
+use Rattle.bpf_decode.specs.FieldTests.{fault_of}
 use Rattle.bpf_decode.specs.Spells.{AreFields, SpellsInsn}
 
 -- fields of a row are one value

@@ -6,7 +6,7 @@ use Rattle.bpf_insn.specs.declared.insn.Insn.{Insn}
 use Rattle.bpf_insn.specs.Program.{slots_of, layout}
 use Rattle.bpf_decode.specs.declared.fault.InsnFault.{InsnFault}
 use Rattle.bpf_decode.specs.Fields.{fields_of}
-use Rattle.bpf_decode.specs.Fault.{fault_of}
+use Rattle.bpf_decode.specs.FieldTests.{fault_of}
 use Rattle.bpf_decode.specs.Spells.{SpellsInsn, SpellsThen}
 use Rattle.bpf_decode.proofs.Rows.{one_insn, no_fault_of_insn}
 

@@ -1,6 +1,6 @@
 pub mod Fields
-pub mod Fault
+pub mod FieldTests
 pub mod Spells
-pub mod Faults
+pub mod FirstFault
 pub mod Decoded
 pub mod FaultText

@@ -4,9 +4,9 @@ ghost use Rattle.std.specs.Prelude.{◌≡◌, ◌≤◌, ◌*◌, List, length,
 ghost use Rattle.bpf_insn.specs.declared.program.TheConstants.{MAX_SLOTS};
 ghost use Rattle.bpf_insn.specs.declared.program.Slot.{Slot};
 ghost use Rattle.bpf_decode.specs.Spells.{Spells};
-ghost use Rattle.bpf_decode.specs.Faults.{HasFault};
+ghost use Rattle.bpf_decode.specs.FirstFault.{HasFault};
 ghost use Rattle.bpf_decode.specs.Decoded.{IfFault};
-ghost use Rattle.bpf_decode.specs.declared.decoder.DecodeError.TheVariants.{Memory, Fault};
+ghost use Rattle.bpf_decode.specs.declared.decoder.DecodeError.TheVariants.{OutOfMemory, Fault};
 
 use crate::fault::DecodeFault;
 use crate::fields::{Fields, SLOT_BYTES};
@@ -18,16 +18,16 @@ use std::alloc::{AllocError, Global};
 #[derive(Clone, Copy, Debug, PartialEq, Eq)]
 pub enum DecodeError {
     /// Memory ran out, which says nothing of the bytes.
-    Memory,
+    OutOfMemory,
     /// The bytes spell no program.
     Fault(DecodeFault),
 }
 
 impl From<AllocError> for DecodeError {
-    ghost from_gives = { λ _ e. e ≡ Memory };
+    ghost from_gives = { λ _ e. e ≡ OutOfMemory };
 
     fn from(_error: AllocError) -> Self {
-        DecodeError::Memory
+        DecodeError::OutOfMemory
     }
 }
 
@@ -72,7 +72,11 @@ fn program(alloc: Global, bytes: &[u8]) -> Result<Program, DecodeError>
         }
         rest = rest.split_at(SLOT_BYTES).1;
     }
-    Ok(builder.build().unwrap())
+    // From 1 to `MAX_SLOTS` slots make a program.
+    let Some(program) = builder.build() else {
+        unreachable!()
+    };
+    Ok(program)
 }
 
 /// The program that the bytes spell. An error for want of memory says nothing of the bytes, and a
@@ -83,7 +87,7 @@ pub fn decode(alloc: Global, bytes: &[u8]) -> Result<Program, DecodeError>
     ensures found { IfOk result (Spells bytes.now) }
     // What is spelled is decoded, unless memory runs out.
     ensures only { (spelled : List Slot) → Spells bytes.now spelled →
-        MatchResult result (λ program. program ≡ spelled) (λ e. e ≡ Memory) }
+        MatchResult result (λ program. program ≡ spelled) (λ e. e ≡ OutOfMemory) }
     // Which fault it is.
     ensures fault { IfErr result (IfFault (HasFault bytes.now)) }
 {

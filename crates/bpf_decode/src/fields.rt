@@ -2,7 +2,7 @@
 
 ghost use Rattle.std.specs.Prelude.{◌≡◌, ◌≤◌, length};
 ghost use Rattle.bpf_decode.specs.Fields.{fields_of};
-ghost use Rattle.bpf_decode.specs.Fault.{is_outside_profile, is_known, has_unused_field, has_no_form, writes_frame_pointer};
+ghost use Rattle.bpf_decode.specs.FieldTests.{is_outside_profile, is_known, has_unused_field, has_no_form, writes_frame_pointer};
 
 use byteorder::{ByteOrder, LittleEndian};
 

@@ -1,7 +1,7 @@
 // One instruction from the fields of its slot.
 
 ghost use Rattle.std.specs.Prelude.{◌≡◌, Some, IfOk, IfErr};
-ghost use Rattle.bpf_decode.specs.Fault.{fault_of};
+ghost use Rattle.bpf_decode.specs.FieldTests.{fault_of};
 ghost use Rattle.bpf_decode.specs.Spells.{SpellsInsn};
 
 use crate::fault::InsnFault;

@@ -5,7 +5,7 @@ ghost use Rattle.std.specs.Prelude.{◌≡◌, ℕ, List};
 ghost use Rattle.bpf_insn.specs.declared.program.Slot.{Slot};
 ghost use Rattle.bpf_decode.specs.declared.fault.DecodeFault.{DecodeFault};
 ghost use Rattle.bpf_decode.specs.Spells.{Spells};
-ghost use Rattle.bpf_decode.specs.Faults.{HasFault};
+ghost use Rattle.bpf_decode.specs.FirstFault.{HasFault};
 
 /// A text spells at most one program.
 pub fn one_program()

@@ -1,3 +1,4 @@
+pub mod Held
 pub mod Progress
 pub mod Rows
 pub mod Same

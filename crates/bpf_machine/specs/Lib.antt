@@ -1,5 +1,6 @@
 pub use Rattle.helpers.specs.Rules
 pub use Rattle.bpf_insn.specs.Program
+pub mod HeldPlaces
 pub mod MachineState
 pub mod Step
 pub mod Stops

@@ -3,12 +3,11 @@
 // that was answered. It relies on `bpf_insn` for instructions and on `helpers` for the rules of helper calls.
 #![tactic(auto)]
 
+mod held_freezes;
 pub mod laws;
-mod registers;
+mod machine;
 mod stop;
 
-pub use registers::Machine;
+pub use held_freezes::MAX_HELD;
+pub use machine::Machine;
 pub use stop::Stop;
-
-#[cfg(test)]
-mod tests;

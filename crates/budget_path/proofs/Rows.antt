@@ -12,7 +12,7 @@ use Rattle.bpf_insn.specs.declared.insn.Condition.TheVariants.{Equal}
 use Rattle.bpf_insn.specs.declared.reg.Reg.TheVariants.{R0, R1, R2}
 use Rattle.bpf_insn.specs.declared.program.Slot.{Slot}
 use Rattle.bpf_insn.specs.Program.{layout}
-use Rattle.call_shape.specs.StaticPath.{StaticPath}
+use Rattle.call_shape.specs.StaticPath.{outermost, StaticPath}
 
 abbrev skip : Insn
 skip = JumpIf Bits64 Equal R2 (Immediate (pos 0)) (pos 2)
@@ -36,11 +36,11 @@ abbrev two_paths : List Slot
 two_paths = layout (skip ∷ argument ∷ release ∷ retries ∷ requeue ∷ answer ∷ Exit ∷ [])
 
 -- the last four
-last_four : StaticPath two_paths 3 4
-last_four = (retries, refl, inr (4, refl, (requeue, refl, inr (5, refl, (answer, refl, inr (6, refl, (Exit, refl, inl (refl, refl))))))))
+last_four : StaticPath two_paths (outermost 3) 4
+last_four = (retries, refl, inr (outermost 4, refl, (requeue, refl, inr (outermost 5, refl, (answer, refl, inr (outermost 6, refl, (Exit, refl, inl ((refl, refl), refl))))))))
 
-seven : StaticPath two_paths 0 7
-seven = (skip, refl, inr (1, inl refl, (argument, refl, inr (2, refl, (release, refl, inr (3, refl, last_four))))))
+seven : StaticPath two_paths (outermost 0) 7
+seven = (skip, refl, inr (outermost 1, inl refl, (argument, refl, inr (outermost 2, refl, (release, refl, inr (outermost 3, refl, last_four))))))
 
-five : StaticPath two_paths 0 5
-five = (skip, refl, inr (3, inr refl, last_four))
+five : StaticPath two_paths (outermost 0) 5
+five = (skip, refl, inr (outermost 3, inr refl, last_four))

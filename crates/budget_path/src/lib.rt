@@ -3,7 +3,5 @@
 #![tactic(auto)]
 
 mod longest;
-#[cfg(test)]
-mod tests;
 
 pub use longest::budget;

@@ -3,7 +3,7 @@
 ghost use Rattle.std.specs.Prelude.{◌≡◌, ℕ, ◌<◌, ◌≤◌, length, slice_index, IfOk};
 ghost use Rattle.bpf_insn.specs.Program.{IsProgram};
 ghost use Rattle.call_shape.specs.Shape.{IsLawful};
-ghost use Rattle.call_shape.specs.StaticPath.{StaticPath};
+ghost use Rattle.call_shape.specs.StaticPath.{outermost, StaticPath};
 ghost use Rattle.budget_path.specs.Longest.{IsLongest};
 
 use bpf_insn::{Insn, Program, jump_target};
@@ -13,8 +13,8 @@ use std::alloc::{AllocError, Global};
 /// The greatest number of instructions on a static path, the exit included: 1 to 4096. It takes memory for
 /// one number a slot.
 pub fn budget(alloc: Global, shape: &Shape<'_>) -> Result<u32, AllocError>
-    ensures path { IfOk result (StaticPath shape.now 0) }
-    ensures longest { IfOk result (λ budget. (n : ℕ) → StaticPath shape.now 0 n → n ≤ budget) }
+    ensures path { IfOk result (StaticPath shape.now (outermost 0)) }
+    ensures longest { IfOk result (λ budget. (n : ℕ) → StaticPath shape.now (outermost 0) n → n ≤ budget) }
 {
     let program = shape.program();
     let len = program.len();

@@ -6,7 +6,7 @@ use Rattle.bpf_insn.specs.declared.insn.Insn.TheVariants.{Alu, JumpIf, Call, Exi
 use Rattle.bpf_insn.specs.declared.program.Slot.{Slot}
 use Rattle.bpf_insn.specs.Program.{IsProgram, insn_at}
 use Rattle.call_shape.specs.Shape.{IsLawful, last_place}
-use Rattle.call_shape.specs.StaticPath.{LeadsTo, StaticPath, EveryPlaceHasAWayOut}
+use Rattle.call_shape.specs.StaticPath.{outermost, StaticPath, EveryPlaceHasAWayOut}
 use Rattle.call_shape.proofs.Places.{insn_there}
 
 -- the last slot has the exit
@@ -18,17 +18,17 @@ last_is_exit program is lawful =
     sym (ap (insn_at program) last) ∙ lawful.ended
 
 -- one way on, whatever the instruction is
-on : (program : List Slot) (place n : ℕ) (insn : Insn) → insn_at program place ≡ Some insn → StaticPath program (place + 1) n → (k : ℕ) × StaticPath program place k
-on program place n (Alu width op dst src) e path = (suc n, (Alu width op dst src, e, inr (place + 1, refl, path)))
-on program place n (JumpIf width condition dst src offset) e path = (suc n, (JumpIf width condition dst src offset, e, inr (place + 1, inl refl, path)))
-on program place n (Call callee) e path = (suc n, (Call callee, e, inr (place + 1, refl, path)))
-on program place n Exit e path = (1, (Exit, e, inl (refl, refl)))
+on : (program : List Slot) (place n : ℕ) (insn : Insn) → insn_at program place ≡ Some insn → StaticPath program (outermost (place + 1)) n → (k : ℕ) × StaticPath program (outermost place) k
+on program place n (Alu width op dst src) e path = (suc n, (Alu width op dst src, e, inr (outermost (place + 1), refl, path)))
+on program place n (JumpIf width condition dst src offset) e path = (suc n, (JumpIf width condition dst src offset, e, inr (outermost (place + 1), inl refl, path)))
+on program place n (Call callee) e path = (suc n, (Call callee, e, inr (outermost (place + 1), refl, path)))
+on program place n Exit e path = (1, (Exit, e, inl ((refl, refl), refl)))
 
 -- by how many slots are left behind the place
-from_end : (left : ℕ) (program : List Slot) → IsProgram program → IsLawful program → (place : ℕ) → place + left + 1 ≡ length program → (n : ℕ) × StaticPath program place n
+from_end : (left : ℕ) (program : List Slot) → IsProgram program → IsLawful program → (place : ℕ) → place + left + 1 ≡ length program → (n : ℕ) × StaticPath program (outermost place) n
 from_end zero program is lawful place e =
     let at_end : place ≡ length program - 1 = omega arith in
-    (1, (Exit, ap (insn_at program) at_end ∙ last_is_exit program is lawful, inl (refl, refl)))
+    (1, (Exit, ap (insn_at program) at_end ∙ last_is_exit program is lawful, inl ((refl, refl), refl)))
 from_end (suc left) program is lawful place e =
     let rest = from_end left program is lawful (place + 1) (omega arith) in
     let here = insn_there program place is.laid_out (omega arith) in

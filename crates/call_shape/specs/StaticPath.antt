@@ -1,5 +1,7 @@
--- Static paths: lists of instructions from a place to the exit, along both ways of each conditional jump.
-use Rattle.std.specs.Prelude.{◌≡◌, ℕ, zero, suc, ◌+◌, ◌<◌, List, length, Some, ◌⊎◌}
+-- Static paths: lists of instructions from a slot to the outermost exit, along both ways of each conditional jump and
+-- back from each function that was called to where its call goes on.
+use Rattle.std.specs.Prelude.{◌≡◌, ℕ, zero, suc, ◌+◌, ◌<◌, ◌≤◌, max, List, [], ◌∷◌, length, Some, ◌⊎◌}
+use Rattle.std.proofs.Common.{inl, inr}
 use Rattle.bpf_insn.specs.declared.insn.Insn.{Insn}
 use Rattle.bpf_insn.specs.declared.insn.Insn.TheVariants.{Alu, JumpIf, Call, Exit}
 use Rattle.bpf_insn.specs.declared.program.Slot.{Slot}
@@ -7,22 +9,61 @@ use Rattle.bpf_insn.specs.Program.{IsProgram, insn_at}
 use Rattle.bpf_insn.specs.Target.{target}
 use Rattle.call_shape.specs.Shape.{IsLawful}
 
+-- where a path stands: a slot, and where the calls that are open there go on, the innermost first
+pub record Standing : Type 0 where
+  pub slot : ℕ
+  pub returns : List ℕ
+
+-- at a slot of the outermost function
+abbrev pub outermost : ℕ → Standing
+outermost slot = record { slot = slot; returns = [] }
+
+-- at another slot of the same function
+abbrev pub moved : Standing → ℕ → Standing
+moved at slot = record at { slot = slot }
+
+-- how many functions are open, each with its frame
+abbrev pub frames_at : Standing → ℕ
+frames_at at = length at.returns + 1
+
+-- an exit leads to where the innermost open call goes on
+abbrev pub ReturnsTo : List ℕ → Standing → Type 0
+ReturnsTo [] to = ⊥
+ReturnsTo (return ∷ returns) to = to ≡ record { slot = return; returns = returns }
+
 -- where an instruction may lead, whatever the machine
-abbrev pub LeadsTo : ℕ → Insn → ℕ → Type 0
-LeadsTo place (Alu width op dst src) to = to ≡ place + 1
-LeadsTo place (JumpIf width condition dst src offset) to = (to ≡ place + 1) ⊎ (to ≡ target place offset)
-LeadsTo place (Call callee) to = to ≡ place + 1
-LeadsTo place Exit to = ⊥
+abbrev pub LeadsTo : Standing → Insn → Standing → Type 0
+LeadsTo at (Alu width op dst src) to = to ≡ moved at (at.slot + 1)
+LeadsTo at (JumpIf width condition dst src offset) to = (to ≡ moved at (at.slot + 1)) ⊎ (to ≡ moved at (target at.slot offset))
+LeadsTo at (Call callee) to = to ≡ moved at (at.slot + 1)
+LeadsTo at Exit to = ReturnsTo at.returns to
 
--- a static path of so many instructions from a place to the exit, which counts
-abbrev pub StaticPath : List Slot → ℕ → ℕ → Type 0
-StaticPath program place zero = ⊥
-StaticPath program place (suc n) =
-    (insn : Insn) × (insn_at program place ≡ Some insn)
-    × (((insn ≡ Exit) × (n ≡ 0)) ⊎ ((to : ℕ) × LeadsTo place insn to × StaticPath program to n))
+-- an exit while no call is open
+abbrev pub IsOutermostExit : Standing → Insn → Type 0
+IsOutermostExit at insn = (insn ≡ Exit) × (at.returns ≡ [])
 
--- from every place of a program of lawful shape there is one
+-- a static path of so many instructions to the outermost exit, which counts
+abbrev pub StaticPath : List Slot → Standing → ℕ → Type 0
+StaticPath program at zero = ⊥
+StaticPath program at (suc n) =
+    (insn : Insn) × (insn_at program at.slot ≡ Some insn)
+    × ((IsOutermostExit at insn × (n ≡ 0)) ⊎ ((to : Standing) × LeadsTo at insn to × StaticPath program to n))
+
+-- the most frames that there are at a time along a path
+abbrev pub depth : (program : List Slot) (at : Standing) (n : ℕ) → StaticPath program at n → ℕ
+depth program at zero path = absurd path
+depth program at (suc n) (insn, is, inl end) = frames_at at
+depth program at (suc n) (insn, is, inr (to, leads, rest)) = max (frames_at at) (depth program to n rest)
+
+-- some static path from slot 0 has that depth, and none is deeper
+pub record IsFrames (program : List Slot) (frames : ℕ) : Type 0 where
+  pub instructions : ℕ
+  pub path : StaticPath program (outermost 0) instructions
+  pub met : depth program (outermost 0) instructions path ≡ frames
+  pub deepest : (n : ℕ) (other : StaticPath program (outermost 0) n) → depth program (outermost 0) n other ≤ frames
+
+-- from every place of a program of lawful shape a path leads out
 abbrev pub EveryPlaceHasAWayOut : Type 0
 EveryPlaceHasAWayOut =
     (program : List Slot) → IsProgram program → IsLawful program →
-    (place : ℕ) → place < length program → (n : ℕ) × StaticPath program place n
+    (place : ℕ) → place < length program → (n : ℕ) × StaticPath program (outermost place) n

@@ -1,10 +1,11 @@
 // The checks of a program's shape, in the order of the faults' numbers. They rely on `fault`.
 
-ghost use Rattle.std.specs.Prelude.{◌≡◌, IfOk, IfErr, IfSome, IfNone};
+ghost use Rattle.std.specs.Prelude.{◌≡◌, length, IfOk, IfErr, IfSome, IfNone};
+ghost use Rattle.bpf_insn.specs.Program.{IsProgram};
 ghost use Rattle.call_shape.specs.Shape.{IsLawful, FaultIs, last_place, target_at, is_outside, is_backward, IsFirst, IsNowhere};
 
 use crate::fault::ShapeFault;
-use crate::lawful::Shape;
+use crate::lawful_shape::Shape;
 use bpf_insn::{Insn, Program, jump_target};
 
 /// The program's shape, or the lowest fault that holds, with the lowest slot that has it. It takes no
@@ -14,7 +15,7 @@ pub fn shape(program: &Program) -> Result<Shape<'_>, ShapeFault>
     ensures lawful { IfOk result (λ _. IsLawful program.now) }
     ensures fault { IfErr result (FaultIs program.now) }
 {
-    let last = last_place(program);
+    let last = last_place(program, program.len());
     if program.fetch(last) != Some(Insn::Exit) {
         return Err(ShapeFault::OpenEnd(last));
     }
@@ -28,10 +29,11 @@ pub fn shape(program: &Program) -> Result<Shape<'_>, ShapeFault>
 }
 
 // The first slot of the last instruction.
-fn last_place(program: &Program) -> usize
+fn last_place(program: &Program, len: usize) -> usize
+    requires program { IsProgram program.now }
+    requires slots { len ≡ length program.now }
     ensures { result ≡ last_place program.now }
 {
-    let len = program.len();
     match program.fetch(len - 1) {
         Some(_) => len - 1,
         None => len.saturating_sub(2),

@@ -4,12 +4,9 @@
 
 mod checks;
 mod fault;
-mod lawful;
+mod lawful_shape;
 pub mod laws;
 
 pub use checks::shape;
 pub use fault::ShapeFault;
-pub use lawful::Shape;
-
-#[cfg(test)]
-mod tests;
+pub use lawful_shape::Shape;

@@ -7,6 +7,3 @@ mod limits;
 
 pub use call::{Answer, Request};
 pub use limits::{HelperLimits, TableLengths};
-
-#[cfg(test)]
-mod tests;

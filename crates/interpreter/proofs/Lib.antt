@@ -3,3 +3,4 @@ pub mod Room
 pub mod One
 pub mod Stops
 pub mod Rows
+pub mod Budgets

@@ -12,6 +12,3 @@ mod segment;
 pub use resuming::resume;
 pub use running::to_stop;
 pub use segment::Segment;
-
-#[cfg(test)]
-mod tests;

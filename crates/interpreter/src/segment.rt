@@ -3,7 +3,7 @@
 
 ghost use Rattle.std.specs.Prelude.{◌≡◌};
 ghost use Rattle.std.specs.Arc.{arc_value};
-ghost use Rattle.interpreter.specs.Segments.{IsSegment};
+ghost use Rattle.interpreter.specs.Segments.{IsSegment, IsWithinBudget};
 
 use bpf_machine::{Machine, Stop};
 use std::marker::Model;
@@ -53,7 +53,8 @@ impl Segment {
         stop: Stop,
     ) -> Self
         requires { IsSegment (record { program = arc_value program; from = from; to = to; steps = steps; stop = stop }) }
-        ensures { result ≡ record { program = arc_value program; from = from; to = to; steps = steps; stop = stop } }
+        ensures value { result ≡ record { program = arc_value program; from = from; to = to; steps = steps; stop = stop } }
+        ensures budget { IsWithinBudget result }
     {
         Segment {
             program,
@@ -92,6 +93,7 @@ impl Segment {
     pub fn steps(&self) -> u32
         ensures value { result ≡ self.now.steps }
         ensures segment { IsSegment self.now }
+        ensures budget { IsWithinBudget self.now }
     {
         self.steps
     }

@@ -13,8 +13,8 @@ use Rattle.verifier.specs.declared.description.Held.TheVariants.{Nothing, Open, 
 use Rattle.verifier.specs.declared.description.Description.{Description}
 use Rattle.verifier.specs.declared.check.Flow.{Flow}
 use Rattle.verifier.specs.declared.refusal.Cause.{Cause}
-use Rattle.verifier.specs.Descriptions.{kind_at, with_kind, sure_freeze, zero_freeze, released_freeze, requeued}
-use Rattle.verifier.specs.Checks.{goes_on, goes_both, ends, check_move, compared, jump_on_number, jump_on_freeze, check_jump, release_held, check_release, check_requeue, check_call, exit_result, exit_held, check_exit}
+use Rattle.verifier.specs.Knowledge.{kind_at, with_kind, sure_freeze, zero_freeze, released_freeze, requeued}
+use Rattle.verifier.specs.InsnCheck.{goes_on, goes_both, ends, check_move, compared, jump_on_number, jump_on_freeze, check_jump, release_held, check_release, check_requeue, check_call, exit_result, exit_held, check_exit}
 
 -- a kind of which something is written
 abbrev pub IsWritten : Kind → Type 0

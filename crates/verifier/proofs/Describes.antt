@@ -6,7 +6,7 @@ use Rattle.verifier.specs.declared.kind.Kind.TheVariants.{Unwritten, Number, Con
 use Rattle.verifier.specs.declared.description.Held.{Held}
 use Rattle.verifier.specs.declared.description.Held.TheVariants.{Nothing, Open, Sure}
 use Rattle.verifier.specs.declared.description.Description.{Description}
-use Rattle.verifier.specs.Kinds.{join_kind, released_kind, sure_kind, zero_kind}
+use Rattle.verifier.specs.RegisterKind.{join_kind, released_kind, sure_kind, zero_kind}
 
 -- what a kind says of a register
 abbrev pub HoldsKind : ℕ → Kind → Option ℕ → Type 0

@@ -9,9 +9,9 @@ use Rattle.verifier.specs.declared.check.Flow.{Flow}
 use Rattle.verifier.specs.declared.refusal.Cause.{Cause}
 use Rattle.verifier.specs.declared.refusal.Refusal.{Refusal}
 use Rattle.verifier.specs.declared.refusal.Refusal.TheVariants.{Shape, Check}
-use Rattle.verifier.specs.Descriptions.{join_descriptions}
-use Rattle.verifier.specs.Checks.{check}
-use Rattle.verifier.specs.Passes.{Table, described, joined_at, merge_at, merge_next, merge_jump, and_then, flow_into, visit_at, visit, visits, first_table, pass}
+use Rattle.verifier.specs.Knowledge.{join_descriptions}
+use Rattle.verifier.specs.InsnCheck.{check}
+use Rattle.verifier.specs.SlotPass.{Table, described, joined_at, merge_at, merge_next, merge_jump, and_then, flow_into, visit_at, visit, visits, first_table, pass}
 
 abbrev pub IsCheck : Refusal → Type 0
 IsCheck (Check cause slot) = Unit {0}

@@ -25,13 +25,13 @@ use Rattle.helpers.specs.Rules.{request_of}
 use Rattle.bpf_machine.specs.MachineState.{MachineState, register, with_register, moved_to}
 use Rattle.bpf_machine.specs.Step.{operand, jump_if_equal, returned, does, request_in, Allowed, answered}
 use Rattle.bpf_machine.specs.Reached.{Steps}
-use Rattle.call_shape.specs.StaticPath.{LeadsTo}
+use Rattle.call_shape.specs.StaticPath.{outermost, LeadsTo}
 use Rattle.verifier.specs.declared.kind.Kind.{Kind}
 use Rattle.verifier.specs.declared.kind.Kind.TheVariants.{SureFreeze}
 use Rattle.verifier.specs.declared.description.Description.{Description}
 use Rattle.verifier.specs.declared.check.Flow.{Flow}
-use Rattle.verifier.specs.Descriptions.{kind_at, source_kind, with_kind, sure_freeze, zero_freeze, released_freeze, requeued}
-use Rattle.verifier.specs.Checks.{goes_on, goes_both, check, is_zero}
+use Rattle.verifier.specs.Knowledge.{kind_at, source_kind, with_kind, sure_freeze, zero_freeze, released_freeze, requeued}
+use Rattle.verifier.specs.InsnCheck.{goes_on, goes_both, check, is_zero}
 use Rattle.verifier.proofs.Describes.{HoldsKind, Describes}
 use Rattle.verifier.proofs.Kept.{register_held, operand_held, moved_described, with_described, sure_described, zero_described, released_described, requeued_described}
 use Rattle.verifier.proofs.Checked.{move_passes, JumpPasses, jump_passes, IsRelease, IsRequeue, call_passes}
@@ -45,7 +45,7 @@ Follows flow freeze place m' =
 
 -- and that is a place to which the instruction may lead
 abbrev pub Led : Flow → ℕ → ℕ → Insn → MachineState → Type 0
-Led flow freeze place insn m' = Follows flow freeze place m' × LeadsTo place insn m'.place
+Led flow freeze place insn m' = Follows flow freeze place m' × LeadsTo (outermost place) insn (outermost m'.place)
 
 to_next : (flow : Flow) (freeze place : ℕ) (m' : MachineState) (d : Description) → flow ≡ goes_on d → m'.place ≡ place + 1 → Describes d freeze m' → Follows flow freeze place m'
 to_next flow freeze place m' d leads at is = inl (d, ap (λ (f : Flow). f.next) leads, at, is)

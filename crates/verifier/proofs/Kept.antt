@@ -19,8 +19,8 @@ use Rattle.verifier.specs.declared.kind.Kind.TheVariants.{Unwritten, Number}
 use Rattle.verifier.specs.declared.description.Held.{Held}
 use Rattle.verifier.specs.declared.description.Held.TheVariants.{Nothing, Open, Sure}
 use Rattle.verifier.specs.declared.description.Description.{Description}
-use Rattle.verifier.specs.Kinds.{exactly, released_kind, sure_kind, zero_kind}
-use Rattle.verifier.specs.Descriptions.{entry_description, kind_at, source_kind, with_kind, each_register, sure_held, zero_held, sure_freeze, zero_freeze, after_call_kinds, released_freeze, requeued}
+use Rattle.verifier.specs.RegisterKind.{exactly, released_kind, sure_kind, zero_kind}
+use Rattle.verifier.specs.Knowledge.{entry_description, kind_at, source_kind, with_kind, each_register, sure_held, zero_held, sure_freeze, zero_freeze, after_call_kinds, released_freeze, requeued}
 use Rattle.verifier.proofs.Describes.{HoldsKind, HoldsFreeze, Describes, sure_holds, zero_holds, released_holds}
 
 number_below : (reg : Reg) → number_of reg < 11

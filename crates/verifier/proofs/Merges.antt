@@ -11,9 +11,9 @@ use Rattle.verifier.specs.declared.description.Held.TheVariants.{Nothing, Open, 
 use Rattle.verifier.specs.declared.description.Description.{Description}
 use Rattle.verifier.specs.declared.refusal.Refusal.{Refusal}
 use Rattle.bpf_machine.specs.MachineState.{MachineState}
-use Rattle.verifier.specs.Kinds.{join_kind}
-use Rattle.verifier.specs.Descriptions.{same_held, same_disposal, join_registers, join_descriptions}
-use Rattle.verifier.specs.Passes.{Table, described, joined_at, merge_at, merge}
+use Rattle.verifier.specs.RegisterKind.{join_kind}
+use Rattle.verifier.specs.Knowledge.{same_held, same_disposal, join_registers, join_descriptions}
+use Rattle.verifier.specs.SlotPass.{Table, described, joined_at, merge_at, merge}
 use Rattle.verifier.proofs.Describes.{HoldsKind, HoldsFreeze, Describes, join_holds}
 use Rattle.verifier.proofs.Tables.{Covers, IsCovered}
 

@@ -19,9 +19,9 @@ use Rattle.verifier.specs.declared.description.Description.{Description}
 use Rattle.verifier.specs.declared.check.Flow.{Flow}
 use Rattle.verifier.specs.declared.refusal.Cause.{Cause}
 use Rattle.verifier.specs.declared.refusal.Refusal.{Refusal}
-use Rattle.verifier.specs.Descriptions.{entry_description, kind_at, source_kind}
-use Rattle.verifier.specs.Checks.{goes_on, goes_both, check, is_zero}
-use Rattle.verifier.specs.Passes.{Table, described, merge_next, merge_jump, and_then, flow_into, visit_at, visit, visits, first_table, pass}
+use Rattle.verifier.specs.Knowledge.{entry_description, kind_at, source_kind}
+use Rattle.verifier.specs.InsnCheck.{goes_on, goes_both, check, is_zero}
+use Rattle.verifier.specs.SlotPass.{Table, LeadsInside, described, merge_next, merge_jump, and_then, flow_into, visit_at, visit, visits, first_table, pass}
 use Rattle.verifier.proofs.Checked.{move_passes, jump_passes, call_passes, exit_passes}
 use Rattle.verifier.proofs.Tables.{IsCovered, IsChecked, IsSound, inside}
 use Rattle.verifier.proofs.Merges.{Grows, itself, still_covered, merged}
@@ -71,6 +71,14 @@ flows_on program place Exit d flow is lawful lt at e =
     record {
       next = λ on same. absurd (let bad : None ≡ Some on = sym (ap (λ (f : Flow). f.next) leads) ∙ same in cc);
       jump = λ to on same. absurd (let bad : None ≡ Some (to, on) = sym (ap (λ (f : Flow). f.jump) leads) ∙ same in cc);
+    }
+
+pub leads_inside : (program : List Slot) (table : Table) (place : ℕ) (insn : Insn) (d : Description) (flow : Flow) → IsProgram program → IsLawful program → length table ≡ length program → place < length program → insn_at program place ≡ Some insn → check place insn d ≡ Ok flow → LeadsInside (length table) place flow
+leads_inside program table place insn d flow is lawful long lt at passes =
+    let on = flows_on program place insn d flow is lawful lt at passes in
+    record {
+      next = λ d same. omega (arith, long, on.next d same);
+      jump = λ to d same. let fit = on.jump to d same in omega (arith, long, fit.1);
     }
 
 -- what a visit has done

@@ -6,7 +6,7 @@ use Rattle.bpf_insn.specs.Program.{layout, insn_at}
 use Rattle.call_shape.specs.Shape.{is_outside, is_backward, FaultIs}
 use Rattle.call_shape.specs.declared.fault.ShapeFault.{ShapeFault}
 use Rattle.call_shape.specs.declared.fault.ShapeFault.TheVariants.{OpenEnd, TargetOutside, TargetBackward}
-use Rattle.verifier.specs.Passes.{Table, pass}
+use Rattle.verifier.specs.SlotPass.{Table, pass}
 use Rattle.verifier.specs.Plain.{plain, IsPlain}
 
 none_outside : (n k : ℤ) (place : ℕ) → is_outside (layout (plain n k)) place ≡ false

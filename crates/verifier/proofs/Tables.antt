@@ -10,15 +10,15 @@ use Rattle.helpers.specs.declared.limits.HelperLimits.{HelperLimits}
 use Rattle.bpf_machine.specs.MachineState.{MachineState}
 use Rattle.bpf_machine.specs.Stuck.{is_stuck_at}
 use Rattle.bpf_machine.specs.Reached.{Steps, Reached, Safe, Within}
-use Rattle.call_shape.specs.StaticPath.{LeadsTo, StaticPath}
+use Rattle.call_shape.specs.StaticPath.{outermost, LeadsTo, StaticPath}
 use Rattle.call_shape.specs.Shape.{IsLawful}
 use Rattle.call_shape.proofs.Places.{insn_there}
 use Rattle.call_shape.proofs.WaysOut.{ways_out_lem}
 use Rattle.verifier.specs.declared.description.Description.{Description}
 use Rattle.verifier.specs.declared.check.Flow.{Flow}
-use Rattle.verifier.specs.Descriptions.{entry_description}
-use Rattle.verifier.specs.Checks.{check}
-use Rattle.verifier.specs.Passes.{Table, described}
+use Rattle.verifier.specs.Knowledge.{entry_description}
+use Rattle.verifier.specs.InsnCheck.{check}
+use Rattle.verifier.specs.SlotPass.{Table, described}
 use Rattle.verifier.proofs.Describes.{Describes}
 use Rattle.verifier.proofs.Kept.{entry_described}
 use Rattle.verifier.proofs.Unstuck.{unstuck}
@@ -72,7 +72,7 @@ pub at_insn : (program : List Slot) (table : Table) (m : MachineState) → IsPro
 at_insn program table m is sound known = insn_there program m.place is.laid_out (omega (arith, sound.whole, inside table m.place known.description known.here))
 
 -- one instruction on, a machine is described again
-pub step_described : (program : List Slot) (table : Table) (m m' : MachineState) (insn : Insn) → IsSound program table → (known : IsDescribed table m) → insn_at program m.place ≡ Some insn → Steps program m m' → IsDescribed table m' × LeadsTo m.place insn m'.place
+pub step_described : (program : List Slot) (table : Table) (m m' : MachineState) (insn : Insn) → IsSound program table → (known : IsDescribed table m) → insn_at program m.place ≡ Some insn → Steps program m m' → IsDescribed table m' × LeadsTo (outermost m.place) insn (outermost m'.place)
 step_described program table m m' insn sound known at step =
     let checked = sound.checked m.place insn known.description known.here at in
     let led = step_led program known.description known.freeze m m' insn checked.flow at known.is checked.passes step in (
@@ -99,21 +99,21 @@ sound_safe program limits table is sound n m reached =
     ap (is_stuck_at limits m) insn.1 ∙ unstuck limits known.description known.freeze m m.place insn.0 checked.flow known.is checked.passes
 
 -- the instructions behind a run are the first of a static path
-pub path_through : (program : List Slot) (table : Table) → IsProgram program → IsSound program table → (n : ℕ) (m : MachineState) → Reached program n m → (k : ℕ) → StaticPath program m.place k → StaticPath program 0 (n + k)
+pub path_through : (program : List Slot) (table : Table) → IsProgram program → IsSound program table → (n : ℕ) (m : MachineState) → Reached program n m → (k : ℕ) → StaticPath program (outermost m.place) k → StaticPath program (outermost 0) (n + k)
 path_through program table is sound zero m entry k path =
     let same : k ≡ 0 + k = omega arith in
-    subst (StaticPath program 0) same (subst (λ (place : ℕ). StaticPath program place k) (ap (λ (x : MachineState). x.place) entry.is) path)
+    subst (StaticPath program (outermost 0)) same (subst (λ (place : ℕ). StaticPath program (outermost place) k) (ap (λ (x : MachineState). x.place) entry.is) path)
 path_through program table is sound (suc n) m (before, reached, step) k path =
     let known = reached_described program table is sound n before reached in
     let insn = at_insn program table before is sound known in
     let on = step_described program table before m insn.0 sound known insn.1 step in
-    let longer : StaticPath program before.place (suc k) = (insn.0, insn.1, inr (m.place, on.1, path)) in
+    let longer : StaticPath program (outermost before.place) (suc k) = (insn.0, insn.1, inr (outermost m.place, on.1, path)) in
     let all = path_through program table is sound n before reached (suc k) longer in
     let same : n + suc k ≡ suc n + k = omega arith in
-    subst (StaticPath program 0) same all
+    subst (StaticPath program (outermost 0)) same all
 
 -- and no run is longer than the longest static path
-pub sound_within : (program : List Slot) (table : Table) (budget : ℕ) → IsProgram program → IsLawful program → IsSound program table → ((n : ℕ) → StaticPath program 0 n → n ≤ budget) → Within program budget
+pub sound_within : (program : List Slot) (table : Table) (budget : ℕ) → IsProgram program → IsLawful program → IsSound program table → ((n : ℕ) → StaticPath program (outermost 0) n → n ≤ budget) → Within program budget
 sound_within program table budget is lawful sound longest n m reached =
     let known = reached_described program table is sound n m reached in
     let inside_is : m.place < length program = omega (arith, sound.whole, inside table m.place known.description known.here) in
@@ -122,6 +122,6 @@ sound_within program table budget is lawful sound longest n m reached =
     let some : 1 ≤ out.0 = at_least_one program m.place out.0 out.1 in
     (omega (arith, all), λ at_exit. omega (arith, all, some))
   where
-    at_least_one : (program : List Slot) (place k : ℕ) → StaticPath program place k → 1 ≤ k
+    at_least_one : (program : List Slot) (place k : ℕ) → StaticPath program (outermost place) k → 1 ≤ k
     at_least_one program place zero path = absurd path
     at_least_one program place (suc k) path = omega arith

@@ -5,7 +5,7 @@ use Rattle.call_shape.specs.Shape.{IsLawful}
 use Rattle.verifier.specs.declared.refusal.Refusal.TheVariants.{Shape, Check}
 use Rattle.verifier.specs.declared.refusal.VerifyError.{VerifyError}
 use Rattle.verifier.specs.declared.refusal.VerifyError.TheVariants.{OutOfMemory, Refused}
-use Rattle.verifier.specs.Passes.{PassFails}
+use Rattle.verifier.specs.SlotPass.{PassFails}
 use Rattle.verifier.specs.Plain.{IsPlain}
 use Rattle.verifier.specs.Verdict.{ToldOfShape}
 use Rattle.verifier.proofs.Fails.{no_shape_fault}

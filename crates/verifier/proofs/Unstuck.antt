@@ -24,8 +24,8 @@ use Rattle.verifier.specs.declared.description.Held.{Held}
 use Rattle.verifier.specs.declared.description.Held.TheVariants.{Nothing, Sure}
 use Rattle.verifier.specs.declared.description.Description.{Description}
 use Rattle.verifier.specs.declared.check.Flow.{Flow}
-use Rattle.verifier.specs.Descriptions.{kind_at, source_kind}
-use Rattle.verifier.specs.Checks.{check, is_zero}
+use Rattle.verifier.specs.Knowledge.{kind_at, source_kind}
+use Rattle.verifier.specs.InsnCheck.{check, is_zero}
 use Rattle.verifier.proofs.Describes.{HoldsKind, HoldsFreeze, Describes}
 use Rattle.verifier.proofs.Kept.{register_held, operand_held}
 use Rattle.verifier.proofs.Checked.{IsWritten, move_passes, jump_passes, ReleasePasses, RequeuePasses, IsRelease, IsRequeue, call_passes, ExitPasses, exit_passes}

@@ -9,8 +9,8 @@ use Rattle.verifier.specs.declared.description.Description.{Description}
 use Rattle.verifier.specs.declared.check.Flow.{Flow}
 use Rattle.verifier.specs.declared.refusal.Cause.{Cause}
 use Rattle.verifier.specs.declared.refusal.Refusal.{Refusal}
-use Rattle.verifier.specs.Checks.{check}
-use Rattle.verifier.specs.Passes.{Table, described, flow_into, visit_at, visit, visits, and_then}
+use Rattle.verifier.specs.InsnCheck.{check}
+use Rattle.verifier.specs.SlotPass.{Table, described, flow_into, visit_at, visit, visits, and_then}
 
 -- the visit is what the check says
 pub visit_is : (program : List Slot) (table : Table) (place : ℕ) (d : Description) (checked : Result Flow Cause) → IsProgram program → place < length program → described table place ≡ Some d → IfSome (insn_at program place) (λ insn. checked ≡ check place insn d) → visit program table place ≡ flow_into table place checked

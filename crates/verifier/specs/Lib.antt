@@ -1,9 +1,9 @@
 pub use Rattle.bpf_machine.specs.Reached
 pub use Rattle.call_shape.specs.StaticPath
-pub mod Kinds
-pub mod Descriptions
-pub mod Checks
-pub mod Passes
+pub mod RegisterKind
+pub mod Knowledge
+pub mod InsnCheck
+pub mod SlotPass
 pub mod Verdict
 pub mod Plain
 pub mod RefusalText

@@ -5,7 +5,7 @@ use Rattle.bpf_insn.specs.Program.{IsProgram}
 use Rattle.helpers.specs.declared.limits.HelperLimits.{HelperLimits}
 use Rattle.bpf_machine.specs.Reached.{Safe, Within}
 use Rattle.call_shape.specs.Shape.{IsLawful, FaultIs}
-use Rattle.call_shape.specs.StaticPath.{StaticPath}
+use Rattle.call_shape.specs.StaticPath.{outermost, StaticPath, IsFrames}
 use Rattle.verifier.specs.declared.refusal.Refusal.TheVariants.{Shape, Check}
 use Rattle.verifier.specs.declared.refusal.VerifyError.{VerifyError}
 use Rattle.verifier.specs.declared.refusal.VerifyError.TheVariants.{OutOfMemory, Refused}
@@ -25,16 +25,16 @@ pub record IsAccepted (v : Verdict) : Type 0 where
 
 -- the budget is the length of a static path, and none is longer
 pub record IsBudget (program : List Slot) (budget : ℕ) : Type 0 where
-  pub path : StaticPath program 0 budget
-  pub longest : (n : ℕ) → StaticPath program 0 n → n ≤ budget
+  pub path : StaticPath program (outermost 0) budget
+  pub longest : (n : ℕ) → StaticPath program (outermost 0) n → n ≤ budget
 
--- a verdict on this program under these limits
+-- A verdict on this program under these limits. Its frames are the most that there are at a time on a static path.
 pub record IsVerdictOn (program : List Slot) (limits : HelperLimits) (v : Verdict) : Type 0 where
   pub program_is : v.program ≡ program
   pub limits_are : v.limits ≡ limits
   pub accepted : IsAccepted v
   pub budget : IsBudget program v.budget
-  pub frames : v.frames ≡ 1
+  pub frames : IsFrames program v.frames
 
 -- A shape fault is answered for a program that has it, and for a program of lawful shape none is. No two shape faults
 -- are answered for one program, since a fault that is named has the lowest number and slot.

@@ -4,8 +4,8 @@ ghost use Rattle.std.specs.Prelude.{◌≡◌, ◌<◌, length, IfSome};
 ghost use Rattle.bpf_insn.specs.Program.{IsProgram, insn_at};
 ghost use Rattle.bpf_insn.specs.declared.program.TheConstants.{MAX_SLOTS};
 ghost use Rattle.bpf_insn.specs.Target.{target};
-ghost use Rattle.verifier.specs.Descriptions.{source_kind, kind_at};
-ghost use Rattle.verifier.specs.Checks.{check, check_move, check_jump, check_call, check_release, check_requeue, check_exit, is_zero};
+ghost use Rattle.verifier.specs.Knowledge.{source_kind, kind_at};
+ghost use Rattle.verifier.specs.InsnCheck.{check, check_move, check_jump, check_call, check_release, check_requeue, check_exit, is_zero};
 
 use crate::description::{Description, Held};
 use crate::kind::Kind;
@@ -22,7 +22,7 @@ pub struct Flow {
 }
 
 impl Flow {
-    ghost use Rattle.verifier.specs.Checks.{goes_on};
+    ghost use Rattle.verifier.specs.InsnCheck.{goes_on};
 
     fn goes_on(next: Description) -> Self
         ensures { result ≡ goes_on next }

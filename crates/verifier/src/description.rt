@@ -1,8 +1,8 @@
 // What holds of every machine that comes to a place. It relies on `kind`.
 
 ghost use Rattle.std.specs.Prelude.{◌≡◌};
-ghost use Rattle.verifier.specs.Kinds.{sure_kind, zero_kind, released_kind};
-ghost use Rattle.verifier.specs.Descriptions.{entry_description, kind_at, source_kind, with_kind, sure_freeze, zero_freeze, released_freeze, requeued, join_descriptions, join_registers, after_call_kinds, each_register};
+ghost use Rattle.verifier.specs.RegisterKind.{sure_kind, zero_kind, released_kind};
+ghost use Rattle.verifier.specs.Knowledge.{entry_description, kind_at, source_kind, with_kind, sure_freeze, zero_freeze, released_freeze, requeued, join_descriptions, join_registers, after_call_kinds, each_register};
 
 use crate::kind::Kind;
 use bpf_insn::{Operand, Reg};
@@ -19,7 +19,7 @@ pub enum Held {
 }
 
 impl Held {
-    ghost use Rattle.verifier.specs.Descriptions.{sure_held, zero_held};
+    ghost use Rattle.verifier.specs.Knowledge.{sure_held, zero_held};
 
     fn sure(self) -> Self
         ensures { result ≡ sure_held self }

@@ -1,7 +1,7 @@
 // What is known of one register.
 
 ghost use Rattle.std.specs.Prelude.{◌≡◌};
-ghost use Rattle.verifier.specs.Kinds.{exactly, join_kind, released_kind, sure_kind, zero_kind};
+ghost use Rattle.verifier.specs.RegisterKind.{exactly, join_kind, released_kind, sure_kind, zero_kind};
 
 /// What a register holds, as far as it is known.
 #[derive(Clone, Copy, Debug, PartialEq, Eq)]

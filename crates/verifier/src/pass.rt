@@ -2,7 +2,8 @@
 
 ghost use Rattle.std.specs.Prelude.{◌≡◌, ◌<◌, ◌+◌, length, Ok, Err, MatchResult, OnErr, OnOk, IfErr};
 ghost use Rattle.bpf_insn.specs.Program.{IsProgram};
-ghost use Rattle.verifier.specs.Passes.{merge, flow_into, visit, visits, Passes, PassFails};
+ghost use Rattle.call_shape.specs.Shape.{IsLawful};
+ghost use Rattle.verifier.specs.SlotPass.{LeadsInside, merge, flow_into, visit, visits, PassSucceeds, PassFails};
 
 use crate::check::{Flow, check};
 use crate::description::Description;
@@ -14,7 +15,7 @@ use std::alloc::Global;
 /// Describes each place of a program of lawful shape, and checks each instruction that something leads to.
 /// It takes memory for one description a slot.
 pub fn pass(alloc: Global, shape: &Shape<'_>) -> Result<(), VerifyError>
-    ensures passes { OnOk result (Passes shape.now) }
+    ensures passes { OnOk result (PassSucceeds shape.now) }
     ensures fails { IfErr result (PassFails shape.now) }
 {
     let program = shape.program();
@@ -33,6 +34,7 @@ pub fn pass(alloc: Global, shape: &Shape<'_>) -> Result<(), VerifyError>
 // Checks all places in their order.
 fn visit_all(program: &Program, table: &mut [Option<Description>]) -> Result<(), Refusal>
     requires program { IsProgram program.now }
+    requires lawful { IsLawful program.now }
     requires whole { length table.old ≡ length program.now }
     ensures { MatchResult result (λ _. visits program.now table.old 0 (length program.now) ≡ Ok table.new) (λ refusal. visits program.now table.old 0 (length program.now) ≡ Err refusal) }
 {
@@ -45,6 +47,7 @@ fn visit_all(program: &Program, table: &mut [Option<Description>]) -> Result<(),
 // Checks one place, where something leads to it.
 fn visit(program: &Program, table: &mut [Option<Description>], place: usize) -> Result<(), Refusal>
     requires program { IsProgram program.now }
+    requires lawful { IsLawful program.now }
     requires place { place < length program.now }
     requires whole { length table.old ≡ length program.now }
     ensures { MatchResult result (λ _. visit program.now table.old place ≡ Ok table.new) (λ refusal. visit program.now table.old place ≡ Err refusal) }
@@ -60,7 +63,7 @@ fn visit(program: &Program, table: &mut [Option<Description>], place: usize) -> 
 
 // Joins what holds where an instruction leads into what is known there.
 fn follow(table: &mut [Option<Description>], place: usize, flow: &Flow) -> Result<(), Refusal>
-    requires { place < length table.old }
+    requires { LeadsInside (length table.old) place flow.now }
     ensures { MatchResult result (λ _. flow_into table.old place (Ok flow.now) ≡ Ok table.new) (λ refusal. flow_into table.old place (Ok flow.now) ≡ Err refusal) }
 {
     if let Some(next) = &flow.next {
@@ -72,13 +75,11 @@ fn follow(table: &mut [Option<Description>], place: usize, flow: &Flow) -> Resul
     Ok(())
 }
 
-// Something more leads to a place. A lawful shape leads to places of the program alone.
+// Something more leads to a place.
 fn merge(table: &mut [Option<Description>], place: usize, new: &Description) -> Result<(), Refusal>
+    requires { place < length table.old }
     ensures { MatchResult result (λ _. merge table.old place new.now ≡ Ok table.new) (λ refusal. merge table.old place new.now ≡ Err refusal) }
 {
-    if place >= table.len() {
-        return Ok(());
-    }
     let joined = match &table[place] {
         None => *new,
         Some(old) => match old.join(new) {

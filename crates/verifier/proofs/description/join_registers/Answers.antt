@@ -2,7 +2,7 @@ use Rattle.std.proofs.Common.{◌≢◌, ◌<◌, ◌∙◌, length, get_or, ari
 use Rattle.std.proofs.Math.ListN.{length-set}
 use Rattle.std.proofs.lemmas.List.FromFn.{fill_by_all}
 use Rattle.verifier.specs.declared.kind.Kind.TheVariants.{Unwritten}
-use Rattle.verifier.specs.Kinds.{join_kind}
+use Rattle.verifier.specs.RegisterKind.{join_kind}
 use Rattle.verifier.proofs.description.join_registers.Goals as goal
 
 pub loop-reg-preserved : goal.loop-reg-preserved

@@ -1,6 +1,6 @@
 use Rattle.std.proofs.Common.{◌≡◌, ℕ, ◌<◌, length, get_or}
 use Rattle.verifier.specs.declared.kind.Kind.TheVariants.{Unwritten}
-use Rattle.verifier.specs.Kinds.{join_kind}
+use Rattle.verifier.specs.RegisterKind.{join_kind}
 use Rattle.verifier.proofs.description.join_registers.Given as goal
 
 -- the registers before this one are joined

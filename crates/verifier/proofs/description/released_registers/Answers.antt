@@ -1,7 +1,7 @@
 use Rattle.std.proofs.Common.{get_or, rules}
 use Rattle.std.proofs.lemmas.List.FromFn.{fill_by_all}
 use Rattle.verifier.specs.declared.kind.Kind.TheVariants.{Unwritten}
-use Rattle.verifier.specs.Kinds.{released_kind}
+use Rattle.verifier.specs.RegisterKind.{released_kind}
 use Rattle.verifier.proofs.description.released_registers.Goals as goal
 
 pub returns : goal.returns

@@ -1,7 +1,7 @@
 use Rattle.std.proofs.Common.{◌≡◌, ◌∙◌, ◌∷◌, ◌-◌, List, Some, None, Ok, replicate, length, subst, ap, arith}
 use Rattle.bpf_insn.specs.declared.program.Slot.{Slot}
-use Rattle.verifier.specs.Descriptions.{entry_description}
-use Rattle.verifier.specs.Passes.{Table, visits, first_table}
+use Rattle.verifier.specs.Knowledge.{entry_description}
+use Rattle.verifier.specs.SlotPass.{Table, visits, first_table}
 use Rattle.verifier.proofs.pass.pass.Goals as goal
 
 pub returns-in-Ok-clause-passes : goal.returns-in-Ok-clause-passes

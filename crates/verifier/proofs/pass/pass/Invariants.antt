@@ -1,6 +1,6 @@
 use Rattle.std.proofs.Common.{◌≡◌, ◌-◌, ◌≤◌, ◌∷◌, Some, None, length, replicate}
 use Rattle.std.specs.Prelude.{vec_capacity}
-use Rattle.verifier.specs.Descriptions.{entry_description}
+use Rattle.verifier.specs.Knowledge.{entry_description}
 use Rattle.verifier.proofs.pass.pass.Given as goal
 
 -- the entry, and as many places that nothing leads to yet

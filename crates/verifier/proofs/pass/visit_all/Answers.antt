@@ -1,5 +1,5 @@
 use Rattle.std.proofs.Common.{◌≡◌, ◌∙◌, ◌-◌, suc, Err, length, ap, sym, arith, rules}
-use Rattle.verifier.specs.Passes.{visit, visits}
+use Rattle.verifier.specs.SlotPass.{visit, visits}
 use Rattle.verifier.proofs.Visits.{visits_fail}
 use Rattle.verifier.proofs.pass.visit_all.Goals as goal
 

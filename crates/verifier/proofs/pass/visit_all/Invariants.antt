@@ -1,5 +1,5 @@
 use Rattle.std.proofs.Common.{◌≡◌, ◌-◌, length}
-use Rattle.verifier.specs.Passes.{visits}
+use Rattle.verifier.specs.SlotPass.{visits}
 use Rattle.verifier.proofs.pass.visit_all.Given as goal
 
 -- the rest of the visits makes them all

@@ -2,8 +2,8 @@ use Rattle.std.proofs.Common.{◌≡◌, ℕ, ◌≤◌, List, rules, subst}
 use Rattle.bpf_insn.specs.declared.program.Slot.{Slot}
 use Rattle.bpf_insn.specs.Program.{IsProgram}
 use Rattle.call_shape.specs.Shape.{IsLawful}
-use Rattle.call_shape.specs.StaticPath.{StaticPath}
-use Rattle.verifier.specs.Passes.{Passes, PassFails}
+use Rattle.call_shape.specs.StaticPath.{outermost, StaticPath}
+use Rattle.verifier.specs.SlotPass.{PassSucceeds, PassFails}
 use Rattle.verifier.proofs.Tables.{sound_safe, sound_within}
 use Rattle.verifier.proofs.Passed.{pass_sound}
 use Rattle.verifier.proofs.Told.{told_of_shape}
@@ -22,9 +22,9 @@ new-requires c =
     let same : c.in_ok-program.program ≡ c.args.program.now = c.in_ok-program.ensures in
     let is : IsProgram c.args.program.now = subst IsProgram same (rw (← c.program.view_is) c.program.invariant) in
     let lawful : IsLawful c.args.program.now = c.in_ok-shape.ensures.lawful in
-    let passes : Passes c.args.program.now = subst Passes shape_is c.in_ok-pass.ensures.passes in
+    let passes : PassSucceeds c.args.program.now = subst PassSucceeds shape_is c.in_ok-pass.ensures.passes in
     let sound = pass_sound c.args.program.now passes.0 is lawful passes.1 in
-    let longest = subst (λ (p : List Slot). (n : ℕ) → StaticPath p 0 n → n ≤ c.in_ok-budget.budget) shape_is c.in_ok-budget.ensures.longest in
+    let longest = subst (λ (p : List Slot). (n : ℕ) → StaticPath p (outermost 0) n → n ≤ c.in_ok-budget.budget) shape_is c.in_ok-budget.ensures.longest in
     rw same (record {
       is_program = is;
       safe = sound_safe c.args.program.now c.in_ok-limits.limits passes.0 is sound;

@@ -1,0 +1,104 @@
+-- The check of one instruction on a description, and what holds where the instruction leads.
+use Rattle.std.specs.Prelude.{ℕ, ℤ, pos, Bool, false, nat_le, Some, None, Result, Ok, Err, if◌then◌else◌}
+use Rattle.std.specs.Ordering.{int_eq}
+use Rattle.bpf_insn.specs.declared.insn.Insn.{Insn}
+use Rattle.bpf_insn.specs.declared.insn.Insn.TheVariants.{Alu, JumpIf, Call, Exit}
+use Rattle.bpf_insn.specs.declared.insn.Operand.{Operand}
+use Rattle.bpf_insn.specs.declared.insn.Operand.TheVariants.{Immediate, Register}
+use Rattle.bpf_insn.specs.declared.insn.Callee.TheVariants.{Helper}
+use Rattle.bpf_insn.specs.declared.insn.Width.TheVariants.{Bits64}
+use Rattle.bpf_insn.specs.declared.insn.AluOp.TheVariants.{Mov}
+use Rattle.bpf_insn.specs.declared.insn.Condition.TheVariants.{Equal}
+use Rattle.bpf_insn.specs.declared.reg.Reg.{Reg}
+use Rattle.bpf_insn.specs.declared.reg.Reg.TheVariants.{R0, R1}
+use Rattle.bpf_insn.specs.Target.{target}
+use Rattle.verifier.specs.declared.kind.Kind.{Kind}
+use Rattle.verifier.specs.declared.kind.Kind.TheVariants.{Unwritten, Number, Context, Frame, OpenFreeze, SureFreeze}
+use Rattle.verifier.specs.declared.description.Held.{Held}
+use Rattle.verifier.specs.declared.description.Held.TheVariants.{Nothing, Sure}
+use Rattle.verifier.specs.declared.description.Description.{Description}
+use Rattle.verifier.specs.declared.check.Flow.{Flow}
+use Rattle.verifier.specs.declared.refusal.Cause.{Cause}
+use Rattle.verifier.specs.declared.refusal.Cause.TheVariants.{UnwrittenRegister, AddressCompared, UnknownHelper, ArgumentAgainstRule, FreezeHeld, NotDisposed, DisposedTwice, NoResult}
+use Rattle.verifier.specs.Knowledge.{kind_at, source_kind, with_kind, sure_freeze, zero_freeze, released_freeze, requeued}
+
+abbrev pub goes_on : Description → Flow
+goes_on d = record { next = Some d; jump = None }
+
+-- both ways of a jump
+abbrev pub goes_both : Description → ℕ → Description → Flow
+goes_both next to d = record { next = Some next; jump = Some (to, d) }
+
+abbrev pub ends : Flow
+ends = record { next = None; jump = None }
+
+abbrev pub check_move : Description → Reg → Kind → Result Flow Cause
+check_move d dst Unwritten = Err UnwrittenRegister
+check_move d dst kind = Ok (goes_on (with_kind d dst kind))
+
+abbrev pub is_zero : Operand → Bool
+is_zero (Immediate value) = int_eq value (pos 0)
+is_zero (Register reg) = false
+
+-- what is compared with has to be written
+abbrev pub compared : Kind → Result Flow Cause → Result Flow Cause
+compared Unwritten result = Err UnwrittenRegister
+compared kind result = result
+
+-- a number is compared with numbers alone
+abbrev pub jump_on_number : Description → ℕ → Kind → Result Flow Cause
+jump_on_number d to Unwritten = Err UnwrittenRegister
+jump_on_number d to (Number low high) = Ok (goes_both d to d)
+jump_on_number d to kind = Err AddressCompared
+
+-- a freeze is compared with the constant 0 alone
+abbrev pub jump_on_freeze : Bool → Flow → Result Flow Cause
+jump_on_freeze zero flow = if zero then Ok flow else Err AddressCompared
+
+abbrev pub check_jump : Description → ℕ → Bool → Kind → Kind → Result Flow Cause
+check_jump d to zero Unwritten right = Err UnwrittenRegister
+check_jump d to zero (Number least most) right = jump_on_number d to right
+check_jump d to zero OpenFreeze right = compared right (jump_on_freeze zero (goes_both (sure_freeze d) to (zero_freeze d)))
+check_jump d to zero SureFreeze right = compared right (jump_on_freeze zero (goes_on d))
+check_jump d to zero Context right = compared right (Err AddressCompared)
+check_jump d to zero Frame right = compared right (Err AddressCompared)
+
+-- a sure freeze that is held
+abbrev pub release_held : Description → Held → Result Flow Cause
+release_held d Sure = Ok (goes_on (released_freeze d))
+release_held d held = Err ArgumentAgainstRule
+
+abbrev pub check_release : Description → Kind → Result Flow Cause
+check_release d Unwritten = Err UnwrittenRegister
+check_release d SureFreeze = release_held d d.held
+check_release d kind = Err ArgumentAgainstRule
+
+-- 0 or 1, and a CCB that is not disposed of
+abbrev pub check_requeue : Description → Kind → Result Flow Cause
+check_requeue d Unwritten = Err UnwrittenRegister
+check_requeue d (Number least most) =
+    if nat_le most 1 then (if d.disposed then Err DisposedTwice else Ok (goes_on (requeued d))) else Err ArgumentAgainstRule
+check_requeue d kind = Err ArgumentAgainstRule
+
+abbrev pub check_call : Description → ℤ → Kind → Result Flow Cause
+check_call d number argument =
+    if int_eq number (pos 2) then check_release d argument
+    else if int_eq number (pos 4) then check_requeue d argument
+    else Err UnknownHelper
+
+abbrev pub exit_result : Kind → Result Flow Cause
+exit_result (Number least most) = Ok ends
+exit_result kind = Err NoResult
+
+abbrev pub exit_held : Description → Held → Result Flow Cause
+exit_held d Nothing = if d.disposed then exit_result (kind_at d R0) else Err NotDisposed
+exit_held d held = Err FreezeHeld
+
+abbrev pub check_exit : Description → Result Flow Cause
+check_exit d = exit_held d d.held
+
+abbrev pub check : ℕ → Insn → Description → Result Flow Cause
+check place (Alu Bits64 Mov dst src) d = check_move d dst (source_kind d src)
+check place (JumpIf Bits64 Equal dst src offset) d = check_jump d (target place offset) (is_zero src) (kind_at d dst) (source_kind d src)
+check place (Call (Helper number)) d = check_call d number (kind_at d R1)
+check place Exit d = check_exit d

@@ -2,11 +2,12 @@
 use Rattle.std.specs.Prelude.{ℕ, not, ◌==◌, nat_le, length, Option, Some, None, if◌then◌else◌}
 use Rattle.dev_queue.specs.declared.fault.QueueFault.{QueueFault}
 use Rattle.dev_queue.specs.declared.fault.QueueFault.TheVariants.{Full, Frozen, NoOpening, NothingWaits}
+use Rattle.dev_queue.specs.declared.queue.TheConstants.{MAX_LIVE}
 use Rattle.dev_queue.specs.State.{QueueState, live}
 
--- of one CCB more: 256 are live
+-- of one CCB more: as many are live as there may be (256)
 abbrev pub insert_fault : QueueState → Option QueueFault
-insert_fault state = if nat_le 256 (live state) then Some Full else None
+insert_fault state = if nat_le MAX_LIVE (live state) then Some Full else None
 
 -- of a start, where the queue has so many freezes: it is frozen, has no opening, or no CCB waits, in this order
 abbrev pub start_fault : ℕ → QueueState → Option QueueFault

@@ -3,9 +3,10 @@ use Rattle.std.specs.Prelude.{◌≤◌, length, vec_capacity}
 use Rattle.std.specs.declared.vec.Vec.{Vec}
 use Rattle.std.specs.declared.alloc.Global.{Global}
 use Rattle.dev_queue.specs.declared.waiting.WaitingCcb.{WaitingCcb}
+use Rattle.dev_queue.specs.declared.queue.TheConstants.{MAX_LIVE}
 use Rattle.dev_queue.specs.Waiting.{AreInOrder}
 
 pub record IsKept (pairs : Vec WaitingCcb Global) : Type 0 where
   pub ordered : AreInOrder 0 pairs.items
-  pub within : length pairs.items ≤ 256
-  pub room : 256 ≤ vec_capacity pairs
+  pub within : length pairs.items ≤ MAX_LIVE
+  pub room : MAX_LIVE ≤ vec_capacity pairs

@@ -11,5 +11,5 @@ mod waiting;
 
 pub use fault::QueueFault;
 pub use freezes::Frozen;
-pub use queue::DevQueue;
+pub use queue::{DevQueue, MAX_LIVE};
 pub use waiting::WaitingCcb;

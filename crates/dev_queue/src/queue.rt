@@ -9,13 +9,13 @@ ghost use Rattle.dev_queue.specs.Faults.{insert_fault, start_fault};
 
 use crate::fault::QueueFault;
 use crate::freezes::Frozen;
-use crate::waiting::{ROOM, WaitingCcb, WaitingList};
+use crate::waiting::{WaitingCcb, WaitingList};
 use ccb::CcbId;
 use std::alloc::{AllocError, Global};
 use std::marker::Model;
 
 /// How many CCBs of one queue can be live at a time, so that each of them finds room to wait.
-const MOST_LIVE: u32 = ROOM as u32;
+pub const MAX_LIVE: u32 = 256;
 
 /// The live CCBs of one device queue: which wait, how many are active, and how many in recovery, at most
 /// 256 in all. Openings, from 1 to 255, are how many may be active for another one to start. Contracts
@@ -30,13 +30,14 @@ pub struct DevQueue {
 
 impl Model for DevQueue {
     ghost use Rattle.std.specs.Prelude.{◌+◌, ◌≤◌, length};
+    ghost use Rattle.dev_queue.specs.declared.queue.TheConstants.{MAX_LIVE};
     ghost use Rattle.dev_queue.specs.State.{QueueState};
 
     ghost Value = { QueueState };
 
     ghost view = { λ q. record { waiting = q.waiting; active = q.active; recovering = q.recovering; openings = q.openings } };
 
-    ghost invariant = { λ q. (length q.waiting + q.active + q.recovering ≤ 256) × (1 ≤ q.openings) };
+    ghost invariant = { λ q. (length q.waiting + q.active + q.recovering ≤ MAX_LIVE) × (1 ≤ q.openings) };
 }
 
 impl DevQueue {
@@ -63,7 +64,7 @@ impl DevQueue {
         ensures refused { OnErr result (self.new ≡ self.old) }
     {
         let (waiting, active, recovering) = self.counts();
-        if waiting + active + recovering >= MOST_LIVE {
+        if waiting + active + recovering >= MAX_LIVE {
             return Err(QueueFault::Full);
         }
         self.waiting.add(WaitingCcb { priority, number });
@@ -119,7 +120,7 @@ impl DevQueue {
     pub fn leave(&mut self)
         requires { 1 ≤ self.old.recovering }
         ensures left { self.new ≡ with_left self.old }
-        ensures room { live self.new < 256 }
+        ensures room { live self.new < MAX_LIVE }
     {
         self.recovering -= 1;
     }
@@ -127,7 +128,7 @@ impl DevQueue {
     /// How many CCBs wait, are active, and are in recovery, at most 256 in all.
     pub fn counts(&self) -> (u32, u32, u32)
         ensures counts { result ≡ (length self.now.waiting, self.now.active, self.now.recovering) }
-        ensures bound { live self.now ≤ 256 }
+        ensures bound { live self.now ≤ MAX_LIVE }
     {
         (self.waiting.len() as u32, self.active, self.recovering)
     }

@@ -6,12 +6,13 @@ ghost use Rattle.std.specs.List.{AllWithin};
 ghost use Rattle.std.specs.List.Sorted.{IsNonDecreasingBy};
 ghost use Rattle.dev_queue.specs.Waiting.{StartsFirst, IsLeast, IsLeastAt, with_pair, without, waits};
 
+use crate::queue::MAX_LIVE;
 use ccb::CcbId;
 use std::alloc::{AllocError, Global};
 use std::marker::Model;
 
 /// How many CCBs can wait at a time.
-pub(crate) const ROOM: usize = 256;
+const ROOM: usize = MAX_LIVE as usize;
 
 /// A CCB that waits: a lower priority number starts first, and among equals a lower CCB number.
 #[derive(Clone, Copy, Debug, PartialEq, Eq)]
@@ -90,7 +91,7 @@ impl WaitingList {
     /// How many CCBs wait, at most 256.
     pub(crate) fn len(&self) -> usize
         ensures pairs { result ≡ length self.now }
-        ensures bound { result ≤ 256 }
+        ensures bound { result ≤ MAX_LIVE }
     {
         self.pairs.len()
     }
@@ -104,7 +105,7 @@ impl WaitingList {
 
     /// One more CCB waits, of a number that did not.
     pub(crate) fn add(&mut self, pair: WaitingCcb)
-        requires room { length self.old < 256 }
+        requires room { length self.old < MAX_LIVE }
         requires new { waits pair.number self.old ≡ false }
         ensures added { self.new ≡ with_pair pair self.old }
         ensures len { length self.new ≡ length self.old + 1 }

@@ -3,6 +3,7 @@ use Rattle.std.specs.Prelude.{ℕ, Bool, not, ◌==◌, ◌||◌, nat_le, List, 
 use Rattle.std.specs.List.{find}
 use Rattle.freeze_ledger.specs.declared.entries.Holder.{Holder}
 use Rattle.freeze_ledger.specs.declared.entries.Freeze.{Freeze}
+use Rattle.freeze_ledger.specs.declared.list.TheConstants.{MAX_FREEZES, MAX_FREEZE_NUMBER, MAX_QUEUE_FREEZES}
 
 -- the freeze is one of this queue
 abbrev pub names : ℕ → Freeze → Bool
@@ -12,10 +13,11 @@ names queue freeze = freeze.queue.0 == queue
 abbrev pub frozen : ℕ → List Freeze → ℕ
 frozen queue freezes = count_by (names queue) freezes
 
--- a further freeze of the queue meets a limit: the queue has 255, the ledger 1024, or the numbers are used up
+-- a further freeze of the queue meets a limit: the queue has as many as one may have (255), there are as many as there may
+-- be in all (1024), or the numbers (up to 4,294,967,295) are used up
 abbrev pub meets_limit : ℕ → List Freeze → ℕ → Bool
 meets_limit queue freezes greatest =
-    nat_le 255 (frozen queue freezes) || nat_le 1024 (length freezes) || nat_le 4294967295 greatest
+    nat_le MAX_QUEUE_FREEZES (frozen queue freezes) || nat_le MAX_FREEZES (length freezes) || nat_le MAX_FREEZE_NUMBER greatest
 
 -- the freeze of this number
 abbrev pub entry_of : ℕ → List Freeze → Option Freeze

@@ -4,6 +4,7 @@ use Rattle.std.specs.declared.vec.Vec.{Vec}
 use Rattle.std.specs.declared.alloc.Global.{Global}
 use Rattle.ccb.specs.Rising.{AreRising}
 use Rattle.freeze_ledger.specs.declared.entries.Freeze.{Freeze}
+use Rattle.freeze_ledger.specs.declared.list.TheConstants.{MAX_FREEZES}
 use Rattle.freeze_ledger.specs.Freezes.{frozen}
 
 -- the freezes' numbers rise from above `low`, and none is above `high`
@@ -14,6 +15,6 @@ pub record IsKept (freezes : Vec Freeze Global) (counts : List ℕ) (greatest : 
   pub counted : (queue : ℕ) → queue < length counts → slice_index counts queue ≡ frozen queue freezes.items
   pub numbered : AreNumbered 0 freezes.items greatest
   pub known : All (λ freeze. freeze.queue.0 < length counts) freezes.items
-  pub within : length freezes.items ≤ 1024
-  pub room : 1024 ≤ vec_capacity freezes
+  pub within : length freezes.items ≤ MAX_FREEZES
+  pub room : MAX_FREEZES ≤ vec_capacity freezes
   pub few : length counts < 2 ^ 32

@@ -9,5 +9,5 @@ mod token;
 
 pub use entries::{Freeze, Holder};
 pub use iter::Holders;
-pub use list::Ledger;
+pub use list::{Ledger, MAX_FREEZE_NUMBER, MAX_FREEZES, MAX_QUEUE_FREEZES};
 pub use token::FreezeToken;

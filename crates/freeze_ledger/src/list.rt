@@ -13,8 +13,14 @@ use ccb::QueueId;
 use std::alloc::{AllocError, Global};
 use std::marker::Model;
 
-/// How many freezes the ledger holds in all.
-const ROOM: usize = 1024;
+/// How many freezes the ledger holds at most.
+pub const MAX_FREEZES: usize = 1024;
+
+/// How many freezes one queue has at most.
+pub const MAX_QUEUE_FREEZES: u8 = 255;
+
+/// The greatest number that a freeze bears.
+pub const MAX_FREEZE_NUMBER: u32 = 4_294_967_295;
 
 /// The freezes of a fixed number of device queues. Contracts see the number of queues, the greatest
 /// number given so far, and the freezes in the order of their numbers.
@@ -53,7 +59,7 @@ impl Ledger {
     pub fn with_room(alloc: Global, queues: u32) -> Result<Self, AllocError>
         ensures { IfOk result (λ ledger. ledger ≡ empty_ledger queues) }
     {
-        let freezes = Vec::with_capacity(alloc, ROOM)?;
+        let freezes = Vec::with_capacity(alloc, MAX_FREEZES)?;
         let counts = vec![in alloc; 0u8; queues as usize]?;
         Ok(Ledger {
             freezes,
@@ -74,7 +80,10 @@ impl Ledger {
     {
         let place = queue.0 as usize;
         let count = self.counts[place];
-        if count == u8::MAX || self.freezes.len() == ROOM || self.greatest == u32::MAX {
+        if count == MAX_QUEUE_FREEZES
+            || self.freezes.len() == MAX_FREEZES
+            || self.greatest == MAX_FREEZE_NUMBER
+        {
             return None;
         }
         let freeze = Freeze {
@@ -120,7 +129,7 @@ impl Ledger {
     pub fn count(&self, queue: QueueId) -> u32
         requires { queue.0 < self.now.queues }
         ensures entries { result ≡ frozen queue.0 self.now.freezes }
-        ensures bound { result ≤ 255 }
+        ensures bound { result ≤ MAX_QUEUE_FREEZES }
     {
         u32::from(self.counts[queue.0 as usize])
     }
@@ -128,7 +137,7 @@ impl Ledger {
     /// How many freezes there are in all, at most 1024.
     pub fn len(&self) -> usize
         ensures entries { result ≡ length self.now.freezes }
-        ensures bound { result ≤ 1024 }
+        ensures bound { result ≤ MAX_FREEZES }
     {
         self.freezes.len()
     }

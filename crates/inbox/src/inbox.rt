@@ -13,6 +13,12 @@ use std::alloc::{AllocError, Global};
 use std::marker::{Brand, Model};
 use std::sync::Wait;
 
+/// How many completions an inbox can be made to hold at most.
+pub const MAX_CAPACITY: usize = 256;
+
+/// How many passes of one kind it can have at most.
+pub const MAX_PASSES: usize = 64;
+
 /// Completions that wait, at most as many as its capacity, in the order in which they were put. It is shared by reference, and spent by `close`.
 ///
 /// To contracts it is the queue that it has, and its shape: its capacity, and how many passes there are of each kind.
@@ -44,9 +50,9 @@ impl Inbox {
         puts: usize,
         takes: usize,
     ) -> Result<(Inbox, Vec<PutPass>, Vec<TakePass>), AllocError>
-        requires capacity { (1 ≤ capacity) × (capacity ≤ 256) }
-        requires puts { (1 ≤ puts) × (puts ≤ 64) }
-        requires takes { (1 ≤ takes) × (takes ≤ 64) }
+        requires capacity { (1 ≤ capacity) × (capacity ≤ MAX_CAPACITY) }
+        requires puts { (1 ≤ puts) × (puts ≤ MAX_PASSES) }
+        requires takes { (1 ≤ takes) × (takes ≤ MAX_PASSES) }
         ensures inbox { IfOk result (λ made. made.0.shape ≡ record { capacity = capacity; puts = puts; takes = takes }) }
         ensures puts { IfOk result (λ made. made.1.items ≡ new_passes made.0 0 puts) }
         ensures takes { IfOk result (λ made. made.2.items ≡ new_passes made.0 puts takes) }

@@ -9,7 +9,7 @@ mod passes;
 mod rule;
 
 pub use closing::{CloseFault, Unclosed};
-pub use inbox::Inbox;
+pub use inbox::{Inbox, MAX_CAPACITY, MAX_PASSES};
 pub use passes::{PutPass, TakePass};
 
 #[cfg(test)]

@@ -72,3 +72,50 @@ fn one_accepted_and_one_refused(rt: HostRuntime) -> Result<(), Fail> {
     assert_eq!(rt; verdict(rt.alloc(), &insns[3..])?, Some(Err(leaks)));
     Ok(())
 }
+
+const fn jeq(dst: Reg, src: Reg) -> Insn {
+    Insn::JumpIf {
+        width: Width::Bits64,
+        condition: Condition::Equal,
+        dst,
+        src: Operand::Register(src),
+        offset: 0,
+    }
+}
+
+// Comparisons of two registers, which no bytes spell yet: both are read, and neither may be a freeze or an address.
+#[test]
+fn comparisons_of_registers(rt: HostRuntime) -> Result<(), Fail> {
+    let zero = mov(Reg::R3, 0);
+    for (insns, cause, slot) in [
+        (
+            [jeq(Reg::R2, Reg::R4), Insn::Exit].as_slice(),
+            Cause::UnwrittenRegister,
+            0,
+        ),
+        (
+            [zero, jeq(Reg::R3, Reg::R0), Insn::Exit].as_slice(),
+            Cause::UnwrittenRegister,
+            1,
+        ),
+        (
+            [zero, jeq(Reg::R2, Reg::R3), Insn::Exit].as_slice(),
+            Cause::AddressCompared,
+            1,
+        ),
+        (
+            [zero, jeq(Reg::R3, Reg::R2), Insn::Exit].as_slice(),
+            Cause::AddressCompared,
+            1,
+        ),
+        (
+            [zero, jeq(Reg::R3, Reg::R1), Insn::Exit].as_slice(),
+            Cause::AddressCompared,
+            1,
+        ),
+    ] {
+        let refusal = Refusal::Check(cause, slot);
+        assert_eq!(rt; verdict(rt.alloc(), insns)?, Some(Err(refusal)));
+    }
+    Ok(())
+}

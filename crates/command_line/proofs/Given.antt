@@ -1,0 +1,27 @@
+-- What the getters of `clap`'s matches give, by their rows.
+use Rattle.std.proofs.Common.{◌≡◌, ◌∙◌, ℕ, List, Option, Some, None, MatchOption, codes, sym, subst, ap}
+use Rattle.std.specs.Prelude.{option_map, unwrap_or}
+use Rattle.std.specs.Borrow.{Bor}
+use Rattle.clap.specs.Words.{Row, Text, first_of, first_value, rows_of}
+use Rattle.clap.specs.declared.parser.matches.Found.{Found}
+use Rattle.clap.proofs.WalkLemmas.{first_value-rows}
+use Rattle.command_line.specs.FoundPlan.{ReadsWorkers}
+use Rattle.command_line.specs.RunLine.{IsLawfulNumber, Spells, SpellsNoLawfulNumber}
+
+-- the text that `get_str` gives
+pub text_given : (f : Found) (id : Text) (o : Option (Bor (List ℕ))) (t : Bor (List ℕ)) → option_map (λ s. s.now) o ≡ first_value f id → o ≡ Some t
+    → first_of id (rows_of f) ≡ Some t.now
+text_given f id o t given is = sym (first_value-rows f id) ∙ (sym given ∙ ap (option_map (λ s. s.now)) is)
+
+pub no_text : (f : Found) (id : Text) (o : Option (Bor (List ℕ))) (t : Text) → option_map (λ s. s.now) o ≡ first_value f id → o ≡ None
+    → first_of id (rows_of f) ≡ Some t → ⊥
+no_text f id o t given is found =
+    let none : first_of id (rows_of f) ≡ None = sym (first_value-rows f id) ∙ (sym given ∙ ap (option_map (λ s. s.now)) is) in
+    cc
+
+-- what is read in the word that was given is the number of workers
+pub workers_read : (rows : List Row) (word : Text) (o : Option ℕ) → first_of (codes "workers") rows ≡ Some word
+    → MatchOption o (SpellsNoLawfulNumber word) (λ n. Spells word n × IsLawfulNumber n) → ReadsWorkers rows o
+workers_read rows word (Some n) is read = (read.1, (word, is, read.0))
+workers_read rows word None is none = λ other is_other.
+    subst SpellsNoLawfulNumber (ap (λ (x : Option Text). unwrap_or x word) (sym is ∙ is_other)) none

@@ -1,0 +1,50 @@
+-- From the rows that `clap` found behind `run` to the plan.
+use Rattle.std.proofs.Common.{◌≡◌, ◌∙◌, List, [], Option, Some, None, refl, sym, subst, ap, ap₂, codes, get_or, arith}
+use Rattle.std.specs.Prelude.{Box, option_map, unwrap_or}
+use Rattle.std.specs.Box.{box_value}
+use Rattle.clap.specs.Words.{Row, Text, rows_of, subcommand_name_of, subcommand_rows, subcommand_rows_of, found_of}
+use Rattle.clap.specs.declared.parser.matches.ArgMatches.{ArgMatches}
+use Rattle.clap.specs.declared.parser.matches.ArgMatches.TheViews.{out-ArgMatches, out-SubCommand}
+use Rattle.clap.specs.declared.parser.matches.SubCommand.{SubCommand}
+use Rattle.command_line.specs.FoundPlan.{HasFound, PlansCheck, PlansFound, PlansRows}
+use Rattle.command_line.specs.declared.plans.Plan.{Plan}
+use Rattle.command_line.specs.declared.plans.Plan.TheVariants.{Check, Run}
+
+abbrev pub rows_in : Option (Text × List Row) → Option (List Row)
+rows_in = option_map (λ (p : Text × List Row). p.1)
+
+module _ {Z : Type 0} where
+  abbrev name_in : Option (Box SubCommand Z) → Option Text
+  name_in = option_map (λ b. (out-SubCommand (box_value b)).name.now)
+
+  both_in : (o : Option (Box SubCommand Z)) (name : Text) (rows : List Row) → Some name ≡ name_in o → Some rows ≡ rows_in (subcommand_rows o)
+      → subcommand_rows o ≡ Some (name, rows)
+  both_in None name rows n r = cc
+  both_in (Some b) name rows n r =
+      let same_name : name ≡ (out-SubCommand (box_value b)).name.now = cc in
+      let same_rows : rows ≡ rows_of (found_of (out-SubCommand (box_value b)).matches) = cc in
+      sym (ap₂ (λ (x : Text) (y : List Row). Some (x, y)) same_name same_rows)
+
+-- the subcommand that the matches have, by its name and by its rows
+pub entered_is : (m : ArgMatches) (name : Text) (rows : List Row) → Some name ≡ subcommand_name_of m
+    → Some rows ≡ rows_in (subcommand_rows_of m) → subcommand_rows_of m ≡ Some (name, rows)
+entered_is m name rows named found = both_in (out-ArgMatches m).subcommand name rows named found
+
+-- the words that name a subcommand differ
+pub check_not_run : codes "check" ≡ codes "run" → ⊥
+check_not_run e = let bad : 99 ≡ 114 = ap (λ (t : Text). get_or t 0 0) e in omega (arith, bad)
+
+pub plan_in : (found : Option (Text × List Row)) (rows : List Row) (planned : Option Plan) → found ≡ Some (codes "run", rows)
+    → PlansRows rows planned → PlansFound found planned
+plan_in found rows (Some (Run workers a b)) is h = (subst (λ f. HasFound f (Run workers a b)) (sym is) (refl, h.0), h.1)
+plan_in found rows (Some (Check path)) is h = absurd h.0.same
+plan_in found rows None is h = λ other is_other.
+    let same : rows ≡ other = ap (λ f. unwrap_or (rows_in f) rows) (sym is ∙ is_other) in
+    subst (λ r. PlansRows r None) same h
+
+pub check_in : (found : Option (Text × List Row)) (rows : List Row) (planned : Option Plan) → found ≡ Some (codes "check", rows)
+    → PlansCheck rows planned → PlansFound found planned
+check_in found rows (Some plan) is h = (subst (λ f. HasFound f plan) (sym is) h.0, h.1)
+check_in found rows None is h = λ other is_other.
+    let same : codes "check" ≡ codes "run" = ap (λ f. unwrap_or (option_map (λ (p : Text × List Row). p.0) f) []) (sym is ∙ is_other) in
+    absurd (check_not_run same)

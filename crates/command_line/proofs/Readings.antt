@@ -1,0 +1,146 @@
+-- What `clap` reads from each line that asks for a run.
+use Rattle.std.proofs.Common.{◌≡◌, List, [], ◌∷◌, ◌++◌, Some, true, false, codes, pos, refl, ◌∙◌, ap}
+use Rattle.clap.specs.Words.{Row, Text, first_of, subcommand_of}
+use Rattle.clap.specs.ValueTests.{accepts}
+use Rattle.clap.specs.Walk.{Walk, idle, nothing_held, reacted, finished}
+use Rattle.clap.specs.Faults.{defaults_fault, fault_of}
+use Rattle.clap.specs.Kinds.{Kinds}
+use Rattle.clap.specs.declared.error.kind.ErrorKind.TheVariants as kind
+use Rattle.clap.specs.declared.builder.value_parser.ValueParser.{ValueParser}
+use Rattle.clap.specs.declared.builder.value_parser.ValueParser.TheVariants as value_parser
+use Rattle.command_line.specs.RunCommand.{camr_command}
+use Rattle.command_line.specs.RunLine.{IsPlain, RunLine}
+use Rattle.command_line.specs.RunLine.RunLine.{unnumbered, before, between, behind, joined_before, joined_between, joined_behind}
+use Rattle.command_line.proofs.PlainWords.{walk_at}
+use Rattle.command_line.proofs.RunWords.{enters_run, fault_is}
+use Rattle.command_line.proofs.Traces.{Trace, built_workers, end_fault, number_walk, path_walk, run_rules, trace_joined, trace_nil, trace_path, trace_workers, traced_fault, traced_rows}
+
+abbrev pub one_to_sixteen : ValueParser
+one_to_sixteen = value_parser.Signed (pos 1) (pos 16)
+
+-- what the rows behind `run` say
+pub record Says (rows : List Row) (number manifest scenario : Text) : Type 0 where
+  pub workers : first_of (codes "workers") rows ≡ Some number
+  pub manifest_is : first_of (codes "MANIFEST") rows ≡ Some manifest
+  pub scenario_is : first_of (codes "SCENARIO") rows ≡ Some scenario
+
+-- what `clap` makes of the line: it refuses the number at most
+pub record Reading (words : List Text) (number manifest scenario : Text) : Type 0 where
+  pub rows : List Row
+  pub enters : subcommand_of camr_command words ≡ Some (codes "run", rows)
+  pub passes : accepts false one_to_sixteen number ≡ true → fault_of camr_command words ≡ []
+  pub fails : accepts false one_to_sixteen number ≡ false → fault_of camr_command words ≡ kind.ValueValidation ∷ []
+  pub says : Says rows number manifest scenario
+
+abbrev start : Walk
+start = walk_at nothing_held idle 1
+
+-- a reading of the words behind `run`, by their trace
+reading : (rest : List Text) (number manifest scenario : Text) (f : Kinds) (end : Walk) → Trace start rest f end
+    → (accepts false one_to_sixteen number ≡ true → end_fault f end ≡ [])
+    → (accepts false one_to_sixteen number ≡ false → end_fault f end ≡ kind.ValueValidation ∷ [])
+    → Says (finished run_rules end.held) number manifest scenario
+    → Reading (codes "run" ∷ rest) number manifest scenario
+reading rest number manifest scenario f end trace passes fails says = record {
+  rows = finished run_rules end.held;
+  enters = enters_run rest ∙ ap (λ (rows : List Row). Some (codes "run", rows)) (traced_rows rest f end trace);
+  passes = λ e. fault_is rest ∙ (traced_fault rest f end trace ∙ passes e);
+  fails = λ e. fault_is rest ∙ (traced_fault rest f end trace ∙ fails e);
+  says = says;
+}
+
+-- the number in one word with its option
+abbrev joined_walk : Text → Walk → Walk
+joined_walk n w = walk_at (reacted run_rules built_workers (n ∷ []) w.held) idle w.position
+
+-- the number in a word behind its option
+abbrev numbered_walk : Text → Walk → Walk
+numbered_walk n w = number_walk w.held w.position n
+
+module _ (n m s : Text) (plain_m : IsPlain m) (plain_s : IsPlain s) where
+  read_unnumbered : Reading (codes "run" ∷ m ∷ s ∷ []) (codes "1") m s
+  unfolding defaults_fault
+  read_unnumbered =
+      let w1 = path_walk start m in
+      let w2 = path_walk w1 s in
+      reading _ (codes "1") m s _ w2
+      (trace_path start.held 1 m _ _ w2 plain_m (trace_path w1.held 2 s [] [] w2 plain_s (trace_nil w2)))
+      (λ e. refl) (λ e. let bad : true ≡ false = e in cc)
+      (record { workers = refl; manifest_is = refl; scenario_is = refl })
+
+  read_joined_before : Reading (codes "run" ∷ (codes "--workers=" ++ n) ∷ m ∷ s ∷ []) n m s
+  unfolding defaults_fault
+  read_joined_before =
+      let w1 = joined_walk n start in
+      let w2 = path_walk w1 m in
+      let w3 = path_walk w2 s in
+      reading _ n m s _ w3
+      (trace_joined start.held 1 n _ _ w3 (trace_path w1.held 1 m _ _ w3 plain_m (trace_path w2.held 2 s [] [] w3 plain_s (trace_nil w3))))
+      (λ e. rw e refl) (λ e. rw e refl)
+      (record { workers = refl; manifest_is = refl; scenario_is = refl })
+
+  read_joined_between : Reading (codes "run" ∷ m ∷ (codes "--workers=" ++ n) ∷ s ∷ []) n m s
+  unfolding defaults_fault
+  read_joined_between =
+      let w1 = path_walk start m in
+      let w2 = joined_walk n w1 in
+      let w3 = path_walk w2 s in
+      reading _ n m s _ w3
+      (trace_path start.held 1 m _ _ w3 plain_m (trace_joined w1.held 2 n _ _ w3 (trace_path w2.held 2 s [] [] w3 plain_s (trace_nil w3))))
+      (λ e. rw e refl) (λ e. rw e refl)
+      (record { workers = refl; manifest_is = refl; scenario_is = refl })
+
+  read_joined_behind : Reading (codes "run" ∷ m ∷ s ∷ (codes "--workers=" ++ n) ∷ []) n m s
+  unfolding defaults_fault
+  read_joined_behind =
+      let w1 = path_walk start m in
+      let w2 = path_walk w1 s in
+      let w3 = joined_walk n w2 in
+      reading _ n m s _ w3
+      (trace_path start.held 1 m _ _ w3 plain_m (trace_path w1.held 2 s _ _ w3 plain_s (trace_joined w2.held 3 n [] [] w3 (trace_nil w3))))
+      (λ e. rw e refl) (λ e. rw e refl)
+      (record { workers = refl; manifest_is = refl; scenario_is = refl })
+
+  module _ (plain_n : IsPlain n) where
+    read_before : Reading (codes "run" ∷ codes "--workers" ∷ n ∷ m ∷ s ∷ []) n m s
+    unfolding defaults_fault
+    read_before =
+        let w1 = numbered_walk n start in
+        let w2 = path_walk w1 m in
+        let w3 = path_walk w2 s in
+        reading _ n m s _ w3
+        (trace_workers start.held 1 n _ _ w3 plain_n (trace_path w1.held 1 m _ _ w3 plain_m (trace_path w2.held 2 s [] [] w3 plain_s (trace_nil w3))))
+        (λ e. rw e refl) (λ e. rw e refl)
+        (record { workers = refl; manifest_is = refl; scenario_is = refl })
+
+    read_between : Reading (codes "run" ∷ m ∷ codes "--workers" ∷ n ∷ s ∷ []) n m s
+    unfolding defaults_fault
+    read_between =
+        let w1 = path_walk start m in
+        let w2 = numbered_walk n w1 in
+        let w3 = path_walk w2 s in
+        reading _ n m s _ w3
+        (trace_path start.held 1 m _ _ w3 plain_m (trace_workers w1.held 2 n _ _ w3 plain_n (trace_path w2.held 2 s [] [] w3 plain_s (trace_nil w3))))
+        (λ e. rw e refl) (λ e. rw e refl)
+        (record { workers = refl; manifest_is = refl; scenario_is = refl })
+
+    read_behind : Reading (codes "run" ∷ m ∷ s ∷ codes "--workers" ∷ n ∷ []) n m s
+    unfolding defaults_fault
+    read_behind =
+        let w1 = path_walk start m in
+        let w2 = path_walk w1 s in
+        let w3 = numbered_walk n w2 in
+        reading _ n m s _ w3
+        (trace_path start.held 1 m _ _ w3 plain_m (trace_path w1.held 2 s _ _ w3 plain_s (trace_workers w2.held 3 n [] [] w3 plain_n (trace_nil w3))))
+        (λ e. rw e refl) (λ e. rw e refl)
+        (record { workers = refl; manifest_is = refl; scenario_is = refl })
+
+pub line_reading : (words : List Text) (number manifest scenario : Text) → RunLine words number manifest scenario
+    → IsPlain number → IsPlain manifest → IsPlain scenario → Reading words number manifest scenario
+line_reading words number manifest scenario (unnumbered m s) n_is m_is s_is = read_unnumbered (codes "1") m s m_is s_is
+line_reading words number manifest scenario (before n m s) n_is m_is s_is = read_before n m s m_is s_is n_is
+line_reading words number manifest scenario (between n m s) n_is m_is s_is = read_between n m s m_is s_is n_is
+line_reading words number manifest scenario (behind n m s) n_is m_is s_is = read_behind n m s m_is s_is n_is
+line_reading words number manifest scenario (joined_before n m s) n_is m_is s_is = read_joined_before n m s m_is s_is
+line_reading words number manifest scenario (joined_between n m s) n_is m_is s_is = read_joined_between n m s m_is s_is
+line_reading words number manifest scenario (joined_behind n m s) n_is m_is s_is = read_joined_behind n m s m_is s_is

@@ -1,0 +1,54 @@
+-- The plan of what `clap` found.
+use Rattle.std.specs.Prelude.{◌≡◌, ℕ, List, Option, Some, None, codes, string_bytes}
+use Rattle.clap.specs.Words.{Row, Text, first_of}
+use Rattle.command_line.specs.RunLine.{HasLawfulNumber, IsLawfulNumber, IsRun, Spells}
+use Rattle.command_line.specs.RunLine.{SpellsNoLawfulNumber}
+use Rattle.command_line.specs.declared.plans.Plan.{Plan}
+use Rattle.command_line.specs.declared.plans.Plan.TheVariants.{Check, Run}
+
+-- the plan has what `clap` found behind `run` under the arguments' names
+pub record HasFoundIn (rows : List Row) (plan : Plan) : Type 0 where
+  pub number : Text
+  pub manifest : Text
+  pub scenario : Text
+  pub workers_found : first_of (codes "workers") rows ≡ Some number
+  pub manifest_found : first_of (codes "MANIFEST") rows ≡ Some manifest
+  pub scenario_found : first_of (codes "SCENARIO") rows ≡ Some scenario
+  pub same : IsRun number manifest scenario plan
+
+-- the plan is what was asked for by that word, with what `clap` found behind it
+abbrev pub HasFoundBehind : Text → List Row → Plan → Type 0
+HasFoundBehind name rows (Run workers a b) = (name ≡ codes "run") × HasFoundIn rows (Run workers a b)
+HasFoundBehind name rows (Check path) =
+    (name ≡ codes "check") × (first_of (codes "MANIFEST") rows ≡ Some (string_bytes path))
+
+-- the words asked for something, and the plan is that
+abbrev pub HasFound : Option (Text × List Row) → Plan → Type 0
+HasFound None plan = ⊥
+HasFound (Some p) plan = HasFoundBehind p.0 p.1 plan
+
+-- the number of workers that those rows give, and none only where they give no lawful one
+abbrev pub ReadsWorkers : List Row → Option ℕ → Type 0
+ReadsWorkers rows (Some n) = IsLawfulNumber n
+    × ((word : Text) × (first_of (codes "workers") rows ≡ Some word) × Spells word n)
+ReadsWorkers rows None = (word : Text) → first_of (codes "workers") rows ≡ Some word
+    → SpellsNoLawfulNumber word
+
+-- the plan that those rows ask for, and none only where a part of one is missing
+abbrev pub PlansRows : List Row → Option Plan → Type 0
+PlansRows rows (Some plan) = HasFoundIn rows plan × HasLawfulNumber plan
+PlansRows rows None = (number manifest scenario : Text)
+    → first_of (codes "workers") rows ≡ Some number
+    → first_of (codes "MANIFEST") rows ≡ Some manifest
+    → first_of (codes "SCENARIO") rows ≡ Some scenario
+    → SpellsNoLawfulNumber number
+
+-- the check that those rows ask for
+abbrev pub PlansCheck : List Row → Option Plan → Type 0
+PlansCheck rows (Some plan) = HasFoundBehind (codes "check") rows plan × HasLawfulNumber plan
+PlansCheck rows None = Unit {0}
+
+-- the same of the subcommand that `clap` found
+abbrev pub PlansFound : Option (Text × List Row) → Option Plan → Type 0
+PlansFound found (Some plan) = HasFound found plan × HasLawfulNumber plan
+PlansFound found None = (rows : List Row) → found ≡ Some (codes "run", rows) → PlansRows rows None

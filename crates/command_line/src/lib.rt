@@ -1,0 +1,10 @@
+// The words after the program's name, and the plan that they ask for. It relies on `clap`, whose texts are what
+// a user is shown of usage and help.
+#![tactic(auto)]
+
+mod plans;
+mod usage;
+mod words;
+
+pub use plans::{MAX_WORKERS, MIN_WORKERS, Plan};
+pub use words::{UsageFault, not_utf8, plan};

@@ -1,0 +1,42 @@
+// What the program can be asked to do. It relies on nothing.
+
+ghost use Rattle.std.specs.Prelude.{◌≡◌, ◌<◌, [], length, slice_index_or};
+ghost use Rattle.command_line.specs.Inputs.{input_paths};
+
+/// The least number of workers that serve completions, and the greatest.
+pub const MIN_WORKERS: u8 = 1;
+
+pub const MAX_WORKERS: u8 = 16;
+
+/// What is to be done, with the paths of the files in the order of the line.
+#[derive(Debug, Drop)]
+pub enum Plan {
+    /// Verifies the programs of a manifest.
+    Check(String),
+    /// Runs a scenario over a manifest's queues: the number of workers, 1 to 16, the manifest, the scenario.
+    Run(u8, String, String),
+}
+
+impl Plan {
+    /// How many files are read.
+    pub fn input_count(&self) -> usize
+        ensures { result ≡ length (input_paths self.now) }
+    {
+        match self {
+            Plan::Check(_) => 1,
+            Plan::Run(..) => 2,
+        }
+    }
+
+    /// The path of a file that is read, by its place in the order of the line.
+    pub fn input(&self, place: usize) -> &str
+        requires { place < length (input_paths self.now) }
+        ensures { result.now ≡ slice_index_or (input_paths self.now) place [] }
+    {
+        match (self, place) {
+            (Plan::Check(manifest) | Plan::Run(_, manifest, _), 0) => manifest.as_str(),
+            (Plan::Run(_, _, scenario), 1) => scenario.as_str(),
+            _ => "",
+        }
+    }
+}

@@ -1,0 +1,161 @@
+// The words after the program's name, read as a plan. It relies on `usage` for what `clap` is given of them, and
+// on `clap` for the rest but the form of a number.
+
+ghost use Rattle.std.specs.Prelude.{◌≡◌, IfOk, MatchOption, map, string_bytes};
+ghost use Rattle.clap.specs.Words.{FailsBy, Text, fault_of, found_of, kind_of, rows_of};
+ghost use Rattle.clap.specs.Words.{subcommand_of, subcommand_rows_of};
+ghost use Rattle.command_line.specs.FoundPlan.{HasFound, PlansCheck, PlansFound, PlansRows};
+ghost use Rattle.command_line.specs.FoundPlan.{ReadsWorkers};
+ghost use Rattle.command_line.specs.CheckLine.{IsCheck, check_line};
+ghost use Rattle.command_line.specs.RunCommand.{camr_command};
+ghost use Rattle.command_line.specs.RunLine.{GivesRun, HasLawfulNumber, IsLawfulNumber, IsPlain};
+ghost use Rattle.command_line.specs.RunLine.{RunLine, Spells, SpellsNoLawfulNumber};
+ghost use Rattle.command_line.specs.UsageFault.{IsValueFault};
+
+use crate::plans::{MAX_WORKERS, MIN_WORKERS, Plan};
+use crate::usage::{camr_command, run_command};
+use clap::error::ErrorKind;
+use clap::{ArgMatches, Error};
+use std::alloc::{AllocError, Global};
+
+/// Why the words are no plan: a mistake in them, or a request for help. Its text is for the user, and
+/// `exit_code` is the status to end with.
+pub type UsageFault = Error;
+
+/// Reads the words after the program's name. A line that asks for a check gives that check or an error. A line
+/// that asks for a run gives that run, or an error where its number is none from 1 to 16 in decimal digits alone
+/// or memory is refused. Whatever the words are, a run has 1 to 16 workers and the paths that `clap` found in
+/// their places.
+pub fn plan(alloc: Global, words: &[String]) -> Result<Plan, UsageFault>
+    ensures found { IfOk result (HasFound (subcommand_of camr_command (map string_bytes words.now))) }
+    ensures bounded { IfOk result HasLawfulNumber }
+    ensures lines { (number manifest scenario : Text)
+        → RunLine (map string_bytes words.now) number manifest scenario
+        → IsPlain number → IsPlain manifest → IsPlain scenario
+        → GivesRun number manifest scenario result }
+    ensures checks { (manifest : Text)
+        → map string_bytes words.now ≡ check_line manifest → IsPlain manifest
+        → IfOk result (IsCheck manifest) }
+{
+    let matches = matches(alloc, words)?;
+    match planned(alloc, &matches)? {
+        Some(plan) => Ok(plan),
+        None => Err(no_number(alloc, &matches)),
+    }
+}
+
+/// The fault of a line with a word that is not UTF-8, or want of memory.
+pub fn not_utf8(alloc: Global) -> UsageFault
+    ensures { IsValueFault result }
+{
+    match utf8_fault(alloc) {
+        Ok(fault) => fault,
+        Err(error) => Error::from(error),
+    }
+}
+
+fn utf8_fault(alloc: Global) -> Result<Error, AllocError>
+    ensures { IfOk result (λ e. kind_of e ≡ ErrorKind.ValueValidation) }
+{
+    camr_command(alloc)?.error(
+        ErrorKind::ValueValidation,
+        "a word of the command line is not UTF-8",
+    )
+}
+
+// What clap makes of the words.
+fn matches(alloc: Global, words: &[String]) -> Result<ArgMatches<'_>, Error>
+    ensures rows { IfOk result (λ m.
+        subcommand_rows_of m ≡ subcommand_of camr_command (map string_bytes words.now)) }
+    ensures faults { FailsBy (fault_of camr_command (map string_bytes words.now)) result }
+{
+    camr_command(alloc)?.try_get_matches_from(words)
+}
+
+// The plan of what clap found, and none where a number of workers is no plain one.
+fn planned(alloc: Global, matches: &ArgMatches) -> Result<Option<Plan>, AllocError>
+    ensures { IfOk result (PlansFound (subcommand_rows_of matches.now)) }
+{
+    match matches.subcommand() {
+        Some(("check", check)) => check_plan(alloc, check),
+        Some(("run", run)) => run_plan(alloc, run),
+        _ => Ok(None),
+    }
+}
+
+// The plan of what clap found behind `check`.
+fn check_plan(alloc: Global, check: &ArgMatches) -> Result<Option<Plan>, AllocError>
+    ensures { IfOk result (PlansCheck (rows_of (found_of check.now))) }
+{
+    let Some(manifest) = check.get_str("MANIFEST") else {
+        return Ok(None);
+    };
+    Ok(Some(Plan::Check(String::from_str(alloc, manifest)?)))
+}
+
+// The plan of what clap found behind `run`.
+fn run_plan(alloc: Global, run: &ArgMatches) -> Result<Option<Plan>, AllocError>
+    ensures { IfOk result (PlansRows (rows_of (found_of run.now))) }
+{
+    let Some(workers) = workers_given(run) else {
+        return Ok(None);
+    };
+    let Some(manifest) = run.get_str("MANIFEST") else {
+        return Ok(None);
+    };
+    let Some(scenario) = run.get_str("SCENARIO") else {
+        return Ok(None);
+    };
+    let manifest = String::from_str(alloc, manifest)?;
+    let scenario = String::from_str(alloc, scenario)?;
+    Ok(Some(Plan::Run(workers, manifest, scenario)))
+}
+
+fn workers_given(run: &ArgMatches) -> Option<u8>
+    ensures { ReadsWorkers (rows_of (found_of run.now)) result }
+{
+    let Some(word) = run.get_str("workers") else {
+        return None;
+    };
+    workers_in(word)
+}
+
+// The number of workers that a word spells. Clap tests the range too, for the text that it shows, but takes a
+// plus sign before the digits.
+fn workers_in(word: &str) -> Option<u8>
+    ensures { MatchOption result (SpellsNoLawfulNumber word.now)
+        (λ n. Spells word.now n × IsLawfulNumber n) }
+{
+    if word.starts_with('+') {
+        return None;
+    }
+    match word.parse::<u8>() {
+        Ok(workers) if MIN_WORKERS <= workers && workers <= MAX_WORKERS => Some(workers),
+        _ => None,
+    }
+}
+
+// That the number of workers is none: clap has refused each other word that is no number from 1 to 16.
+fn no_number(alloc: Global, matches: &ArgMatches) -> Error
+    ensures { IsValueFault result }
+{
+    let word = match matches.subcommand() {
+        Some((_, command)) => command.get_str("workers").unwrap_or(""),
+        None => "",
+    };
+    match number_fault(alloc, word) {
+        Ok(fault) => fault,
+        Err(error) => Error::from(error),
+    }
+}
+
+fn number_fault(alloc: Global, word: &str) -> Result<Error, AllocError>
+    ensures { IfOk result (λ e. kind_of e ≡ ErrorKind.ValueValidation) }
+{
+    let text = format!(in alloc;
+        "invalid value '{word}' for '--workers <N>': invalid digit found in string"
+    )?;
+    run_command(alloc)?
+        .bin_name("camr run")?
+        .error(ErrorKind::ValueValidation, text.as_str())
+}

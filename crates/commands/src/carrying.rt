@@ -1,0 +1,91 @@
+// A plan, carried out over the bytes of its files. It relies on the crates that read a manifest and a scenario,
+// on `host`, and on `printer` and `verdicts` for what goes out.
+
+ghost use Rattle.std.specs.Prelude.{◌≡◌, ◌≤◌, Contains, IsErrAnd, IsUtf8, MatchResult, length};
+ghost use Rattle.command_line.specs.Inputs.{input_paths};
+ghost use Rattle.commands.specs.Fault.{status_of};
+
+use crate::fault::Fault;
+use crate::{host, printer, verdicts};
+use command_line::Plan;
+use engine_core::Trace;
+use manifest::Manifest;
+use std::alloc::Global;
+use std::io;
+use std::io::Write;
+
+/// Carries a plan out over the bytes of its input files, in the order of the line, and answers the status:
+/// 0 done; 1 refused; 2 for a file that is not UTF-8, for want of memory, or where a writer fails. What is to
+/// go out is written on `out`, and one line for a fault on `err`; where there is a fault, nothing goes out.
+pub fn carry<W: Write, E: Write>(
+    alloc: Global,
+    plan: &Plan,
+    inputs: &[Vec<u8>],
+    out: &mut W,
+    err: &mut E,
+) -> u8
+    requires { length inputs.now ≡ length (input_paths plan.now) }
+    ensures status { result ≤ 2 }
+    ensures no_text { (input : _) → Contains inputs.now input → ¬ (IsUtf8 input.items) → result ≡ 2 }
+{
+    match plan {
+        Plan::Check(manifest) => {
+            let manifest = (manifest.as_str(), inputs[0].as_slice());
+            match check(alloc, manifest) {
+                Ok(manifest) => status(verdicts::print(&manifest.programs, out)),
+                Err(fault) => fault.report(err),
+            }
+        }
+        Plan::Run(_, manifest, scenario) => {
+            let manifest = (manifest.as_str(), inputs[0].as_slice());
+            let scenario = (scenario.as_str(), inputs[1].as_slice());
+            match run(alloc, manifest, scenario) {
+                Ok(trace) => status(printer::print(&trace, out)),
+                Err(fault) => fault.report(err),
+            }
+        }
+    }
+}
+
+// What is to go out went out, or a writer failed.
+fn status(written: io::Result<()>) -> u8
+    ensures { MatchResult written (λ _. result ≡ 0) (λ _. result ≡ 2) }
+{
+    match written {
+        Ok(()) => 0,
+        Err(_) => 2,
+    }
+}
+
+// A manifest, a path and its bytes, with its programs verified.
+fn check<'a>(alloc: Global, file: (&'a str, &[u8])) -> Result<Manifest, Fault<'a>>
+    ensures { ¬ (IsUtf8 file.entry.1.now) → IsErrAnd result (λ e. status_of e ≡ 2) }
+{
+    Ok(manifest::read(alloc, text(file)?)?)
+}
+
+// The trace of a manifest and a scenario, each a path and its bytes.
+fn run<'a>(
+    alloc: Global,
+    manifest: (&'a str, &[u8]),
+    scenario: (&'a str, &[u8]),
+) -> Result<Trace, Fault<'a>>
+    ensures manifest { ¬ (IsUtf8 manifest.entry.1.now) → IsErrAnd result (λ e. status_of e ≡ 2) }
+    ensures scenario { ¬ (IsUtf8 scenario.entry.1.now) → IsErrAnd result (λ e. status_of e ≡ 2) }
+{
+    let manifest = text(manifest)?;
+    let scenario = text(scenario)?;
+    let manifest = manifest::read(alloc, manifest)?;
+    let steps = scenario::read(alloc, scenario)?;
+    Ok(host::run(alloc, manifest.config, &steps)?)
+}
+
+fn text<'a, 'b>(file: (&'a str, &'b [u8])) -> Result<&'b str, Fault<'a>>
+    ensures { MatchResult result (λ t. (t.now ≡ file.entry.1.now) × IsUtf8 file.entry.1.now)
+        (λ e. (status_of e ≡ 2) × ¬ (IsUtf8 file.entry.1.now)) }
+{
+    match str::from_utf8(file.1) {
+        Ok(text) => Ok(text),
+        Err(_) => Err(Fault::File(file.0)),
+    }
+}

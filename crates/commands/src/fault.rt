@@ -1,0 +1,88 @@
+// Why a plan was not carried out, as a line for the user and as a status. It relies on the faults of the parts.
+
+ghost use Rattle.std.specs.Prelude.{◌≡◌, ◌≤◌, ◌⊎◌};
+ghost use Rattle.commands.specs.Fault.{fault_of_manifest, fault_of_run, fault_of_scenario, status_of};
+
+use crate::host::RunFault;
+use manifest::{ManifestError, ManifestFault};
+use scenario::ScenarioError;
+use std::io::Write;
+use thiserror::Error;
+
+/// Why a plan was not carried out.
+#[derive(Debug, Drop, Error)]
+pub enum Fault<'a> {
+    #[error("out of memory")]
+    OutOfMemory,
+    /// The file of that path cannot be read or written, or is to be text and is not UTF-8.
+    #[error("file {0}")]
+    File(&'a str),
+    #[error("{0}")]
+    Manifest(ManifestFault),
+    /// That line of the scenario is not of the form.
+    #[error("N1 at {0}")]
+    Line(usize),
+    /// That line of the scenario gives back a freeze whose token is not held.
+    #[error("N2 at {0}")]
+    NotHeld(usize),
+    /// The run of that number did not end, which cannot be.
+    #[error("run {0}")]
+    Unended(u32),
+}
+
+impl Fault<'_> {
+    // 1 for what is refused, and 2 for files, for memory and for what cannot be.
+    fn status(&self) -> u8
+        ensures { result ≡ status_of self.now }
+    {
+        match self {
+            Fault::OutOfMemory | Fault::File(_) | Fault::Unended(_) => 2,
+            Fault::Manifest(_) | Fault::Line(_) | Fault::NotHeld(_) => 1,
+        }
+    }
+
+    /// Writes the fault's one line and answers the status: 1 or 2, and 2 also where the line cannot be written.
+    pub fn report<E: Write>(&self, err: &mut E) -> u8
+        ensures reported { (result ≡ status_of self.now) ⊎ (result ≡ 2) }
+        ensures status { (1 ≤ result) × (result ≤ 2) }
+    {
+        match writeln!(err, "camr: {self}") {
+            Ok(()) => self.status(),
+            Err(_) => 2,
+        }
+    }
+}
+
+impl<'a> From<ManifestError> for Fault<'a> {
+    ghost from_gives = { λ error fault. fault ≡ fault_of_manifest error };
+
+    fn from(error: ManifestError) -> Self {
+        match error {
+            ManifestError::OutOfMemory => Fault::OutOfMemory,
+            ManifestError::Fault(fault) => Fault::Manifest(fault),
+        }
+    }
+}
+
+impl<'a> From<ScenarioError> for Fault<'a> {
+    ghost from_gives = { λ error fault. fault ≡ fault_of_scenario error };
+
+    fn from(error: ScenarioError) -> Self {
+        match error {
+            ScenarioError::OutOfMemory => Fault::OutOfMemory,
+            ScenarioError::Line(line) => Fault::Line(line),
+        }
+    }
+}
+
+impl<'a> From<RunFault> for Fault<'a> {
+    ghost from_gives = { λ error fault. fault ≡ fault_of_run error };
+
+    fn from(fault: RunFault) -> Self {
+        match fault {
+            RunFault::OutOfMemory => Fault::OutOfMemory,
+            RunFault::NotHeld(line) => Fault::NotHeld(line),
+            RunFault::Unended(run) => Fault::Unended(run),
+        }
+    }
+}

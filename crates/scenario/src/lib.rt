@@ -1,0 +1,9 @@
+// The scenario: what happens to a transport, one command a line, and the reader of its text. It relies on
+// `hexadecimal` for bytes and on `ccb` for what a completion may say.
+#![tactic(auto)]
+
+mod reading;
+mod steps;
+
+pub use reading::{ScenarioError, read};
+pub use steps::{Command, Step};

@@ -1,0 +1,110 @@
+// Reads a scenario: a command a line, in the words that `steps` has names for. It relies on `hexadecimal` for
+// bytes and on `ccb` for what a completion may say.
+
+ghost use Rattle.std.specs.Prelude.{◌≡◌, ℕ, MatchOption};
+ghost use Rattle.std.specs.Char.{is_ascii_digit};
+ghost use Rattle.std.specs.List.{list_all};
+ghost use Rattle.scenario.specs.Numeral.{IsNumber};
+ghost use Rattle.scenario.specs.declared.reading.ScenarioError.TheVariants.{OutOfMemory};
+
+use crate::steps::{Command, Step};
+use ccb::{CamStatus, CcbId, Completion, QueueId};
+use hexadecimal::byte_of;
+use std::alloc::{AllocError, Global};
+
+/// Why a scenario was not read.
+#[derive(Clone, Copy, Debug, PartialEq, Eq)]
+pub enum ScenarioError {
+    OutOfMemory,
+    /// N1: that line is not of the form.
+    Line(usize),
+}
+
+impl From<AllocError> for ScenarioError {
+    ghost from_gives = { λ _ error. error ≡ OutOfMemory };
+
+    fn from(_: AllocError) -> Self {
+        ScenarioError::OutOfMemory
+    }
+}
+
+/// Reads the whole scenario. Empty lines and those that begin with `#` are skipped.
+pub fn read(alloc: Global, text: &str) -> Result<Vec<Step>, ScenarioError> {
+    let mut steps = Vec::new(alloc);
+    let mut number = 0usize;
+    for line in text.split('\n') {
+        number = number.saturating_add(1);
+        if line.is_empty() || line.starts_with('#') {
+            continue;
+        }
+        match command_of(line) {
+            Some(command) => steps
+                .push(Step {
+                    line: number,
+                    command,
+                })
+                .map_err(AllocError::from)?,
+            None => return Err(ScenarioError::Line(number)),
+        }
+    }
+    Ok(steps)
+}
+
+// A line's words are parted by one blank: a command's name and up to four more.
+fn command_of(line: &str) -> Option<Command> {
+    let mut words = line.split(' ');
+    let name = words.next()?;
+    let (first, second) = (words.next(), words.next());
+    let (third, fourth) = (words.next(), words.next());
+    if words.next().is_some() {
+        return None;
+    }
+    match (name, first, second, third, fourth) {
+        ("submit", Some(queue), Some(priority), Some(retries), None) => Some(Command::Submit {
+            queue: QueueId(number(queue)?),
+            priority: number(priority)?,
+            retries: number(retries)?,
+        }),
+        ("dispatch", Some(queue), None, None, None) => Some(Command::Dispatch {
+            queue: QueueId(number(queue)?),
+        }),
+        ("complete", Some(ccb), Some(status), Some(scsi), Some("-")) => Some(Command::Complete {
+            completion: completion(ccb, status, scsi)?,
+        }),
+        ("drain", None, None, None, None) => Some(Command::Drain),
+        ("gfreeze", Some(queue), Some(guest), None, None) => Some(Command::GuestFreeze {
+            queue: QueueId(number(queue)?),
+            guest: number(guest)?,
+        }),
+        ("grelease", Some(freeze), None, None, None) => Some(Command::GuestRelease {
+            freeze: number(freeze)?,
+        }),
+        _ => None,
+    }
+}
+
+// What a device reports of a CCB, without sense bytes: never that it is still in progress.
+fn completion(ccb: &str, status: &str, scsi: &str) -> Option<Completion> {
+    let ccb = CcbId(number(ccb)?);
+    let status = CamStatus::from_code(byte_of(status)?)?;
+    Completion::new(ccb, status, byte_of(scsi)?, &[])
+}
+
+// A number below 2^32 in decimal digits, without a sign and without leading zeros.
+fn number(word: &str) -> Option<u32>
+    ensures { MatchOption result ((n : ℕ) → ¬ (IsNumber word.now n)) (IsNumber word.now) }
+{
+    if word != "0" && word.starts_with('0') {
+        return None;
+    }
+    if !has_digits_alone(word) {
+        return None;
+    }
+    word.parse().ok()
+}
+
+fn has_digits_alone(word: &str) -> bool
+    ensures { result ≡ list_all is_ascii_digit word.now }
+{
+    word.bytes().all(|byte| byte.is_ascii_digit())
+}

@@ -1,0 +1,40 @@
+// What a scenario asks for, line by line. It relies on `ccb` for names and completions.
+
+use ccb::{Completion, QueueId};
+
+/// What a line asks for.
+#[derive(Clone, Copy, Debug, PartialEq, Eq)]
+pub enum Command {
+    /// `submit Q PRIORITY RETRIES`: a CCB is put to queue Q.
+    Submit {
+        queue: QueueId,
+        priority: u32,
+        retries: u32,
+    },
+    /// `dispatch Q`: the next CCB of queue Q starts.
+    Dispatch {
+        queue: QueueId,
+    },
+    /// `complete C STATUS SCSI -`: a device reports that it is done with CCB C, without sense bytes.
+    Complete {
+        completion: Completion,
+    },
+    /// `drain`: the completions that were reported are served.
+    Drain,
+    /// `gfreeze Q G`: the guest G freezes queue Q.
+    GuestFreeze {
+        queue: QueueId,
+        guest: u32,
+    },
+    /// `grelease F`: the guest that holds freeze F gives it back.
+    GuestRelease {
+        freeze: u32,
+    },
+}
+
+/// A command with its line, the first being 1.
+#[derive(Clone, Copy, Debug, PartialEq, Eq)]
+pub struct Step {
+    pub line: usize,
+    pub command: Command,
+}

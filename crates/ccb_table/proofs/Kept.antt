@@ -9,17 +9,19 @@ use Rattle.std.proofs.Math.ListN.{length-set}
 use Rattle.ccb.specs.declared.CcbId.{CcbId}
 use Rattle.dev_queue.specs.Waiting.{waits}
 use Rattle.dev_queue.specs.State.{QueueState, empty_queue}
-use Rattle.world.specs.World.{CcbState, waiting, active, in_recovery, LiveCcb}
+use Rattle.world.specs.declared.ccb_state.CcbState.{CcbState}
+use Rattle.world.specs.declared.ccb_state.CcbState.TheVariants.{Waiting, Active, InRecovery}
+use Rattle.world.specs.World.{LiveCcb}
 use Rattle.world.specs.Lookups.{is_waiting, is_active, ccb_of, with_ccb}
-use Rattle.world.specs.Limits.{AreRising}
+use Rattle.ccb.specs.Rising.{AreRising}
 use Rattle.world.proofs.Lists.Found.{leave}
 use Rattle.world.proofs.Lists.Each.{all_found, all_put}
 use Rattle.world.proofs.Lists.Rising.{rising_push, rising_leave, missing_high, found_counts}
 use Rattle.world.proofs.Steps.Moves.{ccb_key}
-use Rattle.ccb_table.specs.State.{CcbsState}
+use Rattle.ccb_table.specs.CcbsState.{CcbsState}
 use Rattle.ccb_table.specs.Listed.{ListState}
 use Rattle.ccb_table.specs.Queues.{is_recovering, waits_on, queue_state_of, queue_at, AreTold}
-use Rattle.ccb_table.specs.Invariant.{IsKept, seen}
+use Rattle.ccb_table.specs.Invariant.{KeepsTable, seen}
 use Rattle.ccb_table.proofs.Listed.{numbered_put, listed_as}
 use Rattle.ccb_table.proofs.Pairs.{waits_missing, waits_other}
 use Rattle.ccb_table.proofs.Told.{told_nothing, on, on_is, entered_other, changed_other, finished_other}
@@ -53,15 +55,15 @@ openings_at (q ∷ qs) (suc queue) = openings_at qs queue
 
 -- what is known of a CCB that is found
 
-pub known_queue : (list : ListState) (queues : List QueueState) (number : ℕ) (x : LiveCcb) → IsKept list queues → ccb_of number list.live ≡ Some x → x.ccb.queue.0 < length queues
+pub known_queue : (list : ListState) (queues : List QueueState) (number : ℕ) (x : LiveCcb) → KeepsTable list queues → ccb_of number list.live ≡ Some x → x.ccb.queue.0 < length queues
 known_queue list queues number x h found = all_found ccb_key (λ (l : LiveCcb). l.ccb.queue.0 < length queues) number list.live x h.known found
 
-active_is : (s : CcbState) → is_active s ≡ true → s ≡ active
-active_is waiting e = cc
-active_is active e = refl
-active_is in_recovery e = cc
+active_is : (s : CcbState) → is_active s ≡ true → s ≡ Active
+active_is Waiting e = cc
+active_is Active e = refl
+active_is InRecovery e = cc
 
-pub active_found : (x : LiveCcb) → is_active x.state ≡ true → x.state ≡ active
+pub active_found : (x : LiveCcb) → is_active x.state ≡ true → x.state ≡ Active
 active_found x e = active_is x.state e
 
 counted : (kind : CcbState → Bool) (number : ℕ) (ccbs : List LiveCcb) (x : LiveCcb) (s : CcbState) → ccb_of number ccbs ≡ Some x → x.state ≡ s → kind s ≡ true → 1 ≤ count_by (on kind x.ccb.queue.0) ccbs
@@ -69,30 +71,30 @@ counted kind number ccbs x s found is holds =
     let one : cond {A = ℕ} (on kind x.ccb.queue.0 x) 1 0 ≡ 1 = ap (λ (b : Bool). cond {A = ℕ} b 1 0) (on_is kind x.ccb.queue.0 x s refl is ∙ holds) in
     omega (arith, one, found_counts ccb_key (on kind x.ccb.queue.0) number ccbs x found)
 
-pub active_there : (list : ListState) (queues : List QueueState) (number : ℕ) (x : LiveCcb) → IsKept list queues → ccb_of number list.live ≡ Some x → x.state ≡ active → 1 ≤ (queue_at queues x.ccb.queue.0).active
+pub active_there : (list : ListState) (queues : List QueueState) (number : ℕ) (x : LiveCcb) → KeepsTable list queues → ccb_of number list.live ≡ Some x → x.state ≡ Active → 1 ≤ (queue_at queues x.ccb.queue.0).active
 active_there list queues number x h found is =
     let told = ap (λ (q : QueueState). q.active) (h.told x.ccb.queue.0 (known_queue list queues number x h found)) in
-    omega (arith, told, counted is_active number list.live x active found is refl)
+    omega (arith, told, counted is_active number list.live x Active found is refl)
 
-pub recovering_there : (list : ListState) (queues : List QueueState) (number : ℕ) (x : LiveCcb) → IsKept list queues → ccb_of number list.live ≡ Some x → x.state ≡ in_recovery → 1 ≤ (queue_at queues x.ccb.queue.0).recovering
+pub recovering_there : (list : ListState) (queues : List QueueState) (number : ℕ) (x : LiveCcb) → KeepsTable list queues → ccb_of number list.live ≡ Some x → x.state ≡ InRecovery → 1 ≤ (queue_at queues x.ccb.queue.0).recovering
 recovering_there list queues number x h found is =
     let told = ap (λ (q : QueueState). q.recovering) (h.told x.ccb.queue.0 (known_queue list queues number x h found)) in
-    omega (arith, told, counted is_recovering number list.live x in_recovery found is refl)
+    omega (arith, told, counted is_recovering number list.live x InRecovery found is refl)
 
-pub waits_not : (list : ListState) (queues : List QueueState) (number : CcbId) (x : LiveCcb) → IsKept list queues → ccb_of number.0 list.live ≡ Some x → x.state ≡ in_recovery → waits number (queue_at queues x.ccb.queue.0).waiting ≡ false
+pub waits_not : (list : ListState) (queues : List QueueState) (number : CcbId) (x : LiveCcb) → KeepsTable list queues → ccb_of number.0 list.live ≡ Some x → x.state ≡ InRecovery → waits number (queue_at queues x.ccb.queue.0).waiting ≡ false
 waits_not list queues number x h found is =
     ap (λ (q : QueueState). waits number q.waiting) (h.told x.ccb.queue.0 (known_queue list queues number.0 x h found))
-    ∙ waits_other (waits_on x.ccb.queue.0) number 0 list.live list.greatest x h.rising found (on_is is_waiting x.ccb.queue.0 x in_recovery refl is)
+    ∙ waits_other (waits_on x.ccb.queue.0) number 0 list.live list.greatest x h.rising found (on_is is_waiting x.ccb.queue.0 x InRecovery refl is)
 
 -- a number that was not given does not wait
-pub waits_not_yet : (list : ListState) (queues : List QueueState) (queue : ℕ) (number : CcbId) → IsKept list queues → queue < length queues → list.greatest < number.0 → waits number (queue_at queues queue).waiting ≡ false
+pub waits_not_yet : (list : ListState) (queues : List QueueState) (queue : ℕ) (number : CcbId) → KeepsTable list queues → queue < length queues → list.greatest < number.0 → waits number (queue_at queues queue).waiting ≡ false
 waits_not_yet list queues queue number h known above =
     ap (λ (q : QueueState). waits number q.waiting) (h.told queue known)
     ∙ waits_missing (waits_on queue) number list.live (missing_high ccb_key 0 list.live list.greatest number.0 above h.rising)
 
 -- the steps
 
-pub kept_changed : (list : ListState) (queues : List QueueState) (c x : LiveCcb) (queue : ℕ) (new : QueueState) → IsKept list queues → ccb_of c.ccb.number.0 list.live ≡ Some x → c.ccb.queue.0 ≡ queue → x.ccb.queue.0 ≡ queue → queue_state_of queue (queue_at queues queue).openings (with_ccb c list.live) ≡ new → IsKept (listed_as list.greatest (with_ccb c list.live)) (set queues queue new)
+pub kept_changed : (list : ListState) (queues : List QueueState) (c x : LiveCcb) (queue : ℕ) (new : QueueState) → KeepsTable list queues → ccb_of c.ccb.number.0 list.live ≡ Some x → c.ccb.queue.0 ≡ queue → x.ccb.queue.0 ≡ queue → queue_state_of queue (queue_at queues queue).openings (with_ccb c list.live) ≡ new → KeepsTable (listed_as list.greatest (with_ccb c list.live)) (set queues queue new)
 kept_changed list queues c x queue new h found of was_of new_is =
     let n = length-set queues queue new in
     let known : queue < length queues = omega (arith, known_queue list queues c.ccb.number.0 x h found, was_of) in
@@ -105,7 +107,7 @@ kept_changed list queues c x queue new h found of was_of new_is =
       few = omega (arith, n, h.few);
     }
 
-pub kept_left : (list : ListState) (queues : List QueueState) (number : ℕ) (x : LiveCcb) (new : QueueState) → IsKept list queues → ccb_of number list.live ≡ Some x → queue_state_of x.ccb.queue.0 (queue_at queues x.ccb.queue.0).openings (leave ccb_key number list.live) ≡ new → IsKept (listed_as list.greatest (leave ccb_key number list.live)) (set queues x.ccb.queue.0 new)
+pub kept_left : (list : ListState) (queues : List QueueState) (number : ℕ) (x : LiveCcb) (new : QueueState) → KeepsTable list queues → ccb_of number list.live ≡ Some x → queue_state_of x.ccb.queue.0 (queue_at queues x.ccb.queue.0).openings (leave ccb_key number list.live) ≡ new → KeepsTable (listed_as list.greatest (leave ccb_key number list.live)) (set queues x.ccb.queue.0 new)
 kept_left list queues number x new h found new_is =
     let n = length-set queues x.ccb.queue.0 new in
     let known = known_queue list queues number x h found in
@@ -118,7 +120,7 @@ kept_left list queues number x new h found new_is =
       few = omega (arith, n, h.few);
     }
 
-pub kept_entered : (list : ListState) (queues : List QueueState) (c : LiveCcb) (new : QueueState) → IsKept list queues → c.ccb.number.0 ≡ list.greatest + 1 → c.ccb.queue.0 < length queues → queue_state_of c.ccb.queue.0 (queue_at queues c.ccb.queue.0).openings (list.live ++ c ∷ []) ≡ new → IsKept (listed_as c.ccb.number.0 (list.live ++ c ∷ [])) (set queues c.ccb.queue.0 new)
+pub kept_entered : (list : ListState) (queues : List QueueState) (c : LiveCcb) (new : QueueState) → KeepsTable list queues → c.ccb.number.0 ≡ list.greatest + 1 → c.ccb.queue.0 < length queues → queue_state_of c.ccb.queue.0 (queue_at queues c.ccb.queue.0).openings (list.live ++ c ∷ []) ≡ new → KeepsTable (listed_as c.ccb.number.0 (list.live ++ c ∷ [])) (set queues c.ccb.queue.0 new)
 kept_entered list queues c new h next known new_is =
     let n = length-set queues c.ccb.queue.0 new in
     record {
@@ -143,8 +145,8 @@ meant list queues now number answer live asked view asked_is answer_is live_is =
     record { found = found; same = cc }
 
 -- one queue more, which has no CCBs
-pub kept_added : (list : ListState) (queues after : List QueueState) (openings : ℕ) → IsKept list queues → length queues < 64 → after ≡ queues ++ empty_queue openings ∷ [] → IsKept list after
-kept_added list queues after openings h few e = subst (IsKept list) (sym e) longer
+pub kept_added : (list : ListState) (queues after : List QueueState) (openings : ℕ) → KeepsTable list queues → length queues < 64 → after ≡ queues ++ empty_queue openings ∷ [] → KeepsTable list after
+kept_added list queues after openings h few e = subst (KeepsTable list) (sym e) longer
   where
     n : length (queues ++ empty_queue openings ∷ []) ≡ length queues + 1
     n = length-append queues (empty_queue openings ∷ [])
@@ -162,7 +164,7 @@ kept_added list queues after openings h few e = subst (IsKept list) (sym e) long
               there ∙ (sym (told_nothing queue openings list.live none) ∙ ap (λ (q : QueueState). queue_state_of queue q.openings list.live) (sym there))
         ]
 
-    longer : IsKept list (queues ++ empty_queue openings ∷ [])
+    longer : KeepsTable list (queues ++ empty_queue openings ∷ [])
     longer = record {
       rising = h.rising;
       known = subst (λ (k : ℕ). All (λ (l : LiveCcb). l.ccb.queue.0 < k) list.live) (sym n)

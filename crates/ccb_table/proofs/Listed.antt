@@ -9,26 +9,26 @@ use Rattle.std.proofs.lemmas.List.Sums.{sum_by_push, count_by-le-length}
 use Rattle.std.proofs.Math.ListN.{length-set}
 use Rattle.world.specs.World.{LiveCcb}
 use Rattle.world.specs.Lookups.{is_active, ccb_of, with_ccb}
-use Rattle.world.specs.Limits.{AreRising}
+use Rattle.ccb.specs.Rising.{AreRising}
 use Rattle.world.proofs.Lists.Found.{leave, put_keys}
 use Rattle.world.proofs.Lists.Rising.{rising_push, rising_leave, count_put, count_gone, found_counts}
 use Rattle.world.proofs.Lists.Placed.{found_at, set_is_put, remove_is_leave}
 use Rattle.world.proofs.Steps.Moves.{ccb_key}
-use Rattle.ccb_table.specs.Listed.{ListState, AreNumbered, IsListed, IsPlaceOf}
+use Rattle.ccb_table.specs.Listed.{ListState, IsListed, IsPlaceOf}
 
 -- the list that contracts see
 abbrev pub listed_as : ℕ → List LiveCcb → ListState
 listed_as greatest ccbs = record { live = ccbs; greatest = greatest }
 
 -- a change keeps the numbers
-pub numbered_put : (ccbs : List LiveCcb) (high : ℕ) (c : LiveCcb) → AreNumbered ccbs high → AreNumbered (with_ccb c ccbs) high
+pub numbered_put : (ccbs : List LiveCcb) (high : ℕ) (c : LiveCcb) → AreRising 0 (map ccb_key ccbs) high → AreRising 0 (map ccb_key (with_ccb c ccbs)) high
 numbered_put ccbs high c h = subst (λ (ns : List ℕ). AreRising 0 ns high) (sym (put_keys ccb_key c ccbs)) h
 
 abbrev pub counts : LiveCcb → ℕ
 counts c = cond (is_active c.state) 1 0
 
 -- the CCB at the place is the one of the number
-pub placed : (ccbs : List LiveCcb) (greatest number place : ℕ) (it : LiveCcb) → AreNumbered ccbs greatest → IsPlaceOf number ccbs place → it ≡ get_or ccbs place it → ccb_of number ccbs ≡ Some it
+pub placed : (ccbs : List LiveCcb) (greatest number place : ℕ) (it : LiveCcb) → AreRising 0 (map ccb_key ccbs) greatest → IsPlaceOf number ccbs place → it ≡ get_or ccbs place it → ccb_of number ccbs ≡ Some it
 placed ccbs greatest number place it rising p e = found_at ccb_key 0 ccbs greatest place number it p.within rising (p.here it) ∙ ap Some (sym e)
 
 -- the active ones are among all
@@ -48,10 +48,10 @@ listed_push v w greatest active c h few next items capacity number now number_is
 }
 
 -- a change by place is one by number
-pub set_is : (ccbs : List LiveCcb) (greatest place : ℕ) (c : LiveCcb) → AreNumbered ccbs greatest → IsPlaceOf c.ccb.number.0 ccbs place → set ccbs place c ≡ with_ccb c ccbs
+pub set_is : (ccbs : List LiveCcb) (greatest place : ℕ) (c : LiveCcb) → AreRising 0 (map ccb_key ccbs) greatest → IsPlaceOf c.ccb.number.0 ccbs place → set ccbs place c ≡ with_ccb c ccbs
 set_is ccbs greatest place c rising p = set_is_put ccb_key 0 ccbs greatest place c c p.within rising (p.here c)
 
-pub remove_is : (ccbs : List LiveCcb) (greatest number place : ℕ) (it : LiveCcb) → AreNumbered ccbs greatest → IsPlaceOf number ccbs place → remove ccbs place ≡ leave ccb_key number ccbs
+pub remove_is : (ccbs : List LiveCcb) (greatest number place : ℕ) (it : LiveCcb) → AreRising 0 (map ccb_key ccbs) greatest → IsPlaceOf number ccbs place → remove ccbs place ≡ leave ccb_key number ccbs
 remove_is ccbs greatest number place it rising p = remove_is_leave ccb_key 0 ccbs greatest place number it p.within rising (p.here it)
 
 pub listed_put : (v w : Vec LiveCcb Global) (greatest active place : ℕ) (c it : LiveCcb) → IsListed v greatest active → IsPlaceOf c.ccb.number.0 v.items place → it ≡ get_or v.items place it → w.items ≡ set v.items place c → vec_capacity w ≡ vec_capacity v → (now : ℕ) → now + counts it ≡ active + counts c → IsListed w greatest now

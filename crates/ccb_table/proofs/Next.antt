@@ -7,14 +7,15 @@ use Rattle.std.proofs.lemmas.List.Elements.{All-nil, All-cons, All-head, All-tai
 use Rattle.ccb.specs.declared.CcbId.{CcbId}
 use Rattle.dev_queue.specs.declared.waiting.WaitingCcb.{WaitingCcb}
 use Rattle.dev_queue.specs.Waiting.{StartsFirst, IsLeastNumber}
-use Rattle.world.specs.World.{CcbState, waiting, active, in_recovery, LiveCcb}
+use Rattle.world.specs.declared.ccb_state.CcbState.{CcbState}
+use Rattle.world.specs.declared.ccb_state.CcbState.TheVariants.{Waiting, Active, InRecovery}
+use Rattle.world.specs.World.{LiveCcb}
 use Rattle.world.specs.Lookups.{is_waiting, is_of, ccb_of, starts_before, next_waiting}
-use Rattle.world.specs.Limits.{AreRising}
+use Rattle.ccb.specs.Rising.{AreRising}
 use Rattle.world.proofs.Lists.Found.{at_head, at_tail}
 use Rattle.world.proofs.Lists.Rising.{found_bounds}
 use Rattle.world.proofs.Steps.Moves.{ccb_key}
 use Rattle.world.proofs.Steps.Waiting.{waiting_on, next_is}
-use Rattle.ccb_table.specs.Listed.{AreNumbered}
 use Rattle.ccb_table.specs.Queues.{pair_of, pairs_of, waits_on}
 use Rattle.ccb_table.proofs.Pairs.{pairs_yes, pairs_no}
 
@@ -58,10 +59,10 @@ all_before it (y ∷ ys) h =
     and_from _ _ (before it y (All-head (StartsFirst (pair_of it)) (pair_of y) (map pair_of ys) h))
     (all_before it ys (All-tail (StartsFirst (pair_of it)) (pair_of y) (map pair_of ys) h))
 
-waiting_is : (s : CcbState) → is_waiting s ≡ true → s ≡ waiting
-waiting_is waiting e = refl
-waiting_is active e = cc
-waiting_is in_recovery e = cc
+waiting_is : (s : CcbState) → is_waiting s ≡ true → s ≡ Waiting
+waiting_is Waiting e = refl
+waiting_is Active e = cc
+waiting_is InRecovery e = cc
 
 -- the CCB that starts: it is of the queue, waits, and is found by its number
 pub record Starts (queue : ℕ) (ccbs : List LiveCcb) (number : CcbId) : Type 0 where
@@ -70,9 +71,9 @@ pub record Starts (queue : ℕ) (ccbs : List LiveCcb) (number : CcbId) : Type 0 
   pub found : ccb_of number.0 ccbs ≡ Some it
   pub number_is : it.ccb.number ≡ number
   pub queue_is : it.ccb.queue.0 ≡ queue
-  pub state_is : it.state ≡ waiting
+  pub state_is : it.state ≡ Waiting
 
-pub least_starts : (queue : ℕ) (ccbs : List LiveCcb) (high : ℕ) (number : CcbId) → AreNumbered ccbs high → IsLeastNumber (pairs_of (waits_on queue) ccbs) number → Starts queue ccbs number
+pub least_starts : (queue : ℕ) (ccbs : List LiveCcb) (high : ℕ) (number : CcbId) → AreRising 0 (map ccb_key ccbs) high → IsLeastNumber (pairs_of (waits_on queue) ccbs) number → Starts queue ccbs number
 least_starts queue ccbs high number rising least =
     let pair : WaitingCcb = record { priority = least.0; number = number } in
     let one = All-contains (Stands (waits_on queue) ccbs) (pairs_of (waits_on queue) ccbs) pair (all_stand (waits_on queue) 0 ccbs high rising) least.1.waits in

@@ -10,7 +10,7 @@ use Rattle.ccb.specs.declared.CcbId.{CcbId}
 use Rattle.dev_queue.specs.declared.waiting.WaitingCcb.{WaitingCcb}
 use Rattle.dev_queue.specs.Waiting.{with_pair, without, waits}
 use Rattle.world.specs.World.{LiveCcb}
-use Rattle.world.specs.Limits.{AreRising}
+use Rattle.ccb.specs.Rising.{AreRising}
 use Rattle.world.proofs.Lists.Found.{at, put, leave, at_head, at_tail, put_tail, leave_tail}
 use Rattle.world.proofs.Lists.Rising.{rising_high, missing_low, put_here, leave_here, found_bounds}
 use Rattle.world.proofs.Steps.Moves.{ccb_key}

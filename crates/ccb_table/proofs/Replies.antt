@@ -11,31 +11,32 @@ use Rattle.dev_queue.specs.State.{QueueState, live}
 use Rattle.dev_queue.specs.Faults.{insert_fault, start_fault}
 use Rattle.dev_queue.specs.declared.fault.QueueFault.{QueueFault}
 use Rattle.dev_queue.specs.declared.fault.QueueFault.TheVariants as fault
-use Rattle.world.specs.declared.history.Refusal.{Refusal}
-use Rattle.world.specs.declared.history.Refusal.TheVariants.{Limit}
-use Rattle.world.specs.World.{Setup, World, queue_count, waiting, LiveCcb}
+use Rattle.world.specs.declared.refusal.Refusal.{Refusal}
+use Rattle.world.specs.declared.refusal.Refusal.TheVariants.{Limit}
+use Rattle.world.specs.declared.ccb_state.CcbState.TheVariants.{Waiting}
+use Rattle.world.specs.World.{Setup, World, queue_count, LiveCcb}
 use Rattle.world.specs.Lookups.{live_count, active_count, with_ccb, next_waiting}
 use Rattle.world.specs.Event.{Reply, ccb_given, refused}
 use Rattle.world.specs.CcbSteps.{ccb_meets_limit, step_submit, starts, step_dispatch}
-use Rattle.ccb_table.specs.State.{CcbsState, with_ccbs}
+use Rattle.ccb_table.specs.CcbsState.{CcbsState, with_ccbs}
 use Rattle.ccb_table.specs.Listed.{ListState, is_full}
 use Rattle.ccb_table.specs.Queues.{queue_at, queue_state_of}
 use Rattle.ccb_table.specs.Refusals.{refusal_of}
-use Rattle.ccb_table.specs.Invariant.{IsKept, seen}
+use Rattle.ccb_table.specs.Invariant.{KeepsTable, seen}
 use Rattle.ccb_table.proofs.Listed.{listed_as}
 use Rattle.ccb_table.proofs.Told.{live_is}
 use Rattle.ccb_table.proofs.Kept.{openings_at}
 use Rattle.ccb_table.proofs.Steps.{Dispatched, as_active}
 
 -- a queue counts its live CCBs
-crowd_is : (list : ListState) (queues : List QueueState) (queue : ℕ) → IsKept list queues → queue < length queues → live (queue_at queues queue) ≡ live_count queue list.live
+crowd_is : (list : ListState) (queues : List QueueState) (queue : ℕ) → KeepsTable list queues → queue < length queues → live (queue_at queues queue) ≡ live_count queue list.live
 crowd_is list queues queue h known = ap live (h.told queue known) ∙ live_is queue (queue_at queues queue).openings list.live
 
-pub crowded_limit : (list : ListState) (queues : List QueueState) (queue : ℕ) (world : World) → IsKept list queues → queue < length queues → nat_le 256 (live (queue_at queues queue)) ≡ true → ccb_meets_limit queue (with_ccbs (seen list queues) world) ≡ true
+pub crowded_limit : (list : ListState) (queues : List QueueState) (queue : ℕ) (world : World) → KeepsTable list queues → queue < length queues → nat_le 256 (live (queue_at queues queue)) ≡ true → ccb_meets_limit queue (with_ccbs (seen list queues) world) ≡ true
 crowded_limit list queues queue world h known e =
     or_left _ _ (or_left _ _ (subst (λ (n : ℕ). nat_le 256 n ≡ true) (crowd_is list queues queue h known) e))
 
-pub no_limit : (list : ListState) (queues : List QueueState) (queue : ℕ) (world : World) → IsKept list queues → queue < length queues → nat_le 256 (live (queue_at queues queue)) ≡ false → is_full list ≡ false → ccb_meets_limit queue (with_ccbs (seen list queues) world) ≡ false
+pub no_limit : (list : ListState) (queues : List QueueState) (queue : ℕ) (world : World) → KeepsTable list queues → queue < length queues → nat_le 256 (live (queue_at queues queue)) ≡ false → is_full list ≡ false → ccb_meets_limit queue (with_ccbs (seen list queues) world) ≡ false
 no_limit list queues queue world h known roomy open_to =
     let parts = or_parts (nat_le 4096 (length list.live)) (nat_le 4294967295 list.greatest) open_to in
     or_from _ _ (or_from _ _ (subst (λ (n : ℕ). nat_le 256 n ≡ false) (crowd_is list queues queue h known) roomy) parts.0) parts.1
@@ -46,7 +47,7 @@ submit_limit setup world queue priority retries known limit =
 
 -- the CCB that is submitted
 abbrev pub new_ccb : ℕ → ℕ → ℕ → ℕ → LiveCcb
-new_ccb number queue priority retries = record { ccb = submitted (record { 0 = number }) (record { 0 = queue }) priority retries; state = waiting }
+new_ccb number queue priority retries = record { ccb = submitted (record { 0 = number }) (record { 0 = queue }) priority retries; state = Waiting }
 
 abbrev pub given : World → ℕ → ℕ → ℕ → Reply × World
 given world queue priority retries =
@@ -97,7 +98,7 @@ roomy_by state e =
       | inr roomy ↦ roomy
     ]
 
-pub crowded_reply : (setup : Setup) (world : World) (list : ListState) (queues after : List QueueState) (queue priority retries : ℕ) (f : QueueFault) (refusal : Refusal) → IsKept list queues → queue < length queues → queue_count setup ≡ length (map (λ (q : QueueState). q.openings) queues) → insert_fault (queue_at queues queue) ≡ Some f → refusal ≡ refusal_of f → after ≡ queues → step_submit setup (with_ccbs (seen list queues) world) queue priority retries ≡ (refused refusal, with_ccbs (seen list after) world)
+pub crowded_reply : (setup : Setup) (world : World) (list : ListState) (queues after : List QueueState) (queue priority retries : ℕ) (f : QueueFault) (refusal : Refusal) → KeepsTable list queues → queue < length queues → queue_count setup ≡ length (map (λ (q : QueueState). q.openings) queues) → insert_fault (queue_at queues queue) ≡ Some f → refusal ≡ refusal_of f → after ≡ queues → step_submit setup (with_ccbs (seen list queues) world) queue priority retries ≡ (refused refusal, with_ccbs (seen list after) world)
 crowded_reply setup world list queues after queue priority retries f refusal h known count e refusal_is after_is =
     let told = crowded_by (queue_at queues queue) f e in
     let is : Limit ≡ refusal = sym (refusal_is ∙ ap refusal_of told.1) in
@@ -113,12 +114,12 @@ answered world list queues queue priority retries number =
 abbrev with_number : World → ℕ → CcbsState → Reply × World
 with_number world number state = (ccb_given number, with_ccbs state world)
 
-pub submit_reply : (setup : Setup) (world : World) (list after : ListState) (queues queues_after : List QueueState) (queue priority retries number : ℕ) → IsKept list queues → queue < length queues → queue_count setup ≡ length (map (λ (q : QueueState). q.openings) queues) → nat_le 256 (live (queue_at queues queue)) ≡ false → is_full list ≡ false → number ≡ list.greatest + 1 → seen after queues_after ≡ seen (listed_as number (list.live ++ new_ccb number queue priority retries ∷ [])) queues → step_submit setup (with_ccbs (seen list queues) world) queue priority retries ≡ (ccb_given number, with_ccbs (seen after queues_after) world)
+pub submit_reply : (setup : Setup) (world : World) (list after : ListState) (queues queues_after : List QueueState) (queue priority retries number : ℕ) → KeepsTable list queues → queue < length queues → queue_count setup ≡ length (map (λ (q : QueueState). q.openings) queues) → nat_le 256 (live (queue_at queues queue)) ≡ false → is_full list ≡ false → number ≡ list.greatest + 1 → seen after queues_after ≡ seen (listed_as number (list.live ++ new_ccb number queue priority retries ∷ [])) queues → step_submit setup (with_ccbs (seen list queues) world) queue priority retries ≡ (ccb_given number, with_ccbs (seen after queues_after) world)
 submit_reply setup world list after queues queues_after queue priority retries number h known count roomy open_to number_is seen_is =
     submit_given setup (with_ccbs (seen list queues) world) queue priority retries (known_to setup queues queue known count) (no_limit list queues queue world h known roomy open_to)
     ∙ (ap (answered world list queues queue priority retries) (sym number_is) ∙ ap (with_number world number) (sym seen_is))
 
-pub dispatch_reply : (setup : Setup) (world : World) (list after : ListState) (queues queues_after : List QueueState) (queue freezes : ℕ) (number : CcbId) (next : LiveCcb) (ccb : Ccb) → IsKept list queues → queue < length queues → queue_count setup ≡ length (map (λ (q : QueueState). q.openings) queues) → freezes ≡ frozen queue world.freezes → start_fault freezes (queue_at queues queue) ≡ None → Dispatched queue list number next ccb → seen after queues_after ≡ seen (listed_as list.greatest (with_ccb (as_active (started next.ccb)) list.live)) queues → step_dispatch setup (with_ccbs (seen list queues) world) queue ≡ (ccb_given number.0, with_ccbs (seen after queues_after) world)
+pub dispatch_reply : (setup : Setup) (world : World) (list after : ListState) (queues queues_after : List QueueState) (queue freezes : ℕ) (number : CcbId) (next : LiveCcb) (ccb : Ccb) → KeepsTable list queues → queue < length queues → queue_count setup ≡ length (map (λ (q : QueueState). q.openings) queues) → freezes ≡ frozen queue world.freezes → start_fault freezes (queue_at queues queue) ≡ None → Dispatched queue list number next ccb → seen after queues_after ≡ seen (listed_as list.greatest (with_ccb (as_active (started next.ccb)) list.live)) queues → step_dispatch setup (with_ccbs (seen list queues) world) queue ≡ (ccb_given number.0, with_ccbs (seen after queues_after) world)
 dispatch_reply setup world list after queues queues_after queue freezes number next ccb h known count freezes_are no_fault d seen_is =
     let fault_is : start_fault (frozen queue world.freezes) (queue_state_of queue (queue_at queues queue).openings list.live) ≡ None =
     subst (λ (f : ℕ). start_fault f (queue_state_of queue (queue_at queues queue).openings list.live) ≡ None) freezes_are

@@ -5,14 +5,15 @@ use Rattle.ccb.specs.declared.control_block.Ccb.{Ccb}
 use Rattle.ccb.specs.ControlBlock.{started}
 use Rattle.dev_queue.specs.Waiting.{IsLeastNumber}
 use Rattle.dev_queue.specs.State.{QueueState, with_waiting, with_started, with_stopped, with_left}
-use Rattle.world.specs.World.{waiting, active, in_recovery, LiveCcb}
+use Rattle.world.specs.declared.ccb_state.CcbState.TheVariants.{Waiting, Active, InRecovery}
+use Rattle.world.specs.World.{LiveCcb}
 use Rattle.world.specs.Lookups.{ccb_of, with_ccb, next_waiting}
 use Rattle.world.proofs.Lists.Found.{leave}
 use Rattle.world.proofs.Steps.Moves.{ccb_key, ccb_found}
-use Rattle.ccb_table.specs.State.{CcbsState}
+use Rattle.ccb_table.specs.CcbsState.{CcbsState}
 use Rattle.ccb_table.specs.Listed.{ListState}
 use Rattle.ccb_table.specs.Queues.{queue_at}
-use Rattle.ccb_table.specs.Invariant.{IsKept, seen}
+use Rattle.ccb_table.specs.Invariant.{KeepsTable, seen}
 use Rattle.ccb_table.proofs.Listed.{listed_as}
 use Rattle.ccb_table.proofs.Told.{entered_is, started_is, recovering_is, requeued_is, finished_is}
 use Rattle.ccb_table.proofs.Next.{Starts, least_starts}
@@ -20,7 +21,7 @@ use Rattle.ccb_table.proofs.Kept.{openings_set, known_queue, kept_changed, kept_
 
 -- the table is kept, and contracts see this
 pub record After (list : ListState) (queues : List QueueState) (state : CcbsState) : Type 0 where
-  pub kept : IsKept list queues
+  pub kept : KeepsTable list queues
   pub seen_is : seen list queues ≡ state
 
 seen_set : (list : ListState) (queues : List QueueState) (queue : ℕ) (new : QueueState) → new.openings ≡ (queue_at queues queue).openings → seen list (set queues queue new) ≡ seen list queues
@@ -33,7 +34,7 @@ carried f list after queues queues_after queue known_as state e es same h =
     let there : After list queues_after state = subst (λ (qs : List QueueState). After list qs state) (sym es) here in
     subst (λ (l : ListState). After l queues_after state) (sym e) there
 
-pub finished : (list after : ListState) (queues queues_after : List QueueState) (number known_as : ℕ) (x : LiveCcb) → IsKept list queues → ccb_of number list.live ≡ Some x → x.state ≡ active → after ≡ listed_as list.greatest (leave ccb_key number list.live) → queues_after ≡ set queues known_as (with_stopped false (queue_at queues known_as)) → known_as ≡ x.ccb.queue.0 → After after queues_after (seen (listed_as list.greatest (leave ccb_key number list.live)) queues)
+pub finished : (list after : ListState) (queues queues_after : List QueueState) (number known_as : ℕ) (x : LiveCcb) → KeepsTable list queues → ccb_of number list.live ≡ Some x → x.state ≡ Active → after ≡ listed_as list.greatest (leave ccb_key number list.live) → queues_after ≡ set queues known_as (with_stopped false (queue_at queues known_as)) → known_as ≡ x.ccb.queue.0 → After after queues_after (seen (listed_as list.greatest (leave ccb_key number list.live)) queues)
 finished list after queues queues_after number known_as x h found is e es same =
     let told = h.told x.ccb.queue.0 (known_queue list queues number x h found) in
     let new = finished_is x.ccb.queue.0 (queue_at queues x.ccb.queue.0).openings list.live list.greatest number x h.rising found refl is ∙ ap (with_stopped false) (sym told) in
@@ -43,7 +44,7 @@ finished list after queues queues_after number known_as x h found is e es same =
       seen_is = seen_set (listed_as list.greatest (leave ccb_key number list.live)) queues x.ccb.queue.0 (with_stopped false (queue_at queues x.ccb.queue.0)) refl;
     })
 
-pub recovered : (list after : ListState) (queues queues_after : List QueueState) (known_as : ℕ) (c x : LiveCcb) → IsKept list queues → ccb_of c.ccb.number.0 list.live ≡ Some x → x.state ≡ active → c.state ≡ in_recovery → c.ccb.queue.0 ≡ x.ccb.queue.0 → after ≡ listed_as list.greatest (with_ccb c list.live) → queues_after ≡ set queues known_as (with_stopped true (queue_at queues known_as)) → known_as ≡ x.ccb.queue.0 → After after queues_after (seen (listed_as list.greatest (with_ccb c list.live)) queues)
+pub recovered : (list after : ListState) (queues queues_after : List QueueState) (known_as : ℕ) (c x : LiveCcb) → KeepsTable list queues → ccb_of c.ccb.number.0 list.live ≡ Some x → x.state ≡ Active → c.state ≡ InRecovery → c.ccb.queue.0 ≡ x.ccb.queue.0 → after ≡ listed_as list.greatest (with_ccb c list.live) → queues_after ≡ set queues known_as (with_stopped true (queue_at queues known_as)) → known_as ≡ x.ccb.queue.0 → After after queues_after (seen (listed_as list.greatest (with_ccb c list.live)) queues)
 recovered list after queues queues_after known_as c x h found was is stays e es same =
     let told = h.told x.ccb.queue.0 (known_queue list queues c.ccb.number.0 x h found) in
     let new = recovering_is x.ccb.queue.0 (queue_at queues x.ccb.queue.0).openings list.live list.greatest c x h.rising found stays refl is was ∙ ap (with_stopped true) (sym told) in
@@ -57,7 +58,7 @@ recovered list after queues queues_after known_as c x h found was is stays e es 
 abbrev pub again : LiveCcb → QueueState → QueueState
 again c queue = with_waiting c.ccb.number c.ccb.priority (with_left queue)
 
-pub requeued_one : (list after : ListState) (queues queues_after : List QueueState) (known_as : ℕ) (c x : LiveCcb) → IsKept list queues → ccb_of c.ccb.number.0 list.live ≡ Some x → x.state ≡ in_recovery → c.state ≡ waiting → c.ccb.queue.0 ≡ x.ccb.queue.0 → after ≡ listed_as list.greatest (with_ccb c list.live) → queues_after ≡ set queues known_as (again c (queue_at queues known_as)) → known_as ≡ x.ccb.queue.0 → After after queues_after (seen (listed_as list.greatest (with_ccb c list.live)) queues)
+pub requeued_one : (list after : ListState) (queues queues_after : List QueueState) (known_as : ℕ) (c x : LiveCcb) → KeepsTable list queues → ccb_of c.ccb.number.0 list.live ≡ Some x → x.state ≡ InRecovery → c.state ≡ Waiting → c.ccb.queue.0 ≡ x.ccb.queue.0 → after ≡ listed_as list.greatest (with_ccb c list.live) → queues_after ≡ set queues known_as (again c (queue_at queues known_as)) → known_as ≡ x.ccb.queue.0 → After after queues_after (seen (listed_as list.greatest (with_ccb c list.live)) queues)
 requeued_one list after queues queues_after known_as c x h found was is stays e es same =
     let told = h.told x.ccb.queue.0 (known_queue list queues c.ccb.number.0 x h found) in
     let new = requeued_is x.ccb.queue.0 (queue_at queues x.ccb.queue.0).openings list.live list.greatest c x h.rising found stays refl is was ∙ ap (again c) (sym told) in
@@ -67,7 +68,7 @@ requeued_one list after queues queues_after known_as c x h found was is stays e 
       seen_is = seen_set (listed_as list.greatest (with_ccb c list.live)) queues x.ccb.queue.0 (again c (queue_at queues x.ccb.queue.0)) refl;
     })
 
-pub started_one : (list after : ListState) (queues queues_after : List QueueState) (known_as : ℕ) (c x : LiveCcb) → IsKept list queues → ccb_of c.ccb.number.0 list.live ≡ Some x → x.state ≡ waiting → c.state ≡ active → c.ccb.queue.0 ≡ x.ccb.queue.0 → after ≡ listed_as list.greatest (with_ccb c list.live) → queues_after ≡ set queues known_as (with_started c.ccb.number (queue_at queues known_as)) → known_as ≡ x.ccb.queue.0 → After after queues_after (seen (listed_as list.greatest (with_ccb c list.live)) queues)
+pub started_one : (list after : ListState) (queues queues_after : List QueueState) (known_as : ℕ) (c x : LiveCcb) → KeepsTable list queues → ccb_of c.ccb.number.0 list.live ≡ Some x → x.state ≡ Waiting → c.state ≡ Active → c.ccb.queue.0 ≡ x.ccb.queue.0 → after ≡ listed_as list.greatest (with_ccb c list.live) → queues_after ≡ set queues known_as (with_started c.ccb.number (queue_at queues known_as)) → known_as ≡ x.ccb.queue.0 → After after queues_after (seen (listed_as list.greatest (with_ccb c list.live)) queues)
 started_one list after queues queues_after known_as c x h found was is stays e es same =
     let told = h.told x.ccb.queue.0 (known_queue list queues c.ccb.number.0 x h found) in
     let new = started_is x.ccb.queue.0 (queue_at queues x.ccb.queue.0).openings list.live list.greatest c x h.rising found stays refl is was ∙ ap (with_started c.ccb.number) (sym told) in
@@ -77,7 +78,7 @@ started_one list after queues queues_after known_as c x h found was is stays e e
       seen_is = seen_set (listed_as list.greatest (with_ccb c list.live)) queues x.ccb.queue.0 (with_started c.ccb.number (queue_at queues x.ccb.queue.0)) refl;
     })
 
-pub entered_one : (list after : ListState) (queues queues_after : List QueueState) (known_as : ℕ) (c : LiveCcb) → IsKept list queues → c.ccb.number.0 ≡ list.greatest + 1 → c.ccb.queue.0 < length queues → c.state ≡ waiting → after ≡ listed_as c.ccb.number.0 (list.live ++ c ∷ []) → queues_after ≡ set queues known_as (with_waiting c.ccb.number c.ccb.priority (queue_at queues known_as)) → known_as ≡ c.ccb.queue.0 → After after queues_after (seen (listed_as c.ccb.number.0 (list.live ++ c ∷ [])) queues)
+pub entered_one : (list after : ListState) (queues queues_after : List QueueState) (known_as : ℕ) (c : LiveCcb) → KeepsTable list queues → c.ccb.number.0 ≡ list.greatest + 1 → c.ccb.queue.0 < length queues → c.state ≡ Waiting → after ≡ listed_as c.ccb.number.0 (list.live ++ c ∷ []) → queues_after ≡ set queues known_as (with_waiting c.ccb.number c.ccb.priority (queue_at queues known_as)) → known_as ≡ c.ccb.queue.0 → After after queues_after (seen (listed_as c.ccb.number.0 (list.live ++ c ∷ [])) queues)
 entered_one list after queues queues_after known_as c h next known is e es same =
     let told = h.told c.ccb.queue.0 known in
     let new = entered_is (queue_at queues c.ccb.queue.0).openings list.live list.greatest c h.rising (omega (arith, next)) is ∙ ap (with_waiting c.ccb.number c.ccb.priority) (sym told) in
@@ -88,7 +89,7 @@ entered_one list after queues queues_after known_as c h next known is e es same 
     })
 
 -- the CCB that starts
-pub next_one : (list : ListState) (queues : List QueueState) (queue : ℕ) (number : CcbId) → IsKept list queues → queue < length queues → IsLeastNumber (queue_at queues queue).waiting number → Starts queue list.live number
+pub next_one : (list : ListState) (queues : List QueueState) (queue : ℕ) (number : CcbId) → KeepsTable list queues → queue < length queues → IsLeastNumber (queue_at queues queue).waiting number → Starts queue list.live number
 next_one list queues queue number h known least =
     least_starts queue list.live list.greatest number h.rising (subst (λ (q : QueueState). IsLeastNumber q.waiting number) (h.told queue known) least)
 
@@ -97,10 +98,10 @@ pub record Dispatched (queue : ℕ) (list : ListState) (number : CcbId) (next : 
   pub next_is : next_waiting queue list.live ≡ Some next
   pub number_is : next.ccb.number ≡ number
   pub queue_is : next.ccb.queue.0 ≡ queue
-  pub state_is : next.state ≡ waiting
+  pub state_is : next.state ≡ Waiting
   pub found : ccb_of ccb.number.0 list.live ≡ Some next
 
-pub dispatched : (list : ListState) (queues : List QueueState) (queue : ℕ) (number : CcbId) (answer : Option LiveCcb) (next : LiveCcb) (ccb : Ccb) → IsKept list queues → queue < length queues → IsLeastNumber (queue_at queues queue).waiting number → answer ≡ ccb_of number.0 list.live → answer ≡ Some next → ccb ≡ started next.ccb → Dispatched queue list number next ccb
+pub dispatched : (list : ListState) (queues : List QueueState) (queue : ℕ) (number : CcbId) (answer : Option LiveCcb) (next : LiveCcb) (ccb : Ccb) → KeepsTable list queues → queue < length queues → IsLeastNumber (queue_at queues queue).waiting number → answer ≡ ccb_of number.0 list.live → answer ≡ Some next → ccb ≡ started next.ccb → Dispatched queue list number next ccb
 dispatched list queues queue number answer next ccb h known least answer_is next_there ccb_is =
     let s = next_one list queues queue number h known least in
     let both : Some s.it ≡ Some next = sym s.found ∙ (sym answer_is ∙ next_there) in
@@ -115,9 +116,9 @@ dispatched list queues queue number answer next ccb h known least answer_is next
 
 -- the CCB as it stands in the list once it has started
 abbrev pub as_active : Ccb → LiveCcb
-as_active ccb = record { ccb = ccb; state = active }
+as_active ccb = record { ccb = ccb; state = Active }
 
-pub dispatched_after : (list after : ListState) (queues queues_after : List QueueState) (queue : ℕ) (number : CcbId) (next : LiveCcb) (ccb : Ccb) → IsKept list queues → Dispatched queue list number next ccb → ccb ≡ started next.ccb → after ≡ listed_as list.greatest (with_ccb (as_active ccb) list.live) → queues_after ≡ set queues queue (with_started number (queue_at queues queue)) → After after queues_after (seen (listed_as list.greatest (with_ccb (as_active (started next.ccb)) list.live)) queues)
+pub dispatched_after : (list after : ListState) (queues queues_after : List QueueState) (queue : ℕ) (number : CcbId) (next : LiveCcb) (ccb : Ccb) → KeepsTable list queues → Dispatched queue list number next ccb → ccb ≡ started next.ccb → after ≡ listed_as list.greatest (with_ccb (as_active ccb) list.live) → queues_after ≡ set queues queue (with_started number (queue_at queues queue)) → After after queues_after (seen (listed_as list.greatest (with_ccb (as_active (started next.ccb)) list.live)) queues)
 dispatched_after list after queues queues_after queue number next ccb h d ccb_is e es =
     subst (λ (b : Ccb). After after queues_after (seen (listed_as list.greatest (with_ccb (as_active b) list.live)) queues)) ccb_is
     (started_one list after queues queues_after queue (as_active ccb) next h d.found d.state_is refl (ap (λ (b : Ccb). b.queue.0) ccb_is) e

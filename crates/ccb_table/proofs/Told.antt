@@ -1,17 +1,19 @@
 -- What each step of a CCB makes of what its queue has to know, and that it is nothing to the other queues.
-use Rattle.std.proofs.Common.{◌≡◌, ℕ, ◌+◌, ◌<◌, List, [], ◌∷◌, ◌++◌, Bool, true, false, cond, Some, refl, ap, sym, ◌∙◌, arith}
+use Rattle.std.proofs.Common.{◌≡◌, ℕ, ◌+◌, ◌<◌, List, [], ◌∷◌, ◌++◌, map, Bool, true, false, cond, Some, refl, ap, sym, ◌∙◌, arith}
 use Rattle.std.specs.Prelude.{◌&&◌}
 use Rattle.std.specs.List.{All, count_by}
 use Rattle.std.proofs.lemmas.List.Elements.{All-head, All-tail}
 use Rattle.std.proofs.lemmas.Bool.{and_left, eq-eqb, ne_eqb}
 use Rattle.std.proofs.lemmas.List.Sums.{sum_by-cons, sum_by_push}
+use Rattle.ccb.specs.Rising.{AreRising}
 use Rattle.dev_queue.specs.State.{QueueState, empty_queue, live, with_waiting, with_started, with_stopped, with_left}
-use Rattle.world.specs.World.{CcbState, waiting, active, in_recovery, LiveCcb}
+use Rattle.world.specs.declared.ccb_state.CcbState.{CcbState}
+use Rattle.world.specs.declared.ccb_state.CcbState.TheVariants.{Waiting, Active, InRecovery}
+use Rattle.world.specs.World.{LiveCcb}
 use Rattle.world.specs.Lookups.{is_waiting, is_active, is_of, live_count, active_count, ccb_of, with_ccb}
 use Rattle.world.proofs.Lists.Found.{leave}
 use Rattle.world.proofs.Lists.Rising.{count_put, count_gone}
 use Rattle.world.proofs.Steps.Moves.{ccb_key}
-use Rattle.ccb_table.specs.Listed.{AreNumbered}
 use Rattle.ccb_table.specs.Queues.{is_recovering, pairs_of, waits_on, recovers_on, queue_state_of}
 use Rattle.ccb_table.proofs.Pairs.{pairs_no, pairs_length, pairs_push_yes, pairs_push_no, pairs_put_out, pairs_put_in, pairs_put_no, pairs_gone}
 
@@ -29,14 +31,14 @@ abbrev one_if : Bool → ℕ
 one_if b = cond b 1 0
 
 -- a change moves a count by that one alone
-moved : (kind : CcbState → Bool) (queue : ℕ) (ccbs : List LiveCcb) (high : ℕ) (c x : LiveCcb) → AreNumbered ccbs high → ccb_of c.ccb.number.0 ccbs ≡ Some x → (now was : Bool) → on kind queue c ≡ now → on kind queue x ≡ was → count_by (on kind queue) (with_ccb c ccbs) + one_if was ≡ count_by (on kind queue) ccbs + one_if now
+moved : (kind : CcbState → Bool) (queue : ℕ) (ccbs : List LiveCcb) (high : ℕ) (c x : LiveCcb) → AreRising 0 (map ccb_key ccbs) high → ccb_of c.ccb.number.0 ccbs ≡ Some x → (now was : Bool) → on kind queue c ≡ now → on kind queue x ≡ was → count_by (on kind queue) (with_ccb c ccbs) + one_if was ≡ count_by (on kind queue) ccbs + one_if now
 moved kind queue ccbs high c x rising found now was now_is was_is =
     let both = count_put ccb_key (on kind queue) 0 ccbs high c x rising found in
     let before : one_if (on kind queue x) ≡ one_if was = ap one_if was_is in
     let after : one_if (on kind queue c) ≡ one_if now = ap one_if now_is in
     omega (arith, both, before, after)
 
-gone : (kind : CcbState → Bool) (queue : ℕ) (ccbs : List LiveCcb) (high number : ℕ) (x : LiveCcb) → AreNumbered ccbs high → ccb_of number ccbs ≡ Some x → (was : Bool) → on kind queue x ≡ was → count_by (on kind queue) (leave ccb_key number ccbs) + one_if was ≡ count_by (on kind queue) ccbs
+gone : (kind : CcbState → Bool) (queue : ℕ) (ccbs : List LiveCcb) (high number : ℕ) (x : LiveCcb) → AreRising 0 (map ccb_key ccbs) high → ccb_of number ccbs ≡ Some x → (was : Bool) → on kind queue x ≡ was → count_by (on kind queue) (leave ccb_key number ccbs) + one_if was ≡ count_by (on kind queue) ccbs
 gone kind queue ccbs high number x rising found was was_is =
     let both = count_gone ccb_key (on kind queue) 0 ccbs high number x rising found in
     let before : one_if (on kind queue x) ≡ one_if was = ap one_if was_is in
@@ -55,9 +57,9 @@ same_queue a b w k r o = λ i. record { waiting = w i; active = k i; recovering 
 -- each CCB of the queue is in one state
 one_state : (b : Bool) (s : CcbState) → one_if (b && is_waiting s) + one_if (b && is_active s) + one_if (b && is_recovering s) ≡ one_if b
 one_state false s = refl
-one_state true waiting = refl
-one_state true active = refl
-one_state true in_recovery = refl
+one_state true Waiting = refl
+one_state true Active = refl
+one_state true InRecovery = refl
 
 all_states : (queue : ℕ) (ccbs : List LiveCcb) → count_by (waits_on queue) ccbs + active_count queue ccbs + count_by (recovers_on queue) ccbs ≡ live_count queue ccbs
 all_states queue [] = refl
@@ -73,12 +75,12 @@ pub live_is : (queue openings : ℕ) (ccbs : List LiveCcb) → live (queue_state
 live_is queue openings ccbs = omega (arith, pairs_length (waits_on queue) ccbs, all_states queue ccbs)
 
 -- a CCB enters, and waits
-pub entered_is : (openings : ℕ) (ccbs : List LiveCcb) (high : ℕ) (c : LiveCcb) → AreNumbered ccbs high → high < c.ccb.number.0 → c.state ≡ waiting → queue_state_of c.ccb.queue.0 openings (ccbs ++ c ∷ []) ≡ with_waiting c.ccb.number c.ccb.priority (queue_state_of c.ccb.queue.0 openings ccbs)
+pub entered_is : (openings : ℕ) (ccbs : List LiveCcb) (high : ℕ) (c : LiveCcb) → AreRising 0 (map ccb_key ccbs) high → high < c.ccb.number.0 → c.state ≡ Waiting → queue_state_of c.ccb.queue.0 openings (ccbs ++ c ∷ []) ≡ with_waiting c.ccb.number c.ccb.priority (queue_state_of c.ccb.queue.0 openings ccbs)
 entered_is openings ccbs high c rising above is =
     same_queue _ _
-    (pairs_push_yes (waits_on c.ccb.queue.0) 0 ccbs high c rising above (on_is is_waiting c.ccb.queue.0 c waiting refl is))
-    (omega (arith, entered is_active c.ccb.queue.0 ccbs c false (on_is is_active c.ccb.queue.0 c waiting refl is)))
-    (omega (arith, entered is_recovering c.ccb.queue.0 ccbs c false (on_is is_recovering c.ccb.queue.0 c waiting refl is))) refl
+    (pairs_push_yes (waits_on c.ccb.queue.0) 0 ccbs high c rising above (on_is is_waiting c.ccb.queue.0 c Waiting refl is))
+    (omega (arith, entered is_active c.ccb.queue.0 ccbs c false (on_is is_active c.ccb.queue.0 c Waiting refl is)))
+    (omega (arith, entered is_recovering c.ccb.queue.0 ccbs c false (on_is is_recovering c.ccb.queue.0 c Waiting refl is))) refl
 
 pub entered_other : (queue openings : ℕ) (ccbs : List LiveCcb) (c : LiveCcb) → (c.ccb.queue.0 ≡ queue → ⊥) → queue_state_of queue openings (ccbs ++ c ∷ []) ≡ queue_state_of queue openings ccbs
 entered_other queue openings ccbs c apart =
@@ -87,7 +89,7 @@ entered_other queue openings ccbs c apart =
     (omega (arith, entered is_recovering queue ccbs c false (on_other is_recovering queue c apart))) refl
 
 -- a change of a CCB that is of another queue, and stays there
-pub changed_other : (queue openings : ℕ) (ccbs : List LiveCcb) (high : ℕ) (c x : LiveCcb) → AreNumbered ccbs high → ccb_of c.ccb.number.0 ccbs ≡ Some x → c.ccb.queue.0 ≡ x.ccb.queue.0 → (x.ccb.queue.0 ≡ queue → ⊥) → queue_state_of queue openings (with_ccb c ccbs) ≡ queue_state_of queue openings ccbs
+pub changed_other : (queue openings : ℕ) (ccbs : List LiveCcb) (high : ℕ) (c x : LiveCcb) → AreRising 0 (map ccb_key ccbs) high → ccb_of c.ccb.number.0 ccbs ≡ Some x → c.ccb.queue.0 ≡ x.ccb.queue.0 → (x.ccb.queue.0 ≡ queue → ⊥) → queue_state_of queue openings (with_ccb c ccbs) ≡ queue_state_of queue openings ccbs
 changed_other queue openings ccbs high c x rising found stays apart =
     let apart_now : c.ccb.queue.0 ≡ queue → ⊥ = λ e. apart (sym stays ∙ e) in
     same_queue _ _ (pairs_put_no (waits_on queue) 0 ccbs high c x rising found (on_other is_waiting queue x apart) (on_other is_waiting queue c apart_now))
@@ -95,34 +97,34 @@ changed_other queue openings ccbs high c x rising found stays apart =
     (omega (arith, moved is_recovering queue ccbs high c x rising found false false (on_other is_recovering queue c apart_now) (on_other is_recovering queue x apart))) refl
 
 -- a waiting CCB starts
-pub started_is : (queue openings : ℕ) (ccbs : List LiveCcb) (high : ℕ) (c x : LiveCcb) → AreNumbered ccbs high → ccb_of c.ccb.number.0 ccbs ≡ Some x → c.ccb.queue.0 ≡ queue → x.ccb.queue.0 ≡ queue → c.state ≡ active → x.state ≡ waiting → queue_state_of queue openings (with_ccb c ccbs) ≡ with_started c.ccb.number (queue_state_of queue openings ccbs)
+pub started_is : (queue openings : ℕ) (ccbs : List LiveCcb) (high : ℕ) (c x : LiveCcb) → AreRising 0 (map ccb_key ccbs) high → ccb_of c.ccb.number.0 ccbs ≡ Some x → c.ccb.queue.0 ≡ queue → x.ccb.queue.0 ≡ queue → c.state ≡ Active → x.state ≡ Waiting → queue_state_of queue openings (with_ccb c ccbs) ≡ with_started c.ccb.number (queue_state_of queue openings ccbs)
 started_is queue openings ccbs high c x rising found of was_of is was =
-    same_queue _ _ (pairs_put_out (waits_on queue) 0 ccbs high c x rising found (on_is is_waiting queue x waiting was_of was) (on_is is_waiting queue c active of is))
-    (omega (arith, moved is_active queue ccbs high c x rising found true false (on_is is_active queue c active of is) (on_is is_active queue x waiting was_of was)))
-    (omega (arith, moved is_recovering queue ccbs high c x rising found false false (on_is is_recovering queue c active of is) (on_is is_recovering queue x waiting was_of was))) refl
+    same_queue _ _ (pairs_put_out (waits_on queue) 0 ccbs high c x rising found (on_is is_waiting queue x Waiting was_of was) (on_is is_waiting queue c Active of is))
+    (omega (arith, moved is_active queue ccbs high c x rising found true false (on_is is_active queue c Active of is) (on_is is_active queue x Waiting was_of was)))
+    (omega (arith, moved is_recovering queue ccbs high c x rising found false false (on_is is_recovering queue c Active of is) (on_is is_recovering queue x Waiting was_of was))) refl
 
 -- an active CCB is in recovery
-pub recovering_is : (queue openings : ℕ) (ccbs : List LiveCcb) (high : ℕ) (c x : LiveCcb) → AreNumbered ccbs high → ccb_of c.ccb.number.0 ccbs ≡ Some x → c.ccb.queue.0 ≡ queue → x.ccb.queue.0 ≡ queue → c.state ≡ in_recovery → x.state ≡ active → queue_state_of queue openings (with_ccb c ccbs) ≡ with_stopped true (queue_state_of queue openings ccbs)
+pub recovering_is : (queue openings : ℕ) (ccbs : List LiveCcb) (high : ℕ) (c x : LiveCcb) → AreRising 0 (map ccb_key ccbs) high → ccb_of c.ccb.number.0 ccbs ≡ Some x → c.ccb.queue.0 ≡ queue → x.ccb.queue.0 ≡ queue → c.state ≡ InRecovery → x.state ≡ Active → queue_state_of queue openings (with_ccb c ccbs) ≡ with_stopped true (queue_state_of queue openings ccbs)
 recovering_is queue openings ccbs high c x rising found of was_of is was =
-    same_queue _ _ (pairs_put_no (waits_on queue) 0 ccbs high c x rising found (on_is is_waiting queue x active was_of was) (on_is is_waiting queue c in_recovery of is))
-    (omega (arith, moved is_active queue ccbs high c x rising found false true (on_is is_active queue c in_recovery of is) (on_is is_active queue x active was_of was)))
-    (omega (arith, moved is_recovering queue ccbs high c x rising found true false (on_is is_recovering queue c in_recovery of is) (on_is is_recovering queue x active was_of was))) refl
+    same_queue _ _ (pairs_put_no (waits_on queue) 0 ccbs high c x rising found (on_is is_waiting queue x Active was_of was) (on_is is_waiting queue c InRecovery of is))
+    (omega (arith, moved is_active queue ccbs high c x rising found false true (on_is is_active queue c InRecovery of is) (on_is is_active queue x Active was_of was)))
+    (omega (arith, moved is_recovering queue ccbs high c x rising found true false (on_is is_recovering queue c InRecovery of is) (on_is is_recovering queue x Active was_of was))) refl
 
 -- a CCB in recovery waits again
-pub requeued_is : (queue openings : ℕ) (ccbs : List LiveCcb) (high : ℕ) (c x : LiveCcb) → AreNumbered ccbs high → ccb_of c.ccb.number.0 ccbs ≡ Some x → c.ccb.queue.0 ≡ queue → x.ccb.queue.0 ≡ queue → c.state ≡ waiting → x.state ≡ in_recovery → queue_state_of queue openings (with_ccb c ccbs) ≡ with_waiting c.ccb.number c.ccb.priority (with_left (queue_state_of queue openings ccbs))
+pub requeued_is : (queue openings : ℕ) (ccbs : List LiveCcb) (high : ℕ) (c x : LiveCcb) → AreRising 0 (map ccb_key ccbs) high → ccb_of c.ccb.number.0 ccbs ≡ Some x → c.ccb.queue.0 ≡ queue → x.ccb.queue.0 ≡ queue → c.state ≡ Waiting → x.state ≡ InRecovery → queue_state_of queue openings (with_ccb c ccbs) ≡ with_waiting c.ccb.number c.ccb.priority (with_left (queue_state_of queue openings ccbs))
 requeued_is queue openings ccbs high c x rising found of was_of is was =
-    same_queue _ _ (pairs_put_in (waits_on queue) 0 ccbs high c x rising found (on_is is_waiting queue x in_recovery was_of was) (on_is is_waiting queue c waiting of is))
-    (omega (arith, moved is_active queue ccbs high c x rising found false false (on_is is_active queue c waiting of is) (on_is is_active queue x in_recovery was_of was)))
-    (omega (arith, moved is_recovering queue ccbs high c x rising found false true (on_is is_recovering queue c waiting of is) (on_is is_recovering queue x in_recovery was_of was))) refl
+    same_queue _ _ (pairs_put_in (waits_on queue) 0 ccbs high c x rising found (on_is is_waiting queue x InRecovery was_of was) (on_is is_waiting queue c Waiting of is))
+    (omega (arith, moved is_active queue ccbs high c x rising found false false (on_is is_active queue c Waiting of is) (on_is is_active queue x InRecovery was_of was)))
+    (omega (arith, moved is_recovering queue ccbs high c x rising found false true (on_is is_recovering queue c Waiting of is) (on_is is_recovering queue x InRecovery was_of was))) refl
 
 -- an active CCB is finished
-pub finished_is : (queue openings : ℕ) (ccbs : List LiveCcb) (high number : ℕ) (x : LiveCcb) → AreNumbered ccbs high → ccb_of number ccbs ≡ Some x → x.ccb.queue.0 ≡ queue → x.state ≡ active → queue_state_of queue openings (leave ccb_key number ccbs) ≡ with_stopped false (queue_state_of queue openings ccbs)
+pub finished_is : (queue openings : ℕ) (ccbs : List LiveCcb) (high number : ℕ) (x : LiveCcb) → AreRising 0 (map ccb_key ccbs) high → ccb_of number ccbs ≡ Some x → x.ccb.queue.0 ≡ queue → x.state ≡ Active → queue_state_of queue openings (leave ccb_key number ccbs) ≡ with_stopped false (queue_state_of queue openings ccbs)
 finished_is queue openings ccbs high number x rising found was_of was =
-    same_queue _ _ (pairs_gone (waits_on queue) 0 ccbs high number x rising found (on_is is_waiting queue x active was_of was))
-    (omega (arith, gone is_active queue ccbs high number x rising found true (on_is is_active queue x active was_of was)))
-    (omega (arith, gone is_recovering queue ccbs high number x rising found false (on_is is_recovering queue x active was_of was))) refl
+    same_queue _ _ (pairs_gone (waits_on queue) 0 ccbs high number x rising found (on_is is_waiting queue x Active was_of was))
+    (omega (arith, gone is_active queue ccbs high number x rising found true (on_is is_active queue x Active was_of was)))
+    (omega (arith, gone is_recovering queue ccbs high number x rising found false (on_is is_recovering queue x Active was_of was))) refl
 
-pub finished_other : (queue openings : ℕ) (ccbs : List LiveCcb) (high number : ℕ) (x : LiveCcb) → AreNumbered ccbs high → ccb_of number ccbs ≡ Some x → (x.ccb.queue.0 ≡ queue → ⊥) → queue_state_of queue openings (leave ccb_key number ccbs) ≡ queue_state_of queue openings ccbs
+pub finished_other : (queue openings : ℕ) (ccbs : List LiveCcb) (high number : ℕ) (x : LiveCcb) → AreRising 0 (map ccb_key ccbs) high → ccb_of number ccbs ≡ Some x → (x.ccb.queue.0 ≡ queue → ⊥) → queue_state_of queue openings (leave ccb_key number ccbs) ≡ queue_state_of queue openings ccbs
 finished_other queue openings ccbs high number x rising found apart =
     same_queue _ _ (pairs_gone (waits_on queue) 0 ccbs high number x rising found (on_other is_waiting queue x apart))
     (omega (arith, gone is_active queue ccbs high number x rising found false (on_other is_active queue x apart)))

@@ -1,5 +1,4 @@
-pub mod State
-pub mod States
+pub mod CcbsState
 pub mod Listed
 pub mod Queues
 pub mod Refusals

@@ -2,13 +2,15 @@
 use Rattle.std.specs.Prelude.{◌≡◌, ℕ, ◌<◌, ◌&&◌, Bool, true, false, List, length, map, filter, count_by, slice_index_or}
 use Rattle.dev_queue.specs.declared.waiting.WaitingCcb.{WaitingCcb}
 use Rattle.dev_queue.specs.State.{QueueState, empty_queue}
-use Rattle.world.specs.World.{CcbState, waiting, active, in_recovery, LiveCcb}
+use Rattle.world.specs.declared.ccb_state.CcbState.{CcbState}
+use Rattle.world.specs.declared.ccb_state.CcbState.TheVariants.{Waiting, Active, InRecovery}
+use Rattle.world.specs.World.{LiveCcb}
 use Rattle.world.specs.Lookups.{is_waiting, is_of, active_count}
 
 abbrev pub is_recovering : CcbState → Bool
-is_recovering waiting = false
-is_recovering active = false
-is_recovering in_recovery = true
+is_recovering Waiting = false
+is_recovering Active = false
+is_recovering InRecovery = true
 
 -- the CCB as its queue knows it while it waits
 abbrev pub pair_of : LiveCcb → WaitingCcb

@@ -1,8 +1,8 @@
 -- The refusal by which the transport tells a fault of a device queue.
 use Rattle.dev_queue.specs.declared.fault.QueueFault.{QueueFault}
 use Rattle.dev_queue.specs.declared.fault.QueueFault.TheVariants.{Full, Frozen, NoOpening, NothingWaits}
-use Rattle.world.specs.declared.history.Refusal.{Refusal}
-use Rattle.world.specs.declared.history.Refusal.TheVariants as refusal
+use Rattle.world.specs.declared.refusal.Refusal.{Refusal}
+use Rattle.world.specs.declared.refusal.Refusal.TheVariants as refusal
 
 abbrev pub refusal_of : QueueFault → Refusal
 refusal_of Full = refusal.Limit

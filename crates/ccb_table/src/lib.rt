@@ -2,13 +2,13 @@
 // what its calls mean, on `dev_queue` for which CCB starts, and on `freeze_ledger` for whether a queue is frozen.
 #![tactic(auto)]
 
-mod list;
-mod live;
-mod queues;
-mod table;
+mod ccb_list;
+mod ccb_table;
+mod live_ccb;
+mod queue_list;
 
-pub use live::{CcbState, LiveCcb};
-pub use table::CcbTable;
+pub use ccb_table::CcbTable;
+pub use live_ccb::LiveCcb;
 
 #[cfg(test)]
 mod tests;

@@ -3,8 +3,10 @@ use Rattle.std.proofs.Common.{◌≡◌, Bool, true, false, not, cond, Some, Non
 use Rattle.std.specs.Prelude.{◌&&◌}
 use Rattle.std.proofs.lemmas.Bool.{cond-true, cond-false}
 use Rattle.ccb.specs.Completion.{Outcome, IsCompletion}
-use Rattle.world.specs.declared.history.Refusal.TheVariants.{Unknown, Limit, NotActive}
-use Rattle.world.specs.World.{Setup, CcbState, waiting, active, in_recovery, LiveCcb, World}
+use Rattle.world.specs.declared.refusal.Refusal.TheVariants.{Unknown, Limit, NotActive}
+use Rattle.world.specs.declared.ccb_state.CcbState.{CcbState}
+use Rattle.world.specs.declared.ccb_state.CcbState.TheVariants.{Waiting, Active, InRecovery}
+use Rattle.world.specs.World.{Setup, LiveCcb, World}
 use Rattle.world.specs.Lookups.{is_active, ccb_of}
 use Rattle.world.specs.Event.{Reply, done, refused}
 use Rattle.world.specs.CcbSteps.{is_success, run_meets_limit, finishes, recovers, completes, step_complete}
@@ -49,10 +51,10 @@ at_failure setup world outcome live it found is bad room =
     (cond-false (not (is_active live.state)) (refused NotActive, world) _ (ap not is) ∙ cond-false (is_success outcome.status) (done, finishes world live.ccb outcome.status) _ bad)
 
 -- an active CCB, by its state
-pub state_is : (live : LiveCcb) → is_active live.state ≡ true → live ≡ record { ccb = live.ccb; state = active }
+pub state_is : (live : LiveCcb) → is_active live.state ≡ true → live ≡ record { ccb = live.ccb; state = Active }
 state_is live is = ap (λ (s : CcbState). record { ccb = live.ccb; state = s }) (by_state live.state is)
   where
-    by_state : (s : CcbState) → is_active s ≡ true → s ≡ active
-    by_state waiting e = absurd (let bad : false ≡ true = e in cc)
-    by_state active e = refl
-    by_state in_recovery e = absurd (let bad : false ≡ true = e in cc)
+    by_state : (s : CcbState) → is_active s ≡ true → s ≡ Active
+    by_state Waiting e = absurd (let bad : false ≡ true = e in cc)
+    by_state Active e = refl
+    by_state InRecovery e = absurd (let bad : false ≡ true = e in cc)

@@ -2,9 +2,9 @@ pub mod Recording
 pub mod PrivateWays
 pub mod Standing
 pub mod Stops
-pub mod Single
 pub mod Reported
 pub mod Deciding
 pub mod OneMore
 pub mod StopEnds
+pub mod Going
 pub mod Setups

@@ -1,19 +1,19 @@
 -- What a run does up to a stop: its private instructions lead the world to one that differs in the run's machine alone.
-use Rattle.std.proofs.Common.{◌≡◌, ℕ, zero, suc, ◌+◌, ◌-◌, List, [], ◌∷◌, ◌++◌, map, replicate, true, Some, None, refl, ap, sym, subst, ◌∙◌, arith}
+use Rattle.std.proofs.Common.{◌≡◌, ℕ, zero, suc, ◌+◌, List, [], ◌∷◌, map, replicate, true, Some, None, refl, ap, sym, subst, ◌∙◌, arith}
 use Rattle.std.specs.Option.{option_map}
 use Rattle.std.proofs.lemmas.Bool.{cond-true}
 use Rattle.bpf_machine.specs.MachineState.{MachineState}
 use Rattle.bpf_machine.specs.Reached.{PrivateSteps}
-use Rattle.world.specs.declared.history.StoppedAt.{StoppedAt}
-use Rattle.world.specs.declared.history.Record.TheVariants.{Advance}
+use Rattle.world.specs.declared.record.StoppedAt.{StoppedAt}
+use Rattle.world.specs.declared.record.Record.TheVariants.{Advance}
 use Rattle.world.specs.World.{Setup, LiveRun, World}
 use Rattle.world.specs.Lookups.{run_of}
 use Rattle.world.specs.Event.{private, executes, went_on, result}
 use Rattle.world.specs.RunSteps.{goes_on, step_run, step_executes}
 use Rattle.world.specs.Step.{WorldStep}
-use Rattle.world.specs.Run.{Leads}
+use Rattle.world.specs.WorldRun.{Leads}
 use Rattle.world.specs.Flat.{stop_of, events_of}
-use Rattle.world.specs.Limits.{AreRising}
+use Rattle.ccb.specs.Rising.{AreRising}
 use Rattle.world.proofs.Lists.Found.{put, put_same, put_keys, put_put}
 use Rattle.world.proofs.Lists.Rising.{put_self}
 use Rattle.world.proofs.Steps.Moves.{run_key}
@@ -43,6 +43,6 @@ private_leads setup (suc n) world high run to rising found out (next, first, res
 -- with the stop behind them they are what an advance's record stands for
 pub advance_leads : (setup : Setup) (n steps : ℕ) (world between after : World) (run : ℕ) (stop : StoppedAt) (r0 : ℕ) → steps ≡ n + 1 → Leads setup world (replicate n (executes run private, went_on)) between → WorldStep setup between (executes run (stop_of stop)) (result r0) after → Leads setup world (events_of (Advance run steps stop r0)) after
 advance_leads setup n steps world between after run stop r0 count leads step =
-    let privates : steps - 1 ≡ n = omega (arith, count) in
-    subst (λ (k : ℕ). Leads setup world (replicate k (executes run private, went_on) ++ (executes run (stop_of stop), result r0) ∷ []) after) (sym privates)
+    let many : steps ≡ suc n = omega (arith, count) in
+    subst (λ (k : ℕ). Leads setup world (events_of (Advance run k stop r0)) after) (sym many)
     (leads_append setup world (replicate n (executes run private, went_on)) ((executes run (stop_of stop), result r0) ∷ []) between after leads (after, step, refl))

@@ -1,52 +1,63 @@
 -- One record more keeps an engine.
-use Rattle.std.proofs.Common.{◌≡◌, List, [], ◌∷◌, ◌++◌, length, ap, sym, subst, ◌∙◌}
+use Rattle.std.proofs.Common.{◌≡◌, List, [], ◌∷◌, ◌++◌, length, refl, ap, sym, subst, ◌∙◌}
 use Rattle.std.proofs.lemmas.List.Concat.{flat_map-append}
 use Rattle.std.proofs.Common.{append-nil}
 use Rattle.std.proofs.lemmas.List.{length-map}
-use Rattle.ccb_table.specs.State.{CcbsState}
-use Rattle.recoveries.specs.State.{RecoveryState}
-use Rattle.world.specs.declared.history.Record.{Record}
-use Rattle.world.specs.World.{QueueSetup, Setup, queue_count, EndedCcb, opening}
+use Rattle.ccb_table.specs.CcbsState.{CcbsState, with_ccbs}
+use Rattle.recoveries.specs.RecoveryState.{RecoveryState, with_recoveries}
+use Rattle.world.specs.declared.record.Record.{Record}
+use Rattle.world.specs.World.{QueueSetup, Setup, World, queue_count, opening}
 use Rattle.world.specs.Event.{Event, Reply}
-use Rattle.world.specs.Run.{Leads, WorldRun}
+use Rattle.world.specs.Step.{WorldStep}
+use Rattle.world.specs.WorldRun.{Leads, WorldRun}
 use Rattle.world.specs.Flat.{events_of, flat}
-use Rattle.world.specs.CcbLaws.{finished_by, finished_in}
-use Rattle.world.proofs.Leads.{leads_append}
+use Rattle.world.proofs.Leads.{leads_append, world_after_leads}
 use Rattle.world.proofs.Sound.{IsSound, run_sound}
-use Rattle.engine_core.specs.State.{world_of}
-use Rattle.engine_core.specs.Invariant.{IsKept}
+use Rattle.engine_core.specs.EngineState.{world_of}
+use Rattle.engine_core.specs.Invariant.{KeepsEngine}
 
 flat_push : (history : List Record) (r : Record) → flat (history ++ r ∷ []) ≡ flat history ++ events_of r
 flat_push history r = flat_map-append events_of history (r ∷ []) ∙ ap (λ xs. flat history ++ xs) (append-nil (events_of r))
 
--- what ended with one record more
-pub ended_push : (history : List Record) (r : Record) → finished_in (flat (history ++ r ∷ [])) ≡ finished_in (flat history) ++ finished_in (events_of r)
-ended_push history r = ap finished_in (flat_push history r) ∙ flat_map-append (λ (x : Event × Reply). finished_by x.0 x.1) (flat history) (events_of r)
+-- these are the CCBs, freezes and runs of the world
+abbrev pub IsWorldOf : World → CcbsState → RecoveryState → Type 0
+IsWorldOf world ccbs recoveries = world ≡ with_ccbs ccbs (with_recoveries recoveries world)
 
--- the fields with one record more, which finishes these
-pub world_push : (history later : List Record) (ccbs : CcbsState) (recoveries : RecoveryState) (r : Record) (these : List EndedCcb) → later ≡ history ++ r ∷ [] → finished_in (events_of r) ≡ these → world_of later ccbs recoveries ≡ record (world_of history ccbs recoveries) { ended = finished_in (flat history) ++ these }
-world_push history later ccbs recoveries r these is finished =
-    ap (λ (h : List Record). world_of h ccbs recoveries) is
-    ∙ ap (λ (ended : List EndedCcb). record (world_of history ccbs recoveries) { ended = ended }) (ended_push history r ∙ ap (λ (l : List EndedCcb). finished_in (flat history) ++ l) finished)
+-- a world to which the history leads, and which has what the fields say, is the fields read as a world
+world_is : (setup : Setup) (history : List Record) (ccbs : CcbsState) (recoveries : RecoveryState) (world : World) → WorldRun setup (flat history) world → IsWorldOf world ccbs recoveries → world_of setup history ccbs recoveries ≡ world
+world_is setup history ccbs recoveries world run fields =
+    ap (λ (w : World). with_ccbs ccbs (with_recoveries recoveries w)) (world_after_leads setup (opening setup) (flat history) world run) ∙ sym fields
 
--- and with one that finishes none
-pub world_same : (history later : List Record) (ccbs : CcbsState) (recoveries : RecoveryState) (r : Record) → later ≡ history ++ r ∷ [] → finished_in (events_of r) ≡ [] → world_of later ccbs recoveries ≡ world_of history ccbs recoveries
-world_same history later ccbs recoveries r is none =
-    world_push history later ccbs recoveries r [] is none
-    ∙ ap (λ (ended : List EndedCcb). record (world_of history ccbs recoveries) { ended = ended }) (append-nil (finished_in (flat history)))
+-- an engine before a call and after it, with one record more
+pub record Goes (setup : Setup) (history later : List Record) (ccbs more : CcbsState) (recoveries after : RecoveryState) (r : Record) : Type 0 where
+  pub leads : Leads setup (world_of setup history ccbs recoveries) (events_of r) (world_of setup later more after)
+  pub kept : KeepsEngine setup later more after
 
--- a record whose events lead on goes on with the history
-pub recorded : (setup : Setup) (history later : List Record) (ccbs more : CcbsState) (recoveries after : RecoveryState) (r : Record) → IsKept setup history ccbs recoveries → later ≡ history ++ r ∷ [] → after.queues ≡ recoveries.queues → Leads setup (world_of history ccbs recoveries) (events_of r) (world_of later more after) → IsKept setup later more after
-recorded setup history later ccbs more recoveries after r kept is same leads = record {
-  lawful = kept.lawful;
-  run = subst (λ xs. WorldRun setup xs (world_of later more after)) (sym (ap flat is ∙ flat_push history r)) (leads_append setup (opening setup) (flat history) (events_of r) (world_of history ccbs recoveries) (world_of later more after) kept.run leads);
-  queues = same ∙ kept.queues;
-}
+pub goes : (setup : Setup) (history later : List Record) (ccbs more : CcbsState) (recoveries after : RecoveryState) (r : Record) (world : World) → KeepsEngine setup history ccbs recoveries → later ≡ history ++ r ∷ [] → after.queues ≡ recoveries.queues → Leads setup (world_of setup history ccbs recoveries) (events_of r) world → IsWorldOf world more after → Goes setup history later ccbs more recoveries after r
+goes setup history later ccbs more recoveries after r world kept is same leads fields =
+    let before : World = world_of setup history ccbs recoveries in
+    let run : WorldRun setup (flat later) world =
+    subst (λ (xs : List (Event × Reply)). WorldRun setup xs world) (sym (ap flat is ∙ flat_push history r))
+    (leads_append setup (opening setup) (flat history) (events_of r) before world kept.run.run leads) in
+    let is_world : world_of setup later more after ≡ world = world_is setup later more after world run fields in
+    record {
+      leads = subst (λ (w : World). Leads setup before (events_of r) w) (sym is_world) leads;
+      kept = record {
+        run = record { lawful = kept.run.lawful; run = subst (λ (w : World). WorldRun setup (flat later) w) (sym is_world) run };
+        queues = same ∙ kept.queues;
+      };
+    }
+
+-- a record of one event
+pub goes_once : (setup : Setup) (history later : List Record) (ccbs more : CcbsState) (recoveries after : RecoveryState) (r : Record) (event : Event) (reply : Reply) (world : World) → KeepsEngine setup history ccbs recoveries → later ≡ history ++ r ∷ [] → after.queues ≡ recoveries.queues → events_of r ≡ (event, reply) ∷ [] → WorldStep setup (world_of setup history ccbs recoveries) event reply world → IsWorldOf world more after → Goes setup history later ccbs more recoveries after r
+goes_once setup history later ccbs more recoveries after r event reply world kept is same one step fields =
+    goes setup history later ccbs more recoveries after r world kept is same
+    (subst (λ (xs : List (Event × Reply)). Leads setup (world_of setup history ccbs recoveries) xs world) (sym one) (world, step, refl)) fields
 
 -- what the world's laws say of an engine
-pub kept_sound : (setup : Setup) (history : List Record) (ccbs : CcbsState) (recoveries : RecoveryState) → IsKept setup history ccbs recoveries → IsSound setup (world_of history ccbs recoveries)
-kept_sound setup history ccbs recoveries kept = run_sound setup (flat history) (world_of history ccbs recoveries) kept.lawful kept.run
+pub kept_sound : (setup : Setup) (history : List Record) (ccbs : CcbsState) (recoveries : RecoveryState) → KeepsEngine setup history ccbs recoveries → IsSound setup (world_of setup history ccbs recoveries)
+kept_sound setup history ccbs recoveries kept = run_sound setup (flat history) (world_of setup history ccbs recoveries) kept.run.lawful kept.run.run
 
-pub opening_count : (setup : Setup) (history : List Record) (ccbs : CcbsState) (recoveries : RecoveryState) → IsKept setup history ccbs recoveries → queue_count setup ≡ length ccbs.openings
+pub opening_count : (setup : Setup) (history : List Record) (ccbs : CcbsState) (recoveries : RecoveryState) → KeepsEngine setup history ccbs recoveries → queue_count setup ≡ length ccbs.openings
 opening_count setup history ccbs recoveries kept =
     sym (ap length (kept_sound setup history ccbs recoveries kept).kept.ccbs.openings ∙ length-map setup.queues (λ (queue : QueueSetup). queue.openings))

@@ -8,7 +8,7 @@ use Rattle.verifier.specs.Reached.{Safe}
 use Rattle.verifier.specs.Verdict.{IsAccepted}
 use Rattle.world.specs.World.{Setup, no_queue, queue_count, queue_setup}
 use Rattle.world.specs.Lawful.{IsLawfulQueue}
-use Rattle.engine_core.specs.Configured.{Given, Shared, IsConfigured, IsGivenUnder, IsKept, IsKnown, given_of, queue_of, setup_of}
+use Rattle.engine_core.specs.Configured.{Given, Shared, IsConfigured, IsGivenUnder, KeepsConfig, IsKnown, given_of, queue_of, setup_of}
 
 -- a queue that is given so is lawful
 lawful_queue : (limits : HelperLimits) (given : Given) → IsGivenUnder limits given × IsKnown given → IsLawfulQueue limits (queue_of given)
@@ -20,7 +20,7 @@ lawful_queue limits given h = record {
 }
 
 pub kept : (limits : HelperLimits) (queues : List Shared) → 1 ≤ length queues → length queues ≤ 64 → limits.queues ≡ length queues
-    → All (λ queue. IsGivenUnder limits (given_of queue) × IsKnown (given_of queue)) queues → IsKept limits (map given_of queues)
+    → All (λ queue. IsGivenUnder limits (given_of queue) × IsKnown (given_of queue)) queues → KeepsConfig limits (map given_of queues)
 kept limits queues some few agreed each =
     let given : List Given = map given_of queues in
     let count : length (map queue_of given) ≡ length queues = simp length-map in
@@ -78,7 +78,7 @@ module _ (limits : HelperLimits) (queues : List Shared) (k : ℕ) (x : Shared) (
   queue_is = ap (λ (s : Setup). queue_setup s k) (sym view)
       ∙ (get_or-map queue_of (map given_of queues) k (given_of x) no_queue given_there ∙ ap queue_of given_is)
 
-  module _ (h : IsKept limits (map given_of queues)) where
+  module _ (h : KeepsConfig limits (map given_of queues)) where
     given_under : IsGivenUnder limits (given_of x)
     given_under = subst (IsGivenUnder limits) given_is (All-get_or (IsGivenUnder limits) (map given_of queues) k (given_of x) given_there h.queues)
 

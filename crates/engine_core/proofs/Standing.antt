@@ -4,7 +4,7 @@ use Rattle.std.specs.Prelude.{◌&&◌}
 use Rattle.std.specs.Option.{option_map, option_and_then}
 use Rattle.std.proofs.lemmas.Bool.{cond-true}
 use Rattle.freeze_ledger.specs.declared.entries.Freeze.{Freeze}
-use Rattle.freeze_ledger.specs.Freezes.{frozen, entry_of, without}
+use Rattle.freeze_ledger.specs.Freezes.{entry_of, without}
 use Rattle.helpers.specs.declared.limits.HelperLimits.{HelperLimits}
 use Rattle.helpers.specs.declared.call.Request.{Request}
 use Rattle.helpers.specs.declared.call.Request.TheVariants.{Release, Requeue}
@@ -15,11 +15,12 @@ use Rattle.bpf_machine.specs.declared.stop.Stop.TheVariants.{Helper, Exit}
 use Rattle.bpf_machine.specs.Step.{request_at, exit_at}
 use Rattle.bpf_machine.specs.Stops.{stop_of, stop_at}
 use Rattle.bpf_machine.proofs.Progress.{progress_lem}
-use Rattle.world.specs.World.{Setup, waiting, LiveCcb, LiveRun, World}
+use Rattle.world.specs.declared.ccb_state.CcbState.TheVariants.{Waiting}
+use Rattle.world.specs.World.{Setup, LiveCcb, LiveRun, World}
 use Rattle.world.specs.Lawful.{IsLawful}
 use Rattle.world.specs.Lookups.{ccb_of, with_ccb, run_of}
 use Rattle.world.specs.Event.{release, requeue, call, exit, executes, result}
-use Rattle.world.specs.FreezeSteps.{thawed}
+use Rattle.world.specs.FreezeSteps.{frozen_with, thawed}
 use Rattle.world.specs.RunSteps.{is_run, answers, releases, requeues, ends, step_call, step_run, step_executes}
 use Rattle.world.specs.Step.{WorldStep}
 use Rattle.world.specs.FreezeLaws.{entries_of}
@@ -67,18 +68,18 @@ gives_back setup world run freeze sound found held =
     record { entry = among.0; found = among.1; number_is = bounds.0; bound = bounds.2; its = among.2 }
 
 -- its call of helper 2 is a step
-pub release_step : (setup : Setup) (world : World) (run : LiveRun) (freeze count : ℕ) → run_of run.number world.runs ≡ Some run → run.out ≡ true → request_at run.program run.machine ≡ Some (Release freeze) → (it : GivesBack world run freeze) → count ≡ frozen it.entry.queue.0 (without freeze world.freezes) → WorldStep setup world (executes run.number (call release)) (result count) (answers (thawed world freeze) run (Release freeze) count).1
+pub release_step : (setup : Setup) (world : World) (run : LiveRun) (freeze count : ℕ) → run_of run.number world.runs ≡ Some run → run.out ≡ true → request_at run.program run.machine ≡ Some (Release freeze) → (it : GivesBack world run freeze) → count ≡ frozen_with it.entry (without freeze world.freezes) → WorldStep setup world (executes run.number (call release)) (result count) (answers (thawed world freeze) run (Release freeze) count).1
 release_step setup world run freeze count found out call_is it count_is =
-    let given : releases world run (Some it.entry) ≡ Some (answers (thawed world it.entry.number) run (Release it.entry.number) (frozen it.entry.queue.0 (thawed world it.entry.number).freezes)) = cond-true (is_run run.number it.entry.holder) _ None it.its in
+    let given : releases world run (Some it.entry) ≡ Some (answers (thawed world it.entry.number) run (Release it.entry.number) (frozen_with it.entry (thawed world it.entry.number).freezes)) = cond-true (is_run run.number it.entry.holder) _ None it.its in
     let named : releases world run (Some it.entry) ≡ Some (answers (thawed world freeze) run (Release freeze) count) =
-    given ∙ (ap (λ (n : ℕ). Some (answers (thawed world n) run (Release n) (frozen it.entry.queue.0 (thawed world n).freezes))) it.number_is
+    given ∙ (ap (λ (n : ℕ). Some (answers (thawed world n) run (Release n) (frozen_with it.entry (thawed world n).freezes))) it.number_is
     ∙ ap (λ (k : ℕ). Some (answers (thawed world freeze) run (Release freeze) k)) (sym count_is)) in
     ap (step_executes world (call release)) found
     ∙ (cond-true run.out (step_run world run (call release)) None out
     ∙ (ap (option_and_then (step_call world run release)) call_is ∙ (ap (releases world run) it.found ∙ named)))
 
 -- its call of helper 4 is a step
-pub requeue_step : (setup : Setup) (world : World) (run : LiveRun) (retries : ℕ) (live : LiveCcb) → run_of run.number world.runs ≡ Some run → run.out ≡ true → request_at run.program run.machine ≡ Some (Requeue retries) → (leb retries 1 && not run.machine.disposed) ≡ true → ccb_of run.ccb world.live ≡ Some live → WorldStep setup world (executes run.number (call requeue)) (result 0) (answers (record world { live = with_ccb (record { ccb = requeued live.ccb retries; state = waiting }) world.live }) run (Requeue retries) 0).1
+pub requeue_step : (setup : Setup) (world : World) (run : LiveRun) (retries : ℕ) (live : LiveCcb) → run_of run.number world.runs ≡ Some run → run.out ≡ true → request_at run.program run.machine ≡ Some (Requeue retries) → (leb retries 1 && not run.machine.disposed) ≡ true → ccb_of run.ccb world.live ≡ Some live → WorldStep setup world (executes run.number (call requeue)) (result 0) (answers (record world { live = with_ccb (record { ccb = requeued live.ccb retries; state = Waiting }) world.live }) run (Requeue retries) 0).1
 requeue_step setup world run retries live found out call_is rule there =
     ap (step_executes world (call requeue)) found
     ∙ (cond-true run.out (step_run world run (call requeue)) None out

@@ -17,16 +17,17 @@ use Rattle.bpf_machine.specs.Reached.{PrivateSteps}
 use Rattle.interpreter.specs.Segments.{SegmentState, IsSegment}
 use Rattle.recoveries.specs.Admits.{IsOutAs}
 use Rattle.bpf_insn.specs.declared.program.Slot.{Slot}
-use Rattle.world.specs.declared.history.StoppedAt.{StoppedAt}
-use Rattle.world.specs.declared.history.StoppedAt.TheVariants.{Release as at_release, Requeue as at_requeue, Exit as at_exit_stop}
-use Rattle.world.specs.declared.history.Record.TheVariants.{Advance}
-use Rattle.world.specs.World.{Setup, waiting, in_recovery, LiveCcb, LiveRun, World}
+use Rattle.world.specs.declared.record.StoppedAt.{StoppedAt}
+use Rattle.world.specs.declared.record.StoppedAt.TheVariants.{Release as at_release, Requeue as at_requeue, Exit as at_exit_stop}
+use Rattle.world.specs.declared.record.Record.TheVariants.{Advance}
+use Rattle.world.specs.declared.ccb_state.CcbState.TheVariants.{Waiting, InRecovery}
+use Rattle.world.specs.World.{Setup, LiveCcb, LiveRun, World}
 use Rattle.world.specs.Lawful.{IsLawful}
 use Rattle.world.specs.Lookups.{ccb_of, with_ccb, run_of, with_run}
 use Rattle.world.specs.Event.{executes, result}
 use Rattle.world.specs.RunSteps.{goes_on, answers, ends}
-use Rattle.world.specs.FreezeSteps.{thawed}
-use Rattle.world.specs.Run.{Leads}
+use Rattle.world.specs.FreezeSteps.{frozen_with, thawed}
+use Rattle.world.specs.WorldRun.{Leads}
 use Rattle.world.specs.Flat.{events_of, stop_of}
 use Rattle.world.specs.Step.{WorldStep}
 use Rattle.world.specs.FreezeLaws.{entries_of}
@@ -106,7 +107,7 @@ release_leads setup world number segment freeze count it stop count_is =
     let asked = asked_freeze setup world number segment freeze it stop in
     let stands = call_stop run setup.limits segment.stop (Release freeze) stop it.stands in
     let same_freezes : it.between.freezes ≡ world.freezes = ap (λ (w : World). w.freezes) it.between_is in
-    let counted : count ≡ frozen asked.entry.queue.0 (without freeze it.between.freezes) = count_is ∙ ap (λ (fs : List Freeze). frozen asked.entry.queue.0 (without freeze fs)) (sym same_freezes) in
+    let counted : count ≡ frozen_with asked.entry (without freeze it.between.freezes) = count_is ∙ ap (λ (fs : List Freeze). frozen_with asked.entry (without freeze fs)) (sym same_freezes) in
     let step = release_step setup it.between run freeze count it.there it.out stands.0 asked counted in
     let end : (answers (thawed it.between freeze) run (Release freeze) count).1 ≡ record world { freezes = without freeze world.freezes; runs = with_run made world.runs } =
     ap (λ (w : World). (answers (thawed w freeze) run (Release freeze) count).1) it.between_is
@@ -118,7 +119,7 @@ pub record Requeuing (world : World) (run : LiveRun) (retries : ℕ) : Type 0 wh
   pub few : retries ≤ 1
   pub live : LiveCcb
   pub found : ccb_of run.ccb world.live ≡ Some live
-  pub state : live.state ≡ in_recovery
+  pub state : live.state ≡ InRecovery
 
 pub asked_requeue : (setup : Setup) (world : World) (number : ℕ) (segment : SegmentState) (retries : ℕ) → (it : Arrives setup world number segment) → segment.stop ≡ Helper (Requeue retries) → Requeuing world it.run retries
 asked_requeue setup world number segment retries it stop =
@@ -134,11 +135,11 @@ asked_requeue setup world number segment retries it stop =
       state = recovery.state;
     }
 
-pub requeue_leads : (setup : Setup) (world : World) (number : ℕ) (segment : SegmentState) (retries : ℕ) (live : LiveCcb) → (it : Arrives setup world number segment) → segment.stop ≡ Helper (Requeue retries) → ccb_of it.run.ccb world.live ≡ Some live → Leads setup world (events_of (Advance number segment.steps at_requeue 0)) (record world { live = with_ccb (record { ccb = requeued live.ccb retries; state = waiting }) world.live; runs = with_run (with_machine it.run (answered (Requeue retries) (record { r0 = 0 }) segment.to)) world.runs })
+pub requeue_leads : (setup : Setup) (world : World) (number : ℕ) (segment : SegmentState) (retries : ℕ) (live : LiveCcb) → (it : Arrives setup world number segment) → segment.stop ≡ Helper (Requeue retries) → ccb_of it.run.ccb world.live ≡ Some live → Leads setup world (events_of (Advance number segment.steps at_requeue 0)) (record world { live = with_ccb (record { ccb = requeued live.ccb retries; state = Waiting }) world.live; runs = with_run (with_machine it.run (answered (Requeue retries) (record { r0 = 0 }) segment.to)) world.runs })
 requeue_leads setup world number segment retries live it stop found =
     let run : LiveRun = with_machine it.run segment.to in
     let made : LiveRun = with_machine it.run (answered (Requeue retries) (record { r0 = 0 }) segment.to) in
-    let again : LiveCcb = record { ccb = requeued live.ccb retries; state = waiting } in
+    let again : LiveCcb = record { ccb = requeued live.ccb retries; state = Waiting } in
     let stands = call_stop run setup.limits segment.stop (Requeue retries) stop it.stands in
     let same_live : it.between.live ≡ world.live = ap (λ (w : World). w.live) it.between_is in
     let step = requeue_step setup it.between run retries live it.there it.out stands.0 stands.1 (ap (ccb_of it.run.ccb) same_live ∙ found) in

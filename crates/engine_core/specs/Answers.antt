@@ -4,26 +4,26 @@ use Rattle.helpers.specs.declared.call.Request.TheVariants.{Release as asks_rele
 use Rattle.bpf_machine.specs.declared.stop.Stop.{Stop}
 use Rattle.bpf_machine.specs.declared.stop.Stop.TheVariants.{Helper, Exit as at_exit}
 use Rattle.interpreter.specs.Segments.{SegmentState}
-use Rattle.world.specs.declared.history.Completed.{Completed}
-use Rattle.world.specs.declared.history.Completed.TheVariants.{Done as is_done, Started as is_started}
-use Rattle.world.specs.declared.history.StoppedAt.{StoppedAt}
-use Rattle.world.specs.declared.history.StoppedAt.TheVariants.{Release, Requeue, Exit}
-use Rattle.world.specs.World.{World}
+use Rattle.world.specs.declared.record.Completed.{Completed}
+use Rattle.world.specs.declared.record.Completed.TheVariants.{Done as is_done, Started as is_started}
+use Rattle.world.specs.declared.record.StoppedAt.{StoppedAt}
+use Rattle.world.specs.declared.record.StoppedAt.TheVariants.{Release, Requeue, Exit}
+use Rattle.world.specs.World.{Setup, World}
 use Rattle.engine_core.specs.declared.answers.CompleteAnswer.{CompleteAnswer}
 use Rattle.engine_core.specs.declared.answers.CompleteAnswer.TheVariants.{Done, Started}
 use Rattle.engine_core.specs.declared.answers.AdvanceAnswer.{AdvanceAnswer}
 use Rattle.engine_core.specs.declared.answers.AdvanceAnswer.TheVariants.{Goes, Ended}
-use Rattle.engine_core.specs.Runs.{RunState, IsOut}
+use Rattle.engine_core.specs.RunState.{RunState, IsOut, IsOutUnder}
 
 -- what is recorded of an answered completion
 abbrev pub completed_of : CompleteAnswer → Completed
 completed_of Done = is_done
 completed_of (Started run freeze) = is_started run.number freeze
 
--- the run that a completion started is out
-abbrev pub StartsOut : World → CompleteAnswer → Type 0
-StartsOut world Done = Unit {0}
-StartsOut world (Started run freeze) = IsOut world run
+-- the run that a completion started is out, with the recorded program
+abbrev pub StartsOut : Setup → World → CompleteAnswer → Type 0
+StartsOut setup world Done = Unit {0}
+StartsOut setup world (Started run freeze) = IsOutUnder setup world run
 
 -- the helper call or exit at which a run stopped
 abbrev pub stopped_at : Stop → StoppedAt
@@ -36,7 +36,9 @@ abbrev pub r0_of : AdvanceAnswer → ℕ
 r0_of (Goes run r0) = r0
 r0_of (Ended r0) = r0
 
--- The same run goes on and is out, or it ended at its exit.
-abbrev pub GoesOrEnds : World → RunState → SegmentState → AdvanceAnswer → Type 0
-GoesOrEnds world run segment (Goes again r0) = (again.number ≡ run.number) × (again.program ≡ run.program) × IsOut world again
-GoesOrEnds world run segment (Ended r0) = segment.stop ≡ at_exit r0
+-- The same run goes on and is out, with the recorded program if it came with that; or it ended at its exit.
+abbrev pub GoesOrEnds : Setup → World → World → RunState → SegmentState → AdvanceAnswer → Type 0
+GoesOrEnds setup before after run segment (Goes again r0) =
+    (again.number ≡ run.number) × (again.program ≡ run.program) × IsOut after again
+    × (IsOutUnder setup before run → IsOutUnder setup after again)
+GoesOrEnds setup before after run segment (Ended r0) = segment.stop ≡ at_exit r0

@@ -43,6 +43,6 @@ pub record IsConfigured (limits : HelperLimits) (given : List Given) : Type 0 wh
   pub queues : All (IsGivenUnder limits) given
 
 -- what a configuration keeps
-pub record IsKept (limits : HelperLimits) (given : List Given) : Type 0 where
+pub record KeepsConfig (limits : HelperLimits) (given : List Given) : Type 0 where
   pub lawful : IsLawful (setup_of limits given)
   pub queues : All (IsGivenUnder limits) given

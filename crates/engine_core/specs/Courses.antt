@@ -2,12 +2,13 @@
 use Rattle.std.specs.Prelude.{◌≡◌, false, Some}
 use Rattle.ccb.specs.declared.control_block.Ccb.{Ccb}
 use Rattle.ccb.specs.Completion.{Outcome}
-use Rattle.world.specs.World.{Setup, active, World}
+use Rattle.world.specs.declared.ccb_state.CcbState.TheVariants.{Active}
+use Rattle.world.specs.World.{Setup, World}
 use Rattle.world.specs.Lookups.{ccb_of}
 use Rattle.world.specs.Event.{Reply, done, refused}
 use Rattle.world.specs.CcbSteps.{run_meets_limit, finishes, recovers}
-use Rattle.engine_core.specs.declared.completing.Course.{Course}
-use Rattle.engine_core.specs.declared.completing.Course.TheVariants.{Refuse, Finish, Recover}
+use Rattle.engine_core.specs.declared.course.Course.{Course}
+use Rattle.engine_core.specs.declared.course.Course.TheVariants.{Refuse, Finish, Recover}
 
 -- where each course leads
 abbrev pub takes : Setup → World → Outcome → Course → Reply × World
@@ -17,7 +18,7 @@ takes setup world outcome (Recover ccb) = recovers setup world ccb outcome
 
 -- the CCB is the one that is completed, and active
 abbrev pub IsActive : World → Outcome → Ccb → Type 0
-IsActive world outcome ccb = ccb_of outcome.ccb.0 world.live ≡ Some (record { ccb = ccb; state = active })
+IsActive world outcome ccb = ccb_of outcome.ccb.0 world.live ≡ Some (record { ccb = ccb; state = Active })
 
 -- what each course needs is there
 abbrev pub IsOpen : World → Outcome → Course → Type 0

@@ -1,6 +1,6 @@
 pub use Rattle.world.specs.World
 pub use Rattle.world.specs.Step
-pub use Rattle.world.specs.Run
+pub use Rattle.world.specs.WorldRun
 pub use Rattle.world.specs.Flat
 pub use Rattle.world.specs.TotalsOf
 pub use Rattle.world.specs.Headline
@@ -8,9 +8,10 @@ pub use Rattle.world.specs.Limits
 pub use Rattle.world.specs.FreezeLaws
 pub use Rattle.world.specs.CcbLaws
 pub mod Configured
-pub mod State
+pub mod EngineState
 pub mod Invariant
 pub mod Faults
-pub mod Runs
+pub mod RunState
 pub mod Answers
 pub mod Courses
+pub mod TakingOver

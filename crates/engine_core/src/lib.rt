@@ -3,18 +3,18 @@
 // `recoveries` for runs and freezes.
 #![tactic(auto)]
 
-mod advancing;
 mod answers;
-mod calls;
-mod completing;
-mod configuration;
+mod config;
+mod course;
+mod engine;
 pub mod laws;
 mod run;
+mod taking_over;
 #[cfg(test)]
 mod tests;
 
 pub use answers::{AdvanceAnswer, AdvanceFault, CallFault, CompleteAnswer, ReleaseFault, Trace};
-pub use calls::Engine;
-pub use configuration::Config;
+pub use config::Config;
+pub use engine::Engine;
 pub use run::Run;
 pub use world::{Completed, Record, Refusal, StoppedAt, Totals};

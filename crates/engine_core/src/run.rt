@@ -3,7 +3,7 @@
 
 ghost use Rattle.std.specs.Prelude.{◌≡◌};
 ghost use Rattle.std.specs.Arc.{arc_value};
-ghost use Rattle.engine_core.specs.Runs.{IsReached};
+ghost use Rattle.engine_core.specs.RunState.{IsReached};
 
 use bpf_machine::Machine;
 use std::marker::Model;
@@ -21,7 +21,7 @@ pub struct Run {
 
 impl Model for Run {
     ghost use Rattle.std.specs.Arc.{arc_value};
-    ghost use Rattle.engine_core.specs.Runs.{RunState, IsReached};
+    ghost use Rattle.engine_core.specs.RunState.{RunState, IsReached};
 
     ghost Value = { RunState };
 
@@ -75,9 +75,9 @@ impl Run {
     }
 
     /// The same run with a machine further on.
-    pub(crate) fn moved(self, machine: Machine) -> Self
-        requires { IsReached (record self { machine = machine }) }
-        ensures { result ≡ record self { machine = machine } }
+    pub(crate) fn moved(self, machine: &Machine) -> Self
+        requires { IsReached (record self { machine = machine.now }) }
+        ensures { result ≡ record self { machine = machine.now } }
     {
         let Run {
             number,
@@ -87,7 +87,7 @@ impl Run {
         Run {
             number,
             program,
-            machine,
+            machine: *machine,
         }
     }
 }

@@ -8,17 +8,17 @@ use Rattle.freeze_ledger.specs.declared.entries.Holder.TheVariants.{Guest}
 use Rattle.freeze_ledger.specs.declared.entries.Freeze.{Freeze}
 use Rattle.freeze_ledger.specs.Freezes.{entry_of, without}
 use Rattle.freeze_ledger.specs.State.{LedgerState, with_entry, with_freezes, next_freeze}
-use Rattle.world.specs.declared.history.Refusal.{Refusal}
+use Rattle.world.specs.declared.refusal.Refusal.{Refusal}
 use Rattle.world.specs.FreezeSteps.{is_guest}
-use Rattle.recoveries.specs.declared.runs.RunRecord.{RunRecord}
-use Rattle.recoveries.specs.Invariant.{IsKept}
+use Rattle.recoveries.specs.declared.run_record.RunRecord.{RunRecord}
+use Rattle.recoveries.specs.Invariant.{KeepsRecoveries}
 use Rattle.recoveries.proofs.Kept.{kept_guest, kept_without}
 
 -- a freeze was taken, or none
-pub kept_taken : (rs : List RunRecord) (capacity greatest guest : ℕ) (queue : QueueId) (before after : LedgerState) (t : Option Freeze) → IsKept rs capacity before greatest → IfSome t (λ f. f ≡ next_freeze before queue (Guest guest)) → IfSome t (λ f. after ≡ with_entry before f) → IfNone t (after ≡ before) → IsKept rs capacity after greatest
-kept_taken rs capacity greatest guest queue before after None k next some none = subst (λ (l : LedgerState). IsKept rs capacity l greatest) (sym none) k
+pub kept_taken : (rs : List RunRecord) (capacity greatest guest : ℕ) (queue : QueueId) (before after : LedgerState) (t : Option Freeze) → KeepsRecoveries rs capacity before greatest → IfSome t (λ f. f ≡ next_freeze before queue (Guest guest)) → IfSome t (λ f. after ≡ with_entry before f) → IfNone t (after ≡ before) → KeepsRecoveries rs capacity after greatest
+kept_taken rs capacity greatest guest queue before after None k next some none = subst (λ (l : LedgerState). KeepsRecoveries rs capacity l greatest) (sym none) k
 kept_taken rs capacity greatest guest queue before after (Some f) k next some none =
-    subst (λ (l : LedgerState). IsKept rs capacity l greatest) (sym some)
+    subst (λ (l : LedgerState). KeepsRecoveries rs capacity l greatest) (sym some)
     (kept_guest rs capacity greatest before f k (ap (λ (x : Freeze). x.number) next) (ap (λ (x : Freeze). is_guest x.holder) next))
 
 abbrev IsTaken : LedgerState → QueueId → ℕ → Freeze → Type 0
@@ -33,7 +33,7 @@ taken_is guest queue before after (Some f) refusal next some = (
 )
 
 -- a freeze was given back, or none
-pub kept_given : (rs : List RunRecord) (capacity greatest : ℕ) (before after : LedgerState) (f : Freeze) (r : Result ℕ Freeze) → IsKept rs capacity before greatest → is_guest f.holder ≡ true → OnOk r (entry_of f.number before.freezes ≡ Some f) → OnOk r (after ≡ with_freezes before (without f.number before.freezes)) → IfErr r (λ back. (back ≡ f) × (after ≡ before)) → IsKept rs capacity after greatest
+pub kept_given : (rs : List RunRecord) (capacity greatest : ℕ) (before after : LedgerState) (f : Freeze) (r : Result ℕ Freeze) → KeepsRecoveries rs capacity before greatest → is_guest f.holder ≡ true → OnOk r (entry_of f.number before.freezes ≡ Some f) → OnOk r (after ≡ with_freezes before (without f.number before.freezes)) → IfErr r (λ back. (back ≡ f) × (after ≡ before)) → KeepsRecoveries rs capacity after greatest
 kept_given rs capacity greatest before after f (Ok count) k guests entry removed refused =
-    subst (λ (l : LedgerState). IsKept rs capacity l greatest) (sym removed) (kept_without rs capacity greatest f.number before f k entry guests)
-kept_given rs capacity greatest before after f (Err back) k guests entry removed refused = subst (λ (l : LedgerState). IsKept rs capacity l greatest) (sym refused.1) k
+    subst (λ (l : LedgerState). KeepsRecoveries rs capacity l greatest) (sym removed) (kept_without rs capacity greatest f.number before f k entry guests)
+kept_given rs capacity greatest before after f (Err back) k guests entry removed refused = subst (λ (l : LedgerState). KeepsRecoveries rs capacity l greatest) (sym refused.1) k

@@ -11,42 +11,41 @@ use Rattle.freeze_ledger.specs.declared.entries.Holder.TheVariants.{Run}
 use Rattle.freeze_ledger.specs.declared.entries.Freeze.{Freeze}
 use Rattle.freeze_ledger.specs.Freezes.{entry_of, without}
 use Rattle.freeze_ledger.specs.State.{LedgerState, with_entry, with_freezes}
-use Rattle.freeze_ledger.specs.Invariant.{AreNumbered}
-use Rattle.freeze_ledger.proofs.Numbered.{numbered_push}
 use Rattle.world.specs.World.{LiveRun}
-use Rattle.world.specs.Limits.{AreRising}
+use Rattle.ccb.specs.Rising.{AreRising}
 use Rattle.world.specs.RunSteps.{is_run}
 use Rattle.world.specs.FreezeSteps.{is_guest}
 use Rattle.world.specs.FreezeLaws.{entries_of}
 use Rattle.world.proofs.Lists.Found.{put_keys}
 use Rattle.world.proofs.Lists.Rising.{rising_push, rising_leave}
 use Rattle.world.proofs.Lists.Placed.{below, apart}
-use Rattle.world.proofs.Lists.Entries.{numbered_without}
+use Rattle.world.proofs.Lists.Entries.{freeze_key, FreezesRise}
 use Rattle.world.proofs.Lists.HeldBy.{entries_push_other, entries_without_other}
-use Rattle.recoveries.specs.declared.runs.RunRecord.{RunRecord}
-use Rattle.recoveries.specs.Live.{live_of, lives_of, number_of}
-use Rattle.recoveries.specs.Invariant.{HoldsItsEntries, NamesStarted, IsKept}
+use Rattle.recoveries.specs.declared.run_record.RunRecord.{RunRecord}
+use Rattle.recoveries.specs.RecoveryState.{tokens_of}
+use Rattle.recoveries.specs.LiveRuns.{live_of, lives_of, number_of}
+use Rattle.recoveries.specs.Invariant.{HoldsItsEntries, NamesStarted, KeepsRecoveries}
 use Rattle.recoveries.proofs.Records.{key_of, own, record_changed, record_removed}
-use Rattle.recoveries.proofs.Tokens.{other_run, guest_is_no_run, entries_push_own, entries_none, entries_without_own}
+use Rattle.recoveries.proofs.Tokens.{other_run, guest_is_no_run, entries_push_own, entries_none}
 
 -- a guest's freeze more
-pub kept_guest : (rs : List RunRecord) (capacity greatest : ℕ) (before : LedgerState) (f : Freeze) → IsKept rs capacity before greatest → f.number ≡ before.greatest + 1 → is_guest f.holder ≡ true → IsKept rs capacity (with_entry before f) greatest
+pub kept_guest : (rs : List RunRecord) (capacity greatest : ℕ) (before : LedgerState) (f : Freeze) → KeepsRecoveries rs capacity before greatest → f.number ≡ before.greatest + 1 → is_guest f.holder ≡ true → KeepsRecoveries rs capacity (with_entry before f) greatest
 kept_guest rs capacity greatest before f k number guests = record {
   rising = k.rising;
-  tokens = λ i d l. entries_push_other (get_or rs i d).number before.freezes f (guest_is_no_run _ f.holder guests) ∙ k.tokens i d l;
+  tokens = λ i d l. k.tokens i d l ∙ ap tokens_of (sym (entries_push_other (get_or rs i d).number before.freezes f (guest_is_no_run _ f.holder guests)));
   started = All-push (NamesStarted greatest) before.freezes f k.started (λ n its. absurd (let bad : false ≡ true = sym (guest_is_no_run n f.holder guests) ∙ its in cc));
-  numbered = subst (λ (high : ℕ). AreNumbered 0 (before.freezes ++ f ∷ []) high) (sym number) (numbered_push 0 before.freezes before.greatest f k.numbered number);
+  numbered = subst (λ (high : ℕ). FreezesRise 0 (before.freezes ++ f ∷ []) high) (sym number) (rising_push freeze_key 0 before.freezes before.greatest f k.numbered number);
   within = k.within;
   room = k.room;
 }
 
 -- one fewer
-pub kept_without : (rs : List RunRecord) (capacity greatest n : ℕ) (before : LedgerState) (f : Freeze) → IsKept rs capacity before greatest → entry_of n before.freezes ≡ Some f → is_guest f.holder ≡ true → IsKept rs capacity (with_freezes before (without n before.freezes)) greatest
+pub kept_without : (rs : List RunRecord) (capacity greatest n : ℕ) (before : LedgerState) (f : Freeze) → KeepsRecoveries rs capacity before greatest → entry_of n before.freezes ≡ Some f → is_guest f.holder ≡ true → KeepsRecoveries rs capacity (with_freezes before (without n before.freezes)) greatest
 kept_without rs capacity greatest n before f k entry guests = record {
   rising = k.rising;
-  tokens = λ i d l. entries_without_other (get_or rs i d).number n 0 before.freezes before.greatest f k.numbered entry (guest_is_no_run _ f.holder guests) ∙ k.tokens i d l;
+  tokens = λ i d l. k.tokens i d l ∙ ap tokens_of (sym (entries_without_other (get_or rs i d).number n 0 before.freezes before.greatest f k.numbered entry (guest_is_no_run _ f.holder guests)));
   started = All-filter _ (NamesStarted greatest) before.freezes k.started;
-  numbered = numbered_without 0 before.freezes before.greatest n k.numbered;
+  numbered = rising_leave freeze_key 0 before.freezes before.greatest n k.numbered;
   within = k.within;
   room = k.room;
 }
@@ -70,13 +69,13 @@ is_not_its n run f holder other = ap (is_run n) holder ∙ ne_eqb run n other
 named_by : (n run : ℕ) (f : Freeze) → f.holder ≡ Run run → is_run n f.holder ≡ true → run ≡ n
 named_by n run f holder its = eqb-true run n (sym (ap (is_run n) holder) ∙ its)
 
-tokens_after : (rs : List RunRecord) (capacity greatest : ℕ) (before : LedgerState) (t : Option Freeze) → IsKept rs capacity before greatest → IsFor before (greatest + 1) t → All (HoldsItsEntries (took before t).freezes) rs
+tokens_after : (rs : List RunRecord) (capacity greatest : ℕ) (before : LedgerState) (t : Option Freeze) → KeepsRecoveries rs capacity before greatest → IsFor before (greatest + 1) t → All (HoldsItsEntries (took before t).freezes) rs
 tokens_after rs capacity greatest before None k is = k.tokens
 tokens_after rs capacity greatest before (Some f) k is = λ i d l.
     let low : (get_or rs i d).number ≤ greatest = below key_of 0 rs greatest i d l (own rs greatest k.rising) in
-    entries_push_other (get_or rs i d).number before.freezes f (is_not_its _ (greatest + 1) f is.1 (λ e. omega (arith, e, low))) ∙ k.tokens i d l
+    k.tokens i d l ∙ ap tokens_of (sym (entries_push_other (get_or rs i d).number before.freezes f (is_not_its _ (greatest + 1) f is.1 (λ e. omega (arith, e, low)))))
 
-own_after : (rs : List RunRecord) (capacity greatest : ℕ) (before : LedgerState) (t : Option Freeze) → IsKept rs capacity before greatest → IsFor before (greatest + 1) t → entries_of (greatest + 1) (took before t).freezes ≡ option_to_list t
+own_after : (rs : List RunRecord) (capacity greatest : ℕ) (before : LedgerState) (t : Option Freeze) → KeepsRecoveries rs capacity before greatest → IsFor before (greatest + 1) t → entries_of (greatest + 1) (took before t).freezes ≡ option_to_list t
 own_after rs capacity greatest before None k is = entries_none greatest (greatest + 1) before.freezes (omega arith) k.started
 own_after rs capacity greatest before (Some f) k is =
     entries_push_own (greatest + 1) before.freezes f (is_its _ (greatest + 1) f is.1 refl)
@@ -91,18 +90,18 @@ started_after greatest before (Some f) h is =
     All-push (NamesStarted (greatest + 1)) before.freezes f (weaker greatest before.freezes h)
     (λ n its. let e : greatest + 1 ≡ n = named_by n (greatest + 1) f is.1 its in omega (arith, e))
 
-numbered_after : (before : LedgerState) (run : ℕ) (t : Option Freeze) → AreNumbered 0 before.freezes before.greatest → IsFor before run t → AreNumbered 0 (took before t).freezes (took before t).greatest
+numbered_after : (before : LedgerState) (run : ℕ) (t : Option Freeze) → FreezesRise 0 before.freezes before.greatest → IsFor before run t → FreezesRise 0 (took before t).freezes (took before t).greatest
 numbered_after before run None h is = h
-numbered_after before run (Some f) h is = subst (λ (high : ℕ). AreNumbered 0 (before.freezes ++ f ∷ []) high) (sym is.0) (numbered_push 0 before.freezes before.greatest f h is.0)
+numbered_after before run (Some f) h is = subst (λ (high : ℕ). FreezesRise 0 (before.freezes ++ f ∷ []) high) (sym is.0) (rising_push freeze_key 0 before.freezes before.greatest f h is.0)
 
 -- one more run, with a freeze or without
-pub kept_started : (rs : List RunRecord) (capacity greatest : ℕ) (before : LedgerState) (r : RunRecord) → IsKept rs capacity before greatest → length rs < 256 → r.number ≡ greatest + 1 → IsFor before (greatest + 1) r.token → IsKept (rs ++ r ∷ []) capacity (took before r.token) (greatest + 1)
-kept_started rs capacity greatest before r k few number is = record {
+pub kept_started : (rs : List RunRecord) (capacity greatest : ℕ) (before : LedgerState) (r : RunRecord) (t : Option Freeze) → KeepsRecoveries rs capacity before greatest → length rs < 256 → r.number ≡ greatest + 1 → r.tokens.items ≡ tokens_of (option_to_list t) → IsFor before (greatest + 1) t → KeepsRecoveries (rs ++ r ∷ []) capacity (took before t) (greatest + 1)
+kept_started rs capacity greatest before r t k few number tokens is = record {
   rising = subst (λ (ls : List LiveRun). AreRising 0 (map number_of ls) (greatest + 1)) (sym (map_push live_of rs r)) (rising_push number_of 0 (lives_of rs) greatest (live_of r) k.rising number);
-  tokens = All-push (HoldsItsEntries (took before r.token).freezes) rs r (tokens_after rs capacity greatest before r.token k is)
-      (ap (λ (n : ℕ). entries_of n (took before r.token).freezes) number ∙ own_after rs capacity greatest before r.token k is);
-  started = started_after greatest before r.token k.started is;
-  numbered = numbered_after before (greatest + 1) r.token k.numbered is;
+  tokens = All-push (HoldsItsEntries (took before t).freezes) rs r (tokens_after rs capacity greatest before t k is)
+      (tokens ∙ ap tokens_of (sym (ap (λ (n : ℕ). entries_of n (took before t).freezes) number ∙ own_after rs capacity greatest before t k is)));
+  started = started_after greatest before t k.started is;
+  numbered = numbered_after before (greatest + 1) t k.numbered is;
   within = omega (arith, length-append rs (r ∷ []), few);
   room = k.room;
 }
@@ -113,43 +112,44 @@ rising_changed rs greatest k c d h l e =
     (sym (ap (map number_of) (record_changed rs greatest k c d h l e) ∙ put_keys number_of (live_of c) (lives_of rs))) h
 
 -- a run that changed, but for its number and what it has the right to give back
-pub kept_changed : (rs : List RunRecord) (capacity greatest i : ℕ) (before : LedgerState) (r c : RunRecord) → IsKept rs capacity before greatest → i < length rs → r ≡ get_or rs i r → c.number ≡ r.number → c.token ≡ r.token → IsKept (set rs i c) capacity before greatest
-kept_changed rs capacity greatest i before r c k l is number token = record {
+pub kept_changed : (rs : List RunRecord) (capacity greatest i : ℕ) (before : LedgerState) (r c : RunRecord) → KeepsRecoveries rs capacity before greatest → i < length rs → r ≡ get_or rs i r → c.number ≡ r.number → c.tokens.items ≡ r.tokens.items → KeepsRecoveries (set rs i c) capacity before greatest
+kept_changed rs capacity greatest i before r c k l is number tokens = record {
   rising = rising_changed rs greatest i c r k.rising l (sym (ap key_of is) ∙ sym number);
   tokens = All-set (HoldsItsEntries before.freezes) rs i c
-      (ap (λ (n : ℕ). entries_of n before.freezes) number
-      ∙ (subst (HoldsItsEntries before.freezes) (sym is) (k.tokens i r l) ∙ ap option_to_list (sym token))) k.tokens;
+      (tokens ∙ (subst (HoldsItsEntries before.freezes) (sym is) (k.tokens i r l)
+      ∙ ap (λ (n : ℕ). tokens_of (entries_of n before.freezes)) (sym number))) k.tokens;
   started = k.started;
   numbered = k.numbered;
   within = omega (arith, length-set rs i c, k.within);
   room = k.room;
 }
 
--- a run that gave its freeze back
-pub kept_released : (rs : List RunRecord) (capacity greatest i n : ℕ) (before : LedgerState) (r c : RunRecord) (f : Freeze) → IsKept rs capacity before greatest → i < length rs → r ≡ get_or rs i r → c.number ≡ r.number → c.token ≡ None → r.token ≡ Some f → f.number ≡ n → entry_of n before.freezes ≡ Some f → is_run r.number f.holder ≡ true → IsKept (set rs i c) capacity (with_freezes before (without n before.freezes)) greatest
-kept_released rs capacity greatest i n before r c f k l is number token had named entry its = record {
+-- a run that gave one of its freezes back
+pub kept_released : (rs : List RunRecord) (capacity greatest i n : ℕ) (before : LedgerState) (r c : RunRecord) (f : Freeze) → KeepsRecoveries rs capacity before greatest → i < length rs → r ≡ get_or rs i r → c.number ≡ r.number → c.tokens.items ≡ tokens_of (entries_of r.number (without n before.freezes)) → entry_of n before.freezes ≡ Some f → is_run r.number f.holder ≡ true → KeepsRecoveries (set rs i c) capacity (with_freezes before (without n before.freezes)) greatest
+kept_released rs capacity greatest i n before r c f k l is number tokens entry its = record {
   rising = rising_changed rs greatest i c r k.rising l (sym (ap key_of is) ∙ sym number);
   tokens = λ j d lj.
       let within : j < length rs = omega (arith, length-set rs i c, lj) in
       let P : RunRecord → Type 0 = HoldsItsEntries (without n before.freezes) in
       elim (cases_eq j i) [
         | inl same ↦
-            let one : entries_of r.number before.freezes ≡ f ∷ [] = subst (HoldsItsEntries before.freezes) (sym is) (k.tokens i r l) ∙ ap option_to_list had in
-            let now : P c = ap (λ (m : ℕ). entries_of m (without n before.freezes)) number ∙ (entries_without_own r.number n before.freezes f one named ∙ ap option_to_list (sym token)) in
+            let now : P c = tokens ∙ ap (λ (m : ℕ). tokens_of (entries_of m (without n before.freezes))) (sym number) in
             subst P (sym (ap (λ (x : ℕ). get_or (set rs i c) x d) same ∙ get_or-set_same rs i c d l)) now
         | inr other ↦
             let different : (get_or rs j d).number ≡ r.number → ⊥ = λ e. apart key_of 0 rs greatest j i d r within l other (own rs greatest k.rising) (e ∙ ap key_of is) in
-            let now : P (get_or rs j d) = entries_without_other (get_or rs j d).number n 0 before.freezes before.greatest f k.numbered entry (other_run _ r.number f.holder its different) ∙ k.tokens j d within in
+            let now : P (get_or rs j d) =
+            k.tokens j d within
+            ∙ ap tokens_of (sym (entries_without_other (get_or rs j d).number n 0 before.freezes before.greatest f k.numbered entry (other_run _ r.number f.holder its different))) in
             subst P (sym (get_or-set_other rs i j c d other)) now
       ];
   started = All-filter _ (NamesStarted greatest) before.freezes k.started;
-  numbered = numbered_without 0 before.freezes before.greatest n k.numbered;
+  numbered = rising_leave freeze_key 0 before.freezes before.greatest n k.numbered;
   within = omega (arith, length-set rs i c, k.within);
   room = k.room;
 }
 
 -- one run fewer
-pub kept_ended : (rs : List RunRecord) (capacity greatest i n : ℕ) (before : LedgerState) (d : RunRecord) → IsKept rs capacity before greatest → i < length rs → (get_or rs i d).number ≡ n → IsKept (remove rs i) capacity before greatest
+pub kept_ended : (rs : List RunRecord) (capacity greatest i n : ℕ) (before : LedgerState) (d : RunRecord) → KeepsRecoveries rs capacity before greatest → i < length rs → (get_or rs i d).number ≡ n → KeepsRecoveries (remove rs i) capacity before greatest
 kept_ended rs capacity greatest i n before d k l e = record {
   rising = subst (λ (ls : List LiveRun). AreRising 0 (map number_of ls) greatest) (sym (record_removed rs greatest i n d k.rising l e)) (rising_leave number_of 0 (lives_of rs) greatest n k.rising);
   tokens = All-append (HoldsItsEntries before.freezes) (take i rs) (drop (suc i) rs) (All-take (HoldsItsEntries before.freezes) i rs k.tokens) (All-drop (HoldsItsEntries before.freezes) (suc i) rs k.tokens);

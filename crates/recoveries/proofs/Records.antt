@@ -6,12 +6,13 @@ use Rattle.std.proofs.lemmas.List.{length-map, get_or-map, map-set, set-get_or, 
 use Rattle.std.proofs.lemmas.Bool.{cases_eq}
 use Rattle.std.proofs.lemmas.Simd.{map-map}
 use Rattle.world.specs.World.{LiveRun}
-use Rattle.world.specs.Limits.{AreRising}
+use Rattle.ccb.specs.Rising.{AreRising}
 use Rattle.world.specs.Lookups.{run_of, with_run}
-use Rattle.world.proofs.Lists.Found.{at, at_head, at_tail, found_key}
+use Rattle.world.proofs.Lists.Found.{at, at_head, at_tail}
 use Rattle.world.proofs.Lists.Placed.{rises, found_at, missing_at, set_is_put, remove_is_leave}
-use Rattle.recoveries.specs.declared.runs.RunRecord.{RunRecord}
-use Rattle.recoveries.specs.Live.{live_of, lives_of, number_of}
+use Rattle.recoveries.specs.declared.run_record.RunRecord.{RunRecord}
+use Rattle.recoveries.specs.RunPlaces.{HasRunAt}
+use Rattle.recoveries.specs.LiveRuns.{live_of, lives_of, number_of}
 
 abbrev pub key_of : RunRecord → ℕ
 key_of it = it.number
@@ -67,7 +68,7 @@ record_kept rs k r c l is same =
     ∙ set-get_or (lives_of rs) k (live_of r))
 
 -- one fewer, seen through a function
-map_remove : {A B : Type 0} (f : A → B) (xs : List A) (k : ℕ) → k < length xs → map f (remove xs k) ≡ remove (map f xs) k
+pub map_remove : {A B : Type 0} (f : A → B) (xs : List A) (k : ℕ) → k < length xs → map f (remove xs k) ≡ remove (map f xs) k
 map_remove f [] k l = absurd (omega arith)
 map_remove f (x ∷ xs) zero l = refl
 map_remove f (x ∷ xs) (suc k) l = ap (λ ys. f x ∷ ys) (map_remove f xs k (omega arith))
@@ -77,6 +78,23 @@ record_removed rs greatest k n d h l e =
     map_remove live_of rs k l
     ∙ remove_is_leave number_of 0 (lives_of rs) greatest k n (live_of d) (lives_length rs k l) h (live_at rs k n d l e)
 
+-- the run at a place, and the record there
+pub run_at : (rs : List RunRecord) (place : ℕ) (it : LiveRun) (r : RunRecord) → HasRunAt (lives_of rs) place it → r ≡ get_or rs place r → (place < length rs) × (live_of r ≡ it)
+run_at rs place it r at stands =
+    let l : place < length rs = omega (arith, at.within, length-map rs live_of) in
+    (l, ap live_of stands ∙ (sym (get_or-map live_of rs place r it l) ∙ at.here))
+
+-- a record is found by the number that it bears, and stands where it is
+pub record_at : (rs : List RunRecord) (greatest place : ℕ) (r : RunRecord) → Rises rs greatest → place < length rs → r ≡ get_or rs place r → run_of r.number (lives_of rs) ≡ Some (live_of r)
+record_at rs greatest place r h l stands =
+    record_found rs greatest place r.number r h l (sym (ap key_of stands)) ∙ ap (λ (x : RunRecord). Some (live_of x)) (sym stands)
+
+pub has_run_at : (rs : List RunRecord) (place : ℕ) (r : RunRecord) → place < length rs → r ≡ get_or rs place r → HasRunAt (lives_of rs) place (live_of r)
+has_run_at rs place r l stands = record {
+  within = lives_length rs place l;
+  here = get_or-map live_of rs place r (live_of r) l ∙ ap live_of (sym stands);
+}
+
 -- where a record stands, by the clauses of `place_of` on what was read
 pub placed : (rs xs : List RunRecord) (n : ℕ) (o : Option ℕ) (place : ℕ) → xs ≡ rs → o ≡ Some place → IfSome o (λ p. p < length xs) → IfSome o (λ p. HoldsAt (λ it. run_of n (lives_of xs) ≡ Some (live_of it)) xs p) → (place < length rs) × ((d : RunRecord) → run_of n (lives_of rs) ≡ Some (live_of (get_or rs place d)))
 placed rs xs n o place same is within found =
@@ -84,6 +102,13 @@ placed rs xs n o place same is within found =
     let here : P xs = (subst (λ (q : Option ℕ). IfSome q (λ p. p < length xs)) is within, subst (λ (q : Option ℕ). IfSome q (λ p. HoldsAt (λ it. run_of n (lives_of xs) ≡ Some (live_of it)) xs p)) is found) in
     subst P same here
 
--- the record at a place that a number finds bears it
-pub numbered : (rs : List RunRecord) (n place : ℕ) (d : RunRecord) → run_of n (lives_of rs) ≡ Some (live_of (get_or rs place d)) → (get_or rs place d).number ≡ n
-numbered rs n place d found = found_key number_of n (lives_of rs) (live_of (get_or rs place d)) found
+-- and the run that it is
+pub found_there : (rs : List RunRecord) (n place : ℕ) (d : RunRecord) → (place < length rs) × ((e : RunRecord) → run_of n (lives_of rs) ≡ Some (live_of (get_or rs place e))) → (it : LiveRun) × (run_of n (lives_of rs) ≡ Some it) × HasRunAt (lives_of rs) place it
+found_there rs n place d at = (
+  live_of (get_or rs place d),
+  at.1 d,
+  record {
+    within = lives_length rs place at.0;
+    here = get_or-map live_of rs place d (live_of (get_or rs place d)) at.0;
+  },
+)

@@ -1,20 +1,24 @@
--- The entries that name a run, after one more and one fewer, and the right to give its only one back.
-use Rattle.std.proofs.Common.{◌≡◌, ℕ, suc, ◌<◌, ◌≤◌, List, [], ◌∷◌, ◌++◌, map, true, false, not, eqb, Option, Some, None, inl, inr, refl, ap, sym, subst, ◌∙◌, arith}
-use Rattle.std.specs.List.{All, filter, Contains}
-use Rattle.std.specs.Option.{option_to_list}
-use Rattle.std.proofs.lemmas.Bool.{cases_Bool, cases_eq, cond-false, eq-eqb, eqb-true, not_from_true}
+-- The entries that name a run, after one more, and the rights to give them back.
+use Rattle.std.proofs.Common.{◌≡◌, ℕ, suc, ◌<◌, ◌≤◌, List, [], ◌∷◌, ◌++◌, length, get_or, true, false, Some, None, inl, inr, refl, ap, sym, ◌∙◌, arith}
+use Rattle.std.specs.List.{All, Contains, remove}
+use Rattle.std.proofs.lemmas.Bool.{cases_Bool, cases_eq, eqb-true}
+use Rattle.std.proofs.lemmas.List.{length-map, get_or-map}
 use Rattle.std.proofs.lemmas.List.Elements.{All-head, All-tail, filter-append}
 use Rattle.freeze_ledger.specs.declared.entries.Holder.{Holder}
 use Rattle.freeze_ledger.specs.declared.entries.Holder.TheVariants.{Run, Timer, Guest}
 use Rattle.freeze_ledger.specs.declared.entries.Freeze.{Freeze}
 use Rattle.freeze_ledger.specs.Freezes.{entry_of, without}
-use Rattle.helpers.specs.Rules.{is_held}
 use Rattle.world.specs.RunSteps.{is_run}
 use Rattle.world.specs.FreezeSteps.{is_guest}
-use Rattle.world.specs.FreezeLaws.{entries_of, held_by}
-use Rattle.world.proofs.Lists.Found.{at_head, at_tail}
-use Rattle.world.proofs.Lists.HeldBy.{freeze_key, entries_head, entries_tail, held_without_own, is_among}
+use Rattle.world.specs.FreezeLaws.{entries_of}
+use Rattle.world.proofs.Lists.Found.{at_head, at_tail, found_in_filter}
+use Rattle.world.proofs.Lists.Rising.{rising_filter}
+use Rattle.world.proofs.Lists.Placed.{found_at, remove_is_leave}
+use Rattle.world.proofs.Lists.Entries.{freeze_key, FreezesRise}
+use Rattle.world.proofs.Lists.HeldBy.{entries_head, entries_tail}
+use Rattle.recoveries.specs.RecoveryState.{told, tokens_of}
 use Rattle.recoveries.specs.Invariant.{NamesStarted}
+use Rattle.recoveries.proofs.Records.{map_remove}
 
 -- a holder is one run at most
 pub one_run : (a b : ℕ) (h : Holder) → is_run a h ≡ true → is_run b h ≡ true → a ≡ b
@@ -49,50 +53,6 @@ entries_none greatest r (f ∷ fs) lt h =
       | inr other ↦ entries_tail r f fs other ∙ entries_none greatest r fs lt (All-tail (NamesStarted greatest) f fs h)
     ]
 
-one_of : (t : Option Freeze) (g : Freeze) (gs : List Freeze) → g ∷ gs ≡ option_to_list t → (t ≡ Some g) × (gs ≡ [])
-one_of None g gs h = absurd (let bad : g ∷ gs ≡ [] = h in cc)
-one_of (Some x) g gs h =
-    let both : g ∷ gs ≡ x ∷ [] = h in
-    let head : x ≡ g = cc in
-    let tail : gs ≡ [] = cc in
-    (ap Some head, tail)
-
-none_named : (r n : ℕ) (fs : List Freeze) (f : Freeze) → entries_of r fs ≡ [] → entry_of n fs ≡ Some f → is_run r f.holder ≡ true → ⊥
-none_named r n fs f none entry its =
-    let among : is_held (held_by r fs) n ≡ true = is_among r n fs f entry its in
-    let empty : is_held (held_by r fs) n ≡ false = ap (λ (gs : List Freeze). is_held (map freeze_key gs) n) none in
-    let bad : false ≡ true = sym empty ∙ among in cc
-
--- an entry of the run is that which it has the right to give back
-pub token_is : (r n : ℕ) (fs : List Freeze) (f : Freeze) (t : Option Freeze) → entries_of r fs ≡ option_to_list t → entry_of n fs ≡ Some f → is_run r f.holder ≡ true → t ≡ Some f
-token_is r n [] f t h entry its = absurd (let bad : None ≡ Some f = entry in cc)
-token_is r n (g ∷ fs) f t h entry its =
-    elim (cases_eq g.number n) [
-      | inl same ↦
-          let both : Some g ≡ Some f = sym (at_head freeze_key n g fs same) ∙ entry in
-          let is : g ≡ f = cc in
-          let held : is_run r g.holder ≡ true = subst (λ (x : Freeze). is_run r x.holder ≡ true) (sym is) its in
-          (one_of t g (entries_of r fs) (sym (entries_head r g fs held) ∙ h)).0 ∙ ap Some is
-      | inr apart ↦
-          let later : entry_of n fs ≡ Some f = sym (at_tail freeze_key n g fs apart) ∙ entry in
-          elim (cases_Bool (is_run r g.holder)) [
-            | inl held ↦ absurd (none_named r n fs f (one_of t g (entries_of r fs) (sym (entries_head r g fs held) ∙ h)).1 later its)
-            | inr other ↦ token_is r n fs f t (sym (entries_tail r g fs other) ∙ h) later its
-          ]
-    ]
-
-no_keys : (gs : List Freeze) → map freeze_key gs ≡ [] → gs ≡ []
-no_keys [] h = refl
-no_keys (g ∷ gs) h = absurd (let bad : g.number ∷ map freeze_key gs ≡ [] = h in cc)
-
--- without its only one it holds none
-pub entries_without_own : (r n : ℕ) (fs : List Freeze) (f : Freeze) → entries_of r fs ≡ f ∷ [] → f.number ≡ n → entries_of r (without n fs) ≡ []
-entries_without_own r n fs f one number =
-    no_keys (entries_of r (without n fs))
-    (held_without_own r n fs
-    ∙ (ap (λ (gs : List Freeze). filter (λ (k : ℕ). not (eqb k n)) (map freeze_key gs)) one
-    ∙ cond-false (not (eqb f.number n)) (f.number ∷ []) [] (not_from_true _ (eq-eqb _ _ number))))
-
 -- the freeze of a number stands in the list
 pub entry_is_there : (n : ℕ) (fs : List Freeze) (f : Freeze) → entry_of n fs ≡ Some f → Contains fs f
 entry_is_there n [] f entry = absurd (let bad : None ≡ Some f = entry in cc)
@@ -106,3 +66,38 @@ entry_is_there n (g ∷ fs) f entry =
           let rest = entry_is_there n fs f (sym (at_tail freeze_key n g fs apart) ∙ entry) in
           (suc rest.0, omega (arith, rest.1), rest.2)
     ]
+
+-- so does one of a run's among its own
+pub own_found : (r n : ℕ) (fs : List Freeze) (f : Freeze) → entry_of n fs ≡ Some f → is_run r f.holder ≡ true → entry_of n (entries_of r fs) ≡ Some f
+own_found r n fs f entry its = found_in_filter freeze_key (λ (x : Freeze). is_run r x.holder) n fs f entry its
+
+pub own_rise : (r : ℕ) (fs : List Freeze) (high : ℕ) → FreezesRise 0 fs high → FreezesRise 0 (entries_of r fs) high
+own_rise r fs high h = rising_filter freeze_key (λ (x : Freeze). is_run r x.holder) 0 fs high h
+
+-- a token of the freeze is among those of a list that has it
+pub token_there : (n : ℕ) (gs : List Freeze) (f : Freeze) → entry_of n gs ≡ Some f → (k : ℕ) × (k < length (tokens_of gs)) × (get_or (tokens_of gs) k None ≡ Some f)
+token_there n [] f entry = absurd (let bad : None ≡ Some f = entry in cc)
+token_there n (g ∷ gs) f entry =
+    elim (cases_eq g.number n) [
+      | inl same ↦
+          let both : Some g ≡ Some f = sym (at_head freeze_key n g gs same) ∙ entry in
+          (0, omega arith, both)
+      | inr apart ↦
+          let rest = token_there n gs f (sym (at_tail freeze_key n g gs apart) ∙ entry) in
+          (suc rest.0, omega (arith, rest.1), rest.2)
+    ]
+
+-- the token that bears the number is that of the freeze
+pub token_at : (gs : List Freeze) (high k n : ℕ) (f : Freeze) → FreezesRise 0 gs high → k < length (tokens_of gs) → told (get_or (tokens_of gs) k None) ≡ n → entry_of n gs ≡ Some f → get_or (tokens_of gs) k None ≡ Some f
+token_at gs high k n f rising l named entry =
+    let within : k < length gs = omega (arith, l, length-map gs (λ (x : Freeze). Some x)) in
+    let there : get_or (tokens_of gs) k None ≡ Some (get_or gs k f) = get_or-map (λ (x : Freeze). Some x) gs k f None within in
+    there ∙ (sym (found_at freeze_key 0 gs high k n f within rising (sym (ap told there) ∙ named)) ∙ entry)
+
+-- without it the tokens are those of the other freezes
+pub token_removed : (gs : List Freeze) (high k n : ℕ) (f : Freeze) → FreezesRise 0 gs high → k < length (tokens_of gs) → get_or (tokens_of gs) k None ≡ Some f → f.number ≡ n → remove (tokens_of gs) k ≡ tokens_of (without n gs)
+token_removed gs high k n f rising l is named =
+    let within : k < length gs = omega (arith, l, length-map gs (λ (x : Freeze). Some x)) in
+    let there : get_or (tokens_of gs) k None ≡ Some (get_or gs k f) = get_or-map (λ (x : Freeze). Some x) gs k f None within in
+    let numbered : (get_or gs k f).number ≡ n = sym (ap told there) ∙ (ap told is ∙ named) in
+    sym (map_remove (λ (x : Freeze). Some x) gs k within) ∙ ap tokens_of (remove_is_leave freeze_key 0 gs high k n f within rising numbered)

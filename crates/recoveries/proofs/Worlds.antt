@@ -15,16 +15,17 @@ use Rattle.freeze_ledger.specs.declared.entries.Holder.TheVariants.{Run}
 use Rattle.freeze_ledger.specs.declared.entries.Freeze.{Freeze}
 use Rattle.freeze_ledger.specs.Freezes.{meets_limit}
 use Rattle.freeze_ledger.specs.State.{LedgerState, with_entry, next_freeze}
-use Rattle.world.specs.World.{Setup, queue_setup, in_recovery, LiveRun, World, opening}
+use Rattle.world.specs.declared.ccb_state.CcbState.TheVariants.{InRecovery}
+use Rattle.world.specs.World.{Setup, queue_setup, LiveRun, World, opening}
 use Rattle.world.specs.Lookups.{with_ccb, run_of}
-use Rattle.world.specs.Limits.{AreRising}
+use Rattle.ccb.specs.Rising.{AreRising}
 use Rattle.world.specs.Event.{run_started}
 use Rattle.world.specs.CcbSteps.{recovers, run_meets_limit}
 use Rattle.world.proofs.Lists.Found.{missing_push, at_head}
 use Rattle.world.proofs.Lists.Rising.{missing_high}
-use Rattle.recoveries.specs.declared.runs.RunRecord.{RunRecord}
-use Rattle.recoveries.specs.State.{RecoveryState, state_of, with_recoveries, told, run_for}
-use Rattle.recoveries.specs.Live.{live_of, lives_of, number_of}
+use Rattle.recoveries.specs.declared.run_record.RunRecord.{RunRecord}
+use Rattle.recoveries.specs.RecoveryState.{RecoveryState, state_of, with_recoveries, told, run_for}
+use Rattle.recoveries.specs.LiveRuns.{live_of, lives_of, number_of}
 use Rattle.recoveries.proofs.Kept.{took, IsFor}
 
 some_setup : Setup
@@ -55,7 +56,7 @@ started_world ledger runs greatest ccb outcome program t world =
     let after = completed ccb outcome (is_some t) in
     with_recoveries
     (state_of (took ledger t) (with_started runs (greatest + 1) ccb program (entry (context_of after) (told t))) (greatest + 1))
-    (record world { live = with_ccb (record { ccb = after; state = in_recovery }) world.live })
+    (record world { live = with_ccb (record { ccb = after; state = InRecovery }) world.live })
 
 pub starts_so : (setup : Setup) (world : World) (ledger : LedgerState) (runs : List LiveRun) (greatest : ℕ) (ccb : Ccb) (outcome : Outcome) (program : List Slot) (t : Option Freeze) → (IsNone t ↔ IsTrue (meets_limit ccb.queue.0 ledger.freezes ledger.greatest)) → IfSome t (λ f. f ≡ next_freeze ledger ccb.queue (Run (greatest + 1))) → (queue_setup setup ccb.queue.0).program ≡ program → recovers setup (with_recoveries (state_of ledger runs greatest) world) ccb outcome ≡ (run_started (greatest + 1) (told t), started_world ledger runs greatest ccb outcome program t world)
 starts_so setup world ledger runs greatest ccb outcome program None limit next is =

@@ -11,6 +11,10 @@ pub record IsNext (it : LiveRun) (program : List Slot) (segment : SegmentState) 
   pub segment_program_is : segment.program.program ≡ it.program
   pub start_is : segment.from ≡ it.machine
 
+-- The run is out, and the segment is its next stretch.
+abbrev pub IsNextOut : LiveRun → List Slot → SegmentState → Type 0
+IsNextOut it program segment = (it.out ≡ true) × IsNext it program segment
+
 -- A run of that number is live and out, and the segment is its next stretch.
 pub record IsOutAs (runs : List LiveRun) (number : ℕ) (program : List Slot) (segment : SegmentState) : Type 0 where
   pub it : LiveRun

@@ -1,4 +1,5 @@
-pub mod State
-pub mod Live
+pub mod RecoveryState
+pub mod LiveRuns
+pub mod RunPlaces
 pub mod Invariant
 pub mod Admits

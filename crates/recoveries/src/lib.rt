@@ -2,12 +2,14 @@
 // calls mean, on `freeze_ledger` for freezes, and on `interpreter` for what a run did.
 #![tactic(auto)]
 
-mod live;
+mod held_tokens;
 mod places;
-mod runs;
+mod recoveries;
+mod run_record;
+mod started;
 
-pub use live::Recoveries;
-pub use runs::Started;
+pub use recoveries::Recoveries;
+pub use started::Started;
 
 #[cfg(test)]
 mod tests;

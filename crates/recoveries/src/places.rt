@@ -1,13 +1,14 @@
-// Where the record of a run stands among others in the order of their numbers. It relies on `runs`.
+// Where the record of a run stands among others in the order of their numbers. It relies on
+// `run_record`.
 
 ghost use Rattle.std.specs.Prelude.{◌≡◌, ◌<◌, ℕ, Some, None, map, length, IfSome, IfNone};
 ghost use Rattle.std.specs.List.{HoldsAt};
 ghost use Rattle.world.specs.World.{LiveRun};
-ghost use Rattle.world.specs.Limits.{AreRising};
+ghost use Rattle.ccb.specs.Rising.{AreRising};
 ghost use Rattle.world.specs.Lookups.{run_of};
-ghost use Rattle.recoveries.specs.Live.{live_of, lives_of, number_of};
+ghost use Rattle.recoveries.specs.LiveRuns.{live_of, lives_of, number_of};
 
-use crate::runs::RunRecord;
+use crate::run_record::RunRecord;
 
 /// Where the record of this run stands, by binary search; `None` exactly where there is none.
 pub(crate) fn place_of(runs: &[RunRecord], run: u32) -> Option<usize>

@@ -4,11 +4,11 @@ use Rattle.std.proofs.lemmas.Bool.{cases_eq, cases_lt, eq-eqb, ne_eqb}
 use Rattle.std.proofs.lemmas.List.{append-nil}
 use Rattle.std.proofs.lemmas.List.Sums.{sum_by_push}
 use Rattle.ccb.specs.Status.{code_of}
-use Rattle.world.specs.declared.history.Refusal.{Refusal}
+use Rattle.world.specs.declared.refusal.Refusal.{Refusal}
 use Rattle.world.specs.World.{Setup, LiveCcb, EndedCcb, World, opening}
 use Rattle.world.specs.Lookups.{ccb_of, with_ccb}
 use Rattle.world.specs.Event.{Event, submit, dispatch, complete, guest_freeze, guest_release, executes, Reply, refused}
-use Rattle.world.specs.Run.{Leads}
+use Rattle.world.specs.WorldRun.{Leads}
 use Rattle.world.specs.Limits.{KeepsLimits}
 use Rattle.world.specs.CcbLaws.{ended_times, AreAccounted, finished_by, finished_in, EachIsLiveOrEnded}
 use Rattle.world.proofs.Lists.Found.{leave, at_head, at_tail, found_key, found_push, missing_push, put_same, put_other, leave_same, leave_other}
@@ -141,47 +141,47 @@ abbrev one_ended : ℕ → ℕ → List EndedCcb
 one_ended number code = record { number = number; code = code } ∷ []
 
 -- what ended is what the event finished
-nothing_more : (before after : World) (event : Event) (reply : Reply) → finished_by event reply ≡ [] → after.ended ≡ before.ended → after.ended ≡ before.ended ++ finished_by event reply
+nothing_more : (before after : World) (event : Event) (reply : Reply) → finished_by before event reply ≡ [] → after.ended ≡ before.ended → after.ended ≡ before.ended ++ finished_by before event reply
 nothing_more before after event reply none e = e ∙ sym (ap (λ (l : List EndedCcb). before.ended ++ l) none ∙ append-nil before.ended)
 
-refusal_finishes : (event : Event) (refusal : Refusal) → finished_by event (refused refusal) ≡ []
-refusal_finishes (submit queue priority retries) refusal = refl
-refusal_finishes (dispatch queue) refusal = refl
-refusal_finishes (complete outcome) refusal = refl
-refusal_finishes (guest_freeze queue guest) refusal = refl
-refusal_finishes (guest_release freeze) refusal = refl
-refusal_finishes (executes run instruction) refusal = refl
+refusal_finishes : (before : World) (event : Event) (refusal : Refusal) → finished_by before event (refused refusal) ≡ []
+refusal_finishes before (submit queue priority retries) refusal = refl
+refusal_finishes before (dispatch queue) refusal = refl
+refusal_finishes before (complete outcome) refusal = refl
+refusal_finishes before (guest_freeze queue guest) refusal = refl
+refusal_finishes before (guest_release freeze) refusal = refl
+refusal_finishes before (executes run instruction) refusal = refl
 
-case_ends : (setup : Setup) (before : World) (event : Event) (reply : Reply) (after : World) → Case setup before event reply after → after.ended ≡ before.ended ++ finished_by event reply
+case_ends : (setup : Setup) (before : World) (event : Event) (reply : Reply) (after : World) → Case setup before event reply after → after.ended ≡ before.ended ++ finished_by before event reply
 case_ends setup before event reply after (refuses it) =
-    nothing_more before after event reply (ap (finished_by event) it.reply_is ∙ refusal_finishes event it.refusal) (ap (λ (w : World). w.ended) it.after_is)
-case_ends setup before event reply after (submits it) = nothing_more before after event reply (ap (λ (x : Event). finished_by x reply) it.event_is) (ap (λ (w : World). w.ended) it.after_is)
-case_ends setup before event reply after (dispatches it) = nothing_more before after event reply (ap (λ (x : Event). finished_by x reply) it.event_is) (ap (λ (w : World). w.ended) it.after_is)
+    nothing_more before after event reply (ap (finished_by before event) it.reply_is ∙ refusal_finishes before event it.refusal) (ap (λ (w : World). w.ended) it.after_is)
+case_ends setup before event reply after (submits it) = nothing_more before after event reply (ap (λ (x : Event). finished_by before x reply) it.event_is) (ap (λ (w : World). w.ended) it.after_is)
+case_ends setup before event reply after (dispatches it) = nothing_more before after event reply (ap (λ (x : Event). finished_by before x reply) it.event_is) (ap (λ (w : World). w.ended) it.after_is)
 case_ends setup before event reply after (finishes_one it) =
     let named : it.live.ccb.number.0 ≡ it.outcome.ccb.0 = found_key ccb_key it.outcome.ccb.0 before.live it.live it.found in
-    let by : finished_by event reply ≡ record { number = it.outcome.ccb.0; code = code_of it.outcome.status } ∷ [] =
-    ap (λ (x : Event). finished_by x reply) it.event_is ∙ ap (finished_by (complete it.outcome)) it.reply_is in
+    let by : finished_by before event reply ≡ record { number = it.outcome.ccb.0; code = code_of it.outcome.status } ∷ [] =
+    ap (λ (x : Event). finished_by before x reply) it.event_is ∙ ap (finished_by before (complete it.outcome)) it.reply_is in
     ap (λ (w : World). w.ended) it.after_is
     ∙ (ap (λ (n : ℕ). before.ended ++ one_ended n (code_of it.outcome.status)) named
     ∙ sym (ap (λ (l : List EndedCcb). before.ended ++ l) by))
 case_ends setup before event reply after (recovers_one it) =
-    nothing_more before after event reply (ap (λ (x : Event). finished_by x reply) it.fails.event_is ∙ ap (finished_by (complete it.fails.outcome)) (ap (λ (x : Reply × World). x.0) it.starts_is)) (ap (λ (x : Reply × World). x.1.ended) it.starts_is)
+    nothing_more before after event reply (ap (λ (x : Event). finished_by before x reply) it.fails.event_is ∙ ap (finished_by before (complete it.fails.outcome)) (ap (λ (x : Reply × World). x.0) it.starts_is)) (ap (λ (x : Reply × World). x.1.ended) it.starts_is)
 case_ends setup before event reply after (recovers_unfrozen it) =
-    nothing_more before after event reply (ap (λ (x : Event). finished_by x reply) it.fails.event_is ∙ ap (finished_by (complete it.fails.outcome)) (ap (λ (x : Reply × World). x.0) it.starts_is)) (ap (λ (x : Reply × World). x.1.ended) it.starts_is)
-case_ends setup before event reply after (freezes_one it) = nothing_more before after event reply (ap (λ (x : Event). finished_by x reply) it.event_is) (ap (λ (w : World). w.ended) it.after_is)
-case_ends setup before event reply after (releases_one it) = nothing_more before after event reply (ap (λ (x : Event). finished_by x reply) it.event_is) (ap (λ (w : World). w.ended) it.after_is)
-case_ends setup before event reply after (goes_on_one it) = nothing_more before after event reply (ap (λ (x : Event). finished_by x reply) it.it.event_is) (ap (λ (w : World). w.ended) it.after_is)
-case_ends setup before event reply after (gives_back it) = nothing_more before after event reply (ap (λ (x : Event). finished_by x reply) it.it.event_is) (ap (λ (x : Reply × World). x.1.ended) it.answer)
-case_ends setup before event reply after (requeues_one it) = nothing_more before after event reply (ap (λ (x : Event). finished_by x reply) it.it.event_is) (ap (λ (x : Reply × World). x.1.ended) it.answer)
-case_ends setup before event reply after (exits it) = nothing_more before after event reply (ap (λ (x : Event). finished_by x reply) it.it.event_is) (ap (λ (w : World). w.ended) it.after_is)
+    nothing_more before after event reply (ap (λ (x : Event). finished_by before x reply) it.fails.event_is ∙ ap (finished_by before (complete it.fails.outcome)) (ap (λ (x : Reply × World). x.0) it.starts_is)) (ap (λ (x : Reply × World). x.1.ended) it.starts_is)
+case_ends setup before event reply after (freezes_one it) = nothing_more before after event reply (ap (λ (x : Event). finished_by before x reply) it.event_is) (ap (λ (w : World). w.ended) it.after_is)
+case_ends setup before event reply after (releases_one it) = nothing_more before after event reply (ap (λ (x : Event). finished_by before x reply) it.event_is) (ap (λ (w : World). w.ended) it.after_is)
+case_ends setup before event reply after (goes_on_one it) = nothing_more before after event reply (ap (λ (x : Event). finished_by before x reply) it.it.event_is) (ap (λ (w : World). w.ended) it.after_is)
+case_ends setup before event reply after (gives_back it) = nothing_more before after event reply (ap (λ (x : Event). finished_by before x reply) it.it.event_is) (ap (λ (x : Reply × World). x.1.ended) it.answer)
+case_ends setup before event reply after (requeues_one it) = nothing_more before after event reply (ap (λ (x : Event). finished_by before x reply) it.it.event_is) (ap (λ (x : Reply × World). x.1.ended) it.answer)
+case_ends setup before event reply after (exits it) = nothing_more before after event reply (ap (λ (x : Event). finished_by before x reply) it.it.event_is) (ap (λ (w : World). w.ended) it.after_is)
 
-leads_accounts : (setup : Setup) (before : World) (xs : List (Event × Reply)) (after : World) → KeepsLimits setup before → Leads setup before xs after → Accounts before → Accounts after × (after.ended ≡ before.ended ++ finished_in xs)
+leads_accounts : (setup : Setup) (before : World) (xs : List (Event × Reply)) (after : World) → KeepsLimits setup before → (run : Leads setup before xs after) → Accounts before → Accounts after × (after.ended ≡ before.ended ++ finished_in setup before xs after run)
 leads_accounts setup before [] after kept run accounts = (subst Accounts run accounts, sym (ap (λ (w : World). w.ended) run) ∙ sym (append-nil before.ended))
 leads_accounts setup before (x ∷ xs) after kept run accounts =
     let between : World = run.0 in
     let it = case_of setup before x.0 x.1 between run.1 in
     let rest = leads_accounts setup between xs after (step_keeps setup before x.0 x.1 between run.1 kept) run.2 (case_accounts setup before x.0 x.1 between kept accounts it) in
-    (rest.0, rest.1 ∙ (ap (λ (l : List EndedCcb). l ++ finished_in xs) (case_ends setup before x.0 x.1 between it) ∙ append_assoc before.ended (finished_by x.0 x.1) (finished_in xs)))
+    (rest.0, rest.1 ∙ (ap (λ (l : List EndedCcb). l ++ finished_in setup between xs after run.2) (case_ends setup before x.0 x.1 between it) ∙ append_assoc before.ended (finished_by before x.0 x.1) (finished_in setup between xs after run.2)))
 
 opening_accounts : (setup : Setup) → Accounts (opening setup)
 opening_accounts setup = record { each = λ n positive most. absurd (omega (arith, positive, most)); no_other = λ n outside. (refl, refl) }

@@ -3,7 +3,8 @@ use Rattle.std.proofs.Common.{◌≡◌, ℕ, ◌+◌, List, true, false, cond, 
 use Rattle.std.proofs.lemmas.Bool.{ne_eqb}
 use Rattle.freeze_ledger.specs.declared.entries.Freeze.{Freeze}
 use Rattle.freeze_ledger.specs.Freezes.{frozen, entry_of, without}
-use Rattle.world.specs.declared.history.Refusal.{Refusal}
+use Rattle.world.specs.FreezeSteps.{frozen_with}
+use Rattle.world.specs.declared.refusal.Refusal.{Refusal}
 use Rattle.world.specs.World.{Setup, World}
 use Rattle.world.specs.Event.{Event, submit, dispatch, complete, guest_freeze, guest_release, executes, Reply, run_started, refused}
 use Rattle.world.specs.Limits.{KeepsLimits}
@@ -13,13 +14,13 @@ use Rattle.world.proofs.Steps.Cases.{may_refuse, Case, case_of, refuses, submits
 use Rattle.world.proofs.Leads.{limits_are_kept}
 
 -- the count after the freeze of this number went
-goes : (setup : Setup) (before after : World) (number : ℕ) (freeze : Freeze) → KeepsLimits setup before → entry_of number before.freezes ≡ Some freeze → after.freezes ≡ without freeze.number before.freezes → OneFewer before number (frozen freeze.queue.0 (without freeze.number before.freezes)) after
+goes : (setup : Setup) (before after : World) (number : ℕ) (freeze : Freeze) → KeepsLimits setup before → entry_of number before.freezes ≡ Some freeze → after.freezes ≡ without freeze.number before.freezes → OneFewer before number (frozen_with freeze (without freeze.number before.freezes)) after
 goes setup before after number freeze kept entry e =
     let is = entry_bounds 0 before.freezes before.greatest_freeze number freeze kept.freezes.numbered entry in
     record {
       freeze = freeze;
       entry = entry;
-      count_is = sym (ap (frozen freeze.queue.0) e);
+      count_is = sym (ap (frozen_with freeze) e);
       fewer = λ other.
           ap (λ (fs : List Freeze). frozen other fs + cond {A = ℕ} (eqb freeze.queue.0 other) 1 0) e
           ∙ frozen_without other 0 before.freezes before.greatest_freeze freeze.number freeze kept.freezes.numbered (subst (λ (n : ℕ). entry_of n before.freezes ≡ Some freeze) (sym is.0) entry);

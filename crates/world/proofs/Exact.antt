@@ -6,23 +6,22 @@ use Rattle.std.proofs.lemmas.Bool.{cases_Bool, cases_eq, cond-true, cond-false, 
 use Rattle.std.proofs.lemmas.List.Sums.{sum_by-cons, sum_by-append}
 use Rattle.freeze_ledger.specs.declared.entries.Freeze.{Freeze}
 use Rattle.freeze_ledger.specs.Freezes.{entry_of}
-use Rattle.freeze_ledger.specs.Invariant.{AreNumbered}
 use Rattle.world.specs.World.{Setup, LiveRun, World}
 use Rattle.world.specs.Lawful.{IsLawful}
 use Rattle.world.specs.Lookups.{run_of}
 use Rattle.world.specs.Event.{release, requeue, Instruction, private, call, exit, Event, submit, dispatch, complete, guest_freeze, guest_release, executes, Reply}
 use Rattle.world.specs.RunSteps.{is_run}
 use Rattle.world.specs.Step.{WorldStep}
-use Rattle.world.specs.Run.{Leads}
+use Rattle.world.specs.WorldRun.{Leads}
 use Rattle.world.specs.TookGave.{taken_by, asked, request_of_run, given_by, took, gave}
 use Rattle.world.specs.FreezeLaws.{held_by}
 use Rattle.world.specs.Headline.{is_step_of, times_in}
 use Rattle.world.proofs.Lists.Found.{at_head, at_tail}
-use Rattle.world.proofs.Lists.Entries.{entry_bounds}
+use Rattle.world.proofs.Lists.Entries.{freeze_key, FreezesRise, entry_bounds}
 use Rattle.world.proofs.Steps.Cases.{Case, case_of, refuses, submits, dispatches, finishes_one, recovers_one, recovers_unfrozen, freezes_one, releases_one, goes_on_one, gives_back, requeues_one, exits}
 use Rattle.world.proofs.Steps.Fates.{machine_of, Fate, stands, goes_privately, goes_releasing, goes_requeuing, leaves_world, fate_of}
 use Rattle.world.proofs.Steps.Private.{private_keeps}
-use Rattle.world.proofs.Lists.HeldBy.{freeze_key, held_head, held_tail}
+use Rattle.world.proofs.Lists.HeldBy.{held_head, held_tail}
 use Rattle.world.proofs.Held.{live_given}
 use Rattle.world.proofs.Reaching.{same_found, reached_goes, lawful_exit}
 use Rattle.world.proofs.Steps.Beginnings.{no_some}
@@ -89,7 +88,7 @@ times_out n m (k ∷ ns) =
 
 -- the numbers of entries are apart
 
-times_below : (r n low : ℕ) (fs : List Freeze) (high : ℕ) → AreNumbered low fs high → n ≤ low → times_in n (held_by r fs) ≡ 0
+times_below : (r n low : ℕ) (fs : List Freeze) (high : ℕ) → FreezesRise low fs high → n ≤ low → times_in n (held_by r fs) ≡ 0
 times_below r n low [] high h le = refl
 times_below r n low (g ∷ fs) high h le =
     let rest = times_below r n g.number fs high h.1 (omega (arith, le, h.0)) in
@@ -103,7 +102,7 @@ times_below r n low (g ∷ fs) high h le =
     ]
 
 -- what an entry says that the run holds is held once
-times_held : (r n low : ℕ) (fs : List Freeze) (high : ℕ) (f : Freeze) → AreNumbered low fs high → entry_of n fs ≡ Some f → is_run r f.holder ≡ true → times_in n (held_by r fs) ≡ 1
+times_held : (r n low : ℕ) (fs : List Freeze) (high : ℕ) (f : Freeze) → FreezesRise low fs high → entry_of n fs ≡ Some f → is_run r f.holder ≡ true → times_in n (held_by r fs) ≡ 1
 times_held r n low [] high f h entry its = absurd (let bad : None ≡ Some f = entry in cc)
 times_held r n low (g ∷ fs) high f h entry its =
     elim (cases_eq g.number n) [
@@ -129,23 +128,23 @@ times_held r n low (g ∷ fs) high f h entry its =
 
 -- what a step gives to a run that was there, and takes from it
 
-nothing_taken : (setup : Setup) (before : World) (event : Event) (reply : Reply) (after : World) (number : ℕ) → number ≤ before.greatest_run → Case setup before event reply after → taken_by number reply ≡ []
-nothing_taken setup before event reply after number given (refuses it) = ap (taken_by number) it.reply_is
-nothing_taken setup before event reply after number given (submits it) = ap (taken_by number) it.reply_is
-nothing_taken setup before event reply after number given (dispatches it) = ap (taken_by number) it.reply_is
-nothing_taken setup before event reply after number given (finishes_one it) = ap (taken_by number) it.reply_is
+nothing_taken : (setup : Setup) (before : World) (event : Event) (reply : Reply) (after : World) (number : ℕ) → number ≤ before.greatest_run → Case setup before event reply after → taken_by number event reply ≡ []
+nothing_taken setup before event reply after number given (refuses it) = ap (taken_by number event) it.reply_is
+nothing_taken setup before event reply after number given (submits it) = ap (taken_by number event) it.reply_is
+nothing_taken setup before event reply after number given (dispatches it) = ap (taken_by number event) it.reply_is
+nothing_taken setup before event reply after number given (finishes_one it) = ap (taken_by number event) it.reply_is
 nothing_taken setup before event reply after number given (recovers_one it) =
-    ap (λ (x : Reply × World). taken_by number x.0) it.starts_is
+    ap (λ (x : Reply × World). taken_by number event x.0) it.starts_is
     ∙ ap (λ (b : Bool). cond (b && not (eqb (before.greatest_freeze + 1) 0)) ((before.greatest_freeze + 1) ∷ []) []) (ne_eqb _ _ (λ e. omega (arith, e, given)))
 nothing_taken setup before event reply after number given (recovers_unfrozen it) =
-    ap (λ (x : Reply × World). taken_by number x.0) it.starts_is
+    ap (λ (x : Reply × World). taken_by number event x.0) it.starts_is
     ∙ ap (λ (b : Bool). cond (b && false) (0 ∷ []) []) (ne_eqb _ _ (λ e. omega (arith, e, given)))
-nothing_taken setup before event reply after number given (freezes_one it) = ap (taken_by number) it.reply_is
-nothing_taken setup before event reply after number given (releases_one it) = ap (taken_by number) it.reply_is
-nothing_taken setup before event reply after number given (goes_on_one it) = ap (taken_by number) it.reply_is
-nothing_taken setup before event reply after number given (gives_back it) = ap (λ (x : Reply × World). taken_by number x.0) it.answer
-nothing_taken setup before event reply after number given (requeues_one it) = ap (λ (x : Reply × World). taken_by number x.0) it.answer
-nothing_taken setup before event reply after number given (exits it) = ap (taken_by number) it.reply_is
+nothing_taken setup before event reply after number given (freezes_one it) = ap (taken_by number event) it.reply_is
+nothing_taken setup before event reply after number given (releases_one it) = ap (taken_by number event) it.reply_is
+nothing_taken setup before event reply after number given (goes_on_one it) = ap (taken_by number event) it.reply_is
+nothing_taken setup before event reply after number given (gives_back it) = ap (λ (x : Reply × World). taken_by number event x.0) it.answer
+nothing_taken setup before event reply after number given (requeues_one it) = ap (λ (x : Reply × World). taken_by number event x.0) it.answer
+nothing_taken setup before event reply after number given (exits it) = ap (taken_by number event) it.reply_is
 
 nothing_given : (number : ℕ) (world : World) (event : Event) → is_step_of number event ≡ false → given_by number world event ≡ []
 nothing_given number world (executes run private) other = refl
@@ -237,8 +236,8 @@ balance_leads setup n number got given before (x ∷ xs) after lawful sound numb
     let now = balance_step setup n number got given before x.0 x.1 between lawful sound run.1 balance in
     let further : number ≤ between.greatest_run = omega (arith, number_given, rises setup before between (run_move setup before x.0 x.1 between (known_queue setup before sound.kept.ccbs) it)) in
     let rest = balance_leads setup n number got (given + times_in n (given_by number before x.0)) between xs after lawful (step_sound setup before x.0 x.1 between lawful run.1 sound) further run.2 now in
-    let taken : times_in n (taken_by number x.1) ≡ 0 = ap (times_in n) (nothing_taken setup before x.0 x.1 between number number_given it) in
-    let first = times_append n (taken_by number x.1) (took number xs) in
+    let taken : times_in n (taken_by number x.0 x.1) ≡ 0 = ap (times_in n) (nothing_taken setup before x.0 x.1 between number number_given it) in
+    let first = times_append n (taken_by number x.0 x.1) (took number xs) in
     let second = times_append n (given_by number before x.0) (gave number setup between xs after run.2) in
     let sum : given + times_in n (given_by number before x.0) + times_in n (gave number setup between xs after run.2) ≡ given + times_in n (given_by number before x.0 ++ gave number setup between xs after run.2) = omega (arith, second) in
     record {

@@ -8,7 +8,7 @@ use Rattle.world.specs.World.{Setup, LiveRun, World, opening}
 use Rattle.world.specs.Lookups.{run_of}
 use Rattle.world.specs.Event.{release, call, Event, Reply, guest_release, executes}
 use Rattle.world.specs.Step.{WorldStep}
-use Rattle.world.specs.Run.{Leads}
+use Rattle.world.specs.WorldRun.{Leads}
 use Rattle.world.specs.Limits.{KeepsLimits}
 use Rattle.world.specs.FreezeLaws.{IsHeld, AsksFor, GivenUpStaysGivenUp, GivenUpByRunStaysGivenUp, GoneStaysGone}
 use Rattle.world.proofs.Lists.Entries.{entry_push, entry_without, entry_removed, entry_bounds, none_since}

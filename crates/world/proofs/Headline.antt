@@ -8,8 +8,8 @@ use Rattle.world.specs.World.{Setup, queue_setup, LiveRun, World}
 use Rattle.world.specs.Lawful.{IsLawful}
 use Rattle.world.specs.Lookups.{ccb_of, run_of}
 use Rattle.world.specs.Event.{Instruction, complete, executes, Event, Reply, run_started}
-use Rattle.world.specs.Run.{Leads}
-use Rattle.world.specs.Headline.{is_step_of, steps_of, requeues_of, exits_of, StartedRun, KeepsWithin, WithinBudget, InRecoveryBy, DisposedOnce, OthersLeaveIt, GoneRunStaysGone, times_in, ExactFreezes}
+use Rattle.world.specs.WorldRun.{Leads}
+use Rattle.world.specs.Headline.{is_step_of, steps_of, disposals_of, exits_of, StartedRun, KeepsWithin, WithinBudget, InRecoveryBy, DisposedOnce, OthersLeaveIt, GoneRunStaysGone, times_in, ExactFreezes}
 use Rattle.world.proofs.Lists.Found.{found_key}
 use Rattle.world.proofs.Steps.Cases.{case_of}
 use Rattle.world.specs.Limits.{KeepsLimits}
@@ -31,7 +31,7 @@ record Story (setup : Setup) (outcome : Outcome) (run : ℕ) (ys : List (Event �
   found : run_of run started.runs ≡ Some start
   ccb_is : start.ccb ≡ outcome.ccb.0
   sound : IsSound setup world
-  life : Life setup start run (steps_of run ys) (requeues_of run ys) (exits_of run ys) world
+  life : Life setup start run (steps_of run ys) (disposals_of run ys) (exits_of run ys) world
 
 story : (setup : Setup) → IsLawful setup → (outcome : Outcome) (run : ℕ) (ys : List (Event × Reply)) (world : World) (it : StartedRun setup outcome run ys world) → Story setup outcome run ys world it.started
 story setup lawful outcome run ys world it =
@@ -71,7 +71,7 @@ keeps_within setup start run k j e world lawful sound (over none given most used
 pub within_budget : WithinBudget
 within_budget setup lawful outcome run ys world it =
     let s = story setup lawful outcome run ys world it in
-    (s.start, s.found, keeps_within setup s.start run (steps_of run ys) (requeues_of run ys) (exits_of run ys) world lawful s.sound s.life)
+    (s.start, s.found, keeps_within setup s.start run (steps_of run ys) (disposals_of run ys) (exits_of run ys) world lawful s.sound s.life)
 
 -- what the life of a run says of its CCB
 record Disposes (run ccb j e : ℕ) (world : World) : Type 0 where
@@ -107,18 +107,18 @@ disposes setup start run k j e world sound (over none given most used gone) =
 pub disposed_once : DisposedOnce
 disposed_once setup lawful outcome run ys world it =
     let s = story setup lawful outcome run ys world it in
-    let d = disposes setup s.start run (steps_of run ys) (requeues_of run ys) (exits_of run ys) world s.sound s.life in
+    let d = disposes setup s.start run (steps_of run ys) (disposals_of run ys) (exits_of run ys) world s.sound s.life in
     (d.most, d.at_exit, λ none. subst (λ (n : ℕ). InRecoveryBy run n world) s.ccb_is (d.until_then none))
 
 -- what a run holds at its start is what it got
-start_balance : (setup : Setup) (before : World) (event : Event) (reply : Reply) (after : World) (run : ℕ) (start : LiveRun) (n : ℕ) → before.greatest_run + 1 ≡ run → Begins setup before event reply after start → (times_in n (taken_by run reply) ≡ times_in n start.machine.held) × (times_in n (taken_by run reply) ≤ 1)
+start_balance : (setup : Setup) (before : World) (event : Event) (reply : Reply) (after : World) (run : ℕ) (start : LiveRun) (n : ℕ) → before.greatest_run + 1 ≡ run → Begins setup before event reply after start → (times_in n (taken_by run event reply) ≡ times_in n start.machine.held) × (times_in n (taken_by run event reply) ≤ 1)
 start_balance setup before event reply after run start n named it =
-    let got : taken_by run reply ≡ cond (not (eqb it.freeze 0)) (it.freeze ∷ []) [] =
-    ap (taken_by run) it.reply_is
+    let got : taken_by run event reply ≡ cond (not (eqb it.freeze 0)) (it.freeze ∷ []) [] =
+    ap (taken_by run event) it.reply_is
     ∙ ap (λ (b : Bool). cond (b && not (eqb it.freeze 0)) (it.freeze ∷ []) []) (eq-eqb _ _ named) in
     let held : start.machine.held ≡ cond (eqb it.freeze 0) [] (it.freeze ∷ []) = ap (λ (r : LiveRun). r.machine.held) it.run_is in
-    let same : taken_by run reply ≡ start.machine.held = got ∙ (turned (eqb it.freeze 0) ∙ sym held) in
-    let all : times_in n (taken_by run reply) ≡ times_in n start.machine.held = ap (times_in n) same in
+    let same : taken_by run event reply ≡ start.machine.held = got ∙ (turned (eqb it.freeze 0) ∙ sym held) in
+    let all : times_in n (taken_by run event reply) ≡ times_in n start.machine.held = ap (times_in n) same in
     let few : times_in n start.machine.held ≤ 1 = subst (λ (ns : List ℕ). times_in n ns ≤ 1) (sym held) (at_most (eqb it.freeze 0)) in
     (all, omega (arith, all, few))
   where
@@ -149,9 +149,9 @@ exact_freezes setup lawful outcome run ys world it =
     let given = live_given setup started run begun.0 after_start.kept there in
     let at_start = λ (n : ℕ). start_balance setup before event reply started run begun.0 n named begun.1 in
     let balanced = λ (n : ℕ).
-    balance_leads setup n run (times_in n (taken_by run reply)) 0 started ys world lawful after_start given it.goes_on
+    balance_leads setup n run (times_in n (taken_by run event reply)) 0 started ys world lawful after_start given it.goes_on
     (has begun.0 there (omega (arith, (at_start n).0))) in
-    let all = λ (n : ℕ). times_append n (taken_by run reply) (took run ys) in
+    let all = λ (n : ℕ). times_append n (taken_by run event reply) (took run ys) in
     record {
       once = λ n. omega (arith, all n, (balanced n).nothing_more, (at_start n).1);
       live = λ now found n.

@@ -18,14 +18,14 @@ use Rattle.world.specs.FreezeLaws.{entries_of, held_by, HoldsWhatEntriesSay}
 use Rattle.world.specs.Headline.{is_step_of}
 use Rattle.world.proofs.Lists.Found.{found_in_push, found_key, leave_same, leave_other}
 use Rattle.world.proofs.Lists.Rising.{found_bounds}
-use Rattle.world.proofs.Lists.Entries.{entry_bounds}
+use Rattle.world.proofs.Lists.Entries.{freeze_key, entry_bounds}
 use Rattle.world.proofs.Steps.Cases.{Case, refuses, submits, dispatches, finishes_one, recovers_one, recovers_unfrozen, freezes_one, releases_one, goes_on_one, gives_back, requeues_one, exits}
 use Rattle.world.proofs.Steps.Moves.{run_key}
 use Rattle.world.proofs.Steps.Fates.{machine_of, Fate, stands, goes_privately, goes_releasing, goes_requeuing, leaves_world, fate_of, Begins}
 use Rattle.world.proofs.Steps.Private.{private_keeps}
 use Rattle.world.proofs.Steps.Beginnings.{no_some, new_run, begins_frozen, begun_found}
 use Rattle.world.proofs.Reaching.{AllReached, same_found, reached_goes, lawful_exit}
-use Rattle.world.proofs.Lists.HeldBy.{freeze_key, held_push_own, entries_push_other, held_without_own, entries_without_other, held_none, is_among}
+use Rattle.world.proofs.Lists.HeldBy.{held_push_own, entries_push_other, held_without_own, entries_without_other, held_none, is_among}
 
 -- a guest is no run, and a run is no other
 guest_is_none : (r : ℕ) (holder : Holder) → is_guest holder ≡ true → is_run r holder ≡ false

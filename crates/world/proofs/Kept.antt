@@ -8,8 +8,8 @@ use Rattle.std.proofs.lemmas.List.Sums.{sum_by_push, length-filter, count_by-le-
 use Rattle.ccb.specs.ControlBlock.{submitted}
 use Rattle.freeze_ledger.specs.declared.entries.Freeze.{Freeze}
 use Rattle.freeze_ledger.specs.Freezes.{frozen, meets_limit, entry_of, without}
-use Rattle.freeze_ledger.proofs.Numbered.{numbered_push}
-use Rattle.world.specs.World.{Setup, queue_count, queue_setup, waiting, LiveCcb, LiveRun, World, opening}
+use Rattle.world.specs.declared.ccb_state.CcbState.TheVariants.{Waiting}
+use Rattle.world.specs.World.{Setup, queue_count, queue_setup, LiveCcb, LiveRun, World, opening}
 use Rattle.world.specs.Lookups.{is_active, is_of, live_count, active_count, ccb_of, with_ccb}
 use Rattle.world.specs.Event.{Event, Reply}
 use Rattle.world.specs.CcbSteps.{ccb_meets_limit}
@@ -18,7 +18,7 @@ use Rattle.world.specs.Limits.{FreezeLimits, CcbLimits, RunLimits, KeepsLimits}
 use Rattle.world.proofs.Lists.Found.{put, leave, put_keys}
 use Rattle.world.proofs.Lists.Rising.{rising_push, rising_leave, count_put, count_leave}
 use Rattle.world.proofs.Lists.Each.{all_found, all_put, put_length}
-use Rattle.world.proofs.Lists.Entries.{frozen_push, frozen_without, numbered_without, length_without, entry_bounds}
+use Rattle.world.proofs.Lists.Entries.{freeze_key, frozen_push, frozen_without, length_without, entry_bounds}
 use Rattle.world.proofs.Steps.Cases.{Case, case_of}
 use Rattle.world.proofs.Steps.Moves.{ccb_key, run_key, CcbMove, ccbs_stay, ccb_enters, ccb_changes, ccb_leaves, ccb_move, openings_stay, FreezeMove, freezes_stay, freeze_enters, freeze_leaves, freeze_move, RunMove, runs_stay, run_enters, run_changes, run_leaves, run_move}
 
@@ -62,7 +62,7 @@ freezes_kept setup before after (freeze_enters queue holder known full e g) kept
       queues = All-push (λ (x : Freeze). x.queue.0 < queue_count setup) before.freezes f kept.queues known;
       a_queue = λ q. omega (arith, frozen_push q before.freezes f, one_more q);
       ledger = omega (arith, room.ledger, length-append before.freezes (f ∷ []));
-      numbered = numbered_push 0 before.freezes before.greatest_freeze f kept.numbered refl;
+      numbered = rising_push freeze_key 0 before.freezes before.greatest_freeze f kept.numbered refl;
       numbers = omega (arith, room.numbers);
     })
 freezes_kept setup before after (freeze_leaves number freeze entry e g) kept =
@@ -71,7 +71,7 @@ freezes_kept setup before after (freeze_leaves number freeze entry e g) kept =
       queues = All-filter (λ (x : Freeze). not (eqb x.number freeze.number)) (λ (x : Freeze). x.queue.0 < queue_count setup) before.freezes kept.queues;
       a_queue = λ q. omega (arith, kept.a_queue q, frozen_without q 0 before.freezes before.greatest_freeze freeze.number freeze kept.numbered (subst (λ (n : ℕ). entry_of n before.freezes ≡ Some freeze) (sym is.0) entry));
       ledger = omega (arith, kept.ledger, length_without freeze.number before.freezes);
-      numbered = numbered_without 0 before.freezes before.greatest_freeze freeze.number kept.numbered;
+      numbered = rising_leave freeze_key 0 before.freezes before.greatest_freeze freeze.number kept.numbered;
       numbers = kept.numbers;
     })
 
@@ -110,7 +110,7 @@ pub ccbs_kept : (setup : Setup) (before after : World) → CcbMove setup before 
 ccbs_kept setup before after (ccbs_stay e g) o kept =
     ccbs_from setup after before.openings before.live before.greatest_ccb o e g (record { queues = kept.queues; a_queue = kept.a_queue; active = kept.active; openings = kept.openings; all = kept.all; rising = kept.rising; numbers = kept.numbers })
 ccbs_kept setup before after (ccb_enters queue priority retries known full e g) o kept =
-    let c : LiveCcb = record { ccb = submitted (record { 0 = before.greatest_ccb + 1 }) (record { 0 = queue }) priority retries; state = waiting } in
+    let c : LiveCcb = record { ccb = submitted (record { 0 = before.greatest_ccb + 1 }) (record { 0 = queue }) priority retries; state = Waiting } in
     let room = ccb_room queue before full in
     let one_more : (q : ℕ) → live_count q before.live + cond {A = ℕ} (eqb queue q) 1 0 ≤ 256 = λ q. elim (cases_eq queue q) [
       | inl same ↦ let here : live_count q before.live < 256 = subst (λ (x : ℕ). live_count x before.live < 256) same room.a_queue in rw (eq-eqb queue q same) (omega arith)

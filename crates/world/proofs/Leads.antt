@@ -1,9 +1,9 @@
 -- Runs of the world, joined and split, and what holds along them.
-use Rattle.std.proofs.Common.{List, [], ◌∷◌, ◌++◌, refl, sym, subst}
+use Rattle.std.proofs.Common.{◌≡◌, List, [], ◌∷◌, ◌++◌, refl, ap, sym, subst, ◌∙◌}
 use Rattle.world.specs.World.{Setup, World, opening}
 use Rattle.world.specs.Event.{Event, Reply}
 use Rattle.world.specs.Step.{WorldStep}
-use Rattle.world.specs.Run.{Leads}
+use Rattle.world.specs.WorldRun.{Leads, led_to, world_after}
 use Rattle.world.specs.Limits.{KeepsLimits, LimitsAreKept}
 use Rattle.world.proofs.Kept.{step_keeps, opening_keeps}
 
@@ -30,3 +30,9 @@ leads_keeps setup before (x ∷ xs) after run kept = leads_keeps setup run.0 xs 
 
 pub limits_are_kept : LimitsAreKept
 limits_are_kept setup xs world run = leads_keeps setup (opening setup) xs world run (opening_keeps setup)
+
+-- events that lead to a world lead there by the steps alone
+pub world_after_leads : (setup : Setup) (before : World) (xs : List (Event × Reply)) (after : World) → Leads setup before xs after → world_after setup before xs ≡ after
+world_after_leads setup before [] after run = run
+world_after_leads setup before (x ∷ xs) after run =
+    ap (λ (w : World). world_after setup w xs) (ap (led_to before) run.1) ∙ world_after_leads setup run.0 xs after run.2

@@ -3,6 +3,7 @@ pub mod Lists
 pub mod Steps
 pub mod Kept
 pub mod Leads
+pub mod Empty
 pub mod Counts
 pub mod Gone
 pub mod Reaching

@@ -11,9 +11,9 @@ use Rattle.world.specs.Lawful.{IsLawful}
 use Rattle.world.specs.Lookups.{run_of}
 use Rattle.world.specs.Event.{release, requeue, Instruction, private, call, exit, Event, submit, dispatch, complete, guest_freeze, guest_release, executes, Reply}
 use Rattle.world.specs.Step.{WorldStep}
-use Rattle.world.specs.Run.{Leads}
+use Rattle.world.specs.WorldRun.{Leads}
 use Rattle.world.specs.Limits.{KeepsLimits}
-use Rattle.world.specs.Headline.{is_step_of, is_requeue_of, is_exit_of, steps_of, requeues_of, exits_of}
+use Rattle.world.specs.Headline.{is_step_of, is_disposal_of, is_exit_of, steps_of, disposals_of, exits_of}
 use Rattle.world.proofs.Lists.Each.{all_found}
 use Rattle.world.proofs.Steps.Cases.{Case, case_of, executes_parts}
 use Rattle.world.proofs.Steps.Moves.{run_key, RunMove, runs_stay, run_enters, run_changes, run_leaves, run_move}
@@ -39,7 +39,7 @@ one b = cond b 1 0
 
 -- what a step of the world adds
 abbrev Later : Setup → LiveRun → ℕ → ℕ → ℕ → ℕ → Event → World → Type 0
-Later setup start number k j e event world = Life setup start number (k + one (is_step_of number event)) (j + one (is_requeue_of number event)) (e + one (is_exit_of number event)) world
+Later setup start number k j e event world = Life setup start number (k + one (is_step_of number event)) (j + one (is_disposal_of number event)) (e + one (is_exit_of number event)) world
 
 -- counted otherwise
 pub recount : (setup : Setup) (start : LiveRun) (number k j e k' j' e' : ℕ) (world : World) → k ≡ k' → j ≡ j' → e ≡ e' → Life setup start number k j e world → Life setup start number k' j' e' world
@@ -49,16 +49,16 @@ recount setup start number k j e k' j' e' world p q r life =
     (subst (λ (n : ℕ). Life setup start number n j e world) p life))
 
 -- what is no step of the run is neither its requeue nor its exit
-not_requeue : (number : ℕ) (event : Event) → is_step_of number event ≡ false → is_requeue_of number event ≡ false
-not_requeue number (executes run private) h = refl
-not_requeue number (executes run (call release)) h = refl
-not_requeue number (executes run (call requeue)) h = h
-not_requeue number (executes run exit) h = refl
-not_requeue number (submit queue priority retries) h = refl
-not_requeue number (dispatch queue) h = refl
-not_requeue number (complete outcome) h = refl
-not_requeue number (guest_freeze queue guest) h = refl
-not_requeue number (guest_release freeze) h = refl
+not_disposal : (number : ℕ) (event : Event) → is_step_of number event ≡ false → is_disposal_of number event ≡ false
+not_disposal number (executes run private) h = refl
+not_disposal number (executes run (call release)) h = refl
+not_disposal number (executes run (call requeue)) h = h
+not_disposal number (executes run exit) h = refl
+not_disposal number (submit queue priority retries) h = refl
+not_disposal number (dispatch queue) h = refl
+not_disposal number (complete outcome) h = refl
+not_disposal number (guest_freeze queue guest) h = refl
+not_disposal number (guest_release freeze) h = refl
 
 not_exit : (number : ℕ) (event : Event) → is_step_of number event ≡ false → is_exit_of number event ≡ false
 not_exit number (executes run private) h = refl
@@ -74,7 +74,7 @@ not_exit number (guest_release freeze) h = refl
 not_counted : (setup : Setup) (start : LiveRun) (number k j e : ℕ) (event : Event) (world : World) → is_step_of number event ≡ false → Life setup start number k j e world → Later setup start number k j e event world
 not_counted setup start number k j e event world other life =
     let step : one (is_step_of number event) ≡ 0 = ap one other in
-    let again : one (is_requeue_of number event) ≡ 0 = ap one (not_requeue number event other) in
+    let again : one (is_disposal_of number event) ≡ 0 = ap one (not_disposal number event other) in
     let gone : one (is_exit_of number event) ≡ 0 = ap one (not_exit number event other) in
     recount setup start number k j e _ _ _ world (omega (arith, step)) (omega (arith, again)) (omega (arith, gone)) life
 
@@ -145,21 +145,21 @@ alive_step setup start number k j e before event reply after lawful sound step n
     not_counted setup start number k j e event after other (alive now is queue ccb reached disposed none_yet)
 alive_step setup start number k j e before event reply after lawful sound step now found queue ccb reached disposed none_yet (goes_privately machine event_is private_is is freezes live) =
     let counted = its_step number private event event_is in
-    let again : one (is_requeue_of number event) ≡ 0 = ap (λ (x : Event). one (is_requeue_of number x)) event_is in
+    let again : one (is_disposal_of number event) ≡ 0 = ap (λ (x : Event). one (is_disposal_of number x)) event_is in
     let gone : one (is_exit_of number event) ≡ 0 = ap (λ (x : Event). one (is_exit_of number x)) event_is in
     recount setup start number (k + 1) j e _ _ _ after (omega (arith, counted)) (omega (arith, again)) (omega (arith, gone))
     (alive (machine_of now machine) is queue ccb (further now.program k now.machine machine reached (inl private_is))
     (same_disposal now machine j (private_keeps now.program now.machine machine private_is).disposed disposed) none_yet)
 alive_step setup start number k j e before event reply after lawful sound step now found queue ccb reached disposed none_yet (goes_releasing asked freeze event_is call_is entry own is freezes live) =
     let counted = its_step number (call release) event event_is in
-    let again : one (is_requeue_of number event) ≡ 0 = ap (λ (x : Event). one (is_requeue_of number x)) event_is in
+    let again : one (is_disposal_of number event) ≡ 0 = ap (λ (x : Event). one (is_disposal_of number x)) event_is in
     let gone : one (is_exit_of number event) ≡ 0 = ap (λ (x : Event). one (is_exit_of number x)) event_is in
     recount setup start number (k + 1) j e _ _ _ after (omega (arith, counted)) (omega (arith, again)) (omega (arith, gone))
     (alive (machine_of now _) is queue ccb (further now.program k now.machine _ reached (release_steps setup before now asked freeze sound.kept.freezes call_is entry))
     disposed none_yet)
 alive_step setup start number k j e before event reply after lawful sound step now found queue ccb reached disposed none_yet (goes_requeuing retries event_is call_is fresh is freezes) =
     let counted = its_step number (call requeue) event event_is in
-    let again : one (is_requeue_of number event) ≡ 1 = ap (λ (x : Event). one (is_requeue_of number x)) event_is ∙ ap one (eq-eqb number number refl) in
+    let again : one (is_disposal_of number event) ≡ 1 = ap (λ (x : Event). one (is_disposal_of number x)) event_is ∙ ap one (eq-eqb number number refl) in
     let gone : one (is_exit_of number event) ≡ 0 = ap (λ (x : Event). one (is_exit_of number x)) event_is in
     let zero_yet = unspent now j disposed fresh in
     recount setup start number (k + 1) 1 e _ _ _ after (omega (arith, counted)) (omega (arith, again, zero_yet)) (omega (arith, gone))
@@ -167,7 +167,7 @@ alive_step setup start number k j e before event reply after lawful sound step n
     (inr (refl, refl)) none_yet)
 alive_step setup start number k j e before event reply after lawful sound step now found queue ccb reached disposed none_yet (leaves_world r0 event_is exit_is none freezes) =
     let counted = its_step number exit event event_is in
-    let again : one (is_requeue_of number event) ≡ 0 = ap (λ (x : Event). one (is_requeue_of number x)) event_is in
+    let again : one (is_disposal_of number event) ≡ 0 = ap (λ (x : Event). one (is_disposal_of number x)) event_is in
     let gone : one (is_exit_of number event) ≡ 1 = ap (λ (x : Event). one (is_exit_of number x)) event_is ∙ ap one (eq-eqb number number refl) in
     let goes = reached_goes setup lawful before sound.kept.runs number now found (k, reached) in
     let used = spent now j disposed (lawful_exit now.program setup.limits now.machine r0 goes exit_is).1 in
@@ -187,14 +187,14 @@ life_step setup start number k j e before event reply after lawful sound step (o
     not_counted setup start number k j e event after (gone_stands setup before event reply after number none step) (over still.0 still.1 most used gone)
 
 -- along a run of the world
-pub life_leads : (setup : Setup) (start : LiveRun) (number k j e : ℕ) (before : World) (xs : List (Event × Reply)) (after : World) → IsLawful setup → IsSound setup before → Leads setup before xs after → Life setup start number k j e before → Life setup start number (k + steps_of number xs) (j + requeues_of number xs) (e + exits_of number xs) after
+pub life_leads : (setup : Setup) (start : LiveRun) (number k j e : ℕ) (before : World) (xs : List (Event × Reply)) (after : World) → IsLawful setup → IsSound setup before → Leads setup before xs after → Life setup start number k j e before → Life setup start number (k + steps_of number xs) (j + disposals_of number xs) (e + exits_of number xs) after
 life_leads setup start number k j e before [] after lawful sound run life =
     recount setup start number k j e _ _ _ after (omega arith) (omega arith) (omega arith) (subst (λ (w : World). Life setup start number k j e w) run life)
 life_leads setup start number k j e before (x ∷ xs) after lawful sound run life =
     let between : World = run.0 in
     let now = life_step setup start number k j e before x.0 x.1 between lawful sound run.1 life in
-    let rest = life_leads setup start number (k + one (is_step_of number x.0)) (j + one (is_requeue_of number x.0)) (e + one (is_exit_of number x.0)) between xs after lawful (step_sound setup before x.0 x.1 between lawful run.1 sound) run.2 now in
+    let rest = life_leads setup start number (k + one (is_step_of number x.0)) (j + one (is_disposal_of number x.0)) (e + one (is_exit_of number x.0)) between xs after lawful (step_sound setup before x.0 x.1 between lawful run.1 sound) run.2 now in
     let steps = sum_by-cons (λ (y : Event × Reply). one (is_step_of number y.0)) x xs in
-    let again = sum_by-cons (λ (y : Event × Reply). one (is_requeue_of number y.0)) x xs in
+    let again = sum_by-cons (λ (y : Event × Reply). one (is_disposal_of number y.0)) x xs in
     let gone = sum_by-cons (λ (y : Event × Reply). one (is_exit_of number y.0)) x xs in
     recount setup start number _ _ _ _ _ _ after (omega (arith, steps)) (omega (arith, again)) (omega (arith, gone)) rest

@@ -1,7 +1,7 @@
 -- Each live run's machine was reached, and the run is of its queue's program; so it is not stuck.
 use Rattle.std.proofs.Common.{◌≡◌, ℕ, suc, ◌<◌, ◌≤◌, List, [], Bool, true, false, cond, eqb, Option, Some, None, inl, inr, refl, ap, sym, subst, ◌∙◌, arith}
 use Rattle.freeze_ledger.specs.declared.entries.Freeze.{Freeze}
-use Rattle.freeze_ledger.specs.Freezes.{frozen, entry_of, without}
+use Rattle.freeze_ledger.specs.Freezes.{entry_of, without}
 use Rattle.std.proofs.lemmas.Bool.{eq-eqb}
 use Rattle.helpers.specs.declared.limits.HelperLimits.{HelperLimits}
 use Rattle.helpers.specs.declared.call.Request.TheVariants.{Release, Requeue}
@@ -11,6 +11,7 @@ use Rattle.bpf_machine.specs.Step.{request_at, exit_at, answered}
 use Rattle.bpf_machine.specs.Stuck.{is_stuck}
 use Rattle.bpf_machine.specs.Reached.{Steps, Reached}
 use Rattle.bpf_machine.proofs.Progress.{progress_lem}
+use Rattle.world.specs.FreezeSteps.{frozen_with}
 use Rattle.world.specs.World.{Setup, queue_count, queue_setup, no_queue, LiveRun, World}
 use Rattle.world.specs.Lawful.{IsLawfulQueue, IsLawful}
 use Rattle.world.specs.Lookups.{run_of}
@@ -24,7 +25,7 @@ use Rattle.world.proofs.Steps.Fates.{machine_of, Fate, stands, goes_privately, g
 use Rattle.world.proofs.Steps.Beginnings.{new_run, begins_at_entry}
 
 -- the count after a release is at most 254
-pub count_after : (setup : Setup) (before : World) (number : ℕ) (freeze : Freeze) → FreezeLimits setup before → entry_of number before.freezes ≡ Some freeze → frozen freeze.queue.0 (without freeze.number before.freezes) ≤ 254
+pub count_after : (setup : Setup) (before : World) (number : ℕ) (freeze : Freeze) → FreezeLimits setup before → entry_of number before.freezes ≡ Some freeze → frozen_with freeze (without freeze.number before.freezes) ≤ 254
 count_after setup before number freeze kept entry =
     let is = entry_bounds 0 before.freezes before.greatest_freeze number freeze kept.numbered entry in
     let fewer = frozen_without freeze.queue.0 0 before.freezes before.greatest_freeze freeze.number freeze kept.numbered (subst (λ (n : ℕ). entry_of n before.freezes ≡ Some freeze) (sym is.0) entry) in
@@ -35,12 +36,12 @@ count_after setup before number freeze kept entry =
     same n = eq-eqb n n refl
 
 -- a step of its own is one instruction of the machine
-pub release_steps : (setup : Setup) (before : World) (run : LiveRun) (asked : ℕ) (freeze : Freeze) → FreezeLimits setup before → request_at run.program run.machine ≡ Some (Release asked) → entry_of asked before.freezes ≡ Some freeze → Steps run.program run.machine (answered (Release freeze.number) (record { r0 = frozen freeze.queue.0 (without freeze.number before.freezes) }) run.machine)
+pub release_steps : (setup : Setup) (before : World) (run : LiveRun) (asked : ℕ) (freeze : Freeze) → FreezeLimits setup before → request_at run.program run.machine ≡ Some (Release asked) → entry_of asked before.freezes ≡ Some freeze → Steps run.program run.machine (answered (Release freeze.number) (record { r0 = frozen_with freeze (without freeze.number before.freezes) }) run.machine)
 release_steps setup before run asked freeze kept call_is entry =
     let named = entry_bounds 0 before.freezes before.greatest_freeze asked freeze kept.numbered entry in
     inr (
       Release freeze.number,
-      record { r0 = frozen freeze.queue.0 (without freeze.number before.freezes) },
+      record { r0 = frozen_with freeze (without freeze.number before.freezes) },
       subst (λ (n : ℕ). request_at run.program run.machine ≡ Some (Release n)) (sym named.0) call_is,
       (count_after setup before asked freeze kept entry, refl),
     )

@@ -2,7 +2,9 @@
 use Rattle.std.proofs.Common.{◌≡◌, ℕ, Bool, true, false, Option, Some, None, ◌⊎◌, inl, inr, refl, ap, sym, subst, ◌∙◌}
 use Rattle.std.proofs.lemmas.Bool.{eq-eqb}
 use Rattle.ccb.specs.ControlBlock.{completed}
-use Rattle.world.specs.World.{Setup, CcbState, in_recovery, LiveCcb, LiveRun, World}
+use Rattle.world.specs.declared.ccb_state.CcbState.{CcbState}
+use Rattle.world.specs.declared.ccb_state.CcbState.TheVariants.{InRecovery}
+use Rattle.world.specs.World.{Setup, LiveCcb, LiveRun, World}
 use Rattle.world.specs.Lookups.{is_waiting, is_active, ccb_of, with_ccb, run_of}
 use Rattle.world.specs.Event.{Event, Reply}
 use Rattle.world.specs.Limits.{KeepsLimits}
@@ -19,14 +21,14 @@ use Rattle.world.proofs.Reaching.{same_found}
 pub record IsInRecovery (ccb : ℕ) (world : World) : Type 0 where
   pub live : LiveCcb
   pub found : ccb_of ccb world.live ≡ Some live
-  pub state : live.state ≡ in_recovery
+  pub state : live.state ≡ InRecovery
 
 pub record Recovering (world : World) : Type 0 where
   pub ccbs : (number : ℕ) (run : LiveRun) → run_of number world.runs ≡ Some run → run.machine.disposed ≡ false → IsInRecovery run.ccb world
   pub alone : (n m : ℕ) (a b : LiveRun) → run_of n world.runs ≡ Some a → run_of m world.runs ≡ Some b → a.ccb ≡ b.ccb → a.machine.disposed ≡ false → b.machine.disposed ≡ false → n ≡ m
 
 -- one CCB is not in two states
-one_state : (number : ℕ) (world : World) (it : LiveCcb) (test : CcbState → Bool) → IsInRecovery number world → test in_recovery ≡ false → ccb_of number world.live ≡ Some it → test it.state ≡ true → ⊥
+one_state : (number : ℕ) (world : World) (it : LiveCcb) (test : CcbState → Bool) → IsInRecovery number world → test InRecovery ≡ false → ccb_of number world.live ≡ Some it → test it.state ≡ true → ⊥
 one_state number world it test recovery is_not found is =
     let both : Some recovery.live ≡ Some it = sym recovery.found ∙ found in
     let same : recovery.live ≡ it = cc in
@@ -122,7 +124,7 @@ origin setup before event reply after number now it some = split (run_of number 
 pub begun_recovers : (setup : Setup) (before : World) (event : Event) (reply : Reply) (after : World) (run : LiveRun) → Begins setup before event reply after run → IsInRecovery run.ccb after
 begun_recovers setup before event reply after run it =
     let named : it.live.ccb.number.0 ≡ run.ccb = sym (ap (λ (r : LiveRun). r.ccb) it.run_is) in
-    let new : LiveCcb = record { ccb = completed it.live.ccb it.outcome it.taken; state = in_recovery } in
+    let new : LiveCcb = record { ccb = completed it.live.ccb it.outcome it.taken; state = InRecovery } in
     let there : ccb_of it.live.ccb.number.0 after.live ≡ Some new = ap (ccb_of it.live.ccb.number.0) it.live_is ∙ put_same ccb_key new before.live it.live (ccb_found it.outcome.ccb.0 before.live it.live it.found) in
     record { live = new; found = subst (λ (n : ℕ). ccb_of n after.live ≡ Some new) named there; state = refl }
 

@@ -4,9 +4,10 @@ use Rattle.world.specs.World.{Setup, World, opening}
 use Rattle.world.specs.Lawful.{IsLawful}
 use Rattle.world.specs.Event.{Event, Reply}
 use Rattle.world.specs.Step.{WorldStep}
-use Rattle.world.specs.Run.{Leads, WorldRun}
+use Rattle.world.specs.WorldRun.{Leads, WorldRun}
 use Rattle.world.specs.Limits.{KeepsLimits}
 use Rattle.world.specs.FreezeLaws.{HoldsWhatEntriesSay, HeldAreEntries}
+use Rattle.world.specs.Headline.{MachinesAreReached}
 use Rattle.world.proofs.Steps.Cases.{case_of}
 use Rattle.world.proofs.Kept.{case_keeps, opening_keeps}
 use Rattle.world.proofs.Reaching.{AllReached, case_reaches}
@@ -53,3 +54,6 @@ run_sound setup xs world lawful run = leads_sound setup (opening setup) xs world
 
 pub held_are_entries : HeldAreEntries
 held_are_entries setup lawful xs world run = (run_sound setup xs world lawful run).held
+
+pub machines_are_reached : MachinesAreReached
+machines_are_reached setup lawful xs world run = (run_sound setup xs world lawful run).reached

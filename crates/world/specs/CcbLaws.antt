@@ -1,11 +1,10 @@
 -- The law of CCB numbers: each that was given is live or ended, and the ended ones are those that events ended.
-use Rattle.std.specs.Prelude.{◌≡◌, ℕ, ◌<◌, ◌≤◌, ◌==◌, List, [], ◌∷◌, Some, None, ◌⊎◌, count_by}
-use Rattle.std.specs.List.{flat_map}
+use Rattle.std.specs.Prelude.{◌≡◌, ℕ, ◌<◌, ◌≤◌, ◌==◌, List, [], ◌∷◌, ◌++◌, Some, None, ◌⊎◌, count_by}
 use Rattle.ccb.specs.Status.{code_of}
-use Rattle.world.specs.World.{Setup, LiveCcb, EndedCcb, World}
+use Rattle.world.specs.World.{Setup, LiveCcb, EndedCcb, World, opening}
 use Rattle.world.specs.Lookups.{ccb_of}
 use Rattle.world.specs.Event.{Event, complete, Reply, done}
-use Rattle.world.specs.Run.{WorldRun}
+use Rattle.world.specs.WorldRun.{Leads, WorldRun}
 
 -- how often the number is among those that ended
 abbrev pub ended_times : ℕ → List EndedCcb → ℕ
@@ -24,18 +23,19 @@ pub record AreAccounted (live : List LiveCcb) (ended : List EndedCcb) (greatest 
   pub each : (number : ℕ) → 0 < number → number ≤ greatest → IsLiveOnly number live ended ⊎ IsEndedOnly number live ended
   pub no_other : (number : ℕ) → (number ≡ 0) ⊎ (greatest < number) → (ccb_of number live ≡ None) × (ended_times number ended ≡ 0)
 
--- the CCB that a completion finishes, with the code of its status
-abbrev pub finished_by : Event → Reply → List EndedCcb
-finished_by (complete outcome) done = record { number = outcome.ccb.0; code = code_of outcome.status } ∷ []
-finished_by event reply = []
+-- the CCB that an event finishes in this world: that of a completion which is done, with the code of its status
+abbrev pub finished_by : World → Event → Reply → List EndedCcb
+finished_by before (complete outcome) done = record { number = outcome.ccb.0; code = code_of outcome.status } ∷ []
+finished_by before event reply = []
 
 -- all that the events finish, in order
-abbrev pub finished_in : List (Event × Reply) → List EndedCcb
-finished_in xs = flat_map (λ x. finished_by x.0 x.1) xs
+abbrev pub finished_in : (setup : Setup) (before : World) (xs : List (Event × Reply)) (after : World) → Leads setup before xs after → List EndedCcb
+finished_in setup before [] after leads = []
+finished_in setup before (x ∷ xs) after leads = finished_by before x.0 x.1 ++ finished_in setup leads.0 xs after leads.2
 
--- At every moment of every run: the numbers are accounted for, and what ended is what completions finished, each with
--- the code of its status.
+-- At every moment of every run: the numbers are accounted for, and what ended is what the events finished, each with
+-- its code.
 abbrev pub EachIsLiveOrEnded : Type 0
 EachIsLiveOrEnded =
-    (setup : Setup) (xs : List (Event × Reply)) (world : World) → WorldRun setup xs world →
-    AreAccounted world.live world.ended world.greatest_ccb × (world.ended ≡ finished_in xs)
+    (setup : Setup) (xs : List (Event × Reply)) (world : World) → (run : WorldRun setup xs world) →
+    AreAccounted world.live world.ended world.greatest_ccb × (world.ended ≡ finished_in setup (opening setup) xs world run)

@@ -12,16 +12,20 @@ use Rattle.ccb.specs.Context.{context_of}
 use Rattle.freeze_ledger.specs.declared.entries.Holder.TheVariants.{Run}
 use Rattle.freeze_ledger.specs.Freezes.{frozen, meets_limit}
 use Rattle.bpf_machine.specs.MachineState.{entry}
-use Rattle.world.specs.declared.history.Refusal.TheVariants.{Unknown, Limit, NotActive, Frozen, NoOpening, NothingWaits}
-use Rattle.world.specs.World.{Setup, queue_count, queue_setup, waiting, active, in_recovery, LiveCcb, World}
+use Rattle.world.specs.declared.refusal.Refusal.TheVariants.{Unknown, Limit, NotActive, Frozen, NoOpening, NothingWaits}
+use Rattle.world.specs.declared.ccb_state.CcbState.TheVariants.{Waiting, Active, InRecovery}
+use Rattle.world.specs.Capacities.{most_ccbs, most_ccbs_of_queue, most_runs, last_number}
+use Rattle.world.specs.World.{Setup, queue_count, queue_setup, LiveCcb, World}
 use Rattle.world.specs.Lookups.{is_active, live_count, active_count, ccb_of, with_ccb, next_waiting}
 use Rattle.world.specs.Event.{Reply, ccb_given, done, run_started, refused}
 use Rattle.world.specs.FreezeSteps.{froze}
 
--- a further CCB of the queue meets a limit: the queue has 256, there are 4096 in all, or the numbers are used up
+-- a further CCB of the queue meets a limit: the queue has as many as it may, so have all together, or the
+-- numbers are used up
 abbrev pub ccb_meets_limit : ℕ → World → Bool
 ccb_meets_limit queue world =
-    nat_le 256 (live_count queue world.live) || nat_le 4096 (length world.live) || nat_le 4294967295 world.greatest_ccb
+    nat_le most_ccbs_of_queue (live_count queue world.live) || nat_le most_ccbs (length world.live)
+    || nat_le last_number world.greatest_ccb
 
 -- C1 where there is no such queue, C2 where a further CCB meets a limit, else a CCB waits under a new number
 abbrev pub step_submit : Setup → World → ℕ → ℕ → ℕ → Reply × World
@@ -33,7 +37,7 @@ step_submit setup world queue priority retries =
     else (
       ccb_given number,
       record world {
-        live = world.live ++ record { ccb = ccb; state = waiting } ∷ [];
+        live = world.live ++ record { ccb = ccb; state = Waiting } ∷ [];
         greatest_ccb = number;
       },
     )
@@ -44,7 +48,7 @@ starts world None = (refused NothingWaits, world)
 starts world (Some next) = (
   ccb_given next.ccb.number.0,
   record world {
-    live = with_ccb (record { ccb = started next.ccb; state = active }) world.live;
+    live = with_ccb (record { ccb = started next.ccb; state = Active }) world.live;
   },
 )
 
@@ -60,9 +64,9 @@ step_dispatch setup world queue =
 abbrev pub is_success : CamStatus → Bool
 is_success status = code_of status == code_of RequestCompleted
 
--- a further run meets a limit: there are 256, or the numbers are used up
+-- a further run meets a limit: there are as many as may be, or the numbers are used up
 abbrev pub run_meets_limit : World → Bool
-run_meets_limit world = nat_le 256 (length world.runs) || nat_le 4294967295 world.greatest_run
+run_meets_limit world = nat_le most_runs (length world.runs) || nat_le last_number world.greatest_run
 
 -- the CCB is gone, and the code of its status is kept
 abbrev pub finishes : World → Ccb → CamStatus → World
@@ -78,7 +82,7 @@ run_starts setup world ccb freeze =
     let number = world.greatest_run + 1 in (
       run_started number freeze,
       record world {
-        live = with_ccb (record { ccb = ccb; state = in_recovery }) world.live;
+        live = with_ccb (record { ccb = ccb; state = InRecovery }) world.live;
         runs = world.runs ++ record {
           number = number;
           ccb = ccb.number.0;

@@ -1,7 +1,7 @@
 -- What may happen in the world, and what is answered. One instruction of one run is one event.
 use Rattle.std.specs.Prelude.{ℕ}
 use Rattle.ccb.specs.Completion.{Outcome}
-use Rattle.world.specs.declared.history.Refusal.{Refusal}
+use Rattle.world.specs.declared.refusal.Refusal.{Refusal}
 
 -- a helper of recovery programs, by what it does
 pub data Helper : Type 0 where

@@ -1,15 +1,17 @@
 -- The events that a history stands for: one for each record, but for an advance, which is one for each instruction.
-use Rattle.std.specs.Prelude.{ℕ, ◌-◌, List, [], ◌∷◌, ◌++◌, Result, Ok, Err, replicate}
+use Rattle.std.specs.Prelude.{ℕ, zero, suc, List, [], ◌∷◌, ◌++◌, Result, Ok, Err, replicate}
 use Rattle.std.specs.List.{flat_map}
 use Rattle.ccb.specs.declared.CcbId.{CcbId}
-use Rattle.world.specs.declared.history.Refusal.{Refusal}
-use Rattle.world.specs.declared.history.Completed.{Completed}
-use Rattle.world.specs.declared.history.Completed.TheVariants.{Done, Started}
-use Rattle.world.specs.declared.history.StoppedAt.{StoppedAt}
-use Rattle.world.specs.declared.history.StoppedAt.TheVariants.{Release, Requeue, Exit}
-use Rattle.world.specs.declared.history.Record.{Record}
-use Rattle.world.specs.declared.history.Record.TheVariants.{Submit, Dispatch, Complete, Advance, GuestFreeze, GuestRelease}
+use Rattle.world.specs.declared.refusal.Refusal.{Refusal}
+use Rattle.world.specs.declared.record.Completed.{Completed}
+use Rattle.world.specs.declared.record.Completed.TheVariants.{Done, Started}
+use Rattle.world.specs.declared.record.StoppedAt.{StoppedAt}
+use Rattle.world.specs.declared.record.StoppedAt.TheVariants.{Release, Requeue, Exit}
+use Rattle.world.specs.declared.record.Record.{Record}
+use Rattle.world.specs.declared.record.Record.TheVariants.{Submit, Dispatch, Complete, Advance, GuestFreeze, GuestRelease}
+use Rattle.world.specs.World.{Setup, World}
 use Rattle.world.specs.Event.{release, requeue, Instruction, private, call, exit, Event, submit, dispatch, complete, guest_freeze, guest_release, executes, Reply, ccb_given, done, run_started, freeze_given, count_left, went_on, result, refused}
+use Rattle.world.specs.WorldRun.{Leads}
 
 -- what is answered to a call that gives the number of a CCB
 abbrev pub ccb_reply : Result CcbId Refusal → Reply
@@ -33,15 +35,27 @@ stop_of Release = call release
 stop_of Requeue = call requeue
 stop_of Exit = exit
 
--- one record's events, each with its reply; of an advance all but the last instruction are private
+-- An advance by so many instructions: all but the last are private. One by no instruction is none: it claims a helper
+-- call or an exit that nobody saw, and no step is that.
+abbrev pub advance_of : ℕ → ℕ → StoppedAt → ℕ → List (Event × Reply)
+advance_of run zero stop r0 = (executes run (stop_of stop), went_on) ∷ []
+advance_of run (suc before) stop r0 =
+    replicate before (executes run private, went_on) ++ (executes run (stop_of stop), result r0) ∷ []
+
+-- one record's events, each with its reply
 abbrev pub events_of : Record → List (Event × Reply)
 events_of (Submit queue priority retries answer) = (submit queue.0 priority retries, ccb_reply answer) ∷ []
 events_of (Dispatch queue answer) = (dispatch queue.0, ccb_reply answer) ∷ []
 events_of (Complete completion answer) = (complete completion, completed_reply answer) ∷ []
-events_of (Advance run instructions stop r0) =
-    replicate (instructions - 1) (executes run private, went_on) ++ (executes run (stop_of stop), result r0) ∷ []
+events_of (Advance run instructions stop r0) = advance_of run instructions stop r0
 events_of (GuestFreeze queue guest answer) = (guest_freeze queue.0 guest, freeze_reply answer) ∷ []
 events_of (GuestRelease freeze count) = (guest_release freeze, count_left count) ∷ []
 
 abbrev pub flat : List Record → List (Event × Reply)
 flat records = flat_map events_of records
+
+-- no step is an event of an advance by no instruction
+abbrev pub EmptyAdvanceIsNone : Type 0
+EmptyAdvanceIsNone =
+    (setup : Setup) (run : ℕ) (stop : StoppedAt) (r0 : ℕ) (before after : World) →
+    Leads setup before (events_of (Advance run 0 stop r0)) after → ⊥

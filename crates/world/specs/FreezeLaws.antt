@@ -1,7 +1,7 @@
 -- The laws of frozen counts and freezes: what holds in every run of the world.
 use Rattle.std.specs.Prelude.{◌≡◌, ℕ, ◌+◌, ◌==◌, true, if◌then◌else◌, List, ◌∷◌, ◌++◌, map, filter, IsSome, Some}
 use Rattle.freeze_ledger.specs.declared.entries.Freeze.{Freeze}
-use Rattle.freeze_ledger.specs.Freezes.{frozen, entry_of}
+use Rattle.freeze_ledger.specs.Freezes.{names, frozen, entry_of}
 use Rattle.ccb.specs.Completion.{Outcome}
 use Rattle.helpers.specs.declared.call.Request.TheVariants.{Release}
 use Rattle.bpf_machine.specs.Step.{request_at}
@@ -9,9 +9,10 @@ use Rattle.world.specs.World.{Setup, LiveCcb, LiveRun, World}
 use Rattle.world.specs.Lawful.{IsLawful}
 use Rattle.world.specs.Lookups.{ccb_of, run_of}
 use Rattle.world.specs.Event.{release, call, Event, complete, guest_freeze, guest_release, executes, Reply, done, run_started, freeze_given, count_left, result, refused}
+use Rattle.world.specs.FreezeSteps.{frozen_with}
 use Rattle.world.specs.RunSteps.{is_run}
 use Rattle.world.specs.Step.{WorldStep}
-use Rattle.world.specs.Run.{Leads, WorldRun}
+use Rattle.world.specs.WorldRun.{Leads, WorldRun}
 
 -- a freeze of that number is there
 abbrev pub IsHeld : ℕ → World → Type 0
@@ -21,7 +22,7 @@ IsHeld number world = IsSome (entry_of number world.freezes)
 abbrev pub KeepsFreezes : World → World → Type 0
 KeepsFreezes before after = after.freezes ≡ before.freezes
 
--- one freeze more of that queue, and of any other as many as before
+-- one freeze more, of that queue, and of any other as many as before
 abbrev pub OneMore : World → ℕ → World → Type 0
 OneMore before queue after =
     (other : ℕ) → frozen other after.freezes ≡ frozen other before.freezes + (if queue == other then 1 else 0)
@@ -31,8 +32,8 @@ OneMore before queue after =
 pub record OneFewer (before : World) (number count : ℕ) (after : World) : Type 0 where
   pub freeze : Freeze
   pub entry : entry_of number before.freezes ≡ Some freeze
-  pub count_is : count ≡ frozen freeze.queue.0 after.freezes
-  pub fewer : (other : ℕ) → frozen other after.freezes + (if freeze.queue.0 == other then 1 else 0) ≡ frozen other before.freezes
+  pub count_is : count ≡ frozen_with freeze after.freezes
+  pub fewer : (other : ℕ) → frozen other after.freezes + (if names other freeze then 1 else 0) ≡ frozen other before.freezes
 
 -- a guest's freeze, by its reply
 abbrev pub MovesByFreeze : World → ℕ → Reply → World → Type 0

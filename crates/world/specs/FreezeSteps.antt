@@ -1,10 +1,10 @@
 -- What becomes of the freezes: a new one and one fewer, and what guests do with theirs.
-use Rattle.std.specs.Prelude.{ℕ, ◌+◌, Bool, true, false, if◌then◌else◌, nat_le, [], ◌∷◌, ◌++◌, Option, Some, None}
+use Rattle.std.specs.Prelude.{ℕ, ◌+◌, Bool, true, false, if◌then◌else◌, nat_le, List, [], ◌∷◌, ◌++◌, Option, Some, None}
 use Rattle.freeze_ledger.specs.declared.entries.Holder.{Holder}
 use Rattle.freeze_ledger.specs.declared.entries.Holder.TheVariants.{Run, Timer, Guest}
 use Rattle.freeze_ledger.specs.declared.entries.Freeze.{Freeze}
 use Rattle.freeze_ledger.specs.Freezes.{frozen, meets_limit, without}
-use Rattle.world.specs.declared.history.Refusal.TheVariants.{Unknown, Limit}
+use Rattle.world.specs.declared.refusal.Refusal.TheVariants.{Unknown, Limit}
 use Rattle.world.specs.World.{Setup, queue_count, World}
 use Rattle.world.specs.Event.{Reply, freeze_given, count_left, refused}
 
@@ -12,6 +12,10 @@ abbrev pub is_guest : Holder → Bool
 is_guest (Run run) = false
 is_guest (Timer due) = false
 is_guest (Guest guest) = true
+
+-- how many freezes there are of what this one freezes
+abbrev pub frozen_with : Freeze → List Freeze → ℕ
+frozen_with freeze freezes = frozen freeze.queue.0 freezes
 
 -- with a new freeze of the queue, under the number after the greatest given
 abbrev pub froze : World → ℕ → Holder → World
@@ -38,4 +42,4 @@ abbrev pub step_guest_release : World → Option Freeze → Option (Reply × Wor
 step_guest_release world None = None
 step_guest_release world (Some freeze) =
     let after = thawed world freeze.number in
-    if is_guest freeze.holder then Some (count_left (frozen freeze.queue.0 after.freezes), after) else None
+    if is_guest freeze.holder then Some (count_left (frozen_with freeze after.freezes), after) else None

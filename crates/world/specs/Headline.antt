@@ -3,12 +3,13 @@ use Rattle.std.specs.Prelude.{◌≡◌, ℕ, ◌+◌, ◌<◌, ◌≤◌, ◌==
 use Rattle.ccb.specs.Completion.{Outcome}
 use Rattle.bpf_machine.specs.Stuck.{is_stuck}
 use Rattle.bpf_machine.specs.Reached.{Reached}
-use Rattle.world.specs.World.{Setup, queue_setup, in_recovery, LiveCcb, LiveRun, World}
+use Rattle.world.specs.declared.ccb_state.CcbState.TheVariants.{InRecovery}
+use Rattle.world.specs.World.{Setup, queue_setup, LiveCcb, LiveRun, World}
 use Rattle.world.specs.Lawful.{IsLawful}
 use Rattle.world.specs.Lookups.{ccb_of, run_of}
 use Rattle.world.specs.Event.{requeue, Instruction, call, exit, Event, complete, executes, Reply, run_started}
 use Rattle.world.specs.Step.{WorldStep}
-use Rattle.world.specs.Run.{Leads, WorldRun}
+use Rattle.world.specs.WorldRun.{Leads, WorldRun}
 use Rattle.world.specs.TookGave.{took, gave}
 use Rattle.world.specs.FreezeLaws.{entries_of}
 
@@ -17,22 +18,22 @@ abbrev pub is_step_of : ℕ → Event → Bool
 is_step_of run (executes number instruction) = number == run
 is_step_of run event = false
 
--- the event is this run's call that makes its CCB wait again
-abbrev pub is_requeue_of : ℕ → Event → Bool
-is_requeue_of run (executes number (call requeue)) = number == run
-is_requeue_of run event = false
+-- the event is a call by which this run disposes of its CCB
+abbrev pub is_disposal_of : ℕ → Event → Bool
+is_disposal_of run (executes number (call requeue)) = number == run
+is_disposal_of run event = false
 
 -- the event is this run's exit
 abbrev pub is_exit_of : ℕ → Event → Bool
 is_exit_of run (executes number exit) = number == run
 is_exit_of run event = false
 
--- how many steps, requeues and exits of this run there are in a list of events
+-- how many steps, disposals and exits of this run there are in a list of events
 abbrev pub steps_of : ℕ → List (Event × Reply) → ℕ
 steps_of run xs = count_by (λ x. is_step_of run x.0) xs
 
-abbrev pub requeues_of : ℕ → List (Event × Reply) → ℕ
-requeues_of run xs = count_by (λ x. is_requeue_of run x.0) xs
+abbrev pub disposals_of : ℕ → List (Event × Reply) → ℕ
+disposals_of run xs = count_by (λ x. is_disposal_of run x.0) xs
 
 abbrev pub exits_of : ℕ → List (Event × Reply) → ℕ
 exits_of run xs = count_by (λ x. is_exit_of run x.0) xs
@@ -52,6 +53,12 @@ NeverStuck =
     (setup : Setup) → IsLawful setup → (xs : List (Event × Reply)) (world : World) → WorldRun setup xs world →
     (number : ℕ) (run : LiveRun) → run_of number world.runs ≡ Some run →
     (is_stuck run.program setup.limits run.machine ≡ false) × (run.out ≡ true → HasOneStep setup world number)
+
+-- Each live run's machine is one that its program reaches, at every moment of every run of the world.
+abbrev pub MachinesAreReached : Type 0
+MachinesAreReached =
+    (setup : Setup) → IsLawful setup → (xs : List (Event × Reply)) (world : World) → WorldRun setup xs world →
+    (number : ℕ) (run : LiveRun) → run_of number world.runs ≡ Some run → (n : ℕ) × Reached run.program n run.machine
 
 -- A completion starts a run at some moment of a run of the world, which goes on from there.
 pub record StartedRun (setup : Setup) (outcome : Outcome) (run : ℕ) (ys : List (Event × Reply)) (world : World) : Type 0 where
@@ -82,7 +89,7 @@ WithinBudget =
 pub record InRecoveryBy (run ccb : ℕ) (world : World) : Type 0 where
   pub live : LiveCcb
   pub found : ccb_of ccb world.live ≡ Some live
-  pub state : live.state ≡ in_recovery
+  pub state : live.state ≡ InRecovery
   pub now : LiveRun
   pub is_live : run_of run world.runs ≡ Some now
   pub fresh : now.machine.disposed ≡ false
@@ -94,8 +101,8 @@ abbrev pub DisposedOnce : Type 0
 DisposedOnce =
     (setup : Setup) → IsLawful setup → (outcome : Outcome) (run : ℕ) (ys : List (Event × Reply)) (world : World) →
     StartedRun setup outcome run ys world →
-    (requeues_of run ys ≤ 1) × (0 < exits_of run ys → requeues_of run ys ≡ 1)
-    × (requeues_of run ys ≡ 0 → InRecoveryBy run outcome.ccb.0 world)
+    (disposals_of run ys ≤ 1) × (0 < exits_of run ys → disposals_of run ys ≡ 1)
+    × (disposals_of run ys ≡ 0 → InRecoveryBy run outcome.ccb.0 world)
 
 -- how often a number is in a list
 abbrev pub times_in : ℕ → List ℕ → ℕ

@@ -1,4 +1,5 @@
 pub use Rattle.freeze_ledger.specs.Freezes
+pub mod Capacities
 pub mod World
 pub mod Lawful
 pub mod Lookups
@@ -7,7 +8,7 @@ pub mod FreezeSteps
 pub mod CcbSteps
 pub mod RunSteps
 pub mod Step
-pub mod Run
+pub mod WorldRun
 pub mod TookGave
 pub mod Flat
 pub mod TotalsOf

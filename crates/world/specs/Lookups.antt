@@ -2,17 +2,19 @@
 -- starts next.
 use Rattle.std.specs.Prelude.{ℕ, Bool, true, false, ◌&&◌, ◌||◌, ◌==◌, nat_lt, nat_le, if◌then◌else◌, List, filter, map, Option, count_by}
 use Rattle.std.specs.List.{find, list_all}
-use Rattle.world.specs.World.{CcbState, waiting, active, in_recovery, LiveCcb, LiveRun}
+use Rattle.world.specs.declared.ccb_state.CcbState.{CcbState}
+use Rattle.world.specs.declared.ccb_state.CcbState.TheVariants.{Waiting, Active, InRecovery}
+use Rattle.world.specs.World.{LiveCcb, LiveRun}
 
 abbrev pub is_waiting : CcbState → Bool
-is_waiting waiting = true
-is_waiting active = false
-is_waiting in_recovery = false
+is_waiting Waiting = true
+is_waiting Active = false
+is_waiting InRecovery = false
 
 abbrev pub is_active : CcbState → Bool
-is_active waiting = false
-is_active active = true
-is_active in_recovery = false
+is_active Waiting = false
+is_active Active = true
+is_active InRecovery = false
 
 -- the CCB is one of this queue
 abbrev pub is_of : ℕ → LiveCcb → Bool

@@ -1,7 +1,7 @@
 -- How a refusal is printed: by its code.
 use Rattle.std.specs.Prelude.{ℕ, List, codes}
-use Rattle.world.specs.declared.history.Refusal.{Refusal}
-use Rattle.world.specs.declared.history.Refusal.TheVariants.{Unknown, Limit, NotActive, Frozen, NoOpening, NothingWaits}
+use Rattle.world.specs.declared.refusal.Refusal.{Refusal}
+use Rattle.world.specs.declared.refusal.Refusal.TheVariants.{Unknown, Limit, NotActive, Frozen, NoOpening, NothingWaits}
 
 abbrev pub refusal_text : Refusal → List ℕ
 refusal_text Unknown = codes "C1"

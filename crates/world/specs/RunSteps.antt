@@ -5,15 +5,16 @@ use Rattle.ccb.specs.ControlBlock.{requeued}
 use Rattle.freeze_ledger.specs.declared.entries.Holder.{Holder}
 use Rattle.freeze_ledger.specs.declared.entries.Holder.TheVariants.{Run, Timer, Guest}
 use Rattle.freeze_ledger.specs.declared.entries.Freeze.{Freeze}
-use Rattle.freeze_ledger.specs.Freezes.{frozen, entry_of}
+use Rattle.freeze_ledger.specs.Freezes.{entry_of}
 use Rattle.helpers.specs.declared.call.Request.{Request}
 use Rattle.helpers.specs.declared.call.Request.TheVariants.{Release, Requeue}
 use Rattle.bpf_machine.specs.MachineState.{MachineState}
 use Rattle.bpf_machine.specs.Step.{private_step, request_at, exit_at, answered}
-use Rattle.world.specs.World.{waiting, LiveCcb, LiveRun, World}
+use Rattle.world.specs.declared.ccb_state.CcbState.TheVariants.{Waiting}
+use Rattle.world.specs.World.{LiveCcb, LiveRun, World}
 use Rattle.world.specs.Lookups.{ccb_of, with_ccb, with_run}
 use Rattle.world.specs.Event.{Helper, release, requeue, Instruction, private, call, exit, Reply, went_on, result}
-use Rattle.world.specs.FreezeSteps.{thawed}
+use Rattle.world.specs.FreezeSteps.{frozen_with, thawed}
 
 -- the holder is the run of this number
 abbrev pub is_run : ℕ → Holder → Bool
@@ -35,14 +36,14 @@ releases world run None = None
 releases world run (Some freeze) =
     let after = thawed world freeze.number in
     if is_run run.number freeze.holder
-    then Some (answers after run (Release freeze.number) (frozen freeze.queue.0 after.freezes))
+    then Some (answers after run (Release freeze.number) (frozen_with freeze after.freezes))
     else None
 
 -- the run's CCB waits again with so many retries fewer
 abbrev pub requeues : World → LiveRun → ℕ → Option LiveCcb → Option (Reply × World)
 requeues world run retries None = None
 requeues world run retries (Some live) =
-    let after = record world { live = with_ccb (record { ccb = requeued live.ccb retries; state = waiting }) world.live } in
+    let after = record world { live = with_ccb (record { ccb = requeued live.ccb retries; state = Waiting }) world.live } in
     Some (answers after run (Requeue retries) 0)
 
 -- no event unless the machine stands at a call of this very helper, and the helper's rule holds

@@ -6,12 +6,12 @@ use Rattle.bpf_machine.specs.Step.{request_at}
 use Rattle.world.specs.World.{Setup, LiveRun, World}
 use Rattle.world.specs.Lookups.{run_of}
 use Rattle.world.specs.Event.{release, call, Event, executes, Reply, run_started}
-use Rattle.world.specs.Run.{Leads}
+use Rattle.world.specs.WorldRun.{Leads}
 
--- the freeze that a reply gives to this run: that of its start, if it got one
-abbrev pub taken_by : ℕ → Reply → List ℕ
-taken_by run (run_started number freeze) = if number == run && not (freeze == 0) then freeze ∷ [] else []
-taken_by run reply = []
+-- the freeze that an event gives to this run by its reply: that of its start, if it got one
+abbrev pub taken_by : ℕ → Event → Reply → List ℕ
+taken_by run event (run_started number freeze) = if number == run && not (freeze == 0) then freeze ∷ [] else []
+taken_by run event reply = []
 
 -- the freeze that a helper call asks to give back
 abbrev pub asked : Option Request → List ℕ
@@ -33,7 +33,7 @@ given_by run world event = []
 -- all that a run got, in order
 abbrev pub took : ℕ → List (Event × Reply) → List ℕ
 took run [] = []
-took run (x ∷ xs) = taken_by run x.1 ++ took run xs
+took run (x ∷ xs) = taken_by run x.0 x.1 ++ took run xs
 
 -- all that it gave up, in order
 abbrev pub gave : ℕ → (setup : Setup) (before : World) (xs : List (Event × Reply)) (after : World) → Leads setup before xs after → List ℕ

@@ -6,6 +6,7 @@ use Rattle.freeze_ledger.specs.declared.entries.Freeze.{Freeze}
 use Rattle.helpers.specs.declared.limits.HelperLimits.{HelperLimits}
 use Rattle.bpf_insn.specs.declared.program.Slot.{Slot}
 use Rattle.bpf_machine.specs.MachineState.{MachineState}
+use Rattle.world.specs.declared.ccb_state.CcbState.{CcbState}
 
 -- What an engine is opened with for one device queue: its openings, the recovery program that it starts at a failed
 -- completion, and how many instructions a run of it executes at most.
@@ -31,15 +32,7 @@ no_queue = record { openings = 0; program = []; budget = 0 }
 abbrev pub queue_setup : Setup → ℕ → QueueSetup
 queue_setup setup queue = slice_index_or setup.queues queue no_queue
 
--- where a CCB is that is not finished
-pub data CcbState : Type 0 where
-  -- it waits for its start
-  waiting : CcbState
-  -- a device works on it
-  active : CcbState
-  -- its completion failed, and a run decides what becomes of it
-  in_recovery : CcbState
-
+-- a CCB that is not finished, and whether it waits, is active or is in recovery
 pub record LiveCcb : Type 0 where
   pub ccb : Ccb
   pub state : CcbState

@@ -3,6 +3,12 @@
 // `ccb` and `freeze_ledger` for what CCBs and freezes are, and on `bpf_machine` for what a program means.
 #![tactic(auto)]
 
-mod history;
+mod ccb_state;
+mod record;
+mod refusal;
+mod totals;
 
-pub use history::{Completed, Record, Refusal, StoppedAt, Totals};
+pub use ccb_state::CcbState;
+pub use record::{Completed, Record, StoppedAt};
+pub use refusal::Refusal;
+pub use totals::Totals;

@@ -3,8 +3,8 @@
 
 use super::{one_queue, open};
 use crate::{
-    AdvanceAnswer, AdvanceFault, CallFault, CompleteAnswer, Completed, Engine, Record, Refusal,
-    Run, StoppedAt, Totals, Trace,
+    AdvanceAnswer, AdvanceFault, CallFault, CompleteAnswer, Completed, Engine, Record, Run,
+    StoppedAt, Totals, Trace,
 };
 use ccb::{CamStatus, CcbId, Completion, QueueId};
 use interpreter::{Segment, to_stop};
@@ -14,9 +14,6 @@ use std::sync::Arc;
 use std::test::Fail;
 
 const QUEUE: QueueId = QueueId(0);
-
-// What stands for the answer that a CCB is finished.
-const NO_RUN: CallFault = CallFault::OutOfMemory;
 
 fn completion(ccb: u32, status: CamStatus) -> Result<Completion, Fail> {
     Ok(Completion::new(CcbId(ccb), status, 0, &[]).ok_or("no completion")?)
@@ -75,22 +72,16 @@ fn dispatch(rt: &impl Abort, engine: &mut Engine) -> Result<CcbId, CallFault> {
 }
 
 // The run that starts, with the number of its freeze.
-fn started(
-    answer: Result<CompleteAnswer, (CallFault, Completion)>,
-) -> Result<(Run, u32), CallFault> {
+fn started(answer: Result<CompleteAnswer, (CallFault, Completion)>) -> Result<(Run, u32), Fail> {
     match answer {
         Ok(CompleteAnswer::Started(run, freeze)) => Ok((run, freeze)),
-        Ok(CompleteAnswer::Done) => Err(NO_RUN),
-        Err((fault, _)) => Err(fault),
+        Ok(CompleteAnswer::Done) => Err(Fail::new("no run starts")),
+        Err((fault, _)) => Err(Fail::from(fault)),
     }
 }
 
 // Where memory is refused the sums are as before and the completion comes back, and the same call again succeeds.
-fn fail(
-    rt: &impl Abort,
-    engine: &mut Engine,
-    completion: Completion,
-) -> Result<(Run, u32), CallFault> {
+fn fail(rt: &impl Abort, engine: &mut Engine, completion: Completion) -> Result<(Run, u32), Fail> {
     let before = totals(engine);
     match complete_once(engine, completion) {
         Err((CallFault::OutOfMemory, back)) => {
@@ -174,17 +165,6 @@ fn going_on(answer: AdvanceAnswer) -> Result<Run, Fail> {
     }
 }
 
-// Why no run started.
-fn fault_of(answer: Result<(Run, u32), CallFault>) -> Option<CallFault> {
-    match answer {
-        Ok((run, _)) => {
-            run.forfeit();
-            None
-        }
-        Err(fault) => Some(fault),
-    }
-}
-
 // CCB 1 is active.
 fn begin(rt: &impl Abort, engine: &mut Engine) -> Result<(), CallFault> {
     submit(rt, engine)?;
@@ -263,28 +243,6 @@ fn failed_once_and_memory_refused_once(rt: HostRuntime) -> Result<(), Fail> {
         (0, 0, 0)
     );
     Ok(())
-}
-
-// While a run is out its queue is frozen, and its CCB is not active. Its end lets the CCB start again.
-fn stays_frozen(rt: &impl Abort, engine: &mut Engine) -> Result<(), Fail> {
-    let timeout = completion(1, CamStatus::CommandTimeout)?;
-    begin(rt, engine)?;
-    let (run, _) = fail(rt, engine, timeout)?;
-    let frozen = dispatch(rt, engine);
-    let not_active = fault_of(fail(rt, engine, timeout));
-    drive(rt, engine, run)?;
-    assert_eq!(rt; frozen, Err(CallFault::Refused(Refusal::Frozen)));
-    assert_eq!(rt; not_active, Some(CallFault::Refused(Refusal::NotActive)));
-    assert_eq!(rt; dispatch(rt, engine), Ok(CcbId(1)));
-    Ok(())
-}
-
-#[test]
-fn while_a_run_is_out(rt: HostRuntime) -> Result<(), Fail> {
-    let mut engine = open(&rt, rt.alloc(), one_queue(rt.alloc())?)?;
-    let outcome = stays_frozen(&rt, &mut engine);
-    let _ = shut(engine);
-    outcome
 }
 
 // C4 is no record, and the run comes back to where it is out.

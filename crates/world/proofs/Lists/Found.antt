@@ -1,8 +1,8 @@
 -- Lists whose elements bear numbers: what is found by a number after one more at the end, one that is changed in its
 -- place, and one fewer; and what rising numbers say.
-use Rattle.std.proofs.Common.{◌≡◌, ℕ, List, [], ◌∷◌, ◌++◌, map, not, cond, eqb, Option, Some, None, ◌⊎◌, inl, inr, refl, ap, sym, subst, ◌∙◌}
+use Rattle.std.proofs.Common.{◌≡◌, ℕ, List, [], ◌∷◌, ◌++◌, map, Bool, true, false, not, cond, eqb, Option, Some, None, ◌⊎◌, inl, inr, refl, ap, sym, subst, ◌∙◌}
 use Rattle.std.specs.List.{find, filter}
-use Rattle.std.proofs.lemmas.Bool.{cases_eq, cond-true, cond-false, eq-eqb, ne_eqb, not_from_true, not_from_false}
+use Rattle.std.proofs.lemmas.Bool.{cases_Bool, cases_eq, cond-true, cond-false, eq-eqb, ne_eqb, not_from_true, not_from_false}
 
 module _ {A : Type 0} (key : A → ℕ) where
   -- the element of a number
@@ -165,4 +165,55 @@ module _ {A : Type 0} (key : A → ℕ) where
             ap (leave (key c)) (put_tail c y xs apart)
             ∙ (leave_tail (key c) y (put c xs) apart
             ∙ (ap (λ (zs : List A). y ∷ zs) (leave_put c xs) ∙ sym (leave_tail (key c) y xs apart)))
+      ]
+
+  -- some of them
+  pub filter_yes : (p : A → Bool) (x : A) (xs : List A) → p x ≡ true → filter p (x ∷ xs) ≡ x ∷ filter p xs
+  filter_yes p x xs e = cond-true (p x) (x ∷ filter p xs) (filter p xs) e
+
+  pub filter_no : (p : A → Bool) (x : A) (xs : List A) → p x ≡ false → filter p (x ∷ xs) ≡ filter p xs
+  filter_no p x xs e = cond-false (p x) (x ∷ filter p xs) (filter p xs) e
+
+  -- what is found among all, and is one of some, is found among these
+  pub found_in_filter : (some : A → Bool) (n : ℕ) (xs : List A) (x : A) → at n xs ≡ Some x → some x ≡ true → at n (filter some xs) ≡ Some x
+  found_in_filter some n [] x e is = absurd (let bad : None ≡ Some x = e in cc)
+  found_in_filter some n (y ∷ xs) x e is =
+      elim (cases_eq (key y) n) [
+        | inl same ↦
+            let both : Some y ≡ Some x = sym (at_head n y xs same) ∙ e in
+            let is_x : y ≡ x = cc in
+            ap (at n) (cond-true (some y) (y ∷ filter some xs) (filter some xs) (subst (λ (z : A). some z ≡ true) (sym is_x) is))
+            ∙ (at_head n y (filter some xs) same ∙ both)
+        | inr apart ↦
+            let rest = found_in_filter some n xs x (sym (at_tail n y xs apart) ∙ e) is in
+            elim (cases_Bool (some y)) [
+              | inl one_too ↦ ap (at n) (cond-true (some y) (y ∷ filter some xs) (filter some xs) one_too) ∙ (at_tail n y (filter some xs) apart ∙ rest)
+              | inr none ↦ ap (at n) (cond-false (some y) (y ∷ filter some xs) (filter some xs) none) ∙ rest
+            ]
+      ]
+
+  -- it does not matter which of two choices is made first
+  pub filter_swap : (p q : A → Bool) (xs : List A) → filter p (filter q xs) ≡ filter q (filter p xs)
+  filter_swap p q [] = refl
+  filter_swap p q (x ∷ xs) =
+      let rest = filter_swap p q xs in
+      elim (cases_Bool (p x)) [
+        | inl passes ↦
+            elim (cases_Bool (q x)) [
+              | inl both ↦
+                  ap (filter p) (filter_yes q x xs both)
+                  ∙ (filter_yes p x (filter q xs) passes
+                  ∙ (ap (λ (zs : List A). x ∷ zs) rest
+                  ∙ sym (ap (filter q) (filter_yes p x xs passes) ∙ filter_yes q x (filter p xs) both)))
+              | inr one ↦
+                  ap (filter p) (filter_no q x xs one)
+                  ∙ (rest ∙ sym (ap (filter q) (filter_yes p x xs passes) ∙ filter_no q x (filter p xs) one))
+            ]
+        | inr fails ↦
+            elim (cases_Bool (q x)) [
+              | inl other ↦
+                  ap (filter p) (filter_yes q x xs other)
+                  ∙ (filter_no p x (filter q xs) fails ∙ (rest ∙ sym (ap (filter q) (filter_no p x xs fails))))
+              | inr none ↦ ap (filter p) (filter_no q x xs none) ∙ (rest ∙ sym (ap (filter q) (filter_no p x xs fails)))
+            ]
       ]

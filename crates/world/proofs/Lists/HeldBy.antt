@@ -5,16 +5,12 @@ use Rattle.std.specs.Prelude.{◌||◌}
 use Rattle.std.proofs.lemmas.Bool.{or_left, cases_Bool, cases_eq, cond-true, cond-false, eq-eqb, ne_eqb, not_from_true, not_from_false}
 use Rattle.freeze_ledger.specs.declared.entries.Freeze.{Freeze}
 use Rattle.freeze_ledger.specs.Freezes.{entry_of, without}
-use Rattle.freeze_ledger.specs.Invariant.{AreNumbered}
-use Rattle.freeze_ledger.proofs.Numbered.{without_lower}
 use Rattle.helpers.specs.Rules.{is_held}
 use Rattle.world.specs.RunSteps.{is_run}
 use Rattle.world.specs.FreezeLaws.{entries_of, held_by}
-use Rattle.world.proofs.Lists.Found.{at_head, at_tail}
-use Rattle.world.proofs.Lists.Entries.{entry_bounds}
-
-abbrev pub freeze_key : Freeze → ℕ
-freeze_key freeze = freeze.number
+use Rattle.world.proofs.Lists.Found.{at_head, at_tail, filter_swap}
+use Rattle.world.proofs.Lists.Rising.{leave_low}
+use Rattle.world.proofs.Lists.Entries.{freeze_key, FreezesRise, entry_bounds}
 
 -- the first entry is the run's, or it is not
 pub entries_head : (r : ℕ) (g : Freeze) (fs : List Freeze) → is_run r g.holder ≡ true → entries_of r (g ∷ fs) ≡ g ∷ entries_of r fs
@@ -74,8 +70,12 @@ held_without_own r n (g ∷ fs) =
           ]
     ]
 
+-- the entries of a run after one fewer
+pub entries_without : (r n : ℕ) (fs : List Freeze) → entries_of r (without n fs) ≡ without n (entries_of r fs)
+entries_without r n fs = filter_swap freeze_key (λ (f : Freeze). is_run r f.holder) (λ (f : Freeze). not (eqb f.number n)) fs
+
 -- one fewer of another holder
-pub entries_without_other : (r n low : ℕ) (fs : List Freeze) (high : ℕ) (f : Freeze) → AreNumbered low fs high → entry_of n fs ≡ Some f → is_run r f.holder ≡ false → entries_of r (without n fs) ≡ entries_of r fs
+pub entries_without_other : (r n low : ℕ) (fs : List Freeze) (high : ℕ) (f : Freeze) → FreezesRise low fs high → entry_of n fs ≡ Some f → is_run r f.holder ≡ false → entries_of r (without n fs) ≡ entries_of r fs
 entries_without_other r n low [] high f h entry e = refl
 entries_without_other r n low (g ∷ fs) high f h entry e =
     elim (cases_eq g.number n) [
@@ -83,7 +83,7 @@ entries_without_other r n low (g ∷ fs) high f h entry e =
           let both : Some g ≡ Some f = sym (at_head freeze_key n g fs same) ∙ entry in
           let is : g ≡ f = cc in
           ap (entries_of r) (cond-false (not (eqb g.number n)) (g ∷ without n fs) (without n fs) (not_from_true _ (eq-eqb _ _ same))
-          ∙ without_lower n g.number fs high (omega (arith, same)) h.1)
+          ∙ leave_low freeze_key g.number fs high n (omega (arith, same)) h.1)
           ∙ sym (entries_tail r g fs (subst (λ (x : Freeze). is_run r x.holder ≡ false) (sym is) e))
       | inr apart ↦
           let rest = entries_without_other r n g.number fs high f h.1 (sym (at_tail freeze_key n g fs apart) ∙ entry) e in
@@ -95,7 +95,7 @@ entries_without_other r n low (g ∷ fs) high f h entry e =
     ]
 
 -- a run that no entry names holds nothing
-pub held_none : (r low : ℕ) (fs : List Freeze) (high : ℕ) → AreNumbered low fs high → ((n : ℕ) (f : Freeze) → entry_of n fs ≡ Some f → is_run r f.holder ≡ false) → held_by r fs ≡ []
+pub held_none : (r low : ℕ) (fs : List Freeze) (high : ℕ) → FreezesRise low fs high → ((n : ℕ) (f : Freeze) → entry_of n fs ≡ Some f → is_run r f.holder ≡ false) → held_by r fs ≡ []
 held_none r low [] high h none = refl
 held_none r low (g ∷ fs) high h none =
     held_tail r g fs (none g.number g (at_head freeze_key g.number g fs refl))
@@ -126,7 +126,7 @@ is_among r n (g ∷ fs) f entry e =
     ]
 
 -- and what is among that has such an entry
-pub among_is : (r n low : ℕ) (fs : List Freeze) (high : ℕ) → AreNumbered low fs high → is_held (held_by r fs) n ≡ true → (f : Freeze) × (entry_of n fs ≡ Some f) × (is_run r f.holder ≡ true)
+pub among_is : (r n low : ℕ) (fs : List Freeze) (high : ℕ) → FreezesRise low fs high → is_held (held_by r fs) n ≡ true → (f : Freeze) × (entry_of n fs ≡ Some f) × (is_run r f.holder ≡ true)
 among_is r n low [] high h e = absurd (let bad : false ≡ true = e in cc)
 among_is r n low (g ∷ fs) high h e =
     let further : is_held (held_by r fs) n ≡ true → (f : Freeze) × (entry_of n (g ∷ fs) ≡ Some f) × (is_run r f.holder ≡ true) = λ among.

@@ -2,7 +2,7 @@
 -- place is one by number.
 use Rattle.std.proofs.Common.{◌≡◌, ℕ, zero, suc, ◌<◌, ◌≤◌, List, [], ◌∷◌, map, length, get_or, set, Some, None, refl, ap, sym, ◌∙◌, arith}
 use Rattle.std.specs.List.{remove}
-use Rattle.world.specs.Limits.{AreRising}
+use Rattle.ccb.specs.Rising.{AreRising}
 use Rattle.world.proofs.Lists.Found.{at, put, leave, at_head, at_tail, put_tail, leave_tail}
 use Rattle.world.proofs.Lists.Rising.{rising_high, missing_low, put_here, leave_here}
 

@@ -4,7 +4,7 @@ use Rattle.std.proofs.Common.{◌≡◌, ℕ, ◌+◌, ◌<◌, ◌≤◌, List,
 use Rattle.std.specs.List.{find, filter, count_by}
 use Rattle.std.proofs.lemmas.Bool.{cases_Bool, cases_eq, cond-true, cond-false, cond_both}
 use Rattle.std.proofs.lemmas.List.Sums.{sum_by-cons}
-use Rattle.world.specs.Limits.{AreRising}
+use Rattle.ccb.specs.Rising.{AreRising}
 use Rattle.world.proofs.Lists.Found.{at, put, leave, at_head, at_tail, put_head, put_tail, leave_head, leave_tail}
 
 pub rising_lower : (low lower : ℕ) (ns : List ℕ) (high : ℕ) → lower ≤ low → AreRising low ns high → AreRising lower ns high
@@ -20,12 +20,16 @@ module _ {A : Type 0} (key : A → ℕ) where
   rising_push low [] high y h e = (omega (arith, h, e), omega (arith, e))
   rising_push low (x ∷ xs) high y h e = (h.0, rising_push (key x) xs high y h.1 e)
 
+  -- some of them
+  pub rising_filter : (p : A → Bool) (low : ℕ) (xs : List A) (high : ℕ) → AreRising low (map key xs) high → AreRising low (map key (filter p xs)) high
+  rising_filter p low [] high h = h
+  rising_filter p low (x ∷ xs) high h =
+      let rest = rising_filter p (key x) xs high h.1 in
+      cond_both (p x) (x ∷ filter p xs) (filter p xs) (λ ys. AreRising low (map key ys) high)
+      (λ _. (h.0, rest)) (λ _. rising_lower (key x) low (map key (filter p xs)) high (omega (arith, h.0)) rest)
+
   pub rising_leave : (low : ℕ) (xs : List A) (high m : ℕ) → AreRising low (map key xs) high → AreRising low (map key (leave key m xs)) high
-  rising_leave low [] high m h = h
-  rising_leave low (x ∷ xs) high m h =
-      let rest = rising_leave (key x) xs high m h.1 in
-      cond_both (not (eqb (key x) m)) (x ∷ leave key m xs) (leave key m xs) (λ ys. AreRising low (map key ys) high)
-      (λ _. (h.0, rest)) (λ _. rising_lower (key x) low (map key (leave key m xs)) high (omega (arith, h.0)) rest)
+  rising_leave low xs high m h = rising_filter (λ (x : A). not (eqb (key x) m)) low xs high h
 
   pub found_bounds : (low : ℕ) (xs : List A) (high n : ℕ) (x : A) → AreRising low (map key xs) high → at key n xs ≡ Some x → (low < n) × (n ≤ high)
   found_bounds low [] high n x h e = absurd (let bad : None ≡ Some x = e in cc)

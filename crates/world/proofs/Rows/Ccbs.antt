@@ -4,8 +4,9 @@ use Rattle.ccb.specs.declared.status.CamStatus.TheVariants.{RequestInProgress, R
 use Rattle.freeze_ledger.specs.declared.entries.Holder.TheVariants.{Guest}
 use Rattle.helpers.specs.declared.limits.HelperLimits.{HelperLimits}
 use Rattle.bpf_machine.specs.MachineState.{entry}
-use Rattle.world.specs.declared.history.Refusal.TheVariants.{Unknown, Limit, NotActive, Frozen, NoOpening, NothingWaits}
-use Rattle.world.specs.World.{waiting, active, in_recovery, World, opening}
+use Rattle.world.specs.declared.refusal.Refusal.TheVariants.{Unknown, Limit, NotActive, Frozen, NoOpening, NothingWaits}
+use Rattle.world.specs.declared.ccb_state.CcbState.TheVariants.{Waiting, Active, InRecovery}
+use Rattle.world.specs.World.{World, opening}
 use Rattle.world.specs.Lookups.{active_count}
 use Rattle.world.specs.Event.{private, submit, dispatch, complete, guest_freeze, executes, ccb_given, done, run_started, refused}
 use Rattle.world.specs.Step.{step}
@@ -44,7 +45,7 @@ frozen_first l = refl
 
 -- that the openings are taken is told before that nothing waits
 abbrev one_active : World
-one_active = with_ccbs (ccb_in 1 5 active ∷ ccb_in 2 5 active ∷ []) 2
+one_active = with_ccbs (ccb_in 1 5 Active ∷ ccb_in 2 5 Active ∷ []) 2
 
 opening_first : (l : HelperLimits) → step (one_queue l) one_active (dispatch 0) ≡ Some (refused NoOpening, one_active)
 opening_first l = refl
@@ -57,10 +58,10 @@ unknown_submit : (l : HelperLimits) → answer (one_queue l) (with_ccbs [] 42949
 unknown_submit l = refl
 
 -- a queue takes 256 CCBs and no more, whatever their state
-full_of_ccbs : (l : HelperLimits) → answer (one_queue l) (with_ccbs (replicate 256 (ccb_in 1 5 in_recovery)) 256) (submit 0 5 0) ≡ Some (refused Limit)
+full_of_ccbs : (l : HelperLimits) → answer (one_queue l) (with_ccbs (replicate 256 (ccb_in 1 5 InRecovery)) 256) (submit 0 5 0) ≡ Some (refused Limit)
 full_of_ccbs l = refl
 
-room_for_one : (l : HelperLimits) → answer (one_queue l) (with_ccbs (replicate 255 (ccb_in 1 5 in_recovery)) 256) (submit 0 5 0) ≡ Some (ccb_given 257)
+room_for_one : (l : HelperLimits) → answer (one_queue l) (with_ccbs (replicate 255 (ccb_in 1 5 InRecovery)) 256) (submit 0 5 0) ≡ Some (ccb_given 257)
 room_for_one l = refl
 
 last_ccb : (l : HelperLimits) → answer (one_queue l) (with_ccbs [] 4294967294) (submit 0 5 0) ≡ Some (ccb_given 4294967295)
@@ -71,7 +72,7 @@ ccbs_used_up l = refl
 
 -- a CCB that was not submitted, and one that waits
 abbrev one_waits : World
-one_waits = with_ccbs (ccb_in 1 5 waiting ∷ []) 1
+one_waits = with_ccbs (ccb_in 1 5 Waiting ∷ []) 1
 
 unknown_ccb : (l : HelperLimits) → step (one_queue l) one_waits (complete (outcome_of 2 CommandTimeout)) ≡ Some (refused Unknown, one_waits)
 unknown_ccb l = refl
@@ -94,14 +95,14 @@ unknown_before_limit l = refl
 
 -- a CCB that succeeded needs no run, and is finished with its code
 abbrev succeeds : World
-succeeds = record (with_ccbs (ccb_in 1 5 active ∷ ccb_in 2 5 waiting ∷ []) 2) { greatest_run = 4294967295 }
+succeeds = record (with_ccbs (ccb_in 1 5 Active ∷ ccb_in 2 5 Waiting ∷ []) 2) { greatest_run = 4294967295 }
 
-success_ends : (l : HelperLimits) → step (one_queue l) succeeds (complete (outcome_of 1 RequestCompleted)) ≡ Some (done, record succeeds { live = ccb_in 2 5 waiting ∷ []; ended = record { number = 1; code = 1 } ∷ [] })
+success_ends : (l : HelperLimits) → step (one_queue l) succeeds (complete (outcome_of 1 RequestCompleted)) ≡ Some (done, record succeeds { live = ccb_in 2 5 Waiting ∷ []; ended = record { number = 1; code = 1 } ∷ [] })
 success_ends l = refl
 
 -- 256 runs are the most
 abbrev many_runs : ℕ → World
-many_runs n = record (with_ccbs (ccb_in 1 5 active ∷ []) 1) { runs = replicate n (record { number = 1; ccb = 7; queue = 0; program = program; machine = entry [] 0; out = true }) }
+many_runs n = record (with_ccbs (ccb_in 1 5 Active ∷ []) 1) { runs = replicate n (record { number = 1; ccb = 7; queue = 0; program = program; machine = entry [] 0; out = true }) }
 
 run_limit : (l : HelperLimits) → answer (one_queue l) (many_runs 256) (complete (outcome_of 1 CommandTimeout)) ≡ Some (refused Limit)
 run_limit l = refl
@@ -111,7 +112,7 @@ last_run l = refl
 
 -- where a further freeze meets a limit, the run starts without one, and nothing was frozen
 abbrev no_freeze_left : World
-no_freeze_left = record (with_ccbs (ccb_in 1 5 active ∷ []) 1) { greatest_freeze = 4294967295 }
+no_freeze_left = record (with_ccbs (ccb_in 1 5 Active ∷ []) 1) { greatest_freeze = 4294967295 }
 
 freeze_limit : (l : HelperLimits) → answer (one_queue l) no_freeze_left (complete (outcome_of 1 CommandTimeout)) ≡ Some (run_started 1 0)
 freeze_limit l = refl
@@ -120,7 +121,7 @@ nothing_frozen : (l : HelperLimits) → (next (one_queue l) no_freeze_left (comp
 nothing_frozen l = refl
 
 -- a device never reports that a CCB is still in progress
-still_in_progress : (l : HelperLimits) → step (one_queue l) (with_ccbs (ccb_in 1 5 active ∷ []) 1) (complete (outcome_of 1 RequestInProgress)) ≡ None
+still_in_progress : (l : HelperLimits) → step (one_queue l) (with_ccbs (ccb_in 1 5 Active ∷ []) 1) (complete (outcome_of 1 RequestInProgress)) ≡ None
 still_in_progress l = refl
 
 -- there is no run, so none executes anything

@@ -2,12 +2,12 @@
 use Rattle.std.proofs.Common.{◌≡◌, [], ◌∷◌, Some, None, Ok, refl, replicate}
 use Rattle.freeze_ledger.specs.declared.entries.Holder.TheVariants.{Run, Timer, Guest}
 use Rattle.helpers.specs.declared.limits.HelperLimits.{HelperLimits}
-use Rattle.world.specs.declared.history.Refusal.TheVariants.{Unknown, Limit}
-use Rattle.world.specs.declared.history.Record.TheVariants.{GuestFreeze, GuestRelease}
+use Rattle.world.specs.declared.refusal.Refusal.TheVariants.{Unknown, Limit}
+use Rattle.world.specs.declared.record.Record.TheVariants.{GuestFreeze, GuestRelease}
 use Rattle.world.specs.World.{World, opening}
 use Rattle.world.specs.Event.{guest_freeze, guest_release, freeze_given, count_left, refused}
 use Rattle.world.specs.Step.{step}
-use Rattle.world.specs.Run.{WorldRun}
+use Rattle.world.specs.WorldRun.{WorldRun}
 use Rattle.world.specs.Flat.{flat}
 use Rattle.world.specs.TotalsOf.{TotalsOf}
 use Rattle.world.proofs.Rows.Worked.{one_queue, with_freezes, freeze_of}

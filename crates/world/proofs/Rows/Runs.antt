@@ -4,18 +4,19 @@ use Rattle.std.proofs.Common.{◌≡◌, false, List, [], ◌∷◌, map, Some, 
 use Rattle.ccb.specs.declared.status.CamStatus.TheVariants.{CommandTimeout, RequestInProgress, RequestCompleted}
 use Rattle.freeze_ledger.specs.declared.entries.Holder.TheVariants.{Run}
 use Rattle.helpers.specs.declared.limits.HelperLimits.{HelperLimits}
-use Rattle.world.specs.declared.history.Completed.TheVariants.{Started}
-use Rattle.world.specs.declared.history.StoppedAt.TheVariants.{Release, Requeue, Exit}
-use Rattle.world.specs.declared.history.Record.{Record}
-use Rattle.world.specs.declared.history.Record.TheVariants.{Submit, Dispatch, Complete, Advance}
-use Rattle.world.specs.declared.history.Refusal.TheVariants.{NotActive, Frozen}
-use Rattle.world.specs.World.{waiting, LiveRun, World, opening}
+use Rattle.world.specs.declared.record.Completed.TheVariants.{Started}
+use Rattle.world.specs.declared.record.StoppedAt.TheVariants.{Release, Requeue, Exit}
+use Rattle.world.specs.declared.record.Record.{Record}
+use Rattle.world.specs.declared.record.Record.TheVariants.{Submit, Dispatch, Complete, Advance}
+use Rattle.world.specs.declared.refusal.Refusal.TheVariants.{NotActive, Frozen}
+use Rattle.world.specs.declared.ccb_state.CcbState.TheVariants.{Waiting}
+use Rattle.world.specs.World.{LiveRun, World, opening}
 use Rattle.world.specs.Event.{release, requeue, private, call, exit, Event, submit, dispatch, complete, executes, Reply, ccb_given, run_started, went_on, result, refused}
 use Rattle.world.specs.Step.{step}
-use Rattle.world.specs.Run.{WorldRun}
+use Rattle.world.specs.WorldRun.{WorldRun, world_after}
 use Rattle.world.specs.TookGave.{took, gave}
 use Rattle.world.specs.CcbLaws.{finished_in}
-use Rattle.world.specs.Headline.{steps_of, requeues_of, exits_of}
+use Rattle.world.specs.Headline.{steps_of, disposals_of, exits_of}
 use Rattle.world.specs.Flat.{flat}
 use Rattle.world.specs.TotalsOf.{TotalsOf}
 use Rattle.world.proofs.Rows.Worked.{one_queue, outcome_of, next, answer}
@@ -59,7 +60,7 @@ at_end = record {
       sense = [];
       freeze_taken = false;
     };
-    state = waiting;
+    state = Waiting;
   } ∷ [];
   ended = [];
   freezes = [];
@@ -151,12 +152,17 @@ its_freeze : (l : HelperLimits) → (failed l).freezes ≡ record { number = 1; 
 its_freeze l = refl
 
 -- the run's seven steps are its budget; it made its CCB wait again once, and exited
-its_steps : (steps_of 1 events ≡ 7) × (requeues_of 1 events ≡ 1) × (exits_of 1 events ≡ 1)
+its_steps : (steps_of 1 events ≡ 7) × (disposals_of 1 events ≡ 1) × (exits_of 1 events ≡ 1)
 its_steps = (refl, refl, refl)
 
 -- no CCB ended
-none_ended : finished_in events ≡ []
-none_ended = refl
+none_ended : (l : HelperLimits) → finished_in (one_queue l) (opening (one_queue l)) events at_end (it_runs l) ≡ []
+unfolding it_runs
+none_ended l = refl
+
+-- by the steps alone the events lead there
+its_world : (l : HelperLimits) → world_after (one_queue l) (opening (one_queue l)) events ≡ at_end
+its_world l = refl
 
 -- while the run holds its freeze, the queue starts nothing
 abbrev another_waits : HelperLimits → World

@@ -15,7 +15,8 @@ use Rattle.bpf_insn.specs.declared.insn.Condition.TheVariants.{Equal}
 use Rattle.bpf_insn.specs.declared.reg.Reg.TheVariants.{R0, R1, R2}
 use Rattle.bpf_insn.specs.declared.program.Slot.{Slot}
 use Rattle.bpf_insn.specs.declared.program.Slot.TheVariants.{First}
-use Rattle.world.specs.World.{QueueSetup, Setup, LiveCcb, CcbState, World}
+use Rattle.world.specs.declared.ccb_state.CcbState.{CcbState}
+use Rattle.world.specs.World.{QueueSetup, Setup, LiveCcb, World}
 use Rattle.world.specs.Event.{Event, Reply}
 use Rattle.world.specs.Step.{step}
 

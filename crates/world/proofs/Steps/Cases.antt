@@ -12,12 +12,13 @@ use Rattle.helpers.specs.declared.call.Request.{Request}
 use Rattle.helpers.specs.declared.call.Request.TheVariants.{Release, Requeue}
 use Rattle.bpf_machine.specs.MachineState.{MachineState}
 use Rattle.bpf_machine.specs.Step.{private_step, request_at, exit_at}
-use Rattle.world.specs.declared.history.Refusal.{Refusal}
-use Rattle.world.specs.declared.history.Refusal.TheVariants.{Unknown, Limit, NotActive, Frozen, NoOpening, NothingWaits}
-use Rattle.world.specs.World.{Setup, queue_count, waiting, active, LiveCcb, LiveRun, World}
+use Rattle.world.specs.declared.refusal.Refusal.{Refusal}
+use Rattle.world.specs.declared.refusal.Refusal.TheVariants.{Unknown, Limit, NotActive, Frozen, NoOpening, NothingWaits}
+use Rattle.world.specs.declared.ccb_state.CcbState.TheVariants.{Waiting, Active}
+use Rattle.world.specs.World.{Setup, queue_count, LiveCcb, LiveRun, World}
 use Rattle.world.specs.Lookups.{is_active, active_count, ccb_of, with_ccb, next_waiting, run_of}
 use Rattle.world.specs.Event.{release, requeue, Instruction, private, call, exit, Event, submit, dispatch, complete, guest_freeze, guest_release, executes, Reply, ccb_given, done, freeze_given, count_left, went_on, result, refused}
-use Rattle.world.specs.FreezeSteps.{is_guest, froze, thawed, step_guest_release}
+use Rattle.world.specs.FreezeSteps.{frozen_with, is_guest, froze, thawed, step_guest_release}
 use Rattle.world.specs.CcbSteps.{ccb_meets_limit, starts, is_success, run_meets_limit, finishes, run_starts, completes, is_completion}
 use Rattle.world.specs.RunSteps.{is_run, goes_on, answers, releases, requeues, step_call, ends, step_run, step_executes}
 use Rattle.world.specs.Step.{WorldStep}
@@ -48,7 +49,7 @@ pub record Submits (setup : Setup) (before : World) (event : Event) (reply : Rep
   pub room : ccb_meets_limit queue before ≡ false
   pub reply_is : reply ≡ ccb_given (before.greatest_ccb + 1)
   pub after_is : after ≡ record before {
-    live = before.live ++ record { ccb = submitted (record { 0 = before.greatest_ccb + 1 }) (record { 0 = queue }) priority retries; state = waiting } ∷ [];
+    live = before.live ++ record { ccb = submitted (record { 0 = before.greatest_ccb + 1 }) (record { 0 = queue }) priority retries; state = Waiting } ∷ [];
     greatest_ccb = before.greatest_ccb + 1;
   }
 
@@ -62,7 +63,7 @@ pub record Dispatches (setup : Setup) (before : World) (event : Event) (reply : 
   pub next : LiveCcb
   pub next_is : next_waiting queue before.live ≡ Some next
   pub reply_is : reply ≡ ccb_given next.ccb.number.0
-  pub after_is : after ≡ record before { live = with_ccb (record { ccb = started next.ccb; state = active }) before.live }
+  pub after_is : after ≡ record before { live = with_ccb (record { ccb = started next.ccb; state = Active }) before.live }
 
 -- an active CCB is finished
 pub record Finishes (before : World) (event : Event) (reply : Reply) (after : World) : Type 0 where
@@ -115,7 +116,7 @@ pub record Releases (before : World) (event : Event) (reply : Reply) (after : Wo
   pub freeze : Freeze
   pub entry : entry_of number before.freezes ≡ Some freeze
   pub guests : is_guest freeze.holder ≡ true
-  pub reply_is : reply ≡ count_left (frozen freeze.queue.0 (without freeze.number before.freezes))
+  pub reply_is : reply ≡ count_left (frozen_with freeze (without freeze.number before.freezes))
   pub after_is : after ≡ thawed before freeze.number
 
 -- a run that is out executes its next instruction
@@ -142,7 +143,7 @@ pub record GivesBack (before : World) (event : Event) (reply : Reply) (after : W
   pub freeze : Freeze
   pub entry : entry_of number before.freezes ≡ Some freeze
   pub held : is_run it.run.number freeze.holder ≡ true
-  pub answer : (reply, after) ≡ answers (thawed before freeze.number) it.run (Release freeze.number) (frozen freeze.queue.0 (without freeze.number before.freezes))
+  pub answer : (reply, after) ≡ answers (thawed before freeze.number) it.run (Release freeze.number) (frozen_with freeze (without freeze.number before.freezes))
 
 -- a call of helper 4
 pub record Requeues (before : World) (event : Event) (reply : Reply) (after : World) : Type 0 where
@@ -153,7 +154,7 @@ pub record Requeues (before : World) (event : Event) (reply : Reply) (after : Wo
   pub fresh : it.run.machine.disposed ≡ false
   pub live : LiveCcb
   pub found : ccb_of it.run.ccb before.live ≡ Some live
-  pub answer : (reply, after) ≡ answers (record before { live = with_ccb (record { ccb = requeued live.ccb retries; state = waiting }) before.live }) it.run (Requeue retries) 0
+  pub answer : (reply, after) ≡ answers (record before { live = with_ccb (record { ccb = requeued live.ccb retries; state = Waiting }) before.live }) it.run (Requeue retries) 0
 
 -- the exit
 pub record Exits (before : World) (event : Event) (reply : Reply) (after : World) : Type 0 where

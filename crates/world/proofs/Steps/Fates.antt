@@ -6,11 +6,13 @@ use Rattle.ccb.specs.ControlBlock.{completed}
 use Rattle.ccb.specs.Context.{context_of}
 use Rattle.freeze_ledger.specs.declared.entries.Holder.TheVariants.{Run}
 use Rattle.freeze_ledger.specs.declared.entries.Freeze.{Freeze}
-use Rattle.freeze_ledger.specs.Freezes.{frozen, meets_limit, entry_of, without}
+use Rattle.freeze_ledger.specs.Freezes.{meets_limit, entry_of, without}
 use Rattle.helpers.specs.declared.call.Request.TheVariants.{Release, Requeue}
 use Rattle.bpf_machine.specs.MachineState.{MachineState, entry}
 use Rattle.bpf_machine.specs.Step.{private_step, request_at, exit_at, answered}
-use Rattle.world.specs.World.{Setup, queue_setup, in_recovery, LiveCcb, LiveRun, World}
+use Rattle.world.specs.FreezeSteps.{frozen_with}
+use Rattle.world.specs.declared.ccb_state.CcbState.TheVariants.{InRecovery}
+use Rattle.world.specs.World.{Setup, queue_setup, LiveCcb, LiveRun, World}
 use Rattle.world.specs.Lookups.{is_active, ccb_of, with_ccb, run_of, with_run}
 use Rattle.world.specs.Event.{release, requeue, Instruction, private, call, exit, Event, submit, dispatch, complete, guest_freeze, guest_release, executes, Reply, run_started}
 use Rattle.world.specs.CcbSteps.{is_completion}
@@ -27,7 +29,7 @@ machine_of run machine = record run { machine = machine }
 pub data Fate (before : World) (event : Event) (after : World) (number : ℕ) (run : LiveRun) : Type 0 where
   stands : is_step_of number event ≡ false → run_of number after.runs ≡ Some run → Fate before event after number run
   goes_privately : (machine : MachineState) → event ≡ executes number private → private_step run.program run.machine ≡ Some machine → run_of number after.runs ≡ Some (machine_of run machine) → after.freezes ≡ before.freezes → after.live ≡ before.live → Fate before event after number run
-  goes_releasing : (asked : ℕ) (freeze : Freeze) → event ≡ executes number (call release) → request_at run.program run.machine ≡ Some (Release asked) → entry_of asked before.freezes ≡ Some freeze → is_run number freeze.holder ≡ true → run_of number after.runs ≡ Some (machine_of run (answered (Release freeze.number) (record { r0 = frozen freeze.queue.0 (without freeze.number before.freezes) }) run.machine)) → after.freezes ≡ without freeze.number before.freezes → after.live ≡ before.live → Fate before event after number run
+  goes_releasing : (asked : ℕ) (freeze : Freeze) → event ≡ executes number (call release) → request_at run.program run.machine ≡ Some (Release asked) → entry_of asked before.freezes ≡ Some freeze → is_run number freeze.holder ≡ true → run_of number after.runs ≡ Some (machine_of run (answered (Release freeze.number) (record { r0 = frozen_with freeze (without freeze.number before.freezes) }) run.machine)) → after.freezes ≡ without freeze.number before.freezes → after.live ≡ before.live → Fate before event after number run
   goes_requeuing : (retries : ℕ) → event ≡ executes number (call requeue) → request_at run.program run.machine ≡ Some (Requeue retries) → run.machine.disposed ≡ false → run_of number after.runs ≡ Some (machine_of run (answered (Requeue retries) (record { r0 = 0 }) run.machine)) → after.freezes ≡ before.freezes → Fate before event after number run
   leaves_world : (r0 : ℕ) → event ≡ executes number exit → exit_at run.program run.machine ≡ Some r0 → run_of number after.runs ≡ None → after.freezes ≡ before.freezes → Fate before event after number run
 
@@ -89,7 +91,7 @@ fate_of setup before event reply after number run found (goes_on_one it) =
     ]
 fate_of setup before event reply after number run found (gives_back it) =
     let named : it.it.run.number ≡ it.it.number = found_key run_key it.it.number before.runs it.it.run it.it.found in
-    let r0 : ℕ = frozen it.freeze.queue.0 (without it.freeze.number before.freezes) in
+    let r0 : ℕ = frozen_with it.freeze (without it.freeze.number before.freezes) in
     let runs_is : after.runs ≡ with_run (machine_of it.it.run (answered (Release it.freeze.number) (record { r0 = r0 }) it.it.run.machine)) before.runs = ap (λ (x : Reply × World). x.1.runs) it.answer in
     elim (cases_eq it.it.number number) [
       | inl its ↦
@@ -152,7 +154,7 @@ pub record Begins (setup : Setup) (before : World) (event : Event) (reply : Repl
     out = true;
   }
   pub reply_is : reply ≡ run_started (before.greatest_run + 1) freeze
-  pub live_is : after.live ≡ with_ccb (record { ccb = completed live.ccb outcome taken; state = in_recovery }) before.live
+  pub live_is : after.live ≡ with_ccb (record { ccb = completed live.ccb outcome taken; state = InRecovery }) before.live
   pub runs_is : after.runs ≡ before.runs ++ run ∷ []
   pub freezes_is :
       ((freeze ≡ 0) × (after.freezes ≡ before.freezes))

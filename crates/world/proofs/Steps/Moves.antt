@@ -8,11 +8,12 @@ use Rattle.freeze_ledger.specs.declared.entries.Holder.TheVariants.{Run, Guest}
 use Rattle.freeze_ledger.specs.declared.entries.Freeze.{Freeze}
 use Rattle.freeze_ledger.specs.Freezes.{meets_limit, entry_of, without}
 use Rattle.bpf_machine.specs.MachineState.{MachineState}
-use Rattle.world.specs.World.{Setup, queue_count, queue_setup, waiting, active, in_recovery, LiveCcb, LiveRun, World}
+use Rattle.world.specs.declared.ccb_state.CcbState.TheVariants.{Waiting, Active, InRecovery}
+use Rattle.world.specs.World.{Setup, queue_count, queue_setup, LiveCcb, LiveRun, World}
 use Rattle.world.specs.Lookups.{is_active, is_waiting, is_of, active_count, ccb_of, with_ccb, next_waiting, run_of, with_run}
 use Rattle.world.specs.Event.{Event, Reply}
 use Rattle.world.specs.CcbSteps.{ccb_meets_limit, run_meets_limit}
-use Rattle.world.specs.Limits.{AreRising}
+use Rattle.ccb.specs.Rising.{AreRising}
 use Rattle.world.proofs.Lists.Found.{leave, found_key}
 use Rattle.world.proofs.Lists.Rising.{found_among}
 use Rattle.world.proofs.Steps.Cases.{Case, refuses, submits, dispatches, finishes_one, recovers_one, recovers_unfrozen, freezes_one, releases_one, goes_on_one, gives_back, requeues_one, exits}
@@ -27,7 +28,7 @@ run_key run = run.number
 
 pub data CcbMove (setup : Setup) (before after : World) : Type 0 where
   ccbs_stay : after.live ≡ before.live → after.greatest_ccb ≡ before.greatest_ccb → CcbMove setup before after
-  ccb_enters : (queue priority retries : ℕ) → queue < queue_count setup → ccb_meets_limit queue before ≡ false → after.live ≡ before.live ++ record { ccb = submitted (record { 0 = before.greatest_ccb + 1 }) (record { 0 = queue }) priority retries; state = waiting } ∷ [] → after.greatest_ccb ≡ before.greatest_ccb + 1 → CcbMove setup before after
+  ccb_enters : (queue priority retries : ℕ) → queue < queue_count setup → ccb_meets_limit queue before ≡ false → after.live ≡ before.live ++ record { ccb = submitted (record { 0 = before.greatest_ccb + 1 }) (record { 0 = queue }) priority retries; state = Waiting } ∷ [] → after.greatest_ccb ≡ before.greatest_ccb + 1 → CcbMove setup before after
   ccb_changes : (old new : LiveCcb) → ccb_of new.ccb.number.0 before.live ≡ Some old → new.ccb.queue.0 ≡ old.ccb.queue.0 → (is_active new.state ≡ false) ⊎ (active_count new.ccb.queue.0 before.live < slice_index before.openings new.ccb.queue.0) → after.live ≡ with_ccb new before.live → after.greatest_ccb ≡ before.greatest_ccb → CcbMove setup before after
   ccb_leaves : (number : ℕ) (old : LiveCcb) → ccb_of number before.live ≡ Some old → after.live ≡ leave ccb_key number before.live → after.greatest_ccb ≡ before.greatest_ccb → CcbMove setup before after
 
@@ -53,17 +54,17 @@ ccb_move setup before event reply after rising (submits it) =
     ccb_enters it.queue it.priority it.retries it.known it.room (ap (λ (w : World). w.live) it.after_is) (ap (λ (w : World). w.greatest_ccb) it.after_is)
 ccb_move setup before event reply after rising (dispatches it) =
     let next = next_found it.queue before.live before.greatest_ccb it.next rising it.next_is in
-    ccb_changes it.next (record { ccb = started it.next.ccb; state = active }) next.found refl
+    ccb_changes it.next (record { ccb = started it.next.ccb; state = Active }) next.found refl
     (inr (subst (λ (q : ℕ). active_count q before.live < slice_index before.openings q) (sym next.queue_is) it.opening))
     (ap (λ (w : World). w.live) it.after_is) (ap (λ (w : World). w.greatest_ccb) it.after_is)
 ccb_move setup before event reply after rising (finishes_one it) =
     ccb_leaves it.live.ccb.number.0 it.live (ccb_found _ before.live it.live it.found) (ap (λ (w : World). w.live) it.after_is) (ap (λ (w : World). w.greatest_ccb) it.after_is)
 ccb_move setup before event reply after rising (recovers_one it) =
-    ccb_changes it.fails.live (record { ccb = completed it.fails.live.ccb it.fails.outcome true; state = in_recovery })
+    ccb_changes it.fails.live (record { ccb = completed it.fails.live.ccb it.fails.outcome true; state = InRecovery })
     (ccb_found _ before.live it.fails.live it.fails.found) refl (inl refl)
     (ap (λ (x : Reply × World). x.1.live) it.starts_is) (ap (λ (x : Reply × World). x.1.greatest_ccb) it.starts_is)
 ccb_move setup before event reply after rising (recovers_unfrozen it) =
-    ccb_changes it.fails.live (record { ccb = completed it.fails.live.ccb it.fails.outcome false; state = in_recovery })
+    ccb_changes it.fails.live (record { ccb = completed it.fails.live.ccb it.fails.outcome false; state = InRecovery })
     (ccb_found _ before.live it.fails.live it.fails.found) refl (inl refl)
     (ap (λ (x : Reply × World). x.1.live) it.starts_is) (ap (λ (x : Reply × World). x.1.greatest_ccb) it.starts_is)
 ccb_move setup before event reply after rising (freezes_one it) = ccbs_stay (ap (λ (w : World). w.live) it.after_is) (ap (λ (w : World). w.greatest_ccb) it.after_is)
@@ -71,7 +72,7 @@ ccb_move setup before event reply after rising (releases_one it) = ccbs_stay (ap
 ccb_move setup before event reply after rising (goes_on_one it) = ccbs_stay (ap (λ (w : World). w.live) it.after_is) (ap (λ (w : World). w.greatest_ccb) it.after_is)
 ccb_move setup before event reply after rising (gives_back it) = ccbs_stay (ap (λ (x : Reply × World). x.1.live) it.answer) (ap (λ (x : Reply × World). x.1.greatest_ccb) it.answer)
 ccb_move setup before event reply after rising (requeues_one it) =
-    ccb_changes it.live (record { ccb = requeued it.live.ccb it.retries; state = waiting })
+    ccb_changes it.live (record { ccb = requeued it.live.ccb it.retries; state = Waiting })
     (ccb_found _ before.live it.live it.found) refl (inl refl)
     (ap (λ (x : Reply × World). x.1.live) it.answer) (ap (λ (x : Reply × World). x.1.greatest_ccb) it.answer)
 ccb_move setup before event reply after rising (exits it) = ccbs_stay (ap (λ (w : World). w.live) it.after_is) (ap (λ (w : World). w.greatest_ccb) it.after_is)

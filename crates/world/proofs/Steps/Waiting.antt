@@ -6,8 +6,8 @@ use Rattle.std.specs.List.{find, filter, list_all}
 use Rattle.std.proofs.lemmas.Bool.{cases_Bool, cases_eq, cond-true, cond-false, and_parts, or_cases, ltb-true, leb-true, eqb-true}
 use Rattle.world.specs.World.{LiveCcb}
 use Rattle.world.specs.Lookups.{is_waiting, is_of, ccb_of, starts_before, next_waiting}
-use Rattle.world.specs.Limits.{AreRising}
-use Rattle.world.proofs.Lists.Found.{at, at_head, at_tail}
+use Rattle.ccb.specs.Rising.{AreRising}
+use Rattle.world.proofs.Lists.Found.{at, at_head, at_tail, found_in_filter}
 use Rattle.world.proofs.Lists.Rising.{found_among}
 use Rattle.world.proofs.Steps.Moves.{ccb_key}
 
@@ -16,24 +16,6 @@ abbrev pub waiting_on : ℕ → List LiveCcb → List LiveCcb
 waiting_on queue ccbs = filter (λ live. is_of queue live && is_waiting live.state) ccbs
 
 module _ {A : Type 0} (key : A → ℕ) where
-  -- what is found among all, and is one of some, is found among these
-  found_in_filter : (some : A → Bool) (n : ℕ) (xs : List A) (x : A) → at key n xs ≡ Some x → some x ≡ true → at key n (filter some xs) ≡ Some x
-  found_in_filter some n [] x e is = absurd (let bad : None ≡ Some x = e in cc)
-  found_in_filter some n (y ∷ xs) x e is =
-      elim (cases_eq (key y) n) [
-        | inl same ↦
-            let both : Some y ≡ Some x = sym (at_head key n y xs same) ∙ e in
-            let is_x : y ≡ x = cc in
-            ap (at key n) (cond-true (some y) (y ∷ filter some xs) (filter some xs) (subst (λ (z : A). some z ≡ true) (sym is_x) is))
-            ∙ (at_head key n y (filter some xs) same ∙ both)
-        | inr apart ↦
-            let rest = found_in_filter some n xs x (sym (at_tail key n y xs apart) ∙ e) is in
-            elim (cases_Bool (some y)) [
-              | inl one_too ↦ ap (at key n) (cond-true (some y) (y ∷ filter some xs) (filter some xs) one_too) ∙ (at_tail key n y (filter some xs) apart ∙ rest)
-              | inr none ↦ ap (at key n) (cond-false (some y) (y ∷ filter some xs) (filter some xs) none) ∙ rest
-            ]
-      ]
-
   -- what holds of all holds of what is found
   all_at : (test : A → Bool) (n : ℕ) (xs : List A) (x : A) → list_all test xs ≡ true → at key n xs ≡ Some x → test x ≡ true
   all_at test n [] x all e = absurd (let bad : None ≡ Some x = e in cc)

@@ -1,8 +1,9 @@
 use Rattle.world.proofs.NeverStuck.{never_stuck}
 use Rattle.world.proofs.Headline.{within_budget, disposed_once, exact_freezes, others_leave_it, gone_run_stays_gone}
 use Rattle.world.proofs.Counts.{counts_are_entries}
-use Rattle.world.proofs.Sound.{held_are_entries}
+use Rattle.world.proofs.Sound.{held_are_entries, machines_are_reached}
 use Rattle.world.proofs.Leads.{limits_are_kept}
+use Rattle.world.proofs.Empty.{empty_advance_is_none}
 use Rattle.world.proofs.Accounts.{each_is_live_or_ended}
 use Rattle.world.proofs.Gone.{given_up_stays_given_up, given_up_by_run_stays_given_up, gone_stays_gone}
 use Rattle.engine_core.proofs.laws.headline.Goals as goal
@@ -10,6 +11,7 @@ use Rattle.engine_core.proofs.laws.headline.Goals as goal
 pub returns : goal.returns
 returns c = record {
   never_stuck = never_stuck;
+  reached = machines_are_reached;
   within_budget = within_budget;
   disposed_once = disposed_once;
   exact_freezes = exact_freezes;
@@ -22,4 +24,5 @@ returns c = record {
   given_up_by_run = given_up_by_run_stays_given_up;
   gone = gone_stays_gone;
   gone_run = gone_run_stays_gone;
+  empty_advance = empty_advance_is_none;
 }

@@ -1,6 +1,6 @@
 use Rattle.std.proofs.Common.{ltb, ltb-true, ltb-false, rules, arith}
 use Rattle.std.proofs.lemmas.List.Sorted.{IsPartitionPoint-from_clause, IsPartitionedBy-ltb}
-use Rattle.recoveries.specs.declared.runs.RunRecord.{RunRecord}
+use Rattle.recoveries.specs.declared.run_record.RunRecord.{RunRecord}
 use Rattle.recoveries.proofs.Records.{number_at, record_found, record_missing, record_rises}
 use Rattle.recoveries.proofs.places.place_of.Goals as goal
 use Rattle.recoveries.proofs.places.place_of.Goals.{else-place-runs-via-then-place-runs+else-runs-place, else-place-runs-via-else-place-runs}

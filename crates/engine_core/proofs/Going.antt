@@ -1,0 +1,97 @@
+-- A segment that was taken over, and a run that goes on behind its stop.
+use Rattle.std.proofs.Common.{◌≡◌, ℕ, List, [], ◌∷◌, ◌++◌, true, Some, ◌⊎◌, inl, inr, refl, ap, sym, subst, ◌∙◌}
+use Rattle.bpf_insn.specs.declared.program.Slot.{Slot}
+use Rattle.bpf_machine.specs.MachineState.{MachineState}
+use Rattle.bpf_machine.specs.Reached.{Reached}
+use Rattle.interpreter.specs.Segments.{SegmentState}
+use Rattle.ccb_table.specs.CcbsState.{CcbsState}
+use Rattle.recoveries.specs.RecoveryState.{RecoveryState}
+use Rattle.recoveries.specs.RunPlaces.{HasRunAt}
+use Rattle.recoveries.specs.Admits.{IsOutAs}
+use Rattle.world.specs.declared.record.Record.{Record}
+use Rattle.world.specs.declared.record.Record.TheVariants.{Advance}
+use Rattle.world.specs.declared.record.StoppedAt.{StoppedAt}
+use Rattle.world.specs.declared.record.StoppedAt.TheVariants.{Release, Requeue}
+use Rattle.world.specs.World.{Setup, LiveRun, World, queue_setup}
+use Rattle.world.specs.Lookups.{run_of}
+use Rattle.engine_core.specs.RunState.{RunState, IsOut, IsOutUnder, IsReached}
+use Rattle.engine_core.specs.Invariant.{KeepsEngine}
+use Rattle.engine_core.specs.TakingOver.{IsAdmitted, LeadsBy, GoesOn, GoesBy}
+use Rattle.engine_core.proofs.PrivateWays.{with_machine}
+use Rattle.engine_core.proofs.Recording.{Goes, kept_sound}
+use Rattle.engine_core.proofs.OneMore.{advances}
+
+-- a run that is out, and where it was found
+abbrev pub IsPlaced : List LiveRun → ℕ → ℕ → Type 0
+IsPlaced runs number place = (it : LiveRun) × (run_of number runs ≡ Some it) × HasRunAt runs place it
+
+there : (runs : List LiveRun) (number place : ℕ) (program : List Slot) (segment : SegmentState) → (out : IsOutAs runs number program segment) → IsPlaced runs number place → HasRunAt runs place out.it
+there runs number place program segment out at =
+    let both : Some at.0 ≡ Some out.it = sym at.1 ∙ out.found in
+    let same : at.0 ≡ out.it = cc in
+    subst (HasRunAt runs place) same at.2
+
+pub is_admitted : (setup : Setup) (history : List Record) (ccbs : CcbsState) (recoveries : RecoveryState) (number place : ℕ) (program : List Slot) (segment : SegmentState) → KeepsEngine setup history ccbs recoveries → IsOutAs recoveries.runs number program segment → IsPlaced recoveries.runs number place → IsAdmitted ccbs recoveries number place segment
+is_admitted setup history ccbs recoveries number place program segment kept out at = record {
+  setup = setup;
+  history = history;
+  kept = kept;
+  program = program;
+  out = out;
+  there = there recoveries.runs number place program segment out at;
+}
+
+pub taken_over : (setup : Setup) (history later : List Record) (ccbs more : CcbsState) (recoveries after : RecoveryState) (number place : ℕ) (program : List Slot) (segment : SegmentState) (stop : StoppedAt) (r0 : ℕ) → KeepsEngine setup history ccbs recoveries → later ≡ history ++ Advance number segment.steps stop r0 ∷ [] → after.queues ≡ recoveries.queues → IsOutAs recoveries.runs number program segment → IsPlaced recoveries.runs number place → LeadsBy stop r0 place segment ccbs recoveries more after → Goes setup history later ccbs more recoveries after (Advance number segment.steps stop r0)
+taken_over setup history later ccbs more recoveries after number place program segment stop r0 kept is same out at leads =
+    advances setup history later ccbs more recoveries after number segment.steps stop r0 kept is same
+    (leads number (is_admitted setup history ccbs recoveries number place program segment kept out at) setup history kept)
+
+-- it goes on unless it exited
+went_on : (stop : StoppedAt) (r0 : ℕ) (recoveries after : RecoveryState) (place : ℕ) (segment : SegmentState) → (stop ≡ Release) ⊎ (stop ≡ Requeue) → GoesBy stop r0 recoveries after place segment → GoesOn recoveries after place
+went_on stop r0 recoveries after place segment is goes =
+    elim is [
+      | inl e ↦ subst (λ (s : StoppedAt). GoesBy s r0 recoveries after place segment) e goes
+      | inr e ↦ subst (λ (s : StoppedAt). GoesBy s r0 recoveries after place segment) e goes
+    ]
+
+-- a run that goes on with this machine
+pub record GoesFurther (runs later : List LiveRun) (number : ℕ) (program : List Slot) (machine : MachineState) : Type 0 where
+  pub it : LiveRun
+  pub found : run_of number runs ≡ Some it
+  pub out : it.out ≡ true
+  pub program_is : it.program ≡ program
+  pub moved : run_of number later ≡ Some (with_machine it machine)
+
+pub goes_further : (recoveries after : RecoveryState) (number place : ℕ) (program : List Slot) (segment : SegmentState) (stop : StoppedAt) (r0 : ℕ) (machine : MachineState) → IsOutAs recoveries.runs number program segment → IsPlaced recoveries.runs number place → (stop ≡ Release) ⊎ (stop ≡ Requeue) → GoesBy stop r0 recoveries after place segment → ((it : LiveRun) → HasRunAt after.runs place it → machine ≡ it.machine) → GoesFurther recoveries.runs after.runs number program machine
+goes_further recoveries after number place program segment stop r0 machine out at is goes read =
+    let on = went_on stop r0 recoveries after place segment is goes in
+    let here = there recoveries.runs number place program segment out at in
+    let same : machine ≡ on.machine = read (with_machine out.it on.machine) (on.stands out.it here) in
+    record {
+      it = out.it;
+      found = out.found;
+      out = out.out;
+      program_is = sym out.next.program_is;
+      moved = on.found number out.it here out.found ∙ ap (λ (m : MachineState). Some (with_machine out.it m)) (sym same);
+    }
+
+-- its program reaches its machine
+pub reaches_further : (setup : Setup) (later : List Record) (more : CcbsState) (recoveries after : RecoveryState) (number : ℕ) (run : RunState) (machine : MachineState) → KeepsEngine setup later more after → GoesFurther recoveries.runs after.runs number run.program.program machine → IsReached (record run { machine = machine })
+reaches_further setup later more recoveries after number run machine kept on =
+    let reached = (kept_sound setup later more after kept).reached number (with_machine on.it machine) on.moved in
+    (reached.0, subst (λ (p : List Slot). Reached p reached.0 machine) on.program_is reached.1)
+
+-- it is out, and is under the setup if it was before
+pub goes_out : (setup : Setup) (before after : World) (number : ℕ) (run moved : RunState) (machine : MachineState) → number ≡ run.number → GoesFurther before.runs after.runs number run.program.program machine → moved ≡ record run { machine = machine } → (moved.number ≡ run.number) × (moved.program ≡ run.program) × IsOut after moved × (IsOutUnder setup before run → IsOutUnder setup after moved)
+goes_out setup before after number run moved machine named on moved_is =
+    let out : IsOut after (record run { machine = machine }) =
+    record { it = with_machine on.it machine; found = ap (λ (n : ℕ). run_of n after.runs) (sym named) ∙ on.moved; out = on.out; program_is = on.program_is; machine_is = refl } in
+    subst (λ (m : RunState). (m.number ≡ run.number) × (m.program ≡ run.program) × IsOut after m × (IsOutUnder setup before run → IsOutUnder setup after m)) (sym moved_is) (
+      refl,
+      refl,
+      out,
+      λ under.
+          let both : Some under.out.it ≡ Some on.it = sym under.out.found ∙ (ap (λ (n : ℕ). run_of n before.runs) (sym named) ∙ on.found) in
+          let same : under.out.it ≡ on.it = cc in
+          record { out = out; budget = under.budget ∙ ap (λ (x : LiveRun). (queue_setup setup x.queue).budget) same; limits = under.limits },
+    )

@@ -1,0 +1,38 @@
+use Rattle.std.proofs.Common.{◌≡◌, Some, refl, ap, sym, ◌∙◌}
+use Rattle.std.specs.Arc.{arc_value}
+use Rattle.ccb.specs.declared.control_block.Ccb.{Ccb}
+use Rattle.ccb_table.specs.CcbsState.{CcbsState, with_ccbs}
+use Rattle.recoveries.specs.RecoveryState.{with_recoveries}
+use Rattle.verifier.specs.Verdict.{Verdict}
+use Rattle.world.specs.declared.ccb_state.CcbState.TheVariants.{Active}
+use Rattle.world.specs.World.{LiveCcb, opening, queue_setup}
+use Rattle.world.specs.Lookups.{ccb_of}
+use Rattle.world.specs.Event.{run_started}
+use Rattle.world.proofs.Steps.Moves.{ccb_found}
+use Rattle.engine_core.specs.RunState.{RunState}
+use Rattle.engine_core.proofs.course.recover.Goals as goal
+
+pub recover-requires : goal.recover-requires
+recover-requires c =
+    let it : LiveCcb = record { ccb = c.args.ccb; state = Active } in
+    let there : ccb_of c.args.ccb.number.0 c.args.ccbs.now.live ≡ Some it =
+    ccb_found c.args.completion.now.ccb.0 c.args.ccbs.now.live it (c.requires.active (opening c.args.config.now)) in
+    (it, rw (c.start-started.ensures.ccb.1) there, refl, ap (λ (ccb : Ccb). ccb.queue) c.start-started.ensures.ccb.1)
+
+pub returns-clause-step : goal.returns-clause-step
+returns-clause-step c world =
+    let same : (queue_setup c.args.config.now c.args.ccb.queue.0).program ≡ (arc_value c.in_ok-recorded.recorded).program =
+    sym (ap (λ (v : Verdict). v.program) c.in_ok-recorded.ensures ∙ c.program-program.ensures.program) in
+    c.start-started.ensures.step c.args.config.now (with_ccbs c.args.ccbs.now world) same
+    ∙ (ap (λ (ccbs : CcbsState). (run_started c.start-started.result.run c.start-started.result.freeze, with_ccbs ccbs (with_recoveries c.start-started.new.self world))) (sym c.recover.ensures)
+    ∙ ap (λ (run : RunState). (run_started run.number c.start-started.result.freeze, with_ccbs c.recover.new.self (with_recoveries c.start-started.new.self world))) (sym c.new.ensures))
+
+pub returns-clause-out : goal.returns-clause-out
+returns-clause-out c world =
+    let program : (arc_value c.in_ok-recorded.recorded).program ≡ (arc_value c.in_ok-handed.handed).program =
+    ap (λ (v : Verdict). v.program) (c.in_ok-recorded.ensures ∙ sym c.in_ok-handed.ensures) in
+    rw (c.new.ensures) (record {
+      out = record { it = _; found = c.start-started.ensures.machine; out = refl; program_is = program; machine_is = refl };
+      budget = ap (λ (v : Verdict). v.budget) c.in_ok-handed.ensures ∙ c.program-program.ensures.budget;
+      limits = ap (λ (v : Verdict). v.limits) c.in_ok-handed.ensures ∙ c.program-program.ensures.limits;
+    })

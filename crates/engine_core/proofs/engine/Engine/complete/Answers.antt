@@ -1,0 +1,95 @@
+use Rattle.std.proofs.Common.{Ok, Err, Some, refl, ap, ◌∙◌, arith, rules}
+use Rattle.ccb_table.specs.CcbsState.{with_ccbs}
+use Rattle.recoveries.specs.RecoveryState.{with_recoveries}
+use Rattle.world.specs.declared.record.Completed.TheVariants.{Started}
+use Rattle.world.specs.declared.ccb_state.CcbState.TheVariants.{Active}
+use Rattle.world.specs.World.{LiveCcb, World}
+use Rattle.world.specs.Event.{Reply}
+use Rattle.world.proofs.Kept.{known_queue}
+use Rattle.world.proofs.Steps.Moves.{ccb_found}
+use Rattle.engine_core.specs.EngineState.{world_of}
+use Rattle.engine_core.specs.Courses.{IsActive}
+use Rattle.engine_core.proofs.Recording.{kept_sound}
+use Rattle.engine_core.proofs.OneMore.{completes, completes_finally}
+use Rattle.engine_core.proofs.engine.Engine.complete.Goals as goal
+
+-- a refusal
+
+pub invariant_of-self-in-Refuse : goal.invariant_of-self-in-Refuse
+invariant_of-self-in-Refuse c =
+    (completes c.self.inside.config c.self.inside.history.items c.push_reserved.new.self.items c.self.inside.ccbs c.self.inside.ccbs c.self.inside.recoveries c.self.inside.recoveries
+    c.args.completion (Err c.in-Refuse.refusal) (world_of c.self.inside.config c.self.inside.history.items c.self.inside.ccbs c.self.inside.recoveries) c.self.invariant (search rules) refl (c.in-Refuse.ensures.step c.self.inside.config (world_of c.self.inside.config c.self.inside.history.items c.self.inside.ccbs c.self.inside.recoveries)) refl).kept
+
+pub returns-in-Refuse-clause-fault : goal.returns-in-Refuse-clause-fault
+returns-in-Refuse-clause-fault c =
+    let it = completes c.self.inside.config c.self.inside.history.items c.push_reserved.new.self.items c.self.inside.ccbs c.self.inside.ccbs c.self.inside.recoveries c.self.inside.recoveries
+    c.args.completion (Err c.in-Refuse.refusal) (world_of c.self.inside.config c.self.inside.history.items c.self.inside.ccbs c.self.inside.recoveries) c.self.invariant (search rules) refl (c.in-Refuse.ensures.step c.self.inside.config (world_of c.self.inside.config c.self.inside.history.items c.self.inside.ccbs c.self.inside.recoveries)) refl in
+    rw (← c.self.view_is) (record { history = search rules; setup = refl; step = it.leads })
+
+pub returns-in-Refuse-clause-run : goal.returns-in-Refuse-clause-run
+returns-in-Refuse-clause-run c =
+    (completes c.self.inside.config c.self.inside.history.items c.push_reserved.new.self.items c.self.inside.ccbs c.self.inside.ccbs c.self.inside.recoveries c.self.inside.recoveries
+    c.args.completion (Err c.in-Refuse.refusal) (world_of c.self.inside.config c.self.inside.history.items c.self.inside.ccbs c.self.inside.recoveries) c.self.invariant (search rules) refl (c.in-Refuse.ensures.step c.self.inside.config (world_of c.self.inside.config c.self.inside.history.items c.self.inside.ccbs c.self.inside.recoveries)) refl).kept.run
+
+-- a CCB that is finished
+
+pub finish-requires : goal.finish-requires
+finish-requires c =
+    let it : LiveCcb = record { ccb = c.in-Finish.ccb; state = Active } in
+    (it, ccb_found c.args.completion.ccb.0 c.self.inside.ccbs.live it (c.in-Finish.ensures.ready (world_of c.self.inside.config c.self.inside.history.items c.self.inside.ccbs c.self.inside.recoveries)), refl)
+
+pub invariant_of-self-in-Finish : goal.invariant_of-self-in-Finish
+invariant_of-self-in-Finish c =
+    (completes_finally c.self.inside.config c.self.inside.history.items c.push_reserved-in-Finish.new.self.items c.self.inside.ccbs c.finish.new.self c.self.inside.recoveries
+    c.args.completion c.in-Finish.ccb c.self.invariant (search rules) c.finish.ensures (c.in-Finish.ensures.step c.self.inside.config (world_of c.self.inside.config c.self.inside.history.items c.self.inside.ccbs c.self.inside.recoveries))).kept
+
+pub returns-in-Finish-clause-answered : goal.returns-in-Finish-clause-answered
+returns-in-Finish-clause-answered c =
+    let it = completes_finally c.self.inside.config c.self.inside.history.items c.push_reserved-in-Finish.new.self.items c.self.inside.ccbs c.finish.new.self c.self.inside.recoveries
+    c.args.completion c.in-Finish.ccb c.self.invariant (search rules) c.finish.ensures (c.in-Finish.ensures.step c.self.inside.config (world_of c.self.inside.config c.self.inside.history.items c.self.inside.ccbs c.self.inside.recoveries)) in
+    rw (← c.self.view_is) (record { history = search rules; setup = refl; step = it.leads })
+
+pub returns-in-Finish-clause-run : goal.returns-in-Finish-clause-run
+returns-in-Finish-clause-run c =
+    (completes_finally c.self.inside.config c.self.inside.history.items c.push_reserved-in-Finish.new.self.items c.self.inside.ccbs c.finish.new.self c.self.inside.recoveries
+    c.args.completion c.in-Finish.ccb c.self.invariant (search rules) c.finish.ensures (c.in-Finish.ensures.step c.self.inside.config (world_of c.self.inside.config c.self.inside.history.items c.self.inside.ccbs c.self.inside.recoveries))).kept.run
+
+-- a run that starts
+
+pub recover-requires-clause-known : goal.recover-requires-clause-known
+recover-requires-clause-known c =
+    let there : IsActive (world_of c.self.inside.config c.self.inside.history.items c.self.inside.ccbs c.self.inside.recoveries) c.args.completion c.in-Recover.ccb = (c.in-Recover.ensures.ready (world_of c.self.inside.config c.self.inside.history.items c.self.inside.ccbs c.self.inside.recoveries)).0 in
+    let sound = kept_sound c.self.inside.config c.self.inside.history.items c.self.inside.ccbs c.self.inside.recoveries c.self.invariant in
+    let known = known_queue c.self.inside.config (world_of c.self.inside.config c.self.inside.history.items c.self.inside.ccbs c.self.inside.recoveries) sound.kept.ccbs c.args.completion.ccb.0 (record { ccb = c.in-Recover.ccb; state = Active }) there in
+    omega (arith, known, c.self.invariant.queues)
+
+pub recover-requires-clause-active : goal.recover-requires-clause-active
+recover-requires-clause-active c world =
+    (c.in-Recover.ensures.ready world).0
+
+pub recover-requires-clause-room : goal.recover-requires-clause-room
+recover-requires-clause-room c world =
+    (c.in-Recover.ensures.ready world).1
+
+pub invariant_of-self-in-Ok : goal.invariant_of-self-in-Ok
+invariant_of-self-in-Ok c =
+    (completes c.self.inside.config c.self.inside.history.items c.push_reserved-in-Ok.new.self.items c.self.inside.ccbs c.recover.new.ccbs c.self.inside.recoveries c.recover.new.recoveries
+    c.args.completion (Ok (Started c.in-Ok.run'.number c.in-Ok.freeze)) (with_ccbs c.recover.new.ccbs (with_recoveries c.recover.new.recoveries (world_of c.self.inside.config c.self.inside.history.items c.self.inside.ccbs c.self.inside.recoveries))) c.self.invariant (search rules) c.recover.ensures.queues
+    (c.in-Recover.ensures.step c.self.inside.config (world_of c.self.inside.config c.self.inside.history.items c.self.inside.ccbs c.self.inside.recoveries) ∙ ap (λ (p : Reply × World). Some p) (c.in-Ok.ensures.step (world_of c.self.inside.config c.self.inside.history.items c.self.inside.ccbs c.self.inside.recoveries))) refl).kept
+
+pub returns-in-Ok-clause-answered : goal.returns-in-Ok-clause-answered
+returns-in-Ok-clause-answered c =
+    let it = completes c.self.inside.config c.self.inside.history.items c.push_reserved-in-Ok.new.self.items c.self.inside.ccbs c.recover.new.ccbs c.self.inside.recoveries c.recover.new.recoveries
+    c.args.completion (Ok (Started c.in-Ok.run'.number c.in-Ok.freeze)) (with_ccbs c.recover.new.ccbs (with_recoveries c.recover.new.recoveries (world_of c.self.inside.config c.self.inside.history.items c.self.inside.ccbs c.self.inside.recoveries))) c.self.invariant (search rules) c.recover.ensures.queues
+    (c.in-Recover.ensures.step c.self.inside.config (world_of c.self.inside.config c.self.inside.history.items c.self.inside.ccbs c.self.inside.recoveries) ∙ ap (λ (p : Reply × World). Some p) (c.in-Ok.ensures.step (world_of c.self.inside.config c.self.inside.history.items c.self.inside.ccbs c.self.inside.recoveries))) refl in
+    rw (← c.self.view_is) (record { history = search rules; setup = refl; step = it.leads })
+
+pub returns-in-Ok-clause-run : goal.returns-in-Ok-clause-run
+returns-in-Ok-clause-run c =
+    (completes c.self.inside.config c.self.inside.history.items c.push_reserved-in-Ok.new.self.items c.self.inside.ccbs c.recover.new.ccbs c.self.inside.recoveries c.recover.new.recoveries
+    c.args.completion (Ok (Started c.in-Ok.run'.number c.in-Ok.freeze)) (with_ccbs c.recover.new.ccbs (with_recoveries c.recover.new.recoveries (world_of c.self.inside.config c.self.inside.history.items c.self.inside.ccbs c.self.inside.recoveries))) c.self.invariant (search rules) c.recover.ensures.queues
+    (c.in-Recover.ensures.step c.self.inside.config (world_of c.self.inside.config c.self.inside.history.items c.self.inside.ccbs c.self.inside.recoveries) ∙ ap (λ (p : Reply × World). Some p) (c.in-Ok.ensures.step (world_of c.self.inside.config c.self.inside.history.items c.self.inside.ccbs c.self.inside.recoveries))) refl).kept.run
+
+pub returns-in-Ok-clause-started : goal.returns-in-Ok-clause-started
+returns-in-Ok-clause-started c =
+    c.in-Ok.ensures.out (world_of c.self.inside.config c.push_reserved-in-Ok.new.self.items c.recover.new.ccbs c.recover.new.recoveries)

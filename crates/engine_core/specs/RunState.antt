@@ -1,0 +1,31 @@
+-- What contracts see of a run that is out, and how the world has it.
+use Rattle.std.specs.Prelude.{◌≡◌, ℕ, true, Some}
+use Rattle.bpf_machine.specs.MachineState.{MachineState}
+use Rattle.bpf_machine.specs.Reached.{Reached}
+use Rattle.verifier.specs.Verdict.{Verdict}
+use Rattle.world.specs.World.{Setup, queue_setup, LiveRun, World}
+use Rattle.world.specs.Lookups.{run_of}
+
+-- its number, its accepted program, and the machine in which it goes on
+pub record RunState : Type 0 where
+  pub number : ℕ
+  pub program : Verdict
+  pub machine : MachineState
+
+-- the program reaches the machine
+abbrev pub IsReached : RunState → Type 0
+IsReached run = (n : ℕ) × Reached run.program.program n run.machine
+
+-- the run is live and out in the world, with this program and this machine
+pub record IsOut (world : World) (run : RunState) : Type 0 where
+  pub it : LiveRun
+  pub found : run_of run.number world.runs ≡ Some it
+  pub out : it.out ≡ true
+  pub program_is : it.program ≡ run.program.program
+  pub machine_is : it.machine ≡ run.machine
+
+-- It is out, and its program is the recorded one: with the budget of the run's queue, under the setup's limits.
+pub record IsOutUnder (setup : Setup) (world : World) (run : RunState) : Type 0 where
+  pub out : IsOut world run
+  pub budget : run.program.budget ≡ (queue_setup setup out.it.queue).budget
+  pub limits : run.program.limits ≡ setup.limits

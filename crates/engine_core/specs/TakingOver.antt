@@ -1,0 +1,49 @@
+-- What it takes to take a segment over, and what that leaves.
+use Rattle.std.specs.Prelude.{◌≡◌, ℕ, List, Some}
+use Rattle.bpf_insn.specs.declared.program.Slot.{Slot}
+use Rattle.bpf_machine.specs.MachineState.{MachineState}
+use Rattle.bpf_machine.specs.declared.stop.Stop.TheVariants.{Exit as at_exit}
+use Rattle.interpreter.specs.Segments.{SegmentState}
+use Rattle.ccb_table.specs.CcbsState.{CcbsState}
+use Rattle.recoveries.specs.RecoveryState.{RecoveryState}
+use Rattle.recoveries.specs.RunPlaces.{HasRunAt}
+use Rattle.recoveries.specs.Admits.{IsOutAs}
+use Rattle.world.specs.declared.record.StoppedAt.{StoppedAt}
+use Rattle.world.specs.declared.record.StoppedAt.TheVariants.{Release, Requeue, Exit}
+use Rattle.world.specs.declared.record.Record.{Record}
+use Rattle.world.specs.declared.record.Record.TheVariants.{Advance}
+use Rattle.world.specs.World.{Setup, LiveRun}
+use Rattle.world.specs.Lookups.{run_of}
+use Rattle.world.specs.WorldRun.{Leads}
+use Rattle.world.specs.Flat.{events_of}
+use Rattle.engine_core.specs.EngineState.{world_of}
+use Rattle.engine_core.specs.Invariant.{KeepsEngine}
+
+-- these are the CCBs and runs of an engine, in which the segment is the next stretch of the run at this place
+pub record IsAdmitted (ccbs : CcbsState) (recoveries : RecoveryState) (number place : ℕ) (segment : SegmentState) : Type 0 where
+  pub setup : Setup
+  pub history : List Record
+  pub kept : KeepsEngine setup history ccbs recoveries
+  pub program : List Slot
+  pub out : IsOutAs recoveries.runs number program segment
+  pub there : HasRunAt recoveries.runs place out.it
+
+-- The record of the run's advance stands for what leads from these CCBs and runs to those, in each engine that they
+-- are of.
+abbrev pub LeadsBy : StoppedAt → ℕ → ℕ → SegmentState → CcbsState → RecoveryState → CcbsState → RecoveryState → Type 0
+LeadsBy stop r0 place segment ccbs recoveries more after =
+    (number : ℕ) → IsAdmitted ccbs recoveries number place segment →
+    (setup : Setup) (history : List Record) → KeepsEngine setup history ccbs recoveries →
+    Leads setup (world_of setup history ccbs recoveries) (events_of (Advance number segment.steps stop r0)) (world_of setup history more after)
+
+-- the run at this place goes on there with its next machine, and is otherwise as it was
+pub record GoesOn (recoveries after : RecoveryState) (place : ℕ) : Type 0 where
+  pub machine : MachineState
+  pub stands : (it : LiveRun) → HasRunAt recoveries.runs place it → HasRunAt after.runs place (record it { machine = machine })
+  pub found : (number : ℕ) (it : LiveRun) → HasRunAt recoveries.runs place it → run_of number recoveries.runs ≡ Some it → run_of number after.runs ≡ Some (record it { machine = machine })
+
+-- what becomes of the run, by the kind of its stop
+abbrev pub GoesBy : StoppedAt → ℕ → RecoveryState → RecoveryState → ℕ → SegmentState → Type 0
+GoesBy Release r0 recoveries after place segment = GoesOn recoveries after place
+GoesBy Requeue r0 recoveries after place segment = GoesOn recoveries after place
+GoesBy Exit r0 recoveries after place segment = segment.stop ≡ at_exit r0

@@ -1,0 +1,312 @@
+// The engine's calls. Each reserves what it needs first and changes the engine then, so that nothing is
+// undone. It relies on `ccb_table` for CCBs and their queues, on `recoveries` for runs and freezes, and on
+// `world` for what is recorded.
+
+ghost use Rattle.std.specs.Prelude.{◌≡◌, IfOk, IfErr, MatchResult, Ok, Err, map};
+ghost use Rattle.freeze_ledger.specs.declared.entries.Holder.TheVariants.{Guest};
+ghost use Rattle.ccb_table.specs.CcbsState.{no_ccbs};
+ghost use Rattle.recoveries.specs.RecoveryState.{no_recoveries};
+ghost use Rattle.recoveries.specs.Admits.{IsOutAs};
+ghost use Rattle.world.specs.declared.record.Record.TheVariants.{Submit, Dispatch, Complete, Advance, GuestFreeze, GuestRelease};
+ghost use Rattle.world.specs.World.{queue_count};
+ghost use Rattle.world.specs.TotalsOf.{TotalsOf, totals_in};
+ghost use Rattle.engine_core.specs.EngineState.{EngineState, opened, IsRun, Records, GuestHolds};
+ghost use Rattle.engine_core.specs.Answers.{completed_of, StartsOut, stopped_at, r0_of, GoesOrEnds};
+ghost use Rattle.engine_core.specs.Faults.{FaultIs, HoldsUnlessTold, AdmitsUnlessTold};
+
+use crate::answers::{AdvanceAnswer, AdvanceFault, CallFault, CompleteAnswer, ReleaseFault, Trace};
+use crate::config::Config;
+use crate::course::{Course, decide, recover};
+use crate::run::Run;
+use crate::taking_over::take_over;
+use ccb::{CcbId, Completion, QueueId};
+use ccb_table::CcbTable;
+use freeze_ledger::FreezeToken;
+use interpreter::Segment;
+use recoveries::Recoveries;
+use std::alloc::{AllocError, Global};
+use std::marker::Model;
+use world::{Completed, Record, Refusal, StoppedAt, Totals};
+
+/// Device queues with their CCBs, freezes and recovery runs, and the whole history of the calls made on them.
+/// Contracts see the setup, the history and the world that it leads to.
+#[derive(Drop)]
+pub struct Engine {
+    config: Config,
+    ccbs: CcbTable,
+    recoveries: Recoveries,
+    history: Vec<Record>,
+}
+
+impl Model for Engine {
+    ghost use Rattle.engine_core.specs.EngineState.{EngineState};
+
+    ghost Value = { EngineState };
+
+    ghost use Rattle.engine_core.specs.EngineState.{world_of};
+    ghost use Rattle.engine_core.specs.Invariant.{KeepsEngine};
+
+    ghost view = { λ e. record { setup = e.config; history = e.history.items; world = world_of e.config e.history.items e.ccbs e.recoveries } };
+
+    ghost invariant = { λ e. KeepsEngine e.config e.history.items e.ccbs e.recoveries };
+}
+
+// The queues of the configuration, with no CCB, no freeze and no run.
+fn rooms(alloc: Global, config: &Config) -> Result<(CcbTable, Recoveries), AllocError>
+    ensures ccbs { IfOk result (λ rooms. rooms.0 ≡ record no_ccbs { openings = map (λ queue. queue.openings) config.now.queues }) }
+    ensures recoveries { IfOk result (λ rooms. rooms.1 ≡ no_recoveries (queue_count config.now)) }
+{
+    let mut ccbs = CcbTable::with_room(alloc)?;
+    for queue in 0..config.queues() {
+        ccbs.add_queue(config.openings(queue))?;
+    }
+    Ok((ccbs, Recoveries::with_room(alloc, config.queues())?))
+}
+
+impl Engine {
+    /// An engine of unfrozen queues without CCBs and with an empty history. It takes room for all the CCBs, runs and
+    /// freezes that there may be, so that later only the history grows. Where memory is refused the configuration
+    /// comes back.
+    pub fn open(alloc: Global, config: Config) -> Result<Self, (AllocError, Config)>
+        ensures opened { IfOk result (λ engine. engine ≡ opened config) }
+        ensures back { IfErr result (λ fault. fault.1 ≡ config) }
+    {
+        match rooms(alloc, &config) {
+            Ok((ccbs, recoveries)) => Ok(Engine {
+                config,
+                ccbs,
+                recoveries,
+                history: Vec::new(alloc),
+            }),
+            Err(fault) => Err((fault, config)),
+        }
+    }
+
+    /// Submits a CCB to a queue, with a priority (the lowest number starts first) and how often it may be tried
+    /// again: its number. C1 where there is no such queue; C2 where the queue has 256 CCBs, the engine 4096, or the
+    /// numbers up to 4,294,967,295 are used up. Both are recorded and change nothing else.
+    pub fn submit(
+        &mut self,
+        queue: QueueId,
+        priority: u32,
+        retries: u32,
+    ) -> Result<CcbId, CallFault>
+        ensures answered { IfOk result (λ ccb. Records self.old self.new (Submit queue priority retries (Ok ccb))) }
+        ensures fault { IfErr result (λ fault. FaultIs fault (self.new ≡ self.old) (λ refusal. Records self.old self.new (Submit queue priority retries (Err refusal)))) }
+        ensures run { IsRun self.new }
+    {
+        self.history.reserve(1)?;
+        let answer = self.ccbs.submit(queue, priority, retries);
+        self.history.push_reserved(Record::Submit {
+            queue,
+            priority,
+            retries,
+            answer,
+        });
+        match answer {
+            Ok(ccb) => Ok(ccb),
+            Err(refusal) => Err(CallFault::Refused(refusal)),
+        }
+    }
+
+    /// Starts the waiting CCB of the queue that has the lowest priority number, and among these the lowest CCB
+    /// number: its number. C1 where there is no such queue; Q2 where it is frozen; Q3 where as many of its CCBs are
+    /// active as it has openings; Q4 where none waits. All are recorded and change nothing else.
+    pub fn dispatch(&mut self, queue: QueueId) -> Result<CcbId, CallFault>
+        ensures answered { IfOk result (λ ccb. Records self.old self.new (Dispatch queue (Ok ccb))) }
+        ensures fault { IfErr result (λ fault. FaultIs fault (self.new ≡ self.old) (λ refusal. Records self.old self.new (Dispatch queue (Err refusal)))) }
+        ensures run { IsRun self.new }
+    {
+        self.history.reserve(1)?;
+        let answer = self.ccbs.dispatch(queue, self.recoveries.ledger());
+        self.history
+            .push_reserved(Record::Dispatch { queue, answer });
+        match answer {
+            Ok(ccb) => Ok(ccb),
+            Err(refusal) => Err(CallFault::Refused(refusal)),
+        }
+    }
+
+    /// Takes a completion of an active CCB. With REQ_CMP the CCB is finished and gone. With any other status the
+    /// queue is frozen once more, the CCB is in recovery, and a run of the queue's program starts, which holds the
+    /// freeze; where that freeze meets a limit the run starts without it and is told number 0. C1 where no such CCB
+    /// is live; C2 where a run is to start and there are 256, or their numbers up to 4,294,967,295 are used up; C3
+    /// where the CCB is not active. These are recorded and change nothing else. Every fault hands the completion
+    /// back.
+    pub fn complete(
+        &mut self,
+        completion: Completion,
+    ) -> Result<CompleteAnswer, (CallFault, Completion)>
+        ensures answered { IfOk result (λ answer. Records self.old self.new (Complete completion (Ok (completed_of answer)))) }
+        ensures started { IfOk result (StartsOut self.new.setup self.new.world) }
+        ensures fault { IfErr result (λ fault. FaultIs fault.0 (self.new ≡ self.old) (λ refusal. Records self.old self.new (Complete completion (Err refusal)))) }
+        ensures back { IfErr result (λ fault. fault.1 ≡ completion) }
+        ensures run { IsRun self.new }
+    {
+        if self.history.reserve(1).is_err() {
+            return Err((CallFault::OutOfMemory, completion));
+        }
+        match decide(&self.ccbs, &self.recoveries, &completion) {
+            Course::Refuse(refusal) => {
+                self.history.push_reserved(Record::Complete {
+                    completion,
+                    answer: Err(refusal),
+                });
+                Err((CallFault::Refused(refusal), completion))
+            }
+            Course::Finish(ccb) => {
+                self.ccbs.finish(ccb.number);
+                self.history.push_reserved(Record::Complete {
+                    completion,
+                    answer: Ok(Completed::Done),
+                });
+                Ok(CompleteAnswer::Done)
+            }
+            Course::Recover(ccb) => {
+                match recover(
+                    &self.config,
+                    &mut self.ccbs,
+                    &mut self.recoveries,
+                    ccb,
+                    &completion,
+                ) {
+                    Ok((run, freeze)) => {
+                        self.history.push_reserved(Record::Complete {
+                            completion,
+                            answer: Ok(Completed::Started {
+                                run: run.number(),
+                                freeze,
+                            }),
+                        });
+                        Ok(CompleteAnswer::Started(run, freeze))
+                    }
+                    Err(AllocError) => Err((CallFault::OutOfMemory, completion)),
+                }
+            }
+        }
+    }
+
+    /// Takes over what a run did: the private instructions of the segment, and the helper call or exit at its end,
+    /// with R0 after it. A run that goes on comes back with its next machine; one that exited is gone. C4, which is
+    /// not recorded, exactly where no run of that number is out in this engine, or the run's program, the segment's
+    /// program or the segment's start is not the recorded one; programs are compared by their instructions. Every
+    /// fault hands the run and the segment back and changes nothing.
+    pub fn advance(
+        &mut self,
+        run: Run,
+        segment: Segment,
+    ) -> Result<AdvanceAnswer, (AdvanceFault, Run, Segment)>
+        ensures answered { IfOk result (λ answer. Records self.old self.new (Advance run.number segment.steps (stopped_at segment.stop) (r0_of answer))) }
+        ensures goes { IfOk result (GoesOrEnds self.old.setup self.old.world self.new.world run segment) }
+        ensures admitted { MatchResult result (λ _. IsOutAs self.old.world.runs run.number run.program.program segment)
+            (λ fault. AdmitsUnlessTold fault.0 (IsOutAs self.old.world.runs run.number run.program.program segment)) }
+        ensures back { IfErr result (λ fault. (fault.1 ≡ run) × (fault.2 ≡ segment) × (self.new ≡ self.old)) }
+        ensures run { IsRun self.new }
+    {
+        let number = run.number();
+        let Some(place) = self.recoveries.admit(number, run.program(), &segment) else {
+            return Err((AdvanceFault::NotOut, run, segment));
+        };
+        if self.history.reserve(1).is_err() {
+            return Err((AdvanceFault::OutOfMemory, run, segment));
+        }
+        let (stop, r0) = take_over(&mut self.ccbs, &mut self.recoveries, place, &segment);
+        self.history.push_reserved(Record::Advance {
+            run: number,
+            instructions: segment.steps(),
+            stop,
+            r0,
+        });
+        match stop {
+            StoppedAt::Release | StoppedAt::Requeue => {
+                let machine = self.recoveries.machine(place);
+                Ok(AdvanceAnswer::Goes(run.moved(machine), r0))
+            }
+            StoppedAt::Exit => {
+                run.forfeit();
+                Ok(AdvanceAnswer::Ended(r0))
+            }
+        }
+    }
+
+    /// Freezes a queue for a guest: the token of the new freeze. C1 where there is no such queue; C2 where
+    /// the queue has 255 freezes, the ledger 1024, or the numbers up to 4,294,967,295 are used up. Both are
+    /// recorded and change nothing else.
+    pub fn guest_freeze(&mut self, queue: QueueId, guest: u32) -> Result<FreezeToken, CallFault>
+        ensures taken { IfOk result (λ token. Records self.old self.new (GuestFreeze queue guest (Ok token.number))) }
+        ensures token { IfOk result (λ token. GuestHolds self.new.world token × (token.queue ≡ queue) × (token.holder ≡ Guest guest)) }
+        ensures fault { IfErr result (λ fault. FaultIs fault (self.new ≡ self.old) (λ refusal. Records self.old self.new (GuestFreeze queue guest (Err refusal)))) }
+        ensures run { IsRun self.new }
+    {
+        self.history.reserve(1)?;
+        match self.recoveries.guest_freeze(queue, guest) {
+            Ok(token) => {
+                self.history.push_reserved(Record::GuestFreeze {
+                    queue,
+                    guest,
+                    answer: Ok(token.number()),
+                });
+                Ok(token)
+            }
+            Err(refusal) => {
+                self.history.push_reserved(Record::GuestFreeze {
+                    queue,
+                    guest,
+                    answer: Err(refusal),
+                });
+                Err(CallFault::Refused(refusal))
+            }
+        }
+    }
+
+    /// Gives a guest's freeze back: how many freezes its queue has then. C6, which is not recorded, exactly
+    /// where no guest's freeze is the token's. Every fault hands the token back and changes nothing.
+    pub fn guest_release(&mut self, token: FreezeToken) -> Result<u32, (ReleaseFault, FreezeToken)>
+        ensures released { IfOk result (λ count. Records self.old self.new (GuestRelease token.number count)) }
+        ensures held { MatchResult result (λ _. GuestHolds self.old.world token) (λ fault. HoldsUnlessTold fault.0 (GuestHolds self.old.world token)) }
+        ensures back { IfErr result (λ fault. (fault.1 ≡ token) × (self.new ≡ self.old)) }
+        ensures run { IsRun self.new }
+    {
+        if !self.recoveries.is_guests(&token) {
+            return Err((ReleaseFault::NotHeld, token));
+        }
+        if self.history.reserve(1).is_err() {
+            return Err((ReleaseFault::OutOfMemory, token));
+        }
+        let freeze = token.number();
+        let count = self.recoveries.guest_release(token);
+        self.history
+            .push_reserved(Record::GuestRelease { freeze, count });
+        Ok(count)
+    }
+
+    /// The sums so far.
+    pub fn totals(&self) -> Totals
+        ensures value { result ≡ totals_in self.now.history self.now.world }
+        ensures of { TotalsOf self.now.setup self.now.history result }
+        ensures run { IsRun self.now }
+    {
+        Totals {
+            history: self.history.len() as u64,
+            frozen: self.recoveries.ledger().len() as u32,
+            active: self.ccbs.active(),
+            runs: self.recoveries.len(),
+        }
+    }
+
+    /// The whole history with its sums. What is still frozen is forfeited, by guests and by runs.
+    pub fn shut(self) -> Trace
+        ensures records { result.records.items ≡ self.history }
+        ensures totals { TotalsOf self.setup self.history result.totals }
+        ensures run { IsRun self }
+    {
+        let totals = self.totals();
+        let Engine {
+            config: _,
+            ccbs: _,
+            recoveries: _,
+            history: records,
+        } = self;
+        Trace { records, totals }
+    }
+}

@@ -1,0 +1,72 @@
+-- What contracts see of the freezes of all device queues, and of the live runs that hold some of them.
+use Rattle.std.specs.Prelude.{ℕ, true, List, [], map, Option, Some, None, Result, Ok, Err}
+use Rattle.ccb.specs.declared.control_block.Ccb.{Ccb}
+use Rattle.freeze_ledger.specs.declared.entries.Freeze.{Freeze}
+use Rattle.freeze_ledger.specs.State.{LedgerState}
+use Rattle.bpf_insn.specs.declared.program.Slot.{Slot}
+use Rattle.bpf_machine.specs.MachineState.{MachineState}
+use Rattle.world.specs.declared.refusal.Refusal.{Refusal}
+use Rattle.world.specs.World.{LiveRun, World}
+use Rattle.world.specs.Event.{Reply, freeze_given, refused}
+
+pub record RecoveryState : Type 0 where
+  -- how many device queues there are
+  pub queues : ℕ
+  -- each a number, a queue and a holder, in the order of their numbers
+  pub freezes : List Freeze
+  -- the runs that have not exited, in the order of their numbers
+  pub runs : List LiveRun
+  -- the greatest freeze and run numbers that were given
+  pub greatest_freeze : ℕ
+  pub greatest_run : ℕ
+
+abbrev pub no_recoveries : ℕ → RecoveryState
+no_recoveries queues = record { queues = queues; freezes = []; runs = []; greatest_freeze = 0; greatest_run = 0 }
+
+-- the world with these freezes and runs
+abbrev pub with_recoveries : RecoveryState → World → World
+with_recoveries state world = record world {
+  freezes = state.freezes;
+  runs = state.runs;
+  greatest_freeze = state.greatest_freeze;
+  greatest_run = state.greatest_run;
+}
+
+-- the ledger of the freezes
+abbrev pub ledger_of : RecoveryState → LedgerState
+ledger_of state = record { queues = state.queues; greatest = state.greatest_freeze; freezes = state.freezes }
+
+-- what a ledger and the runs beside it are
+abbrev pub state_of : LedgerState → List LiveRun → ℕ → RecoveryState
+state_of ledger runs greatest_run = record {
+  queues = ledger.queues;
+  freezes = ledger.freezes;
+  runs = runs;
+  greatest_freeze = ledger.greatest;
+  greatest_run = greatest_run;
+}
+
+-- what is answered where this was taken
+abbrev pub taken_reply : Result Freeze Refusal → Reply
+taken_reply (Ok freeze) = freeze_given freeze.number
+taken_reply (Err refusal) = refused refusal
+
+-- the number of its freeze that a run is told
+abbrev pub told : Option Freeze → ℕ
+told None = 0
+told (Some freeze) = freeze.number
+
+-- the tokens that a run has of these freezes, in its list
+abbrev pub tokens_of : List Freeze → List (Option Freeze)
+tokens_of freezes = map (λ freeze. Some freeze) freezes
+
+-- the run of a number for a CCB, which is out
+abbrev pub run_for : ℕ → Ccb → List Slot → MachineState → LiveRun
+run_for number ccb program machine = record {
+  number = number;
+  ccb = ccb.number.0;
+  queue = ccb.queue.0;
+  program = program;
+  machine = machine;
+  out = true;
+}

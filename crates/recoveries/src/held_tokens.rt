@@ -1,0 +1,98 @@
+// The rights of one run to give its freezes back: a list of at most eight, which takes no memory. It relies on
+// `freeze_ledger` for tokens and on `arrayvec` for the list.
+
+ghost use Rattle.std.specs.Prelude.{◌≡◌, ℕ, ◌<◌, ◌≢◌, length, Some, None, IfSome, IfNone, slice_index_or};
+ghost use Rattle.std.specs.Option.{option_to_list};
+ghost use Rattle.recoveries.specs.RecoveryState.{told, tokens_of};
+
+use arrayvec::ArrayVec;
+use freeze_ledger::FreezeToken;
+use std::marker::Model;
+
+/// How many freezes a run holds at most.
+const MOST_HELD: usize = 8;
+
+/// The tokens of a run, in the order of their numbers. Each place that is used has one.
+pub(crate) type HeldTokens = ArrayVec<Option<HeldToken>, MOST_HELD>;
+
+/// The right of a run to give a freeze back. Where it is dropped, as with its engine, the freeze is forfeited.
+pub(crate) struct HeldToken(FreezeToken);
+
+impl Model for HeldToken {
+    ghost use Rattle.freeze_ledger.specs.declared.entries.Freeze.{Freeze};
+
+    ghost Value = { Freeze };
+
+    ghost view = { λ held. held.0 };
+}
+
+impl Drop for HeldToken {
+    fn drop(self) {
+        let HeldToken(token) = self;
+        token.forfeit();
+    }
+}
+
+impl HeldToken {
+    fn new(token: FreezeToken) -> Self
+        ensures { result ≡ token }
+    {
+        HeldToken(token)
+    }
+
+    // The number of the freeze.
+    fn number(&self) -> u32
+        ensures { result ≡ self.now.number }
+    {
+        self.0.number()
+    }
+
+    /// The token itself.
+    pub(crate) fn into_token(self) -> FreezeToken
+        ensures { result ≡ self }
+    {
+        let HeldToken(token) = self;
+        token
+    }
+}
+
+// The number of a token's freeze: 0 where there is none.
+fn number_told(token: &Option<HeldToken>) -> u32
+    ensures { result ≡ told token.now }
+{
+    match token {
+        Some(token) => token.number(),
+        None => 0,
+    }
+}
+
+/// What a run that starts may give back: the freeze that was taken for it, or nothing; with the number that it is told,
+/// 0 where there is none.
+pub(crate) fn taken_at_start(token: Option<FreezeToken>) -> (u32, HeldTokens)
+    ensures number { result.0 ≡ told token }
+    ensures tokens { result.1.items ≡ tokens_of (option_to_list token) }
+{
+    let mut tokens = HeldTokens::new();
+    match token {
+        Some(token) => {
+            let number = token.number();
+            tokens.push(Some(HeldToken::new(token)));
+            (number, tokens)
+        }
+        None => (0, tokens),
+    }
+}
+
+/// Where the token of that freeze stands, if it is there.
+pub(crate) fn place_of_token(tokens: &[Option<HeldToken>], freeze: u32) -> Option<usize>
+    ensures within { IfSome result (λ place. place < length tokens.now) }
+    ensures found { IfSome result (λ place. told (slice_index_or tokens.now place None) ≡ freeze) }
+    ensures none { IfNone result ((k : ℕ) → k < length tokens.now → told (slice_index_or tokens.now k None) ≢ freeze) }
+{
+    for (place, token) in tokens.iter().enumerate() {
+        if number_told(token) == freeze {
+            return Some(place);
+        }
+    }
+    None
+}

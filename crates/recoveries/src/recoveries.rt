@@ -1,0 +1,276 @@
+// The freezes and the live runs, in the order of their numbers. It relies on `freeze_ledger` for freezes, on `run_record`
+// for what is recorded of a run, and on `world` for what each call means.
+
+ghost use Rattle.std.specs.Prelude.{◌≡◌, ℕ, ◌<◌, ◌≤◌, ◌==◌, ◌↔◌, true, false, not, List, [], length, filter, Contains, Some, None, IsTrue, IsSome, IfSome, IfOk, Bool};
+ghost use Rattle.std.specs.Arc.{arc_value};
+ghost use Rattle.ccb.specs.ControlBlock.{completed};
+ghost use Rattle.freeze_ledger.specs.declared.entries.Freeze.{Freeze};
+ghost use Rattle.freeze_ledger.specs.declared.entries.Holder.TheVariants.{Guest};
+ghost use Rattle.freeze_ledger.specs.Freezes.{entry_of, without};
+ghost use Rattle.bpf_machine.specs.Reached.{IsEntry};
+ghost use Rattle.bpf_machine.specs.Step.{IsAnswer, answered};
+ghost use Rattle.interpreter.specs.Segments.{StandsAt};
+ghost use Rattle.world.specs.declared.ccb_state.CcbState.TheVariants.{InRecovery};
+ghost use Rattle.world.specs.World.{Setup, queue_count, queue_setup, LiveRun, World};
+ghost use Rattle.world.specs.Capacities.{most_runs};
+ghost use Rattle.world.specs.Lookups.{run_of, with_run, with_ccb};
+ghost use Rattle.world.specs.Event.{run_started, count_left};
+ghost use Rattle.world.specs.FreezeSteps.{frozen_with, is_guest, step_guest_freeze, step_guest_release};
+ghost use Rattle.world.specs.CcbSteps.{recovers, run_meets_limit};
+ghost use Rattle.world.specs.RunSteps.{is_run};
+ghost use Rattle.world.specs.FreezeLaws.{entries_of};
+ghost use Rattle.recoveries.specs.RecoveryState.{no_recoveries, with_recoveries, ledger_of, taken_reply, run_for};
+ghost use Rattle.recoveries.specs.Admits.{IsNextOut, IsOutAs};
+ghost use Rattle.recoveries.specs.LiveRuns.{live_of};
+ghost use Rattle.recoveries.specs.RunPlaces.{HasRunAt};
+
+use crate::held_tokens::{place_of_token, taken_at_start};
+use crate::places::place_of;
+use crate::run_record::RunRecord;
+use crate::started::Started;
+use bpf_machine::Machine;
+use ccb::{Ccb, CcbId, Completion, QueueId, context};
+use freeze_ledger::{FreezeToken, Holder, Ledger};
+use helpers::{Answer, Request};
+use interpreter::{Segment, resume};
+use std::alloc::{AllocError, Global};
+use std::marker::Model;
+use std::sync::Arc;
+use verifier::Accepted;
+use world::Refusal;
+
+/// How many runs can be live at a time.
+const MOST_RUNS: usize = 256;
+
+/// The freezes of a fixed number of device queues, and the live runs with what they hold of them. Contracts see the
+/// freezes and the runs, each in the order of their numbers, and the greatest numbers given so far.
+#[derive(Drop)]
+pub struct Recoveries {
+    ledger: Ledger,
+    runs: Vec<RunRecord>,
+    greatest_run: u32,
+}
+
+impl Model for Recoveries {
+    ghost use Rattle.recoveries.specs.RecoveryState.{RecoveryState, state_of};
+
+    ghost Value = { RecoveryState };
+
+    ghost use Rattle.std.specs.Prelude.{vec_capacity};
+    ghost use Rattle.recoveries.specs.LiveRuns.{lives_of};
+    ghost use Rattle.recoveries.specs.Invariant.{KeepsRecoveries};
+
+    ghost view = { λ r. state_of r.ledger (lives_of r.runs.items) r.greatest_run };
+
+    ghost invariant = { λ r. KeepsRecoveries r.runs.items (vec_capacity r.runs) r.ledger r.greatest_run };
+}
+
+// Whether both have the same instructions.
+fn is_same_program(one: &Accepted, other: &Accepted) -> bool
+    ensures { IsTrue result ↔ (one.now.program ≡ other.now.program) }
+{
+    *one.program() == *other.program()
+}
+
+// Whether the recorded run is out, and the segment is its next stretch.
+fn is_next(it: &RunRecord, program: &Accepted, segment: &Segment) -> bool
+    ensures { IsTrue result ↔ IsNextOut (live_of it.now) program.now.program segment.now }
+{
+    it.out
+        && is_same_program(program, &it.program)
+        && is_same_program(segment.program(), &it.program)
+        && segment.from().is_same(&it.machine)
+}
+
+impl Recoveries {
+    /// No freeze and no run, for the queues from 0 to `queues` - 1, with room for all 1024 freezes and 256 live runs: no
+    /// later call takes memory.
+    pub fn with_room(alloc: Global, queues: u32) -> Result<Self, AllocError>
+        ensures { IfOk result (λ it. it ≡ no_recoveries queues) }
+    {
+        Ok(Recoveries {
+            ledger: Ledger::with_room(alloc, queues)?,
+            runs: Vec::with_capacity(alloc, MOST_RUNS)?,
+            greatest_run: 0,
+        })
+    }
+
+    /// The ledger of the freezes.
+    pub fn ledger(&self) -> &Ledger
+        ensures { result.now ≡ ledger_of self.now }
+    {
+        &self.ledger
+    }
+
+    /// How many runs are live, at most 256.
+    pub fn len(&self) -> u32
+        ensures runs { result ≡ length self.now.runs }
+        ensures bound { result ≤ most_runs }
+    {
+        self.runs.len() as u32
+    }
+
+    /// Freezes a queue once more for a guest, under the number that it chose. C1 where there is no such queue; C2 where
+    /// the queue has 255 freezes, there are 1024 in all, or the numbers up to 4,294,967,295 are used up. A refusal
+    /// changes nothing.
+    pub fn guest_freeze(&mut self, queue: QueueId, guest: u32) -> Result<FreezeToken, Refusal>
+        ensures step { (setup : Setup) (world : World) → queue_count setup ≡ self.old.queues →
+            step_guest_freeze setup (with_recoveries self.old world) queue.0 guest ≡ (taken_reply result, with_recoveries self.new world) }
+        ensures token { IfOk result (λ token. (token.queue ≡ queue) × (token.holder ≡ Guest guest) × Contains self.new.freezes token) }
+        ensures queues { self.new.queues ≡ self.old.queues }
+    {
+        if queue.0 >= self.ledger.queues() {
+            return Err(Refusal::Unknown);
+        }
+        self.ledger
+            .take(queue, Holder::Guest(guest))
+            .ok_or(Refusal::Limit)
+    }
+
+    /// Whether an entry has the token's number, queue and holder, and that is a guest.
+    pub fn is_guests(&self, token: &FreezeToken) -> bool
+        ensures { IsTrue result ↔ (Contains self.now.freezes token.now × (is_guest token.now.holder ≡ true)) }
+    {
+        matches!(token.holder(), Holder::Guest(_)) && self.ledger.holds(token)
+    }
+
+    /// Gives a guest's freeze back: how many freezes its queue has then, at most 254. It asks for a token that is a
+    /// guest's.
+    pub fn guest_release(&mut self, token: FreezeToken) -> u32
+        requires { Contains self.old.freezes token × (is_guest token.holder ≡ true) }
+        ensures step { (world : World) →
+            step_guest_release (with_recoveries self.old world) (entry_of token.number self.old.freezes) ≡ Some (count_left result, with_recoveries self.new world) }
+        ensures queues { self.new.queues ≡ self.old.queues }
+    {
+        match self.ledger.give_back(token) {
+            Ok(count) => count,
+            Err(token) => {
+                token.forfeit();
+                unreachable!()
+            }
+        }
+    }
+
+    /// Whether a further run meets a limit: 256 are live, or the numbers up to 4,294,967,295 are used up.
+    pub fn is_full(&self) -> bool
+        ensures { (world : World) → result ≡ run_meets_limit (with_recoveries self.now world) }
+    {
+        self.runs.len() >= MOST_RUNS || self.greatest_run >= u32::MAX
+    }
+
+    /// Starts a run of a program for a CCB whose completion failed, under the number after the greatest given. A freeze
+    /// of the CCB's queue is taken for it, or none where that meets a limit, which the run is told as number 0. The CCB
+    /// takes over what the completion brought, and the run begins at the program's entry over the CCB's context. It asks
+    /// for a queue that exists, and for room.
+    pub fn start(
+        &mut self,
+        ccb: &mut Ccb,
+        completion: &Completion,
+        program: Arc<Accepted>,
+    ) -> Started
+        requires known { ccb.old.queue.0 < self.old.queues }
+        requires room { (world : World) → run_meets_limit (with_recoveries self.old world) ≡ false }
+        ensures step { (setup : Setup) (world : World) → (queue_setup setup ccb.old.queue.0).program ≡ (arc_value program).program →
+            recovers setup (with_recoveries self.old world) ccb.old completion.now
+            ≡ (run_started result.run result.freeze, with_recoveries self.new (record world { live = with_ccb (record { ccb = ccb.new; state = InRecovery }) world.live })) }
+        ensures entry { IsEntry result.machine }
+        ensures machine { run_of result.run self.new.runs ≡ Some (run_for result.run ccb.old (arc_value program).program result.machine) }
+        ensures ccb { (taken : Bool) × (ccb.new ≡ completed ccb.old completion.now taken) }
+        ensures queues { self.new.queues ≡ self.old.queues }
+    {
+        let number = self.greatest_run + 1;
+        let token = self.ledger.take(ccb.queue, Holder::Run(number));
+        ccb.complete(completion, token.is_some());
+        let (freeze, tokens) = taken_at_start(token);
+        let machine = Machine::entry(&context(ccb), freeze);
+        self.runs.push_reserved(RunRecord {
+            number,
+            ccb: ccb.number,
+            queue: ccb.queue,
+            program,
+            machine,
+            out: true,
+            tokens,
+        });
+        self.greatest_run = number;
+        Started {
+            run: number,
+            freeze,
+            machine,
+        }
+    }
+
+    /// Where the run stands whose next stretch the segment is: it is live and out, the program and the segment's have
+    /// its program's instructions, and the segment begins in its machine. `None`, which is C4, exactly where there is
+    /// no such run. The place is good until a run starts or ends.
+    pub fn admit(&self, run: u32, program: &Accepted, segment: &Segment) -> Option<usize>
+        ensures admitted { IsSome result ↔ IsOutAs self.now.runs run program.now.program segment.now }
+        ensures place { IfSome result (λ place. (it : LiveRun) × (run_of run self.now.runs ≡ Some it) × HasRunAt self.now.runs place it) }
+    {
+        let place = place_of(&self.runs, run)?;
+        if is_next(&self.runs[place], program, segment) {
+            Some(place)
+        } else {
+            None
+        }
+    }
+
+    /// The CCB for which the run at this place is.
+    pub fn ccb(&self, place: usize) -> CcbId
+        requires { (it : LiveRun) × HasRunAt self.now.runs place it }
+        ensures { (it : LiveRun) → HasRunAt self.now.runs place it → result.0 ≡ it.ccb }
+    {
+        self.runs[place].ccb
+    }
+
+    /// The machine in which the run at this place goes on.
+    pub fn machine(&self, place: usize) -> &Machine
+        requires { (it : LiveRun) × HasRunAt self.now.runs place it }
+        ensures { (it : LiveRun) → HasRunAt self.now.runs place it → result.now ≡ it.machine }
+    {
+        &self.runs[place].machine
+    }
+
+    /// Gives the freeze of that number back, which the run at this place holds: how many freezes its queue has then, at
+    /// most 254.
+    pub fn release(&mut self, place: usize, freeze: u32) -> u32
+        requires { (it : LiveRun) × (entry : Freeze) × HasRunAt self.old.runs place it × (entry_of freeze self.old.freezes ≡ Some entry) × (is_run it.number entry.holder ≡ true) }
+        ensures freezes { self.new ≡ record self.old { freezes = without freeze self.old.freezes } }
+        ensures count { (entry : Freeze) → entry_of freeze self.old.freezes ≡ Some entry → result ≡ frozen_with entry self.new.freezes }
+    {
+        let it = &mut self.runs[place];
+        let at = place_of_token(it.tokens.as_slice(), freeze).unwrap();
+        let Some(held) = it.tokens.remove(at) else {
+            unreachable!()
+        };
+        match self.ledger.give_back(held.into_token()) {
+            Ok(count) => count,
+            Err(token) => {
+                token.forfeit();
+                unreachable!()
+            }
+        }
+    }
+
+    /// The run at this place goes on behind the helper call at which `to` stands, with an answer that the call may get.
+    pub fn go_on(&mut self, place: usize, to: &Machine, request: &Request, answer: &Answer)
+        requires run { (it : LiveRun) × HasRunAt self.old.runs place it }
+        requires stands { StandsAt to.now request.now }
+        requires allowed { IsAnswer request.now answer.now }
+        ensures goes { (it : LiveRun) → HasRunAt self.old.runs place it →
+            self.new ≡ record self.old { runs = with_run (record it { machine = answered request.now answer.now to.now }) self.old.runs } }
+        ensures place { (it : LiveRun) → HasRunAt self.old.runs place it →
+            HasRunAt self.new.runs place (record it { machine = answered request.now answer.now to.now }) }
+    {
+        self.runs[place].machine = resume(to, request, answer);
+    }
+
+    /// The run at this place is gone. It asks for one that holds no freeze.
+    pub fn end(&mut self, place: usize)
+        requires { (it : LiveRun) × HasRunAt self.old.runs place it × (entries_of it.number self.old.freezes ≡ []) }
+        ensures { (it : LiveRun) → HasRunAt self.old.runs place it →
+            self.new ≡ record self.old { runs = filter (λ other. not (other.number == it.number)) self.old.runs } }
+    {
+        let _ended = self.runs.remove(place);
+    }
+}

@@ -1,0 +1,66 @@
+// What an engine's history is made of: one record for each answered call. It relies on `ccb` for names and
+// completions, and on `refusal` for what a refused call answers.
+
+use crate::refusal::Refusal;
+use ccb::{CcbId, Completion, QueueId};
+
+/// What a completion led to.
+#[derive(Clone, Copy, Debug, PartialEq, Eq)]
+pub enum Completed {
+    /// The CCB is finished.
+    Done,
+    /// A run of the queue's program started, with the freeze of that number, or with none as number 0.
+    Started { run: u32, freeze: u32 },
+}
+
+/// Where a run stopped: at a call of a helper, or at its exit.
+#[derive(Clone, Copy, Debug, PartialEq, Eq)]
+pub enum StoppedAt {
+    /// A call of helper 2.
+    Release,
+    /// A call of helper 4.
+    Requeue,
+    /// The outermost exit.
+    Exit,
+}
+
+/// One call with its answer.
+#[derive(Clone, Copy, Debug, PartialEq, Eq)]
+pub enum Record {
+    /// A CCB was submitted to a queue: its number, from 1.
+    Submit {
+        queue: QueueId,
+        priority: u32,
+        retries: u32,
+        answer: Result<CcbId, Refusal>,
+    },
+    /// A queue started a CCB: its number.
+    Dispatch {
+        queue: QueueId,
+        answer: Result<CcbId, Refusal>,
+    },
+    /// A device was done with a CCB.
+    Complete {
+        completion: Completion,
+        answer: Result<Completed, Refusal>,
+    },
+    /// A run went on by so many instructions, 1 to 65,536: private ones, and as the last of them the helper call
+    /// or exit at which it stopped, with what R0 was after the call or at the exit.
+    Advance {
+        run: u32,
+        instructions: u32,
+        stop: StoppedAt,
+        r0: u64,
+    },
+    /// A guest froze a queue: the number of the freeze, from 1.
+    GuestFreeze {
+        queue: QueueId,
+        guest: u32,
+        answer: Result<u32, Refusal>,
+    },
+    /// A guest gave a freeze back: how many freezes its queue had then, 0 to 254.
+    GuestRelease {
+        freeze: u32,
+        count: u32,
+    },
+}

@@ -8,10 +8,10 @@ use Rattle.std.proofs.lemmas.List.{get_or_past, length-replicate}
 use Rattle.std.proofs.lemmas.List.Elements.{All-nil, All-cons, All-append, All-replicate, All-get_or}
 use Rattle.byteorder.specs.Endian.{little_bytes}
 use Rattle.sense_record.specs.Sense.{Format, Fixed, Descriptor, Unknown, format_of, response_code, sense_in, sense_of}
-use Rattle.ccb.specs.declared.control_block.Ccb.{Ccb}
+use Rattle.ccb.specs.declared.ccb.Ccb.{Ccb}
 use Rattle.ccb.specs.SenseBytes.{padded_sense}
 use Rattle.ccb.specs.Context.{context_of}
-use Rattle.ccb.specs.ControlBlock.{status_word_of}
+use Rattle.ccb.specs.Ccb.{status_word_of}
 
 record IsBytes (n : ℕ) (xs : List ℕ) : Type 0 where
   size : length xs ≡ n

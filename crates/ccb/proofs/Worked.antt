@@ -3,12 +3,12 @@ use Rattle.std.proofs.Common.{◌≡◌, ℕ, List, [], ◌∷◌, ◌++◌, Boo
 use Rattle.std.proofs.Math.ListN.{replicate}
 use Rattle.ccb.specs.declared.CcbId.{CcbId}
 use Rattle.ccb.specs.declared.QueueId.{QueueId}
-use Rattle.ccb.specs.declared.control_block.Ccb.{Ccb}
-use Rattle.ccb.specs.declared.status.CamStatus.{CamStatus}
-use Rattle.ccb.specs.declared.status.CamStatus.TheVariants.{Busy, CommandTimeout, RequeueRequest, ScsiStatusError}
+use Rattle.ccb.specs.declared.ccb.Ccb.{Ccb}
+use Rattle.ccb.specs.declared.cam_status.CamStatus.{CamStatus}
+use Rattle.ccb.specs.declared.cam_status.CamStatus.TheVariants.{Busy, CommandTimeout, RequeueRequest, ScsiStatusError}
 use Rattle.ccb.specs.Completion.{Outcome}
 use Rattle.ccb.specs.Context.{context_of}
-use Rattle.ccb.specs.ControlBlock.{submitted, started, completed, requeued, status_word_of}
+use Rattle.ccb.specs.Ccb.{submitted, started, completed, requeued, status_word_of}
 
 abbrev number : ℕ → CcbId
 number n = record { 0 = n }

@@ -1,8 +1,8 @@
 -- What a completion says, and which ones there are.
 use Rattle.std.specs.Prelude.{◌≢◌, ◌<◌, ◌≤◌, ℕ, List, length, All}
 use Rattle.ccb.specs.declared.CcbId.{CcbId}
-use Rattle.ccb.specs.declared.status.CamStatus.{CamStatus}
-use Rattle.ccb.specs.declared.status.CamStatus.TheVariants.{RequestInProgress}
+use Rattle.ccb.specs.declared.cam_status.CamStatus.{CamStatus}
+use Rattle.ccb.specs.declared.cam_status.CamStatus.TheVariants.{RequestInProgress}
 use Rattle.ccb.specs.SenseBytes.{most_sense_bytes}
 
 -- the answer of a device to a CCB: the CCB's number, its CAM status, the SCSI status byte, and the

@@ -3,8 +3,8 @@ use Rattle.std.specs.Prelude.{ℕ, List, [], ◌∷◌}
 use Rattle.std.specs.List.{flat_map}
 use Rattle.byteorder.specs.Endian.{little_bytes}
 use Rattle.sense_record.specs.Sense.{sense_of}
-use Rattle.ccb.specs.declared.control_block.Ccb.{Ccb}
-use Rattle.ccb.specs.ControlBlock.{status_word_of}
+use Rattle.ccb.specs.declared.ccb.Ccb.{Ccb}
+use Rattle.ccb.specs.Ccb.{status_word_of}
 use Rattle.ccb.specs.SenseBytes.{padded_sense}
 
 -- one field: a byte, a word of four bytes with the lowest first, or bytes as they are

@@ -2,6 +2,6 @@ pub mod Status
 pub mod Flags
 pub mod SenseBytes
 pub mod Completion
-pub mod ControlBlock
+pub mod Ccb
 pub mod Context
 pub mod Rising

@@ -1,7 +1,7 @@
 -- The CAM status codes, and what a byte that is to be one stands for.
 use Rattle.std.specs.Prelude.{◌≡◌, ◌≢◌, ℕ, Option, MatchOption}
-use Rattle.ccb.specs.declared.status.CamStatus.{CamStatus}
-use Rattle.ccb.specs.declared.status.CamStatus.TheVariants.{RequestInProgress, RequestCompleted, RequestAborted, Busy, SelectionTimeout, CommandTimeout, ScsiStatusError, ScsiBusReset, BusDeviceResetSent, RequeueRequest}
+use Rattle.ccb.specs.declared.cam_status.CamStatus.{CamStatus}
+use Rattle.ccb.specs.declared.cam_status.CamStatus.TheVariants.{RequestInProgress, RequestCompleted, RequestAborted, Busy, SelectionTimeout, CommandTimeout, ScsiStatusError, ScsiBusReset, BusDeviceResetSent, RequeueRequest}
 
 -- the code of a status, the low six bits of a CCB's status byte
 abbrev pub code_of : CamStatus → ℕ

@@ -4,8 +4,8 @@ ghost use Rattle.std.specs.Prelude.{◌≡◌, SomeIff};
 ghost use Rattle.ccb.specs.Completion.{Outcome, IsCompletion};
 
 use crate::CcbId;
+use crate::cam_status::CamStatus;
 use crate::sense_bytes::SenseBytes;
-use crate::status::CamStatus;
 use std::marker::Model;
 
 /// The completion of a CCB: which CCB, its CAM status (never that it is in progress), its SCSI

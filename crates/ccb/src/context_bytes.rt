@@ -4,7 +4,7 @@
 ghost use Rattle.std.specs.Prelude.{◌≡◌};
 ghost use Rattle.ccb.specs.Context.{context_of};
 
-use crate::control_block::Ccb;
+use crate::ccb::Ccb;
 use byteorder::{ByteOrder, LittleEndian};
 
 /// How many bytes a context has.

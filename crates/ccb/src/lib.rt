@@ -3,19 +3,19 @@
 // It relies on `sense_record` for the sense fields, `bitflags` for flags, `byteorder` for words.
 #![tactic(auto)]
 
+mod cam_status;
+mod ccb;
+mod ccb_flags;
 mod completion;
 mod context_bytes;
-mod control_block;
-mod flags;
 mod sense_bytes;
-mod status;
 
+pub use crate::cam_status::CamStatus;
+pub use crate::ccb::Ccb;
+pub use crate::ccb_flags::CcbFlags;
 pub use crate::completion::Completion;
 pub use crate::context_bytes::{CONTEXT_BYTES, context};
-pub use crate::control_block::Ccb;
-pub use crate::flags::CcbFlags;
 pub use crate::sense_bytes::{MAX_SENSE_BYTES, SenseBytes};
-pub use crate::status::CamStatus;
 
 /// The number of a CCB. Numbers are given from 1 upward and never used again.
 #[derive(Clone, Copy, Debug, PartialEq, Eq, Hash, PartialOrd, Ord)]

@@ -5,7 +5,7 @@ use Rattle.std.proofs.lemmas.Bool.{cases_Bool, cases_eq, and_parts, and_from, or
 use Rattle.std.proofs.lemmas.List.{length-map}
 use Rattle.std.proofs.lemmas.List.Elements.{All-nil, All-cons, All-head, All-tail, All-weaker, All-contains}
 use Rattle.ccb.specs.declared.CcbId.{CcbId}
-use Rattle.dev_queue.specs.declared.waiting.WaitingCcb.{WaitingCcb}
+use Rattle.dev_queue.specs.declared.waiting_ccb.WaitingCcb.{WaitingCcb}
 use Rattle.dev_queue.specs.Waiting.{StartsFirst, IsLeastNumber}
 use Rattle.world.specs.declared.ccb_state.CcbState.{CcbState}
 use Rattle.world.specs.declared.ccb_state.CcbState.TheVariants.{Waiting, Active, InRecovery}

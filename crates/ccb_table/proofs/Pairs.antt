@@ -7,7 +7,7 @@ use Rattle.std.proofs.lemmas.List.{length-map}
 use Rattle.std.proofs.lemmas.List.Elements.{filter-append}
 use Rattle.std.proofs.lemmas.List.Sums.{length-filter}
 use Rattle.ccb.specs.declared.CcbId.{CcbId}
-use Rattle.dev_queue.specs.declared.waiting.WaitingCcb.{WaitingCcb}
+use Rattle.dev_queue.specs.declared.waiting_ccb.WaitingCcb.{WaitingCcb}
 use Rattle.dev_queue.specs.Waiting.{with_pair, without, waits}
 use Rattle.world.specs.World.{LiveCcb}
 use Rattle.ccb.specs.Rising.{AreRising}

@@ -4,13 +4,13 @@ use Rattle.std.specs.Prelude.{nat_le}
 use Rattle.std.proofs.lemmas.Bool.{cases_Bool, cases_eq, cond-true, cond-false, or_left, or_parts, or_from, lt-leb, le-ltb, eq-eqb, ne_eqb, not_from_true, not_from_false}
 use Rattle.std.proofs.lemmas.List.{length-map}
 use Rattle.ccb.specs.declared.CcbId.{CcbId}
-use Rattle.ccb.specs.declared.control_block.Ccb.{Ccb}
-use Rattle.ccb.specs.ControlBlock.{submitted, started}
+use Rattle.ccb.specs.declared.ccb.Ccb.{Ccb}
+use Rattle.ccb.specs.Ccb.{submitted, started}
 use Rattle.freeze_ledger.specs.Freezes.{frozen}
 use Rattle.dev_queue.specs.State.{QueueState, live}
 use Rattle.dev_queue.specs.Faults.{insert_fault, start_fault}
-use Rattle.dev_queue.specs.declared.fault.QueueFault.{QueueFault}
-use Rattle.dev_queue.specs.declared.fault.QueueFault.TheVariants as fault
+use Rattle.dev_queue.specs.declared.queue_fault.QueueFault.{QueueFault}
+use Rattle.dev_queue.specs.declared.queue_fault.QueueFault.TheVariants as fault
 use Rattle.world.specs.declared.refusal.Refusal.{Refusal}
 use Rattle.world.specs.declared.refusal.Refusal.TheVariants.{Limit}
 use Rattle.world.specs.declared.ccb_state.CcbState.TheVariants.{Waiting}

@@ -1,8 +1,8 @@
 -- What each call leaves: what the table keeps, and what contracts see of it.
 use Rattle.std.proofs.Common.{◌≡◌, ℕ, ◌+◌, ◌<◌, List, [], ◌∷◌, ◌++◌, length, set, true, false, Option, Some, refl, ap, sym, subst, ◌∙◌, arith}
 use Rattle.ccb.specs.declared.CcbId.{CcbId}
-use Rattle.ccb.specs.declared.control_block.Ccb.{Ccb}
-use Rattle.ccb.specs.ControlBlock.{started}
+use Rattle.ccb.specs.declared.ccb.Ccb.{Ccb}
+use Rattle.ccb.specs.Ccb.{started}
 use Rattle.dev_queue.specs.Waiting.{IsLeastNumber}
 use Rattle.dev_queue.specs.State.{QueueState, with_waiting, with_started, with_stopped, with_left}
 use Rattle.world.specs.declared.ccb_state.CcbState.TheVariants.{Waiting, Active, InRecovery}

@@ -1,6 +1,6 @@
 -- The refusal by which the transport tells a fault of a device queue.
-use Rattle.dev_queue.specs.declared.fault.QueueFault.{QueueFault}
-use Rattle.dev_queue.specs.declared.fault.QueueFault.TheVariants.{Full, Frozen, NoOpening, NothingWaits}
+use Rattle.dev_queue.specs.declared.queue_fault.QueueFault.{QueueFault}
+use Rattle.dev_queue.specs.declared.queue_fault.QueueFault.TheVariants.{Full, Frozen, NoOpening, NothingWaits}
 use Rattle.world.specs.declared.refusal.Refusal.{Refusal}
 use Rattle.world.specs.declared.refusal.Refusal.TheVariants as refusal
 

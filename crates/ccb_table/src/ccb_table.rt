@@ -3,7 +3,7 @@
 // queues.
 
 ghost use Rattle.std.specs.Prelude.{◌≡◌, ℕ, ◌<◌, ◌≤◌, ◌++◌, [], ◌∷◌, ◌==◌, not, true, length, filter, count_by, Some, IfOk, IfSome, OnOk, OnErr};
-ghost use Rattle.ccb.specs.ControlBlock.{requeued};
+ghost use Rattle.ccb.specs.Ccb.{requeued};
 ghost use Rattle.world.specs.declared.ccb_state.CcbState.TheVariants.{Waiting, InRecovery};
 ghost use Rattle.world.specs.World.{Setup, World, queue_count, LiveCcb as WorldCcb};
 ghost use Rattle.world.specs.Capacities.{most_queues, most_ccbs};

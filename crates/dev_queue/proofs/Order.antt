@@ -3,7 +3,7 @@ use Rattle.std.proofs.Common.{◌≡◌, ℕ, zero, suc, ◌+◌, ◌^◌, ◌<�
 use Rattle.std.proofs.lemmas.Bool.{eq-eqb, ne_eqb, eqb-false, ltb-true, ltb-false, lt-ltb, le-ltb, or_parts, cond-true, cond-false, cond_both, not_from_true, not_from_false}
 use Rattle.std.specs.List.{insert, remove, AllWithin}
 use Rattle.ccb.specs.declared.CcbId.{CcbId}
-use Rattle.dev_queue.specs.declared.waiting.WaitingCcb.{WaitingCcb}
+use Rattle.dev_queue.specs.declared.waiting_ccb.WaitingCcb.{WaitingCcb}
 use Rattle.dev_queue.specs.Waiting.{AreInOrder, with_pair, without, waits}
 
 -- one more CCB makes the list longer by one

@@ -1,7 +1,7 @@
 -- Worked values of the definitions.
 use Rattle.std.proofs.Common.{◌≡◌, ℕ, List, [], ◌∷◌, Some, None, true, false, replicate, refl}
-use Rattle.dev_queue.specs.declared.waiting.WaitingCcb.{WaitingCcb}
-use Rattle.dev_queue.specs.declared.fault.QueueFault.TheVariants.{Full, Frozen, NoOpening, NothingWaits}
+use Rattle.dev_queue.specs.declared.waiting_ccb.WaitingCcb.{WaitingCcb}
+use Rattle.dev_queue.specs.declared.queue_fault.QueueFault.TheVariants.{Full, Frozen, NoOpening, NothingWaits}
 use Rattle.dev_queue.specs.State.{QueueState, with_waiting, with_started, with_stopped, with_left}
 use Rattle.dev_queue.specs.Faults.{insert_fault, start_fault}
 

@@ -1,7 +1,7 @@
 -- How a fault is printed: by its code.
 use Rattle.std.specs.Prelude.{ℕ, List, codes}
-use Rattle.dev_queue.specs.declared.fault.QueueFault.{QueueFault}
-use Rattle.dev_queue.specs.declared.fault.QueueFault.TheVariants.{Full, Frozen, NoOpening, NothingWaits}
+use Rattle.dev_queue.specs.declared.queue_fault.QueueFault.{QueueFault}
+use Rattle.dev_queue.specs.declared.queue_fault.QueueFault.TheVariants.{Full, Frozen, NoOpening, NothingWaits}
 
 abbrev pub fault_text : QueueFault → List ℕ
 fault_text Full = codes "Q1"

@@ -1,8 +1,8 @@
 -- Which fault a call of a device queue answers, if any.
 use Rattle.std.specs.Prelude.{ℕ, not, ◌==◌, nat_le, length, Option, Some, None, if◌then◌else◌}
-use Rattle.dev_queue.specs.declared.fault.QueueFault.{QueueFault}
-use Rattle.dev_queue.specs.declared.fault.QueueFault.TheVariants.{Full, Frozen, NoOpening, NothingWaits}
-use Rattle.dev_queue.specs.declared.queue.TheConstants.{MAX_LIVE}
+use Rattle.dev_queue.specs.declared.queue_fault.QueueFault.{QueueFault}
+use Rattle.dev_queue.specs.declared.queue_fault.QueueFault.TheVariants.{Full, Frozen, NoOpening, NothingWaits}
+use Rattle.dev_queue.specs.declared.dev_queue.TheConstants.{MAX_LIVE}
 use Rattle.dev_queue.specs.State.{QueueState, live}
 
 -- of one CCB more: as many are live as there may be (256)

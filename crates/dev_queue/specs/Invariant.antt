@@ -2,8 +2,8 @@
 use Rattle.std.specs.Prelude.{◌≤◌, length, vec_capacity}
 use Rattle.std.specs.declared.vec.Vec.{Vec}
 use Rattle.std.specs.declared.alloc.Global.{Global}
-use Rattle.dev_queue.specs.declared.waiting.WaitingCcb.{WaitingCcb}
-use Rattle.dev_queue.specs.declared.queue.TheConstants.{MAX_LIVE}
+use Rattle.dev_queue.specs.declared.waiting_ccb.WaitingCcb.{WaitingCcb}
+use Rattle.dev_queue.specs.declared.dev_queue.TheConstants.{MAX_LIVE}
 use Rattle.dev_queue.specs.Waiting.{AreInOrder}
 
 pub record IsKept (pairs : Vec WaitingCcb Global) : Type 0 where

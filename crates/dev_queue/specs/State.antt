@@ -1,7 +1,7 @@
 -- What contracts see of a device queue, and its changes.
 use Rattle.std.specs.Prelude.{ℕ, ◌+◌, ◌-◌, Bool, List, [], length, if◌then◌else◌}
 use Rattle.ccb.specs.declared.CcbId.{CcbId}
-use Rattle.dev_queue.specs.declared.waiting.WaitingCcb.{WaitingCcb}
+use Rattle.dev_queue.specs.declared.waiting_ccb.WaitingCcb.{WaitingCcb}
 use Rattle.dev_queue.specs.Waiting.{with_pair, without}
 
 pub record QueueState : Type 0 where

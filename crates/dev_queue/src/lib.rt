@@ -3,13 +3,14 @@
 // the queue is not frozen and has an opening. It relies on `ccb` for the names of CCBs.
 #![tactic(auto)]
 
-mod fault;
-mod freezes;
+mod dev_queue;
+mod frozen;
 pub mod laws;
-mod queue;
-mod waiting;
+mod queue_fault;
+mod waiting_ccb;
+mod waiting_list;
 
-pub use fault::QueueFault;
-pub use freezes::Frozen;
-pub use queue::{DevQueue, MAX_LIVE};
-pub use waiting::WaitingCcb;
+pub use dev_queue::{DevQueue, MAX_LIVE};
+pub use frozen::Frozen;
+pub use queue_fault::QueueFault;
+pub use waiting_ccb::WaitingCcb;

@@ -2,7 +2,7 @@
 use Rattle.std.proofs.Common.{◌≡◌, ℕ, List, [], ◌∷◌, ◌++◌, length, Result, Ok, Some, refl, ap, sym}
 use Rattle.ccb.specs.declared.CcbId.{CcbId}
 use Rattle.ccb.specs.declared.QueueId.{QueueId}
-use Rattle.ccb.specs.declared.control_block.Ccb.{Ccb}
+use Rattle.ccb.specs.declared.ccb.Ccb.{Ccb}
 use Rattle.ccb.specs.Completion.{Outcome}
 use Rattle.ccb_table.specs.CcbsState.{CcbsState, with_ccbs}
 use Rattle.freeze_ledger.specs.Freezes.{entry_of}

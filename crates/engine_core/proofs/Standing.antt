@@ -3,13 +3,13 @@ use Rattle.std.proofs.Common.{◌≡◌, ℕ, ◌≤◌, List, [], ◌∷◌, ma
 use Rattle.std.specs.Prelude.{◌&&◌}
 use Rattle.std.specs.Option.{option_map, option_and_then}
 use Rattle.std.proofs.lemmas.Bool.{cond-true}
-use Rattle.freeze_ledger.specs.declared.entries.Freeze.{Freeze}
+use Rattle.freeze_ledger.specs.declared.freeze.Freeze.{Freeze}
 use Rattle.freeze_ledger.specs.Freezes.{entry_of, without}
 use Rattle.helpers.specs.declared.limits.HelperLimits.{HelperLimits}
 use Rattle.helpers.specs.declared.call.Request.{Request}
 use Rattle.helpers.specs.declared.call.Request.TheVariants.{Release, Requeue}
 use Rattle.helpers.specs.Rules.{is_held, meets_rule}
-use Rattle.ccb.specs.ControlBlock.{requeued}
+use Rattle.ccb.specs.Ccb.{requeued}
 use Rattle.bpf_machine.specs.declared.stop.Stop.{Stop}
 use Rattle.bpf_machine.specs.declared.stop.Stop.TheVariants.{Helper, Exit}
 use Rattle.bpf_machine.specs.Step.{request_at, exit_at}

@@ -1,8 +1,8 @@
 -- The stops of admitted segments, as the tables of CCBs and of runs carry them out.
 use Rattle.std.proofs.Common.{◌≡◌, ℕ, ◌≤◌, List, [], true, Some, ap, sym, subst, ◌∙◌, arith}
-use Rattle.freeze_ledger.specs.declared.entries.Freeze.{Freeze}
+use Rattle.freeze_ledger.specs.declared.freeze.Freeze.{Freeze}
 use Rattle.freeze_ledger.specs.Freezes.{entry_of, without}
-use Rattle.ccb.specs.ControlBlock.{requeued}
+use Rattle.ccb.specs.Ccb.{requeued}
 use Rattle.ccb_table.specs.CcbsState.{CcbsState}
 use Rattle.recoveries.specs.RecoveryState.{RecoveryState}
 use Rattle.recoveries.specs.RunPlaces.{HasRunAt}

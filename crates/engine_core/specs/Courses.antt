@@ -1,6 +1,6 @@
 -- What is to be done about a completion.
 use Rattle.std.specs.Prelude.{◌≡◌, false, Some}
-use Rattle.ccb.specs.declared.control_block.Ccb.{Ccb}
+use Rattle.ccb.specs.declared.ccb.Ccb.{Ccb}
 use Rattle.ccb.specs.Completion.{Outcome}
 use Rattle.world.specs.declared.ccb_state.CcbState.TheVariants.{Active}
 use Rattle.world.specs.World.{Setup, World}

@@ -3,7 +3,7 @@
 // `world` for what is recorded.
 
 ghost use Rattle.std.specs.Prelude.{◌≡◌, IfOk, IfErr, MatchResult, Ok, Err, map};
-ghost use Rattle.freeze_ledger.specs.declared.entries.Holder.TheVariants.{Guest};
+ghost use Rattle.freeze_ledger.specs.declared.freeze.Holder.TheVariants.{Guest};
 ghost use Rattle.ccb_table.specs.CcbsState.{no_ccbs};
 ghost use Rattle.recoveries.specs.RecoveryState.{no_recoveries};
 ghost use Rattle.recoveries.specs.Admits.{IsOutAs};

@@ -11,7 +11,7 @@ use Rattle.std.specs.List.{remove, All}
 use Rattle.std.specs.Vec.{vec_capacity}
 use Rattle.std.specs.declared.vec.Vec.{Vec}
 use Rattle.std.specs.declared.alloc.Global.{Global}
-use Rattle.freeze_ledger.specs.declared.entries.Freeze.{Freeze}
+use Rattle.freeze_ledger.specs.declared.freeze.Freeze.{Freeze}
 use Rattle.freeze_ledger.specs.Freezes.{frozen}
 use Rattle.freeze_ledger.specs.Invariant.{IsKept}
 use Rattle.freeze_ledger.proofs.Numbered.{numbered_push, numbered_remove}

@@ -3,8 +3,8 @@ use Rattle.std.proofs.Common.{◌≡◌, ℕ, zero, suc, ◌+◌, ◌<◌, ◌�
 use Rattle.std.proofs.lemmas.Bool.{eq-eqb, ne_eqb, cond-true, cond-false, cond_both, not_from_true, not_from_false}
 use Rattle.std.specs.List.{remove, find, filter}
 use Rattle.ccb.specs.Rising.{AreRising}
-use Rattle.freeze_ledger.specs.declared.entries.Freeze.{Freeze}
-use Rattle.freeze_ledger.specs.declared.entries.Holder.{Holder}
+use Rattle.freeze_ledger.specs.declared.freeze.Freeze.{Freeze}
+use Rattle.freeze_ledger.specs.declared.freeze.Holder.{Holder}
 use Rattle.freeze_ledger.specs.Freezes.{entry_of, holders_of, names, without}
 use Rattle.freeze_ledger.specs.Invariant.{AreNumbered}
 

@@ -1,9 +1,9 @@
 -- What a list of freezes says: how often a queue is frozen, by whom, and when a further freeze meets a limit.
 use Rattle.std.specs.Prelude.{ℕ, Bool, not, ◌==◌, ◌||◌, nat_le, List, map, filter, length, Option, count_by}
 use Rattle.std.specs.List.{find}
-use Rattle.freeze_ledger.specs.declared.entries.Holder.{Holder}
-use Rattle.freeze_ledger.specs.declared.entries.Freeze.{Freeze}
-use Rattle.freeze_ledger.specs.declared.list.TheConstants.{MAX_FREEZES, MAX_FREEZE_NUMBER, MAX_QUEUE_FREEZES}
+use Rattle.freeze_ledger.specs.declared.freeze.Holder.{Holder}
+use Rattle.freeze_ledger.specs.declared.freeze.Freeze.{Freeze}
+use Rattle.freeze_ledger.specs.declared.ledger.TheConstants.{MAX_FREEZES, MAX_FREEZE_NUMBER, MAX_QUEUE_FREEZES}
 
 -- the freeze is one of this queue
 abbrev pub names : ℕ → Freeze → Bool

@@ -3,8 +3,8 @@ use Rattle.std.specs.Prelude.{◌≡◌, ℕ, ◌<◌, ◌≤◌, ◌^◌, List,
 use Rattle.std.specs.declared.vec.Vec.{Vec}
 use Rattle.std.specs.declared.alloc.Global.{Global}
 use Rattle.ccb.specs.Rising.{AreRising}
-use Rattle.freeze_ledger.specs.declared.entries.Freeze.{Freeze}
-use Rattle.freeze_ledger.specs.declared.list.TheConstants.{MAX_FREEZES}
+use Rattle.freeze_ledger.specs.declared.freeze.Freeze.{Freeze}
+use Rattle.freeze_ledger.specs.declared.ledger.TheConstants.{MAX_FREEZES}
 use Rattle.freeze_ledger.specs.Freezes.{frozen}
 
 -- the freezes' numbers rise from above `low`, and none is above `high`

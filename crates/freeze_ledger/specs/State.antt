@@ -1,8 +1,8 @@
 -- What contracts see of a ledger.
 use Rattle.std.specs.Prelude.{ℕ, ◌+◌, List, [], ◌∷◌, ◌++◌}
 use Rattle.ccb.specs.declared.QueueId.{QueueId}
-use Rattle.freeze_ledger.specs.declared.entries.Holder.{Holder}
-use Rattle.freeze_ledger.specs.declared.entries.Freeze.{Freeze}
+use Rattle.freeze_ledger.specs.declared.freeze.Holder.{Holder}
+use Rattle.freeze_ledger.specs.declared.freeze.Freeze.{Freeze}
 
 pub record LedgerState : Type 0 where
   pub queues : ℕ

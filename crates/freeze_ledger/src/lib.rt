@@ -2,12 +2,12 @@
 // frozen count is the number of its entries. It relies on `ccb` for the name of a queue.
 #![tactic(auto)]
 
-mod entries;
-mod iter;
-mod list;
-mod token;
+mod freeze;
+mod freeze_token;
+mod holders;
+mod ledger;
 
-pub use entries::{Freeze, Holder};
-pub use iter::Holders;
-pub use list::{Ledger, MAX_FREEZE_NUMBER, MAX_FREEZES, MAX_QUEUE_FREEZES};
-pub use token::FreezeToken;
+pub use freeze::{Freeze, Holder};
+pub use freeze_token::FreezeToken;
+pub use holders::Holders;
+pub use ledger::{Ledger, MAX_FREEZE_NUMBER, MAX_FREEZES, MAX_QUEUE_FREEZES};

@@ -4,8 +4,8 @@ use Rattle.std.specs.Prelude.{IfSome, IfNone, IfOk, IfErr, OnOk, Contains}
 use Rattle.std.specs.Option.{ok_or}
 use Rattle.std.proofs.lemmas.List.Elements.{Contains-push}
 use Rattle.ccb.specs.declared.QueueId.{QueueId}
-use Rattle.freeze_ledger.specs.declared.entries.Holder.TheVariants.{Guest}
-use Rattle.freeze_ledger.specs.declared.entries.Freeze.{Freeze}
+use Rattle.freeze_ledger.specs.declared.freeze.Holder.TheVariants.{Guest}
+use Rattle.freeze_ledger.specs.declared.freeze.Freeze.{Freeze}
 use Rattle.freeze_ledger.specs.Freezes.{entry_of, without}
 use Rattle.freeze_ledger.specs.State.{LedgerState, with_entry, with_freezes, next_freeze}
 use Rattle.world.specs.declared.refusal.Refusal.{Refusal}

@@ -7,8 +7,8 @@ use Rattle.std.proofs.lemmas.List.{map_push, get_or-set_same, get_or-set_other}
 use Rattle.std.proofs.lemmas.List.Elements.{All-push, All-set, All-weaker, All-filter, All-append, All-take, All-drop}
 use Rattle.std.proofs.lemmas.List.Edits.{length-remove}
 use Rattle.std.proofs.Math.ListN.{length-set}
-use Rattle.freeze_ledger.specs.declared.entries.Holder.TheVariants.{Run}
-use Rattle.freeze_ledger.specs.declared.entries.Freeze.{Freeze}
+use Rattle.freeze_ledger.specs.declared.freeze.Holder.TheVariants.{Run}
+use Rattle.freeze_ledger.specs.declared.freeze.Freeze.{Freeze}
 use Rattle.freeze_ledger.specs.Freezes.{entry_of, without}
 use Rattle.freeze_ledger.specs.State.{LedgerState, with_entry, with_freezes}
 use Rattle.world.specs.World.{LiveRun}

@@ -4,9 +4,9 @@ use Rattle.std.specs.List.{All, Contains, remove}
 use Rattle.std.proofs.lemmas.Bool.{cases_Bool, cases_eq, eqb-true}
 use Rattle.std.proofs.lemmas.List.{length-map, get_or-map}
 use Rattle.std.proofs.lemmas.List.Elements.{All-head, All-tail, filter-append}
-use Rattle.freeze_ledger.specs.declared.entries.Holder.{Holder}
-use Rattle.freeze_ledger.specs.declared.entries.Holder.TheVariants.{Run, Timer, Guest}
-use Rattle.freeze_ledger.specs.declared.entries.Freeze.{Freeze}
+use Rattle.freeze_ledger.specs.declared.freeze.Holder.{Holder}
+use Rattle.freeze_ledger.specs.declared.freeze.Holder.TheVariants.{Run, Timer, Guest}
+use Rattle.freeze_ledger.specs.declared.freeze.Freeze.{Freeze}
 use Rattle.freeze_ledger.specs.Freezes.{entry_of, without}
 use Rattle.world.specs.RunSteps.{is_run}
 use Rattle.world.specs.FreezeSteps.{is_guest}

@@ -5,14 +5,14 @@ use Rattle.std.specs.Option.{is_some}
 use Rattle.std.proofs.lemmas.Bool.{cases_Bool, cond-true, cond-false, or_parts, leb-false}
 use Rattle.std.proofs.lemmas.List.{map_push}
 use Rattle.ccb.specs.declared.QueueId.{QueueId}
-use Rattle.ccb.specs.declared.control_block.Ccb.{Ccb}
+use Rattle.ccb.specs.declared.ccb.Ccb.{Ccb}
 use Rattle.ccb.specs.Completion.{Outcome}
-use Rattle.ccb.specs.ControlBlock.{completed}
+use Rattle.ccb.specs.Ccb.{completed}
 use Rattle.ccb.specs.Context.{context_of}
 use Rattle.bpf_insn.specs.declared.program.Slot.{Slot}
 use Rattle.bpf_machine.specs.MachineState.{MachineState, entry}
-use Rattle.freeze_ledger.specs.declared.entries.Holder.TheVariants.{Run}
-use Rattle.freeze_ledger.specs.declared.entries.Freeze.{Freeze}
+use Rattle.freeze_ledger.specs.declared.freeze.Holder.TheVariants.{Run}
+use Rattle.freeze_ledger.specs.declared.freeze.Freeze.{Freeze}
 use Rattle.freeze_ledger.specs.Freezes.{meets_limit}
 use Rattle.freeze_ledger.specs.State.{LedgerState, with_entry, next_freeze}
 use Rattle.world.specs.declared.ccb_state.CcbState.TheVariants.{InRecovery}

@@ -1,6 +1,6 @@
 -- What the freezes and the records of the runs keep.
 use Rattle.std.specs.Prelude.{◌≡◌, ℕ, ◌≤◌, true, List, map, length, All}
-use Rattle.freeze_ledger.specs.declared.entries.Freeze.{Freeze}
+use Rattle.freeze_ledger.specs.declared.freeze.Freeze.{Freeze}
 use Rattle.freeze_ledger.specs.State.{LedgerState}
 use Rattle.ccb.specs.Rising.{AreRising}
 use Rattle.world.specs.Capacities.{most_runs}

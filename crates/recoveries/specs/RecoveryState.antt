@@ -1,7 +1,7 @@
 -- What contracts see of the freezes of all device queues, and of the live runs that hold some of them.
 use Rattle.std.specs.Prelude.{ℕ, true, List, [], map, Option, Some, None, Result, Ok, Err}
-use Rattle.ccb.specs.declared.control_block.Ccb.{Ccb}
-use Rattle.freeze_ledger.specs.declared.entries.Freeze.{Freeze}
+use Rattle.ccb.specs.declared.ccb.Ccb.{Ccb}
+use Rattle.freeze_ledger.specs.declared.freeze.Freeze.{Freeze}
 use Rattle.freeze_ledger.specs.State.{LedgerState}
 use Rattle.bpf_insn.specs.declared.program.Slot.{Slot}
 use Rattle.bpf_machine.specs.MachineState.{MachineState}

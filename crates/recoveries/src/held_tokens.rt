@@ -19,7 +19,7 @@ pub(crate) type HeldTokens = ArrayVec<Option<HeldToken>, MOST_HELD>;
 pub(crate) struct HeldToken(FreezeToken);
 
 impl Model for HeldToken {
-    ghost use Rattle.freeze_ledger.specs.declared.entries.Freeze.{Freeze};
+    ghost use Rattle.freeze_ledger.specs.declared.freeze.Freeze.{Freeze};
 
     ghost Value = { Freeze };
 

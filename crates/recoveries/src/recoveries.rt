@@ -3,9 +3,9 @@
 
 ghost use Rattle.std.specs.Prelude.{◌≡◌, ℕ, ◌<◌, ◌≤◌, ◌==◌, ◌↔◌, true, false, not, List, [], length, filter, Contains, Some, None, IsTrue, IsSome, IfSome, IfOk, Bool};
 ghost use Rattle.std.specs.Arc.{arc_value};
-ghost use Rattle.ccb.specs.ControlBlock.{completed};
-ghost use Rattle.freeze_ledger.specs.declared.entries.Freeze.{Freeze};
-ghost use Rattle.freeze_ledger.specs.declared.entries.Holder.TheVariants.{Guest};
+ghost use Rattle.ccb.specs.Ccb.{completed};
+ghost use Rattle.freeze_ledger.specs.declared.freeze.Freeze.{Freeze};
+ghost use Rattle.freeze_ledger.specs.declared.freeze.Holder.TheVariants.{Guest};
 ghost use Rattle.freeze_ledger.specs.Freezes.{entry_of, without};
 ghost use Rattle.bpf_machine.specs.Reached.{IsEntry};
 ghost use Rattle.bpf_machine.specs.Step.{IsAnswer, answered};

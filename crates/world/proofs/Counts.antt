@@ -1,7 +1,7 @@
 -- Frozen counts move as the entries do.
 use Rattle.std.proofs.Common.{◌≡◌, ℕ, ◌+◌, List, true, false, cond, eqb, Some, refl, ap, sym, subst, ◌∙◌, arith}
 use Rattle.std.proofs.lemmas.Bool.{ne_eqb}
-use Rattle.freeze_ledger.specs.declared.entries.Freeze.{Freeze}
+use Rattle.freeze_ledger.specs.declared.freeze.Freeze.{Freeze}
 use Rattle.freeze_ledger.specs.Freezes.{frozen, entry_of, without}
 use Rattle.world.specs.FreezeSteps.{frozen_with}
 use Rattle.world.specs.declared.refusal.Refusal.{Refusal}

@@ -1,6 +1,6 @@
 -- A number that was given up, or whose freeze is gone, is never held again.
 use Rattle.std.proofs.Common.{◌≡◌, ℕ, ◌≤◌, List, [], ◌∷◌, Option, Some, None, IsSome, refl, ap, sym, subst, ◌∙◌, arith}
-use Rattle.freeze_ledger.specs.declared.entries.Freeze.{Freeze}
+use Rattle.freeze_ledger.specs.declared.freeze.Freeze.{Freeze}
 use Rattle.freeze_ledger.specs.Freezes.{entry_of, without}
 use Rattle.helpers.specs.declared.call.Request.TheVariants.{Release}
 use Rattle.bpf_machine.specs.Step.{request_at}

@@ -1,6 +1,6 @@
 -- Each live run's machine was reached, and the run is of its queue's program; so it is not stuck.
 use Rattle.std.proofs.Common.{◌≡◌, ℕ, suc, ◌<◌, ◌≤◌, List, [], Bool, true, false, cond, eqb, Option, Some, None, inl, inr, refl, ap, sym, subst, ◌∙◌, arith}
-use Rattle.freeze_ledger.specs.declared.entries.Freeze.{Freeze}
+use Rattle.freeze_ledger.specs.declared.freeze.Freeze.{Freeze}
 use Rattle.freeze_ledger.specs.Freezes.{entry_of, without}
 use Rattle.std.proofs.lemmas.Bool.{eq-eqb}
 use Rattle.helpers.specs.declared.limits.HelperLimits.{HelperLimits}

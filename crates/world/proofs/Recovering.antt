@@ -1,7 +1,7 @@
 -- The CCB of a run that has not disposed of it is in recovery, by that run alone.
 use Rattle.std.proofs.Common.{◌≡◌, ℕ, Bool, true, false, Option, Some, None, ◌⊎◌, inl, inr, refl, ap, sym, subst, ◌∙◌}
 use Rattle.std.proofs.lemmas.Bool.{eq-eqb}
-use Rattle.ccb.specs.ControlBlock.{completed}
+use Rattle.ccb.specs.Ccb.{completed}
 use Rattle.world.specs.declared.ccb_state.CcbState.{CcbState}
 use Rattle.world.specs.declared.ccb_state.CcbState.TheVariants.{InRecovery}
 use Rattle.world.specs.World.{Setup, LiveCcb, LiveRun, World}

@@ -1,15 +1,15 @@
 -- What becomes of a CCB that is submitted, started and completed.
 use Rattle.std.specs.Prelude.{ℕ, ◌+◌, Bool, true, false, not, ◌&&◌, ◌||◌, ◌==◌, if◌then◌else◌, nat_lt, nat_le, [], ◌∷◌, ◌++◌, Option, Some, None, length, filter, slice_index}
 use Rattle.std.specs.List.{list_all}
-use Rattle.ccb.specs.declared.control_block.Ccb.{Ccb}
-use Rattle.ccb.specs.declared.status.CamStatus.{CamStatus}
-use Rattle.ccb.specs.declared.status.CamStatus.TheVariants.{RequestInProgress, RequestCompleted}
+use Rattle.ccb.specs.declared.ccb.Ccb.{Ccb}
+use Rattle.ccb.specs.declared.cam_status.CamStatus.{CamStatus}
+use Rattle.ccb.specs.declared.cam_status.CamStatus.TheVariants.{RequestInProgress, RequestCompleted}
 use Rattle.ccb.specs.Status.{code_of}
 use Rattle.ccb.specs.SenseBytes.{most_sense_bytes}
 use Rattle.ccb.specs.Completion.{Outcome}
-use Rattle.ccb.specs.ControlBlock.{submitted, started, completed}
+use Rattle.ccb.specs.Ccb.{submitted, started, completed}
 use Rattle.ccb.specs.Context.{context_of}
-use Rattle.freeze_ledger.specs.declared.entries.Holder.TheVariants.{Run}
+use Rattle.freeze_ledger.specs.declared.freeze.Holder.TheVariants.{Run}
 use Rattle.freeze_ledger.specs.Freezes.{frozen, meets_limit}
 use Rattle.bpf_machine.specs.MachineState.{entry}
 use Rattle.world.specs.declared.refusal.Refusal.TheVariants.{Unknown, Limit, NotActive, Frozen, NoOpening, NothingWaits}

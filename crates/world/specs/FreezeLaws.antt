@@ -1,6 +1,6 @@
 -- The laws of frozen counts and freezes: what holds in every run of the world.
 use Rattle.std.specs.Prelude.{◌≡◌, ℕ, ◌+◌, ◌==◌, true, if◌then◌else◌, List, ◌∷◌, ◌++◌, map, filter, IsSome, Some}
-use Rattle.freeze_ledger.specs.declared.entries.Freeze.{Freeze}
+use Rattle.freeze_ledger.specs.declared.freeze.Freeze.{Freeze}
 use Rattle.freeze_ledger.specs.Freezes.{names, frozen, entry_of}
 use Rattle.ccb.specs.Completion.{Outcome}
 use Rattle.helpers.specs.declared.call.Request.TheVariants.{Release}

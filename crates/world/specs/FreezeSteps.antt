@@ -1,8 +1,8 @@
 -- What becomes of the freezes: a new one and one fewer, and what guests do with theirs.
 use Rattle.std.specs.Prelude.{ℕ, ◌+◌, Bool, true, false, if◌then◌else◌, nat_le, List, [], ◌∷◌, ◌++◌, Option, Some, None}
-use Rattle.freeze_ledger.specs.declared.entries.Holder.{Holder}
-use Rattle.freeze_ledger.specs.declared.entries.Holder.TheVariants.{Run, Timer, Guest}
-use Rattle.freeze_ledger.specs.declared.entries.Freeze.{Freeze}
+use Rattle.freeze_ledger.specs.declared.freeze.Holder.{Holder}
+use Rattle.freeze_ledger.specs.declared.freeze.Holder.TheVariants.{Run, Timer, Guest}
+use Rattle.freeze_ledger.specs.declared.freeze.Freeze.{Freeze}
 use Rattle.freeze_ledger.specs.Freezes.{frozen, meets_limit, without}
 use Rattle.world.specs.declared.refusal.Refusal.TheVariants.{Unknown, Limit}
 use Rattle.world.specs.World.{Setup, queue_count, World}

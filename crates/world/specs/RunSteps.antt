@@ -1,10 +1,10 @@
 -- What one instruction of a run does: to its own machine, and by a helper call or its exit to the world.
 use Rattle.std.specs.Prelude.{ℕ, Bool, false, not, ◌&&◌, ◌==◌, if◌then◌else◌, nat_le, Option, Some, None, filter}
 use Rattle.std.specs.Option.{option_map, option_and_then}
-use Rattle.ccb.specs.ControlBlock.{requeued}
-use Rattle.freeze_ledger.specs.declared.entries.Holder.{Holder}
-use Rattle.freeze_ledger.specs.declared.entries.Holder.TheVariants.{Run, Timer, Guest}
-use Rattle.freeze_ledger.specs.declared.entries.Freeze.{Freeze}
+use Rattle.ccb.specs.Ccb.{requeued}
+use Rattle.freeze_ledger.specs.declared.freeze.Holder.{Holder}
+use Rattle.freeze_ledger.specs.declared.freeze.Holder.TheVariants.{Run, Timer, Guest}
+use Rattle.freeze_ledger.specs.declared.freeze.Freeze.{Freeze}
 use Rattle.freeze_ledger.specs.Freezes.{entry_of}
 use Rattle.helpers.specs.declared.call.Request.{Request}
 use Rattle.helpers.specs.declared.call.Request.TheVariants.{Release, Requeue}

@@ -1,8 +1,8 @@
 -- The world at one moment, as CAM (ANSI X3.232) has it: device queues with openings, the CCBs that were submitted to
 -- them, the freezes that hold them, and the runs of recovery programs (RFC 9669). It is lists, and no count is kept.
 use Rattle.std.specs.Prelude.{ℕ, Bool, List, [], length, map, slice_index_or}
-use Rattle.ccb.specs.declared.control_block.Ccb.{Ccb}
-use Rattle.freeze_ledger.specs.declared.entries.Freeze.{Freeze}
+use Rattle.ccb.specs.declared.ccb.Ccb.{Ccb}
+use Rattle.freeze_ledger.specs.declared.freeze.Freeze.{Freeze}
 use Rattle.helpers.specs.declared.limits.HelperLimits.{HelperLimits}
 use Rattle.bpf_insn.specs.declared.program.Slot.{Slot}
 use Rattle.bpf_machine.specs.MachineState.{MachineState}

@@ -3,7 +3,7 @@ use Rattle.std.proofs.Common.{◌≡◌, ℕ, ◌+◌, ◌<◌, ◌≤◌, List,
 use Rattle.std.proofs.lemmas.Bool.{cases_eq}
 use Rattle.std.proofs.lemmas.List.Sums.{sum_by_push, length-filter, count_by-le-length}
 use Rattle.ccb.specs.Rising.{AreRising}
-use Rattle.freeze_ledger.specs.declared.entries.Freeze.{Freeze}
+use Rattle.freeze_ledger.specs.declared.freeze.Freeze.{Freeze}
 use Rattle.freeze_ledger.specs.Freezes.{names, frozen, entry_of, without}
 use Rattle.world.proofs.Lists.Found.{at_tail, found_key, missing_push, leave_same, leave_other}
 use Rattle.world.proofs.Lists.Rising.{found_bounds, count_gone}

@@ -3,7 +3,7 @@ use Rattle.std.proofs.Common.{◌≡◌, ℕ, List, [], ◌∷◌, ◌++◌, map
 use Rattle.std.specs.List.{filter}
 use Rattle.std.specs.Prelude.{◌||◌}
 use Rattle.std.proofs.lemmas.Bool.{or_left, cases_Bool, cases_eq, cond-true, cond-false, eq-eqb, ne_eqb, not_from_true, not_from_false}
-use Rattle.freeze_ledger.specs.declared.entries.Freeze.{Freeze}
+use Rattle.freeze_ledger.specs.declared.freeze.Freeze.{Freeze}
 use Rattle.freeze_ledger.specs.Freezes.{entry_of, without}
 use Rattle.helpers.specs.Rules.{is_held}
 use Rattle.world.specs.RunSteps.{is_run}

@@ -1,7 +1,7 @@
 -- Worked rows of CCBs: which starts next, each refusal, and which of two comes first.
 use Rattle.std.proofs.Common.{◌≡◌, ℕ, true, [], ◌∷◌, Some, None, refl, replicate}
-use Rattle.ccb.specs.declared.status.CamStatus.TheVariants.{RequestInProgress, RequestCompleted, CommandTimeout}
-use Rattle.freeze_ledger.specs.declared.entries.Holder.TheVariants.{Guest}
+use Rattle.ccb.specs.declared.cam_status.CamStatus.TheVariants.{RequestInProgress, RequestCompleted, CommandTimeout}
+use Rattle.freeze_ledger.specs.declared.freeze.Holder.TheVariants.{Guest}
 use Rattle.helpers.specs.declared.limits.HelperLimits.{HelperLimits}
 use Rattle.bpf_machine.specs.MachineState.{entry}
 use Rattle.world.specs.declared.refusal.Refusal.TheVariants.{Unknown, Limit, NotActive, Frozen, NoOpening, NothingWaits}

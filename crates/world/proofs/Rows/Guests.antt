@@ -1,6 +1,6 @@
 -- Worked rows of guests' freezes, computed by the definitions themselves.
 use Rattle.std.proofs.Common.{◌≡◌, [], ◌∷◌, Some, None, Ok, refl, replicate}
-use Rattle.freeze_ledger.specs.declared.entries.Holder.TheVariants.{Run, Timer, Guest}
+use Rattle.freeze_ledger.specs.declared.freeze.Holder.TheVariants.{Run, Timer, Guest}
 use Rattle.helpers.specs.declared.limits.HelperLimits.{HelperLimits}
 use Rattle.world.specs.declared.refusal.Refusal.TheVariants.{Unknown, Limit}
 use Rattle.world.specs.declared.record.Record.TheVariants.{GuestFreeze, GuestRelease}

@@ -1,8 +1,8 @@
 -- A worked run: a CCB times out, its queue is frozen, and the queue's program gives the freeze back and makes the CCB
 -- wait again.
 use Rattle.std.proofs.Common.{◌≡◌, false, List, [], ◌∷◌, map, Some, None, Ok, refl}
-use Rattle.ccb.specs.declared.status.CamStatus.TheVariants.{CommandTimeout, RequestInProgress, RequestCompleted}
-use Rattle.freeze_ledger.specs.declared.entries.Holder.TheVariants.{Run}
+use Rattle.ccb.specs.declared.cam_status.CamStatus.TheVariants.{CommandTimeout, RequestInProgress, RequestCompleted}
+use Rattle.freeze_ledger.specs.declared.freeze.Holder.TheVariants.{Run}
 use Rattle.helpers.specs.declared.limits.HelperLimits.{HelperLimits}
 use Rattle.world.specs.declared.record.Completed.TheVariants.{Started}
 use Rattle.world.specs.declared.record.StoppedAt.TheVariants.{Release, Requeue, Exit}

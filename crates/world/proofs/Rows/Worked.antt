@@ -1,10 +1,10 @@
 -- What the worked rows are about: a program of seven instructions, and setups of one and two queues.
 use Rattle.std.proofs.Common.{ℕ, pos, List, [], ◌∷◌, Option, Some, None}
-use Rattle.ccb.specs.declared.status.CamStatus.{CamStatus}
+use Rattle.ccb.specs.declared.cam_status.CamStatus.{CamStatus}
 use Rattle.ccb.specs.Completion.{Outcome}
-use Rattle.ccb.specs.ControlBlock.{submitted}
-use Rattle.freeze_ledger.specs.declared.entries.Holder.TheVariants.{Guest}
-use Rattle.freeze_ledger.specs.declared.entries.Freeze.{Freeze}
+use Rattle.ccb.specs.Ccb.{submitted}
+use Rattle.freeze_ledger.specs.declared.freeze.Holder.TheVariants.{Guest}
+use Rattle.freeze_ledger.specs.declared.freeze.Freeze.{Freeze}
 use Rattle.helpers.specs.declared.limits.HelperLimits.{HelperLimits}
 use Rattle.bpf_insn.specs.declared.insn.Insn.TheVariants.{Alu, JumpIf, Call, Exit}
 use Rattle.bpf_insn.specs.declared.insn.Operand.TheVariants.{Immediate, Register}

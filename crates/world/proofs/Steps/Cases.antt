@@ -4,9 +4,9 @@ use Rattle.std.specs.Prelude.{◌&&◌, slice_index}
 use Rattle.std.specs.Option.{option_map, option_and_then}
 use Rattle.std.proofs.lemmas.Bool.{cases_Bool, cond-true, cond-false, leb-true, leb-false, ltb-false, and_parts, not-true, not-false}
 use Rattle.ccb.specs.Completion.{Outcome}
-use Rattle.ccb.specs.ControlBlock.{submitted, started, completed, requeued}
-use Rattle.freeze_ledger.specs.declared.entries.Holder.TheVariants.{Run, Guest}
-use Rattle.freeze_ledger.specs.declared.entries.Freeze.{Freeze}
+use Rattle.ccb.specs.Ccb.{submitted, started, completed, requeued}
+use Rattle.freeze_ledger.specs.declared.freeze.Holder.TheVariants.{Run, Guest}
+use Rattle.freeze_ledger.specs.declared.freeze.Freeze.{Freeze}
 use Rattle.freeze_ledger.specs.Freezes.{frozen, meets_limit, entry_of, without}
 use Rattle.helpers.specs.declared.call.Request.{Request}
 use Rattle.helpers.specs.declared.call.Request.TheVariants.{Release, Requeue}

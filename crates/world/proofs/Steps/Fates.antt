@@ -2,10 +2,10 @@
 use Rattle.std.proofs.Common.{◌≡◌, ℕ, ◌+◌, List, [], ◌∷◌, ◌++◌, Bool, true, false, Some, None, ◌⊎◌, inl, inr, refl, ap, sym, subst, ◌∙◌}
 use Rattle.std.proofs.lemmas.Bool.{cases_eq, ne_eqb}
 use Rattle.ccb.specs.Completion.{Outcome}
-use Rattle.ccb.specs.ControlBlock.{completed}
+use Rattle.ccb.specs.Ccb.{completed}
 use Rattle.ccb.specs.Context.{context_of}
-use Rattle.freeze_ledger.specs.declared.entries.Holder.TheVariants.{Run}
-use Rattle.freeze_ledger.specs.declared.entries.Freeze.{Freeze}
+use Rattle.freeze_ledger.specs.declared.freeze.Holder.TheVariants.{Run}
+use Rattle.freeze_ledger.specs.declared.freeze.Freeze.{Freeze}
 use Rattle.freeze_ledger.specs.Freezes.{meets_limit, entry_of, without}
 use Rattle.helpers.specs.declared.call.Request.TheVariants.{Release, Requeue}
 use Rattle.bpf_machine.specs.MachineState.{MachineState, entry}

@@ -2,10 +2,10 @@
 use Rattle.std.proofs.Common.{◌≡◌, ℕ, ◌+◌, ◌<◌, List, [], ◌∷◌, ◌++◌, map, true, false, Some, ◌⊎◌, inl, inr, refl, ap, sym, subst, slice_index}
 use Rattle.std.specs.Prelude.{◌&&◌}
 use Rattle.std.proofs.lemmas.Bool.{and_parts, eqb-true}
-use Rattle.ccb.specs.ControlBlock.{submitted, started, completed, requeued}
-use Rattle.freeze_ledger.specs.declared.entries.Holder.{Holder}
-use Rattle.freeze_ledger.specs.declared.entries.Holder.TheVariants.{Run, Guest}
-use Rattle.freeze_ledger.specs.declared.entries.Freeze.{Freeze}
+use Rattle.ccb.specs.Ccb.{submitted, started, completed, requeued}
+use Rattle.freeze_ledger.specs.declared.freeze.Holder.{Holder}
+use Rattle.freeze_ledger.specs.declared.freeze.Holder.TheVariants.{Run, Guest}
+use Rattle.freeze_ledger.specs.declared.freeze.Freeze.{Freeze}
 use Rattle.freeze_ledger.specs.Freezes.{meets_limit, entry_of, without}
 use Rattle.bpf_machine.specs.MachineState.{MachineState}
 use Rattle.world.specs.declared.ccb_state.CcbState.TheVariants.{Waiting, Active, InRecovery}

@@ -1,5 +1,5 @@
 use Rattle.std.proofs.Common.{◌≡◌, ◌⊎◌, true, false, Some, inl, inr, ap, sym, subst, ◌∙◌, rules}
-use Rattle.ccb.specs.declared.control_block.Ccb.{Ccb}
+use Rattle.ccb.specs.declared.ccb.Ccb.{Ccb}
 use Rattle.ccb_table.specs.CcbsState.{with_ccbs}
 use Rattle.recoveries.specs.RecoveryState.{with_recoveries}
 use Rattle.world.specs.declared.ccb_state.CcbState.TheVariants.{Active}

@@ -1,6 +1,6 @@
 use Rattle.std.proofs.Common.{◌≡◌, ◌<◌, length, Some, None, ap, sym, subst, ◌∙◌, arith}
 use Rattle.std.specs.Result.{result_err}
-use Rattle.ccb.specs.ControlBlock.{started}
+use Rattle.ccb.specs.Ccb.{started}
 use Rattle.dev_queue.specs.Faults.{start_fault}
 use Rattle.freeze_ledger.specs.Freezes.{frozen}
 use Rattle.world.specs.World.{queue_count, LiveCcb}

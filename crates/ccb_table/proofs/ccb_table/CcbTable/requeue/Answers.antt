@@ -1,6 +1,6 @@
 use Rattle.std.proofs.Common.{◌≡◌, ℕ, ◌<◌, ◌≤◌, length, false, Some, refl, ap, sym, subst, ◌∙◌}
-use Rattle.ccb.specs.declared.control_block.Ccb.{Ccb}
-use Rattle.ccb.specs.ControlBlock.{requeued}
+use Rattle.ccb.specs.declared.ccb.Ccb.{Ccb}
+use Rattle.ccb.specs.Ccb.{requeued}
 use Rattle.dev_queue.specs.Waiting.{waits}
 use Rattle.world.specs.declared.ccb_state.CcbState.TheVariants.{Waiting, InRecovery}
 use Rattle.world.specs.World.{LiveCcb}

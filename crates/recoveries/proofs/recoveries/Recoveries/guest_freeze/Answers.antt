@@ -1,7 +1,7 @@
 use Rattle.std.proofs.Common.{◌≡◌, Result, sym, subst}
 use Rattle.std.specs.Prelude.{IfOk, Contains}
-use Rattle.freeze_ledger.specs.declared.entries.Holder.TheVariants.{Guest}
-use Rattle.freeze_ledger.specs.declared.entries.Freeze.{Freeze}
+use Rattle.freeze_ledger.specs.declared.freeze.Holder.TheVariants.{Guest}
+use Rattle.freeze_ledger.specs.declared.freeze.Freeze.{Freeze}
 use Rattle.world.specs.declared.refusal.Refusal.{Refusal}
 use Rattle.world.specs.declared.refusal.Refusal.TheVariants.{Limit}
 use Rattle.recoveries.proofs.Guests.{kept_taken, taken_is}

@@ -1,6 +1,6 @@
 use Rattle.std.proofs.Common.{◌≡◌, ℕ, List, Contains, true, false, Some, None, set, refl, ap, sym, subst, ◌∙◌}
 use Rattle.std.specs.List.{remove}
-use Rattle.freeze_ledger.specs.declared.entries.Freeze.{Freeze}
+use Rattle.freeze_ledger.specs.declared.freeze.Freeze.{Freeze}
 use Rattle.freeze_ledger.specs.Freezes.{without}
 use Rattle.freeze_ledger.specs.State.{LedgerState, with_freezes}
 use Rattle.world.specs.World.{LiveRun}

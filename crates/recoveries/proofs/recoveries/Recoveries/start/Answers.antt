@@ -2,8 +2,8 @@ use Rattle.std.proofs.Common.{◌≡◌, ℕ, ◌+◌, List, [], ◌∷◌, ◌+
 use Rattle.std.specs.Arc.{arc_value}
 use Rattle.std.specs.Option.{is_some}
 use Rattle.std.proofs.lemmas.List.{map_push, length-map}
-use Rattle.ccb.specs.declared.control_block.Ccb.{Ccb}
-use Rattle.ccb.specs.ControlBlock.{completed}
+use Rattle.ccb.specs.declared.ccb.Ccb.{Ccb}
+use Rattle.ccb.specs.Ccb.{completed}
 use Rattle.ccb.specs.Context.{context_of}
 use Rattle.bpf_machine.specs.MachineState.{entry}
 use Rattle.freeze_ledger.specs.State.{LedgerState}

@@ -1,6 +1,6 @@
 use Rattle.std.proofs.Common.{◌≡◌, length}
 use Rattle.freeze_ledger.specs.Freezes.{holders_of}
-use Rattle.freeze_ledger.proofs.iter.HoldersIterator.next.Given as goal
+use Rattle.freeze_ledger.proofs.holders.HoldersIterator.next.Given as goal
 
 -- only freezes of other queues were passed over
 abbrev pub invariant-loop-first : goal.invariant-loop-first

@@ -1,12 +1,12 @@
 // A CCB as the transport keeps it from its submission to its end, and what each step of its life
 // changes. It relies on the status codes, the flags and the place for sense bytes.
 ghost use Rattle.std.specs.Prelude.{◌≡◌};
-ghost use Rattle.ccb.specs.ControlBlock.{completed, flags_of, requeued, started, status_word_of, submitted};
+ghost use Rattle.ccb.specs.Ccb.{completed, flags_of, requeued, started, status_word_of, submitted};
 
+use crate::cam_status::CamStatus;
+use crate::ccb_flags::CcbFlags;
 use crate::completion::Completion;
-use crate::flags::CcbFlags;
 use crate::sense_bytes::SenseBytes;
-use crate::status::CamStatus;
 use crate::{CcbId, QueueId};
 use bitflags::Flags;
 

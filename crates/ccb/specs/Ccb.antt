@@ -2,8 +2,8 @@
 use Rattle.std.specs.Prelude.{ℕ, ◌+◌, ◌-◌, ◌^◌, ◌==◌, if◌then◌else◌, Bool, false, [], length, min}
 use Rattle.ccb.specs.declared.CcbId.{CcbId}
 use Rattle.ccb.specs.declared.QueueId.{QueueId}
-use Rattle.ccb.specs.declared.control_block.Ccb.{Ccb}
-use Rattle.ccb.specs.declared.status.CamStatus.TheVariants.{RequestInProgress}
+use Rattle.ccb.specs.declared.ccb.Ccb.{Ccb}
+use Rattle.ccb.specs.declared.cam_status.CamStatus.TheVariants.{RequestInProgress}
 use Rattle.ccb.specs.Completion.{Outcome}
 use Rattle.ccb.specs.Flags.{autosns_valid, dev_qfrzn}
 use Rattle.ccb.specs.Status.{code_of}

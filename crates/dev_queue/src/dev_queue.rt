@@ -1,5 +1,5 @@
-// One device queue: its waiting CCBs, two counts and its openings. It relies on `waiting` for the list,
-// on `freezes` for the count of freezes, and on `fault`.
+// One device queue: its waiting CCBs, two counts and its openings. It relies on `waiting_list` for
+// the list, on `frozen` for the count of freezes, and on `queue_fault`.
 
 ghost use Rattle.std.specs.Prelude.{◌≡◌, ◌<◌, ◌≤◌, false, length, IfOk, OnOk, OnErr};
 ghost use Rattle.std.specs.Result.{result_err};
@@ -7,9 +7,10 @@ ghost use Rattle.dev_queue.specs.Waiting.{IsLeastNumber, waits};
 ghost use Rattle.dev_queue.specs.State.{QueueState, empty_queue, live, with_waiting, with_started, with_stopped, with_left};
 ghost use Rattle.dev_queue.specs.Faults.{insert_fault, start_fault};
 
-use crate::fault::QueueFault;
-use crate::freezes::Frozen;
-use crate::waiting::{WaitingCcb, WaitingList};
+use crate::frozen::Frozen;
+use crate::queue_fault::QueueFault;
+use crate::waiting_ccb::WaitingCcb;
+use crate::waiting_list::WaitingList;
 use ccb::CcbId;
 use std::alloc::{AllocError, Global};
 use std::marker::Model;
@@ -30,7 +31,7 @@ pub struct DevQueue {
 
 impl Model for DevQueue {
     ghost use Rattle.std.specs.Prelude.{◌+◌, ◌≤◌, length};
-    ghost use Rattle.dev_queue.specs.declared.queue.TheConstants.{MAX_LIVE};
+    ghost use Rattle.dev_queue.specs.declared.dev_queue.TheConstants.{MAX_LIVE};
     ghost use Rattle.dev_queue.specs.State.{QueueState};
 
     ghost Value = { QueueState };

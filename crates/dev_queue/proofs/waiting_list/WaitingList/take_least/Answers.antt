@@ -1,7 +1,7 @@
 use Rattle.std.proofs.Common.{◌∙◌, ◌<◌, length, sym, arith, rules}
 use Rattle.std.proofs.lemmas.List.Edits.{length-remove}
 use Rattle.dev_queue.proofs.Order.{order_remove, remove_is}
-use Rattle.dev_queue.proofs.waiting.WaitingList.take_least.Goals as goal
+use Rattle.dev_queue.proofs.waiting_list.WaitingList.take_least.Goals as goal
 
 pub invariant_of-self : goal.invariant_of-self
 invariant_of-self c =

@@ -1,37 +1,19 @@
 // The CCBs of a queue that wait, as a plain list in the order of their numbers, reserved once. It relies
-// on `ccb` for the names of CCBs.
+// on `waiting_ccb` for which of two starts first.
 
 ghost use Rattle.std.specs.Prelude.{◌≡◌, ◌+◌, ◌<◌, ◌≤◌, ◌↔◌, [], false, length, IfOk, IfSome, IfNone, OnSome, IsTrue};
 ghost use Rattle.std.specs.List.{AllWithin};
 ghost use Rattle.std.specs.List.Sorted.{IsNonDecreasingBy};
 ghost use Rattle.dev_queue.specs.Waiting.{StartsFirst, IsLeast, IsLeastAt, with_pair, without, waits};
 
-use crate::queue::MAX_LIVE;
+use crate::dev_queue::MAX_LIVE;
+use crate::waiting_ccb::WaitingCcb;
 use ccb::CcbId;
 use std::alloc::{AllocError, Global};
 use std::marker::Model;
 
 /// How many CCBs can wait at a time.
 const ROOM: usize = MAX_LIVE as usize;
-
-/// A CCB that waits: a lower priority number starts first, and among equals a lower CCB number.
-#[derive(Clone, Copy, Debug, PartialEq, Eq)]
-pub struct WaitingCcb {
-    /// Any number; 0 is the most urgent.
-    pub priority: u32,
-    pub number: CcbId,
-}
-
-impl WaitingCcb {
-    // Whether this one starts before the other: by priority, and among equals by number.
-    fn is_before(self, other: WaitingCcb) -> bool
-        ensures before { IsTrue result → StartsFirst self other }
-        ensures behind { result ≡ false → StartsFirst other self }
-    {
-        self.priority < other.priority
-            || (self.priority == other.priority && self.number.0 < other.number.0)
-    }
-}
 
 // Where the least of these pairs stands, if there is one.
 fn least_place(pairs: &[WaitingCcb]) -> Option<usize>
@@ -68,7 +50,7 @@ pub(crate) struct WaitingList {
 
 impl Model for WaitingList {
     ghost use Rattle.std.specs.Prelude.{List};
-    ghost use Rattle.dev_queue.specs.declared.waiting.WaitingCcb.{WaitingCcb};
+    ghost use Rattle.dev_queue.specs.declared.waiting_ccb.WaitingCcb.{WaitingCcb};
     ghost use Rattle.dev_queue.specs.Invariant.{IsKept};
 
     ghost Value = { List WaitingCcb };

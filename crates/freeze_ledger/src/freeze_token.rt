@@ -1,8 +1,8 @@
-// The right to give one freeze back. It relies on `entries`.
+// The right to give one freeze back. It relies on `freeze`.
 
 ghost use Rattle.std.specs.Prelude.{◌≡◌};
 
-use crate::entries::{Freeze, Holder};
+use crate::freeze::{Freeze, Holder};
 use ccb::QueueId;
 use std::marker::Model;
 
@@ -13,7 +13,7 @@ pub struct FreezeToken {
 }
 
 impl Model for FreezeToken {
-    ghost use Rattle.freeze_ledger.specs.declared.entries.Freeze.{Freeze};
+    ghost use Rattle.freeze_ledger.specs.declared.freeze.Freeze.{Freeze};
 
     ghost Value = { Freeze };
 

@@ -1,14 +1,14 @@
 // The ledger as a plain list of entries in the order of their numbers, beside a stored count a queue.
-// It relies on `entries` for what an entry is and on `token` for the right to give one back.
+// It relies on `freeze` for what an entry is and on `freeze_token` for the right to give one back.
 
 ghost use Rattle.std.specs.Prelude.{◌≡◌, ◌+◌, ◌<◌, ◌≤◌, ◌^◌, ◌++◌, ◌∷◌, ◌↔◌, [], length, map, IsTrue, IsSome, IsOk, IsNone, IfSome, IfNone, IfOk, IfErr, OnOk, Contains, slice_index_or};
 ghost use Rattle.ccb.specs.Rising.{AreRising};
 ghost use Rattle.freeze_ledger.specs.Freezes.{frozen, meets_limit, entry_of, without, holders_of};
 ghost use Rattle.freeze_ledger.specs.State.{LedgerState, empty_ledger, next_freeze, with_entry, with_freezes};
 
-use crate::entries::{Freeze, Holder};
-use crate::iter::Holders;
-use crate::token::FreezeToken;
+use crate::freeze::{Freeze, Holder};
+use crate::freeze_token::FreezeToken;
+use crate::holders::Holders;
 use ccb::QueueId;
 use std::alloc::{AllocError, Global};
 use std::marker::Model;

@@ -1,5 +1,5 @@
 use Rattle.freeze_ledger.proofs.Numbered.{holders_rise}
-use Rattle.freeze_ledger.proofs.list.Ledger.holders.Goals as goal
+use Rattle.freeze_ledger.proofs.ledger.Ledger.holders.Goals as goal
 
 pub returns-clause-rising : goal.returns-clause-rising
 returns-clause-rising c =

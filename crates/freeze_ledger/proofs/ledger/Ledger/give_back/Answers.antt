@@ -1,10 +1,10 @@
 use Rattle.std.proofs.Common.{◌≡◌, ℕ, ◌+◌, ◌-◌, ◌<◌, ◌≤◌, ◌∙◌, length, get_or, set, refl, rules, arith}
 use Rattle.std.proofs.lemmas.List.{get_or_default, get_or-set_same}
 use Rattle.std.proofs.Math.ListN.{length-set}
-use Rattle.freeze_ledger.specs.declared.entries.Freeze.{Freeze}
+use Rattle.freeze_ledger.specs.declared.freeze.Freeze.{Freeze}
 use Rattle.freeze_ledger.proofs.Kept.{kept_remove, counted_above}
 use Rattle.freeze_ledger.proofs.Numbered.{entry_at, remove_at}
-use Rattle.freeze_ledger.proofs.list.Ledger.give_back.Goals as goal
+use Rattle.freeze_ledger.proofs.ledger.Ledger.give_back.Goals as goal
 
 pub overflow_sub-count : goal.overflow_sub-count
 overflow_sub-count c =

@@ -1,6 +1,6 @@
-// The holders of one queue's freezes, one after another. It relies on `entries`.
+// The holders of one queue's freezes, one after another. It relies on `freeze`.
 
-use crate::entries::{Freeze, Holder};
+use crate::freeze::{Freeze, Holder};
 use ccb::QueueId;
 use std::marker::Model;
 
@@ -14,7 +14,7 @@ pub struct Holders<'a> {
 
 impl<'a> Model for Holders<'a> {
     ghost use Rattle.std.specs.Prelude.{ℕ, List};
-    ghost use Rattle.freeze_ledger.specs.declared.entries.Holder.{Holder};
+    ghost use Rattle.freeze_ledger.specs.declared.freeze.Holder.{Holder};
 
     ghost Value = { List (ℕ × Holder) };
 

@@ -1,7 +1,7 @@
 use Rattle.std.proofs.Common.{ℕ, ◌<◌, length, get_or}
-use Rattle.dev_queue.specs.declared.waiting.WaitingCcb.{WaitingCcb}
+use Rattle.dev_queue.specs.declared.waiting_ccb.WaitingCcb.{WaitingCcb}
 use Rattle.dev_queue.specs.Waiting.{StartsFirst}
-use Rattle.dev_queue.proofs.waiting.least_place.Given as goal
+use Rattle.dev_queue.proofs.waiting_list.least_place.Given as goal
 
 -- none of the pairs so far starts before the least of them
 abbrev pub invariant-loop-place : goal.invariant-loop-place

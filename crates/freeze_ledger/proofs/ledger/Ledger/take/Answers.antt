@@ -1,8 +1,8 @@
 use Rattle.std.proofs.Common.{◌≡◌, ◌+◌, ◌<◌, ◌≤◌, ◌∙◌, length, get_or, refl, rules, arith}
 use Rattle.std.proofs.lemmas.List.{get_or_default}
-use Rattle.freeze_ledger.specs.declared.entries.Freeze.{Freeze}
+use Rattle.freeze_ledger.specs.declared.freeze.Freeze.{Freeze}
 use Rattle.freeze_ledger.proofs.Kept.{kept_push}
-use Rattle.freeze_ledger.proofs.list.Ledger.take.Goals as goal
+use Rattle.freeze_ledger.proofs.ledger.Ledger.take.Goals as goal
 
 pub invariant_of-self : goal.invariant_of-self
 invariant_of-self c =

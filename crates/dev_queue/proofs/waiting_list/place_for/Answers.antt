@@ -1,7 +1,7 @@
 use Rattle.std.proofs.Common.{ltb, ltb-true, ltb-false, rules}
 use Rattle.std.proofs.lemmas.List.Sorted.{IsPartitionPoint-from_clause, IsPartitionedBy-ltb}
-use Rattle.dev_queue.specs.declared.waiting.WaitingCcb.{WaitingCcb}
-use Rattle.dev_queue.proofs.waiting.place_for.Goals as goal
+use Rattle.dev_queue.specs.declared.waiting_ccb.WaitingCcb.{WaitingCcb}
+use Rattle.dev_queue.proofs.waiting_list.place_for.Goals as goal
 
 pub returns : goal.returns
 returns c =

@@ -1,7 +1,7 @@
 use Rattle.std.proofs.Common.{◌≡◌, ◌∙◌, ◌<◌, length, false, arith}
 use Rattle.dev_queue.specs.Waiting.{waits, with_pair}
 use Rattle.dev_queue.proofs.Order.{rises, insert_is, order_with_pair, length-with_pair}
-use Rattle.dev_queue.proofs.waiting.WaitingList.add.Goals as goal
+use Rattle.dev_queue.proofs.waiting_list.WaitingList.add.Goals as goal
 
 pub place_for-place-requires : goal.place_for-place-requires
 place_for-place-requires c = rw c.deref.ensures.value (λ i j d le l. rises 0 c.self.inside.pairs.items i j d le l c.self.invariant.ordered)

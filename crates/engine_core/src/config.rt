@@ -4,6 +4,7 @@ ghost use Rattle.std.specs.Prelude.{◌≡◌, ◌<◌, ◌≤◌, ◌↔◌, le
 ghost use Rattle.std.specs.Arc.{arc_value};
 ghost use Rattle.verifier.specs.Verdict.{IsAccepted};
 ghost use Rattle.world.specs.World.{queue_count, queue_setup};
+ghost use Rattle.world.specs.Capacities.{most_queues};
 ghost use Rattle.world.specs.Lawful.{IsLawful};
 ghost use Rattle.engine_core.specs.Configured.{IsConfigured, IsGivenUnder, IsKnown, given_of, setup_of};
 
@@ -61,7 +62,7 @@ impl Config {
     /// How many device queues there are, 1 to 64.
     pub fn queues(&self) -> u32
         ensures value { result ≡ queue_count self.now }
-        ensures bound { result ≤ 64 }
+        ensures bound { result ≤ most_queues }
         ensures lawful { IsLawful self.now }
     {
         self.limits.queues
@@ -90,8 +91,8 @@ impl Config {
 
 // Up to 16 tables of 1 to 4096 words.
 fn has_lawful_tables(limits: &HelperLimits) -> bool
-    ensures { IsTrue result ↔ ((length limits.now.table_lengths ≤ 16)
-        × All (λ words. (1 ≤ words) × (words ≤ 4096)) limits.now.table_lengths) }
+    ensures { IsTrue result ↔ ((length limits.now.table_lengths ≤ TABLES)
+        × All (λ words. (1 ≤ words) × (words ≤ WORDS)) limits.now.table_lengths) }
 {
     let lengths = limits.table_lengths.as_slice();
     lengths.len() <= TABLES && lengths.iter().all(|words| 0 < *words && *words <= WORDS)
@@ -99,7 +100,7 @@ fn has_lawful_tables(limits: &HelperLimits) -> bool
 
 // 1 to 64 queues, as many as the limits say.
 fn are_so_many(limits: &HelperLimits, queues: usize) -> bool
-    ensures { IsTrue result ↔ (((1 ≤ queues) × (queues ≤ 64)) × (limits.now.queues ≡ queues)) }
+    ensures { IsTrue result ↔ (((1 ≤ queues) × (queues ≤ QUEUES)) × (limits.now.queues ≡ queues)) }
 {
     0 < queues && queues <= QUEUES && limits.queues as usize == queues
 }

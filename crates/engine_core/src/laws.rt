@@ -9,12 +9,13 @@ ghost use Rattle.world.specs.Headline.{NeverStuck, MachinesAreReached, WithinBud
 
 /// The headline. For every setup of accepted programs and every interleaving, instruction by instruction, of
 /// submissions, dispatches, completions, guests and runs: no run is ever stuck, and each that is out has
-/// exactly one next step, and its machine is one that its program reaches; each executes at most its budget; if it ends it has released exactly the freezes
+/// exactly one next step; each executes at most its budget; if it ends it has released exactly the freezes
 /// that it took, and it disposed of its CCB once; and every queue's frozen count is at every moment the number
-/// of entries that name it. And: what a machine holds is what the entries say of its run; no limit is passed;
-/// each CCB number is of a live CCB or of one that ended, once, with its code; a step of anyone else leaves a
-/// run as it is; and a freeze that was given up, a freeze number that is gone and a run that is gone never
-/// come back; and an advance of no instruction stands for no event.
+/// of entries that name it. And: each live run's machine is one that its program reaches; what a machine holds
+/// is what the entries say of its run; no limit is passed; each CCB number is of a live CCB or of one that
+/// ended, once, with its code; a step of anyone else leaves a run as it is; a freeze that was given up, a
+/// freeze number that is gone and a run that is gone never come back; and an advance of no instruction stands
+/// for no event.
 pub fn headline()
     ensures never_stuck { NeverStuck }
     ensures reached { MachinesAreReached }

@@ -49,7 +49,7 @@ fn decoded_program(alloc: Global, program: &Value) -> Result<Decoded<'_>, Manife
     let bytes = code::bytes(alloc, text_of(program, "code").unwrap_or(""))?;
     match decode(alloc, &bytes) {
         Ok(program) => Ok(Decoded { name, program }),
-        Err(DecodeError::Memory) => Err(ManifestError::OutOfMemory),
+        Err(DecodeError::OutOfMemory) => Err(ManifestError::OutOfMemory),
         Err(DecodeError::Fault(fault)) => {
             let name = String::from_str(alloc, name)?;
             Err(ManifestError::Fault(ManifestFault::Undecoded(name, fault)))

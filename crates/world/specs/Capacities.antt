@@ -1,5 +1,6 @@
 -- How much there is at most at a time, and the last number that is given.
 use Rattle.std.specs.Prelude.{ℕ}
+use Rattle.freeze_ledger.specs.declared.ledger.TheConstants.{MAX_FREEZES, MAX_FREEZE_NUMBER, MAX_QUEUE_FREEZES}
 
 abbrev pub most_queues : ℕ
 most_queues = 64
@@ -7,6 +8,13 @@ most_queues = 64
 -- of a queue
 abbrev pub most_openings : ℕ
 most_openings = 255
+
+-- tables of words, and the words of one
+abbrev pub most_tables : ℕ
+most_tables = 16
+
+abbrev pub most_words : ℕ
+most_words = 4096
 
 -- live CCBs, in all and of one queue
 abbrev pub most_ccbs : ℕ
@@ -21,11 +29,11 @@ most_runs = 256
 
 -- freezes, in all and of one queue
 abbrev pub most_freezes : ℕ
-most_freezes = 1024
+most_freezes = MAX_FREEZES
 
 abbrev pub most_freezes_of_queue : ℕ
-most_freezes_of_queue = 255
+most_freezes_of_queue = MAX_QUEUE_FREEZES
 
 -- of CCBs, freezes and runs
 abbrev pub last_number : ℕ
-last_number = 4294967295
+last_number = MAX_FREEZE_NUMBER

@@ -1,0 +1,69 @@
+// The tests of the whole program, as data: it reads the cases of the files that its words name, carries each out
+// as `camr` would, and prints each case that comes out otherwise, and how many passed. It relies on `command_line`
+// and `commands`, which are all of `camr` but its files. How a case is written stands in data/README.
+#![tactic(auto)]
+
+mod case;
+mod draft;
+mod escapes;
+mod fault;
+mod outcome;
+mod reader;
+mod report;
+mod running;
+mod tally;
+mod text;
+
+use anyhow::{Context, Result};
+use std::alloc::Global;
+use std::io::{BufWriter, Write};
+use std::process::ExitCode;
+use std::rt::{Env, Files};
+use std::{env, fs, io};
+use tally::Tally;
+
+fn main(rt: HostRuntime) -> Result<ExitCode> {
+    let mut out = BufWriter::new(rt.alloc(), io::writer(&rt))?;
+    let tally = test_all(&rt, &mut out)?;
+    writeln!(
+        out,
+        "{} cases passed, {} differ",
+        tally.passed, tally.differ
+    )?;
+    out.flush()?;
+    Ok(if tally.is_good() {
+        ExitCode::SUCCESS
+    } else {
+        ExitCode::FAILURE
+    })
+}
+
+// The cases of all files that the words name.
+fn test_all<R: Env + Files + AllocGlobal, W: Write>(rt: &R, out: &mut W) -> Result<Tally> {
+    let paths: Vec<String> = env::args(rt)?.skip(1).collect(rt.alloc())?;
+    let mut tally = Tally::default();
+    for path in &paths {
+        let path = path.as_str();
+        let text = fs::read_to_string(rt, path).context(path)?;
+        test_file(rt.alloc(), path, text.as_str(), &mut tally, out).context(path)?;
+    }
+    Ok(tally)
+}
+
+fn test_file<W: Write>(
+    alloc: Global,
+    path: &str,
+    text: &str,
+    tally: &mut Tally,
+    out: &mut W,
+) -> Result<()> {
+    for case in &reader::read(alloc, text)? {
+        let came = running::run(alloc, case)?;
+        let passes = came.is(&case.wanted);
+        if !passes {
+            report::print(path, case, &came, out)?;
+        }
+        tally.count(passes);
+    }
+    Ok(())
+}

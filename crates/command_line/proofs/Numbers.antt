@@ -1,12 +1,12 @@
 -- The numbers of workers that `clap` accepts.
-use Rattle.std.proofs.Common.{◌≡◌, ◌∙◌, ◌≢◌, ℕ, [], ◌∷◌, true, false, get_or, refl, subst, sym, arith}
+use Rattle.std.proofs.Common.{◌≡◌, ◌∙◌, ◌≢◌, [], ◌∷◌, true, false, get_or, refl, subst, sym, arith}
 use Rattle.std.proofs.lemmas.Int.{ints}
 use Rattle.std.proofs.lemmas.Str.Parse.{digit_from_value, without_leading_plus_none}
 use Rattle.std.specs.Str.Parse.{IsNumeral, digits_value, starts_with_minus, without_leading_plus}
 use Rattle.clap.specs.Words.{Text}
 use Rattle.clap.specs.ValueTests.{accepts}
 use Rattle.clap.proofs.ValueTestLemmas.{Accepts-accepts}
-use Rattle.command_line.specs.RunLine.{IsLawfulNumber, IsPlain, Spells, SpellsNoLawfulNumber}
+use Rattle.command_line.specs.RunLine.{IsPlain, SpellsNoLawfulNumber}
 use Rattle.command_line.proofs.Readings.{one_to_sixteen}
 
 no_minus : (word : Text) → IsPlain word → starts_with_minus word ≡ false

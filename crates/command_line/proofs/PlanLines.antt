@@ -1,5 +1,5 @@
 -- What follows for the plan of a line that asks for a run.
-use Rattle.std.proofs.Common.{◌≡◌, ◌⊎◌, ◌∙◌, List, [], ◌∷◌, Bool, Option, Some, None, true, false, inl, inr, refl, sym, subst, ap, codes}
+use Rattle.std.proofs.Common.{◌≡◌, ◌⊎◌, ◌∙◌, List, Bool, Option, Some, None, true, false, inl, inr, refl, sym, subst, ap, codes}
 use Rattle.std.specs.Prelude.{unwrap_or}
 use Rattle.clap.specs.Words.{HasKind, Row, Text, fault_of, first_of, kind_of, subcommand_of}
 use Rattle.clap.specs.ValueTests.{accepts}

@@ -6,7 +6,7 @@ use crate::outcome::Outcome;
 use std::alloc::{AllocError, Global};
 
 /// Where a text of a case belongs.
-#[derive(Clone, Copy, Debug)]
+#[derive(Clone, Copy)]
 pub enum Part<'a> {
     /// In the input file of that name.
     File(&'a str),

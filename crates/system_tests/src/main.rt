@@ -24,13 +24,10 @@ use tally::Tally;
 
 fn main(rt: HostRuntime) -> Result<ExitCode> {
     let mut out = BufWriter::new(rt.alloc(), io::writer(&rt))?;
-    let tally = test_all(&rt, &mut out)?;
-    writeln!(
-        out,
-        "{} cases passed, {} differ",
-        tally.passed, tally.differ
-    )?;
+    let tested = test_all(&rt, &mut out);
     out.flush()?;
+    let tally = tested?;
+    println!(rt; "{} cases passed, {} differ", tally.passed, tally.differ)?;
     Ok(if tally.is_good() {
         ExitCode::SUCCESS
     } else {

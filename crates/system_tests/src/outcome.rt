@@ -3,7 +3,7 @@
 ghost use Rattle.std.specs.Prelude.{◌≡◌, ◌↔◌, IsTrue};
 
 /// What a command wrote, and the status that it ended with.
-#[derive(Debug, Drop)]
+#[derive(Drop)]
 pub struct Outcome {
     pub out: Vec<u8>,
     pub err: Vec<u8>,

@@ -24,17 +24,17 @@ pub fn print<W: Write>(path: &str, case: &Case<'_>, came: &Outcome, out: &mut W)
 
 // The first line in which two texts differ.
 fn print_text<W: Write>(name: &str, wanted: &[u8], came: &[u8], out: &mut W) -> io::Result<()> {
-    let mut wanted = wanted.split(|byte| *byte == b'\n');
-    let mut came = came.split(|byte| *byte == b'\n');
+    let mut wanted_lines = wanted.split(|byte| *byte == b'\n');
+    let mut lines = came.split(|byte| *byte == b'\n');
     for number in 1..u64::MAX {
-        match (wanted.next(), came.next()) {
-            (None, None) => return Ok(()),
-            (wanted, came) if wanted != came => {
-                writeln!(out, "  {name}, line {number}:")?;
-                print_line("wanted", wanted, out)?;
-                return print_line("came", came, out);
-            }
-            _ => {}
+        let (wanted, came) = (wanted_lines.next(), lines.next());
+        if wanted != came {
+            writeln!(out, "  {name}, line {number}:")?;
+            print_line("wanted", wanted, out)?;
+            return print_line("came", came, out);
+        }
+        if came.is_none() {
+            break;
         }
     }
     Ok(())

@@ -2,8 +2,8 @@
 use Rattle.std.proofs.Common.{◌≡◌, ◌*◌, ℕ, List, [], length, sym, ap, ◌∙◌, arith, Result, Ok, Err, IfOk, IfErr, MatchResult, refl}
 use Rattle.bpf_insn.specs.declared.program.Slot.{Slot}
 use Rattle.bpf_insn.specs.Program.{layout, insns_in}
-use Rattle.bpf_decode.specs.declared.decoder.DecodeError.{DecodeError}
-use Rattle.bpf_decode.specs.declared.decoder.DecodeError.TheVariants.{OutOfMemory, Fault}
+use Rattle.or_memory.specs.declared.OrMemory.{OrMemory}
+use Rattle.or_memory.specs.declared.OrMemory.TheVariants.{OutOfMemory, Fault}
 use Rattle.bpf_decode.specs.declared.fault.InsnFault.{InsnFault}
 use Rattle.bpf_decode.specs.declared.fault.DecodeFault.{DecodeFault}
 use Rattle.bpf_decode.specs.declared.fault.DecodeFault.TheVariants.{Empty, PartialSlot, TooManySlots, At}
@@ -55,7 +55,7 @@ one_fault bytes (At s f) TooManySlots h k = absurd (omega (arith, k.1, h.0.2))
 one_fault bytes (At s f) (At t g) h k = same_at bytes s t f g h.1 k.1
 
 -- what is spelled is what was decoded, unless memory ran out
-pub only_spelled : (bytes : List ℕ) (r : Result (List Slot) DecodeError) (spelled : List Slot) → IfOk r (Spells bytes) → IfErr r (IfFault (HasFault bytes)) → Spells bytes spelled → MatchResult r (λ program. program ≡ spelled) (λ e. e ≡ OutOfMemory)
+pub only_spelled : (bytes : List ℕ) (r : Result (List Slot) (OrMemory DecodeFault)) (spelled : List Slot) → IfOk r (Spells bytes) → IfErr r (IfFault (HasFault bytes)) → Spells bytes spelled → MatchResult r (λ program. program ≡ spelled) (λ e. e ≡ OutOfMemory)
 only_spelled bytes (Ok program) spelled found fault h = one_program bytes program spelled found h
 only_spelled bytes (Err OutOfMemory) spelled found fault h = refl
 only_spelled bytes (Err (Fault f)) spelled found fault h = absurd (no_fault_of_text bytes spelled f h fault)

@@ -6,53 +6,32 @@ ghost use Rattle.bpf_insn.specs.declared.program.Slot.{Slot};
 ghost use Rattle.bpf_decode.specs.Spells.{Spells};
 ghost use Rattle.bpf_decode.specs.FirstFault.{HasFault};
 ghost use Rattle.bpf_decode.specs.Decoded.{IfFault};
-ghost use Rattle.bpf_decode.specs.declared.decoder.DecodeError.TheVariants.{OutOfMemory, Fault};
+ghost use Rattle.or_memory.specs.declared.OrMemory.TheVariants.{OutOfMemory};
 
 use crate::fault::DecodeFault;
 use crate::fields::{Fields, SLOT_BYTES};
 use crate::insn::insn;
 use bpf_insn::{MAX_SLOTS, Program, ProgramBuilder};
-use std::alloc::{AllocError, Global};
+use or_memory::OrMemory;
+use std::alloc::Global;
 
-/// Why bytes were not decoded.
-#[derive(Clone, Copy, Debug, PartialEq, Eq)]
-pub enum DecodeError {
-    /// Memory ran out, which says nothing of the bytes.
-    OutOfMemory,
-    /// The bytes spell no program.
-    Fault(DecodeFault),
-}
-
-impl From<AllocError> for DecodeError {
-    ghost from_gives = { λ _ e. e ≡ OutOfMemory };
-
-    fn from(_error: AllocError) -> Self {
-        DecodeError::OutOfMemory
-    }
-}
-
-impl From<DecodeFault> for DecodeError {
-    ghost from_gives = { λ fault e. e ≡ Fault fault };
-
-    fn from(fault: DecodeFault) -> Self {
-        DecodeError::Fault(fault)
-    }
-}
+/// Why bytes were not decoded: memory was refused, or they spell no program.
+pub type DecodeError = OrMemory<DecodeFault>;
 
 /// How many slots the bytes are, from 1 to `MAX_SLOTS`.
-fn slot_count(bytes: &[u8]) -> Result<usize, DecodeFault>
+fn slot_count(bytes: &[u8]) -> Result<usize, DecodeError>
     ensures slots { IfOk result (λ slots. (length bytes.now ≡ 8 * slots) × (1 ≤ slots) × (slots ≤ MAX_SLOTS)) }
-    ensures fault { IfErr result (HasFault bytes.now) }
+    ensures fault { IfErr result (IfFault (HasFault bytes.now)) }
 {
     if bytes.is_empty() {
-        return Err(DecodeFault::Empty);
+        return Err(OrMemory::Fault(DecodeFault::Empty));
     }
     if bytes.len() % SLOT_BYTES != 0 {
-        return Err(DecodeFault::PartialSlot);
+        return Err(OrMemory::Fault(DecodeFault::PartialSlot));
     }
     let slots = bytes.len() / SLOT_BYTES;
     if slots > MAX_SLOTS {
-        return Err(DecodeFault::TooManySlots);
+        return Err(OrMemory::Fault(DecodeFault::TooManySlots));
     }
     Ok(slots)
 }
@@ -68,7 +47,7 @@ fn program(alloc: Global, bytes: &[u8]) -> Result<Program, DecodeError>
     for slot in 0..slots {
         match insn(&Fields::from_bytes(rest)) {
             Ok(insn) => builder.push(insn)?,
-            Err(fault) => return Err(DecodeFault::At { slot, fault }.into()),
+            Err(fault) => return Err(OrMemory::Fault(DecodeFault::At { slot, fault })),
         }
         rest = rest.split_at(SLOT_BYTES).1;
     }

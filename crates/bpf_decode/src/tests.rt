@@ -1,6 +1,7 @@
 // What no command shows: want of memory, after which the same call answers.
 
 use super::*;
+use or_memory::OrMemory;
 
 /// `mov64 r0, -1; exit`.
 const TEXT: [u8; 16] = [
@@ -11,7 +12,7 @@ const TEXT: [u8; 16] = [
 #[test]
 fn goes_on_after_want_of_memory(rt: HostRuntime) {
     let decoded = match decode(rt.alloc(), &TEXT) {
-        Err(DecodeError::OutOfMemory) => decode(rt.alloc(), &TEXT),
+        Err(OrMemory::OutOfMemory) => decode(rt.alloc(), &TEXT),
         decoded => decoded,
     };
     assert_eq!(rt; decoded.map(|program| program.len()), Ok(2));

@@ -4,18 +4,18 @@ use Rattle.commands.specs.declared.fault.Fault.{Fault}
 use Rattle.commands.specs.declared.fault.Fault.TheVariants as fault
 use Rattle.commands.specs.declared.host.RunFault.{RunFault}
 use Rattle.commands.specs.declared.host.RunFault.TheVariants as run
-use Rattle.manifest.specs.declared.ManifestError.{ManifestError}
-use Rattle.manifest.specs.declared.ManifestError.TheVariants as manifest
-use Rattle.scenario.specs.declared.reading.ScenarioError.{ScenarioError}
-use Rattle.scenario.specs.declared.reading.ScenarioError.TheVariants as scenario
+use Rattle.manifest.specs.declared.ManifestFault.{ManifestFault}
+use Rattle.or_memory.specs.declared.OrMemory.{OrMemory}
+use Rattle.or_memory.specs.declared.OrMemory.TheVariants as part
+use Rattle.scenario.specs.declared.reading.FaultyLine.{FaultyLine}
 
-abbrev pub fault_of_manifest : ManifestError → Fault
-fault_of_manifest manifest.OutOfMemory = fault.OutOfMemory
-fault_of_manifest (manifest.Fault f) = fault.Manifest f
+abbrev pub fault_of_manifest : OrMemory ManifestFault → Fault
+fault_of_manifest part.OutOfMemory = fault.OutOfMemory
+fault_of_manifest (part.Fault f) = fault.Manifest f
 
-abbrev pub fault_of_scenario : ScenarioError → Fault
-fault_of_scenario scenario.OutOfMemory = fault.OutOfMemory
-fault_of_scenario (scenario.Line line) = fault.Line line
+abbrev pub fault_of_scenario : OrMemory FaultyLine → Fault
+fault_of_scenario part.OutOfMemory = fault.OutOfMemory
+fault_of_scenario (part.Fault line) = fault.Line line.0
 
 abbrev pub fault_of_run : RunFault → Fault
 fault_of_run run.OutOfMemory = fault.OutOfMemory

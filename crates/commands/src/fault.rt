@@ -5,7 +5,8 @@ ghost use Rattle.commands.specs.Fault.{fault_of_manifest, fault_of_run, fault_of
 
 use crate::host::RunFault;
 use manifest::{ManifestError, ManifestFault};
-use scenario::ScenarioError;
+use or_memory::OrMemory;
+use scenario::{FaultyLine, ScenarioError};
 use std::io::Write;
 use thiserror::Error;
 
@@ -58,8 +59,8 @@ impl<'a> From<ManifestError> for Fault<'a> {
 
     fn from(error: ManifestError) -> Self {
         match error {
-            ManifestError::OutOfMemory => Fault::OutOfMemory,
-            ManifestError::Fault(fault) => Fault::Manifest(fault),
+            OrMemory::OutOfMemory => Fault::OutOfMemory,
+            OrMemory::Fault(fault) => Fault::Manifest(fault),
         }
     }
 }
@@ -69,8 +70,8 @@ impl<'a> From<ScenarioError> for Fault<'a> {
 
     fn from(error: ScenarioError) -> Self {
         match error {
-            ScenarioError::OutOfMemory => Fault::OutOfMemory,
-            ScenarioError::Line(line) => Fault::Line(line),
+            OrMemory::OutOfMemory => Fault::OutOfMemory,
+            OrMemory::Fault(FaultyLine(line)) => Fault::Line(line),
         }
     }
 }

@@ -8,11 +8,12 @@ use bpf_insn::{AluOp, Callee, Condition, Insn, Operand, Program, Reg, Width};
 use ccb::QueueId;
 use freeze_ledger::FreezeToken;
 use helpers::{HelperLimits, TableLengths};
+use or_memory::OrMemory;
 use std::alloc::{AllocError, Global};
 use std::process::Abort;
 use std::sync::Arc;
 use std::test::Fail;
-use verifier::{Accepted, VerifyError, verify};
+use verifier::{Accepted, verify};
 
 const fn mov(dst: Reg, src: Operand) -> Insn {
     Insn::Alu {
@@ -59,8 +60,8 @@ fn given(alloc: Global) -> Result<Option<Vec<(u8, Arc<Accepted>)>>, AllocError> 
     };
     match verify(alloc, &program, &limits(alloc)) {
         Ok(policy) => Ok(Some(vec![in alloc; (2, Arc::new(alloc, policy)?)]?)),
-        Err(VerifyError::OutOfMemory) => Err(AllocError),
-        Err(VerifyError::Refused(_)) => Ok(None),
+        Err(OrMemory::OutOfMemory) => Err(AllocError),
+        Err(OrMemory::Fault(_)) => Ok(None),
     }
 }
 

@@ -2,8 +2,6 @@
 // manifest has to be, and on `programs` for what its programs are.
 #![tactic(auto)]
 
-ghost use Rattle.std.specs.Prelude.{◌≡◌};
-ghost use Rattle.manifest.specs.declared.ManifestError.TheVariants.{Fault, OutOfMemory};
 
 mod code;
 mod form;
@@ -13,6 +11,7 @@ mod programs;
 use bpf_decode::DecodeFault;
 use engine_core::Config;
 use helpers::{HelperLimits, TableLengths};
+use or_memory::OrMemory;
 pub use programs::NamedProgram;
 use std::alloc::{AllocError, Global};
 use std::sync::Arc;
@@ -58,41 +57,21 @@ pub enum ManifestFault {
     Unaccepted(String, Refusal),
 }
 
-/// Why a manifest was not read.
-#[derive(Debug, Drop)]
-pub enum ManifestError {
-    OutOfMemory,
-    Fault(ManifestFault),
-}
-
-impl From<AllocError> for ManifestError {
-    ghost from_gives = { λ _ error. error ≡ OutOfMemory };
-
-    fn from(_: AllocError) -> Self {
-        ManifestError::OutOfMemory
-    }
-}
-
-impl From<ManifestFault> for ManifestError {
-    ghost from_gives = { λ fault error. error ≡ Fault fault };
-
-    fn from(fault: ManifestFault) -> Self {
-        ManifestError::Fault(fault)
-    }
-}
+/// Why a manifest was not read: memory was refused, or what it says is faulty.
+pub type ManifestError = OrMemory<ManifestFault>;
 
 /// Reads a manifest and verifies its programs.
 pub fn read(alloc: Global, text: &str) -> Result<Manifest, ManifestError> {
     let table = match toml::table_from_str(alloc, text) {
         Ok(table) => table,
-        Err(error) if error.is_memory() => return Err(ManifestError::OutOfMemory),
-        Err(_) => return Err(ManifestError::Fault(ManifestFault::Text)),
+        Err(error) if error.is_memory() => return Err(OrMemory::OutOfMemory),
+        Err(_) => return Err(OrMemory::Fault(ManifestFault::Text)),
     };
     if let Some(fault) = form::fault_of(&table) {
-        return Err(ManifestError::Fault(fault));
+        return Err(OrMemory::Fault(fault));
     }
     if !names::are_lawful(&table) {
-        return Err(ManifestError::Fault(ManifestFault::Name));
+        return Err(OrMemory::Fault(ManifestFault::Name));
     }
     let limits = limits_of(alloc, &table)?;
     let programs = programs::read(alloc, elements(&table, "program"), &limits)?;
@@ -111,13 +90,13 @@ fn config_of(
     for queue in elements(manifest, "queue") {
         let openings = form::openings_of(queue).unwrap_or(0);
         let Some(program) = programs::of_queue(queue, programs) else {
-            return Err(ManifestError::Fault(ManifestFault::Name));
+            return Err(OrMemory::Fault(ManifestFault::Name));
         };
         queues
             .push((openings, Arc::try_clone(&program.accepted)?))
             .map_err(AllocError::from)?;
     }
-    Config::new(limits, queues).ok_or(ManifestError::Fault(ManifestFault::Number))
+    Config::new(limits, queues).ok_or(OrMemory::Fault(ManifestFault::Number))
 }
 
 fn limits_of(alloc: Global, manifest: &Table) -> Result<HelperLimits, AllocError> {

@@ -1,13 +1,14 @@
 // The programs of a manifest: decoded first, and then verified. It relies on `bpf_decode` and `verifier`.
 
 use super::{ManifestError, ManifestFault, code, text_of};
-use bpf_decode::{DecodeError, decode};
+use bpf_decode::decode;
 use bpf_insn::Program;
 use helpers::HelperLimits;
+use or_memory::OrMemory;
 use std::alloc::{AllocError, Global};
 use std::sync::Arc;
 use toml::Value;
-use verifier::{Accepted, VerifyError, verify};
+use verifier::{Accepted, verify};
 
 /// A program that was accepted, with its name.
 #[derive(Drop)]
@@ -49,10 +50,10 @@ fn decoded_program(alloc: Global, program: &Value) -> Result<Decoded<'_>, Manife
     let bytes = code::bytes(alloc, text_of(program, "code").unwrap_or(""))?;
     match decode(alloc, &bytes) {
         Ok(program) => Ok(Decoded { name, program }),
-        Err(DecodeError::OutOfMemory) => Err(ManifestError::OutOfMemory),
-        Err(DecodeError::Fault(fault)) => {
+        Err(OrMemory::OutOfMemory) => Err(OrMemory::OutOfMemory),
+        Err(OrMemory::Fault(fault)) => {
             let name = String::from_str(alloc, name)?;
-            Err(ManifestError::Fault(ManifestFault::Undecoded(name, fault)))
+            Err(OrMemory::Fault(ManifestFault::Undecoded(name, fault)))
         }
     }
 }
@@ -68,9 +69,9 @@ fn accepted_program(
             name,
             accepted: Arc::new(alloc, accepted).map_err(AllocError::from)?,
         }),
-        Err(VerifyError::OutOfMemory) => Err(ManifestError::OutOfMemory),
-        Err(VerifyError::Refused(refusal)) => {
-            Err(ManifestError::Fault(ManifestFault::Unaccepted(name, refusal)))
+        Err(OrMemory::OutOfMemory) => Err(OrMemory::OutOfMemory),
+        Err(OrMemory::Fault(refusal)) => {
+            Err(OrMemory::Fault(ManifestFault::Unaccepted(name, refusal)))
         }
     }
 }

@@ -5,5 +5,5 @@
 mod reading;
 mod steps;
 
-pub use reading::{ScenarioError, read};
+pub use reading::{FaultyLine, ScenarioError, read};
 pub use steps::{Command, Step};

@@ -5,28 +5,19 @@ ghost use Rattle.std.specs.Prelude.{◌≡◌, ℕ, MatchOption};
 ghost use Rattle.std.specs.Char.{is_ascii_digit};
 ghost use Rattle.std.specs.List.{list_all};
 ghost use Rattle.scenario.specs.Numeral.{IsNumber};
-ghost use Rattle.scenario.specs.declared.reading.ScenarioError.TheVariants.{OutOfMemory};
 
 use crate::steps::{Command, Step};
 use ccb::{CamStatus, CcbId, Completion, QueueId};
 use hexadecimal::byte_of;
+use or_memory::OrMemory;
 use std::alloc::{AllocError, Global};
 
-/// Why a scenario was not read.
+/// N1: the line of that number, from 1, is not of the form.
 #[derive(Clone, Copy, Debug, PartialEq, Eq)]
-pub enum ScenarioError {
-    OutOfMemory,
-    /// N1: that line is not of the form.
-    Line(usize),
-}
+pub struct FaultyLine(pub usize);
 
-impl From<AllocError> for ScenarioError {
-    ghost from_gives = { λ _ error. error ≡ OutOfMemory };
-
-    fn from(_: AllocError) -> Self {
-        ScenarioError::OutOfMemory
-    }
-}
+/// Why a scenario was not read: memory was refused, or a line is faulty.
+pub type ScenarioError = OrMemory<FaultyLine>;
 
 /// Reads the whole scenario. Empty lines and those that begin with `#` are skipped.
 pub fn read(alloc: Global, text: &str) -> Result<Vec<Step>, ScenarioError> {
@@ -44,7 +35,7 @@ pub fn read(alloc: Global, text: &str) -> Result<Vec<Step>, ScenarioError> {
                     command,
                 })
                 .map_err(AllocError::from)?,
-            None => return Err(ScenarioError::Line(number)),
+            None => return Err(OrMemory::Fault(FaultyLine(number))),
         }
     }
     Ok(steps)

@@ -3,20 +3,21 @@ use Rattle.std.proofs.Common.{◌≡◌, List, Ok, Err, refl, sym, ◌∙◌}
 use Rattle.bpf_insn.specs.declared.program.Slot.{Slot}
 use Rattle.call_shape.specs.Shape.{IsLawful}
 use Rattle.verifier.specs.declared.refusal.Refusal.TheVariants.{Shape, Check}
-use Rattle.verifier.specs.declared.refusal.VerifyError.{VerifyError}
-use Rattle.verifier.specs.declared.refusal.VerifyError.TheVariants.{OutOfMemory, Refused}
+use Rattle.or_memory.specs.declared.OrMemory.{OrMemory}
+use Rattle.verifier.specs.declared.refusal.Refusal.{Refusal}
+use Rattle.or_memory.specs.declared.OrMemory.TheVariants.{OutOfMemory, Fault as refused}
 use Rattle.verifier.specs.SlotPass.{PassFails}
 use Rattle.verifier.specs.Plain.{IsPlain}
 use Rattle.verifier.specs.Verdict.{ToldOfShape}
 use Rattle.verifier.proofs.Fails.{no_shape_fault}
 use Rattle.verifier.proofs.Plains.{plain_passes}
 
-pub told_of_shape : (program : List Slot) (error : VerifyError) → IsLawful program → PassFails program error → ToldOfShape program error
+pub told_of_shape : (program : List Slot) (error : OrMemory Refusal) → IsLawful program → PassFails program error → ToldOfShape program error
 told_of_shape program OutOfMemory lawful fails = lawful
-told_of_shape program (Refused (Shape fault)) lawful fails = absurd (no_shape_fault program fault fails)
-told_of_shape program (Refused (Check cause slot)) lawful fails = lawful
+told_of_shape program (refused (Shape fault)) lawful fails = absurd (no_shape_fault program fault fails)
+told_of_shape program (refused (Check cause slot)) lawful fails = lawful
 
 -- a plain program is refused for no cause but memory
-pub plain_out_of_memory : (program : List Slot) (error : VerifyError) → PassFails program error → IsPlain program → error ≡ OutOfMemory
+pub plain_out_of_memory : (program : List Slot) (error : OrMemory Refusal) → PassFails program error → IsPlain program → error ≡ OutOfMemory
 plain_out_of_memory program OutOfMemory fails is = refl
-plain_out_of_memory program (Refused refusal) fails is = absurd (let ok = plain_passes program is in let bad : Ok ok.0 ≡ Err refusal = sym ok.1 ∙ fails in cc)
+plain_out_of_memory program (refused refusal) fails is = absurd (let ok = plain_passes program is in let bad : Ok ok.0 ≡ Err refusal = sym ok.1 ∙ fails in cc)

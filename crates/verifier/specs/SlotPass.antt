@@ -9,8 +9,8 @@ use Rattle.verifier.specs.declared.refusal.Cause.{Cause}
 use Rattle.verifier.specs.declared.refusal.Cause.TheVariants.{PathsDisagree}
 use Rattle.verifier.specs.declared.refusal.Refusal.{Refusal}
 use Rattle.verifier.specs.declared.refusal.Refusal.TheVariants.{Check}
-use Rattle.verifier.specs.declared.refusal.VerifyError.{VerifyError}
-use Rattle.verifier.specs.declared.refusal.VerifyError.TheVariants.{OutOfMemory, Refused}
+use Rattle.or_memory.specs.declared.OrMemory.{OrMemory}
+use Rattle.or_memory.specs.declared.OrMemory.TheVariants.{OutOfMemory, Fault as refused}
 use Rattle.verifier.specs.Knowledge.{entry_description, join_descriptions}
 use Rattle.verifier.specs.InsnCheck.{check}
 
@@ -83,6 +83,6 @@ abbrev pub PassSucceeds : List Slot → Type 0
 PassSucceeds program = (table : Table) × (pass program ≡ Ok table)
 
 -- memory was refused, or the pass ends with this fault
-abbrev pub PassFails : List Slot → VerifyError → Type 0
+abbrev pub PassFails : List Slot → OrMemory Refusal → Type 0
 PassFails program OutOfMemory = Unit {0}
-PassFails program (Refused refusal) = pass program ≡ Err refusal
+PassFails program (refused refusal) = pass program ≡ Err refusal

@@ -7,8 +7,9 @@ use Rattle.bpf_machine.specs.Reached.{Safe, Within}
 use Rattle.call_shape.specs.Shape.{IsLawful, FaultIs}
 use Rattle.call_shape.specs.StaticPath.{outermost, StaticPath, IsFrames}
 use Rattle.verifier.specs.declared.refusal.Refusal.TheVariants.{Shape, Check}
-use Rattle.verifier.specs.declared.refusal.VerifyError.{VerifyError}
-use Rattle.verifier.specs.declared.refusal.VerifyError.TheVariants.{OutOfMemory, Refused}
+use Rattle.or_memory.specs.declared.OrMemory.{OrMemory}
+use Rattle.verifier.specs.declared.refusal.Refusal.{Refusal}
+use Rattle.or_memory.specs.declared.OrMemory.TheVariants.{OutOfMemory, Fault as refused}
 
 -- a program, the limits under which it was verified, its budget in instructions, and its greatest number of frames
 pub record Verdict : Type 0 where
@@ -38,7 +39,7 @@ pub record IsVerdictOn (program : List Slot) (limits : HelperLimits) (v : Verdic
 
 -- A shape fault is answered for a program that has it, and for a program of lawful shape none is. No two shape faults
 -- are answered for one program, since a fault that is named has the lowest number and slot.
-abbrev pub ToldOfShape : List Slot → VerifyError → Type 0
+abbrev pub ToldOfShape : List Slot → OrMemory Refusal → Type 0
 ToldOfShape program OutOfMemory = IsLawful program
-ToldOfShape program (Refused (Shape fault)) = FaultIs program fault
-ToldOfShape program (Refused (Check cause slot)) = IsLawful program
+ToldOfShape program (refused (Shape fault)) = FaultIs program fault
+ToldOfShape program (refused (Check cause slot)) = IsLawful program

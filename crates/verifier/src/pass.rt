@@ -10,6 +10,7 @@ use crate::description::Description;
 use crate::refusal::{Cause, Refusal, VerifyError};
 use bpf_insn::Program;
 use call_shape::Shape;
+use or_memory::OrMemory;
 use std::alloc::Global;
 
 /// Describes each place of a program of lawful shape, and checks each instruction that something leads to.
@@ -27,7 +28,7 @@ pub fn pass(alloc: Global, shape: &Shape<'_>) -> Result<(), VerifyError>
     }
     match visit_all(program, &mut table) {
         Ok(()) => Ok(()),
-        Err(refusal) => Err(VerifyError::Refused(refusal)),
+        Err(refusal) => Err(OrMemory::Fault(refusal)),
     }
 }
 

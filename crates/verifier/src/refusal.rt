@@ -1,7 +1,7 @@
 // Why a program is not accepted.
 
 use call_shape::ShapeFault;
-use std::alloc::AllocError;
+use or_memory::OrMemory;
 use std::fmt;
 
 /// What a check of one instruction finds. The text is the fault's code.
@@ -70,32 +70,5 @@ impl fmt::Display for Refusal {
     }
 }
 
-/// Why a program was not accepted.
-#[derive(Clone, Copy, Debug, PartialEq, Eq)]
-pub enum VerifyError {
-    OutOfMemory,
-    Refused(Refusal),
-}
-
-impl From<AllocError> for VerifyError {
-    ghost use Rattle.std.specs.Prelude.{◌≡◌};
-    ghost use Rattle.verifier.specs.declared.refusal.VerifyError.TheVariants.{OutOfMemory};
-
-    ghost from_gives = { λ _ error. error ≡ OutOfMemory };
-
-    fn from(_: AllocError) -> Self {
-        VerifyError::OutOfMemory
-    }
-}
-
-impl From<ShapeFault> for VerifyError {
-    ghost use Rattle.std.specs.Prelude.{◌≡◌};
-    ghost use Rattle.verifier.specs.declared.refusal.Refusal.TheVariants.{Shape};
-    ghost use Rattle.verifier.specs.declared.refusal.VerifyError.TheVariants.{Refused};
-
-    ghost from_gives = { λ fault error. error ≡ Refused (Shape fault) };
-
-    fn from(fault: ShapeFault) -> Self {
-        VerifyError::Refused(Refusal::Shape(fault))
-    }
-}
+/// Why a program was not accepted: memory was refused, or the program is.
+pub type VerifyError = OrMemory<Refusal>;

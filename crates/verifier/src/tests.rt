@@ -1,8 +1,9 @@
 // What no command shows: want of memory, and that the same call answers later.
 
-use crate::{Cause, Refusal, VerifyError, verify};
+use crate::{Cause, Refusal, verify};
 use bpf_insn::{AluOp, Callee, Condition, Insn, Operand, Program, Reg, Width};
 use helpers::{HelperLimits, TableLengths};
+use or_memory::OrMemory;
 use std::alloc::{AllocError, Global};
 use std::test::Fail;
 
@@ -54,13 +55,13 @@ fn verdict(alloc: Global, insns: &[Insn]) -> Result<Option<Result<u32, Refusal>>
         table_lengths: TableLengths::new(Vec::new(alloc)),
     };
     let verdict = match verify(alloc, &program, &limits) {
-        Err(VerifyError::OutOfMemory) => verify(alloc, &program, &limits),
+        Err(OrMemory::OutOfMemory) => verify(alloc, &program, &limits),
         verdict => verdict,
     };
     match verdict {
         Ok(accepted) => Ok(Some(Ok(accepted.budget()))),
-        Err(VerifyError::Refused(refusal)) => Ok(Some(Err(refusal))),
-        Err(VerifyError::OutOfMemory) => Err(AllocError),
+        Err(OrMemory::Fault(refusal)) => Ok(Some(Err(refusal))),
+        Err(OrMemory::OutOfMemory) => Err(AllocError),
     }
 }
 

@@ -1,17 +1,18 @@
 // The verdict on a program. It relies on `call_shape` and `budget_path`, and on `pass` for the rest.
 
 ghost use Rattle.std.specs.Prelude.{◌≡◌, IfOk, IfErr};
-ghost use Rattle.verifier.specs.declared.refusal.VerifyError.TheVariants.{OutOfMemory};
+ghost use Rattle.or_memory.specs.declared.OrMemory.TheVariants.{OutOfMemory};
 ghost use Rattle.verifier.specs.Verdict.{IsVerdictOn, ToldOfShape};
 ghost use Rattle.verifier.specs.Plain.{IsPlain};
 
 use crate::accepted::Accepted;
 use crate::pass::pass;
-use crate::refusal::VerifyError;
+use crate::refusal::{Refusal, VerifyError};
 use bpf_insn::Program;
 use budget_path::budget;
 use call_shape::shape;
 use helpers::HelperLimits;
+use or_memory::OrMemory;
 use std::alloc::Global;
 
 /// Accepts a program under these limits, or says why not. A shape fault comes first: it is answered exactly
@@ -27,7 +28,10 @@ pub fn verify(
     ensures shape { IfErr result (ToldOfShape program.now) }
     ensures plain { IfErr result (λ error. IsPlain program.now → error ≡ OutOfMemory) }
 {
-    let shape = shape(program)?;
+    let shape = match shape(program) {
+        Ok(shape) => shape,
+        Err(fault) => return Err(OrMemory::Fault(Refusal::Shape(fault))),
+    };
     pass(alloc, &shape)?;
     let budget = budget(alloc, &shape)?;
     let program = program.try_clone()?;

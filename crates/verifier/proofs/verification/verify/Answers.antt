@@ -11,17 +11,17 @@ use Rattle.verifier.proofs.verification.verify.Goals as goal
 
 pub returns-in_err-pass-clause-shape : goal.returns-in_err-pass-clause-shape
 returns-in_err-pass-clause-shape c =
-    let shape_is : c.in_ok-shape.shape ≡ c.args.program.now = c.in_ok-shape.ensures.value in
+    let shape_is : c.in-Ok.shape ≡ c.args.program.now = c.in-Ok.ensures.value in
     let fails = subst (λ (p : List Slot). PassFails p c.in_err-pass.field-0.0) shape_is c.in_err-pass.ensures.fails in
-    let told = told_of_shape c.args.program.now c.in_err-pass.field-0.0 c.in_ok-shape.ensures.lawful fails in
+    let told = told_of_shape c.args.program.now c.in_err-pass.field-0.0 c.in-Ok.ensures.lawful fails in
     search (rules, told)
 
 pub new-requires : goal.new-requires
 new-requires c =
-    let shape_is : c.in_ok-shape.shape ≡ c.args.program.now = c.in_ok-shape.ensures.value in
+    let shape_is : c.in-Ok.shape ≡ c.args.program.now = c.in-Ok.ensures.value in
     let same : c.in_ok-program.program ≡ c.args.program.now = c.in_ok-program.ensures in
     let is : IsProgram c.args.program.now = subst IsProgram same (rw (← c.program.view_is) c.program.invariant) in
-    let lawful : IsLawful c.args.program.now = c.in_ok-shape.ensures.lawful in
+    let lawful : IsLawful c.args.program.now = c.in-Ok.ensures.lawful in
     let passes : PassSucceeds c.args.program.now = subst PassSucceeds shape_is c.in_ok-pass.ensures.passes in
     let sound = pass_sound c.args.program.now passes.0 is lawful passes.1 in
     let longest = subst (λ (p : List Slot). (n : ℕ) → StaticPath p (outermost 0) n → n ≤ c.in_ok-budget.budget) shape_is c.in_ok-budget.ensures.longest in

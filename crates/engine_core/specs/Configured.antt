@@ -6,8 +6,16 @@ use Rattle.std.specs.declared.sync.Arc.{Arc}
 use Rattle.helpers.specs.declared.limits.HelperLimits.{HelperLimits}
 use Rattle.verifier.specs.declared.accepted.Accepted.{Accepted}
 use Rattle.verifier.specs.Verdict.{Verdict, IsAccepted}
+use Rattle.world.specs.Capacities.{most_queues, most_openings}
 use Rattle.world.specs.World.{QueueSetup, Setup}
 use Rattle.world.specs.Lawful.{IsLawful}
+
+-- how many tables of words there may be, and how many words each may have
+abbrev pub most_tables : ℕ
+most_tables = 16
+
+abbrev pub most_words : ℕ
+most_words = 4096
 
 -- a device queue as it is given: its openings, and its accepted program
 abbrev pub Given : Type 0
@@ -32,14 +40,14 @@ IsGivenUnder limits given = (1 ≤ given.0) × (given.1.limits ≡ limits)
 
 -- what is known of each queue by the types of its parts
 abbrev pub IsKnown : Given → Type 0
-IsKnown given = (given.0 ≤ 255) × IsAccepted given.1
+IsKnown given = (given.0 ≤ most_openings) × IsAccepted given.1
 
 -- 1 to 64 queues, as many as the limits say, and up to 16 tables of 1 to 4096 words
 pub record IsConfigured (limits : HelperLimits) (given : List Given) : Type 0 where
-  pub queue_number : (1 ≤ length given) × (length given ≤ 64)
+  pub queue_number : (1 ≤ length given) × (length given ≤ most_queues)
   pub agreed : limits.queues ≡ length given
-  pub table_number : length limits.table_lengths ≤ 16
-  pub table_lengths : All (λ words. (1 ≤ words) × (words ≤ 4096)) limits.table_lengths
+  pub table_number : length limits.table_lengths ≤ most_tables
+  pub table_lengths : All (λ words. (1 ≤ words) × (words ≤ most_words)) limits.table_lengths
   pub queues : All (IsGivenUnder limits) given
 
 -- what a configuration keeps

@@ -4,8 +4,9 @@ ghost use Rattle.std.specs.Prelude.{◌≡◌, ◌<◌, ◌≤◌, ◌↔◌, le
 ghost use Rattle.std.specs.Arc.{arc_value};
 ghost use Rattle.verifier.specs.Verdict.{IsAccepted};
 ghost use Rattle.world.specs.World.{queue_count, queue_setup};
+ghost use Rattle.world.specs.Capacities.{most_queues};
 ghost use Rattle.world.specs.Lawful.{IsLawful};
-ghost use Rattle.engine_core.specs.Configured.{IsConfigured, IsGivenUnder, IsKnown, given_of, setup_of};
+ghost use Rattle.engine_core.specs.Configured.{most_tables, most_words, IsConfigured, IsGivenUnder, IsKnown, given_of, setup_of};
 
 use ccb::QueueId;
 use helpers::HelperLimits;
@@ -14,12 +15,12 @@ use std::sync::Arc;
 use verifier::Accepted;
 
 /// How many device queues there may be.
-const QUEUES: usize = 64;
+const MOST_QUEUES: usize = 64;
 
 /// How many tables of words there may be, and how many words each may have.
-const TABLES: usize = 16;
+const MOST_TABLES: usize = 16;
 
-const WORDS: u16 = 4096;
+const MOST_WORDS: u16 = 4096;
 
 /// The limits of the helper calls, and for each device queue, in the order of the queues' numbers, its openings
 /// and its program, which was accepted under these limits. Contracts see it as the world's setup.
@@ -61,7 +62,7 @@ impl Config {
     /// How many device queues there are, 1 to 64.
     pub fn queues(&self) -> u32
         ensures value { result ≡ queue_count self.now }
-        ensures bound { result ≤ 64 }
+        ensures bound { result ≤ most_queues }
         ensures lawful { IsLawful self.now }
     {
         self.limits.queues
@@ -90,18 +91,21 @@ impl Config {
 
 // Up to 16 tables of 1 to 4096 words.
 fn has_lawful_tables(limits: &HelperLimits) -> bool
-    ensures { IsTrue result ↔ ((length limits.now.table_lengths ≤ 16)
-        × All (λ words. (1 ≤ words) × (words ≤ 4096)) limits.now.table_lengths) }
+    ensures { IsTrue result ↔ ((length limits.now.table_lengths ≤ most_tables)
+        × All (λ words. (1 ≤ words) × (words ≤ most_words)) limits.now.table_lengths) }
 {
     let lengths = limits.table_lengths.as_slice();
-    lengths.len() <= TABLES && lengths.iter().all(|words| 0 < *words && *words <= WORDS)
+    lengths.len() <= MOST_TABLES
+        && lengths
+            .iter()
+            .all(|words| 0 < *words && *words <= MOST_WORDS)
 }
 
 // 1 to 64 queues, as many as the limits say.
 fn are_so_many(limits: &HelperLimits, queues: usize) -> bool
-    ensures { IsTrue result ↔ (((1 ≤ queues) × (queues ≤ 64)) × (limits.now.queues ≡ queues)) }
+    ensures { IsTrue result ↔ (((1 ≤ queues) × (queues ≤ most_queues)) × (limits.now.queues ≡ queues)) }
 {
-    0 < queues && queues <= QUEUES && limits.queues as usize == queues
+    0 < queues && queues <= MOST_QUEUES && limits.queues as usize == queues
 }
 
 // Each queue has an opening, and a program that was accepted under these limits.

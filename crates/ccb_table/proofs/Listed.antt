@@ -1,17 +1,17 @@
 -- What the list of live CCBs keeps is kept by one more at the end, by a change of one, and by one fewer.
-use Rattle.std.proofs.Common.{◌≡◌, ℕ, ◌+◌, ◌<◌, ◌≤◌, List, [], ◌∷◌, ◌++◌, length, map, get_or, set, cond, Some, ap, sym, subst, ◌∙◌, arith, length-append}
+use Rattle.std.proofs.Common.{◌≡◌, ℕ, ◌+◌, ◌<◌, List, [], ◌∷◌, ◌++◌, length, map, get_or, set, cond, Some, ap, sym, subst, ◌∙◌, arith, length-append}
 use Rattle.std.specs.List.{remove}
 use Rattle.std.specs.Vec.{vec_capacity}
 use Rattle.std.specs.declared.vec.Vec.{Vec}
 use Rattle.std.specs.declared.alloc.Global.{Global}
 use Rattle.std.proofs.lemmas.List.Edits.{length-remove}
-use Rattle.std.proofs.lemmas.List.Sums.{sum_by_push, count_by-le-length}
+use Rattle.std.proofs.lemmas.List.Sums.{sum_by_push}
 use Rattle.std.proofs.Math.ListN.{length-set}
 use Rattle.world.specs.World.{LiveCcb}
 use Rattle.world.specs.Lookups.{is_active, ccb_of, with_ccb}
 use Rattle.ccb.specs.Rising.{AreRising}
 use Rattle.world.proofs.Lists.Found.{leave, put_keys}
-use Rattle.world.proofs.Lists.Rising.{rising_push, rising_leave, count_put, count_gone, found_counts}
+use Rattle.world.proofs.Lists.Rising.{rising_push, rising_leave, count_put, count_gone}
 use Rattle.world.proofs.Lists.Placed.{found_at, set_is_put, remove_is_leave}
 use Rattle.world.proofs.Steps.Moves.{ccb_key}
 use Rattle.ccb_table.specs.Listed.{ListState, IsListed, IsPlaceOf}
@@ -30,14 +30,6 @@ counts c = cond (is_active c.state) 1 0
 -- the CCB at the place is the one of the number
 pub placed : (ccbs : List LiveCcb) (greatest number place : ℕ) (it : LiveCcb) → AreRising 0 (map ccb_key ccbs) greatest → IsPlaceOf number ccbs place → it ≡ get_or ccbs place it → ccb_of number ccbs ≡ Some it
 placed ccbs greatest number place it rising p e = found_at ccb_key 0 ccbs greatest place number it p.within rising (p.here it) ∙ ap Some (sym e)
-
--- the active ones are among all
-pub counted_within : (v : Vec LiveCcb Global) (greatest active : ℕ) → IsListed v greatest active → active ≤ 4096
-counted_within v greatest active h = omega (arith, count_by-le-length (λ (l : LiveCcb). is_active l.state) v.items, h.counted, h.within)
-
-pub counted_at : (v : Vec LiveCcb Global) (greatest active place number : ℕ) (it : LiveCcb) → IsListed v greatest active → IsPlaceOf number v.items place → it ≡ get_or v.items place it → counts it ≤ active
-counted_at v greatest active place number it h p e =
-    omega (arith, found_counts ccb_key (λ (l : LiveCcb). is_active l.state) number v.items it (placed v.items greatest number place it h.rising p e), h.counted)
 
 pub listed_push : (v w : Vec LiveCcb Global) (greatest active : ℕ) (c : LiveCcb) → IsListed v greatest active → length v.items < 4096 → c.ccb.number.0 ≡ greatest + 1 → w.items ≡ v.items ++ c ∷ [] → vec_capacity w ≡ vec_capacity v → (number now : ℕ) → number ≡ c.ccb.number.0 → now ≡ active + counts c → IsListed w number now
 listed_push v w greatest active c h few next items capacity number now number_is now_is = record {

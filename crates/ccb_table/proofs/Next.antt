@@ -2,7 +2,6 @@
 use Rattle.std.proofs.Common.{◌≡◌, ℕ, List, [], ◌∷◌, length, map, Bool, true, Some, None, inl, inr, refl, ap, sym, subst, ◌∙◌, arith}
 use Rattle.std.specs.List.{find, list_all, All}
 use Rattle.std.proofs.lemmas.Bool.{cases_Bool, cases_eq, and_parts, and_from, or_left, or_right, eqb-true, eq-eqb, lt-ltb, le-leb}
-use Rattle.std.proofs.lemmas.List.{length-map}
 use Rattle.std.proofs.lemmas.List.Elements.{All-nil, All-cons, All-head, All-tail, All-weaker, All-contains}
 use Rattle.ccb.specs.declared.CcbId.{CcbId}
 use Rattle.dev_queue.specs.declared.waiting_ccb.WaitingCcb.{WaitingCcb}
@@ -92,7 +91,3 @@ least_starts queue ccbs high number rising least =
 nothing : (those : List LiveCcb) → length those ≡ 0 → find (λ (live : LiveCcb). list_all (starts_before live) those) those ≡ None
 nothing [] e = refl
 nothing (y ∷ ys) e = absurd (omega (arith, e))
-
--- where no pair waits, none starts
-pub none_starts : (queue : ℕ) (ccbs : List LiveCcb) → length (pairs_of (waits_on queue) ccbs) ≡ 0 → next_waiting queue ccbs ≡ None
-none_starts queue ccbs e = nothing (waiting_on queue ccbs) (sym (length-map (waiting_on queue ccbs) pair_of) ∙ e)

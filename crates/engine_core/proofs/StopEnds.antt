@@ -26,7 +26,8 @@ use Rattle.world.specs.Flat.{events_of}
 use Rattle.world.specs.FreezeLaws.{entries_of}
 use Rattle.world.proofs.Lists.Found.{leave, put_same, found_key}
 use Rattle.world.proofs.Steps.Moves.{run_key}
-use Rattle.world.proofs.Reaching.{count_after, same_found}
+use Rattle.world.proofs.Reaching.{same_found}
+use Rattle.world.proofs.Steps.Fates.{count_after}
 use Rattle.engine_core.specs.EngineState.{world_of}
 use Rattle.engine_core.specs.Invariant.{KeepsEngine}
 use Rattle.engine_core.specs.TakingOver.{IsAdmitted, GoesOn}

@@ -84,11 +84,6 @@ run_at rs place it r at stands =
     let l : place < length rs = omega (arith, at.within, length-map rs live_of) in
     (l, ap live_of stands ∙ (sym (get_or-map live_of rs place r it l) ∙ at.here))
 
--- a record is found by the number that it bears, and stands where it is
-pub record_at : (rs : List RunRecord) (greatest place : ℕ) (r : RunRecord) → Rises rs greatest → place < length rs → r ≡ get_or rs place r → run_of r.number (lives_of rs) ≡ Some (live_of r)
-record_at rs greatest place r h l stands =
-    record_found rs greatest place r.number r h l (sym (ap key_of stands)) ∙ ap (λ (x : RunRecord). Some (live_of x)) (sym stands)
-
 pub has_run_at : (rs : List RunRecord) (place : ℕ) (r : RunRecord) → place < length rs → r ≡ get_or rs place r → HasRunAt (lives_of rs) place (live_of r)
 has_run_at rs place r l stands = record {
   within = lives_length rs place l;

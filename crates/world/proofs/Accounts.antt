@@ -3,18 +3,17 @@ use Rattle.std.proofs.Common.{◌≡◌, ℕ, ◌+◌, ◌<◌, List, [], ◌∷
 use Rattle.std.proofs.lemmas.Bool.{cases_eq, cases_lt, eq-eqb, ne_eqb}
 use Rattle.std.proofs.lemmas.List.{append-nil}
 use Rattle.std.proofs.lemmas.List.Sums.{sum_by_push}
-use Rattle.ccb.specs.Status.{code_of}
-use Rattle.world.specs.declared.refusal.Refusal.{Refusal}
 use Rattle.world.specs.World.{Setup, LiveCcb, EndedCcb, World, opening}
 use Rattle.world.specs.Lookups.{ccb_of, with_ccb}
-use Rattle.world.specs.Event.{Event, submit, dispatch, complete, guest_freeze, guest_release, executes, Reply, refused}
+use Rattle.world.specs.Event.{Event, Reply}
 use Rattle.world.specs.WorldRun.{Leads}
 use Rattle.world.specs.Limits.{KeepsLimits}
 use Rattle.world.specs.CcbLaws.{ended_times, AreAccounted, finished_by, finished_in, EachIsLiveOrEnded}
-use Rattle.world.proofs.Lists.Found.{leave, at_head, at_tail, found_key, found_push, missing_push, put_same, put_other, leave_same, leave_other}
+use Rattle.world.proofs.Lists.Found.{leave, at_head, at_tail, found_push, missing_push, put_same, put_other, leave_same, leave_other}
 use Rattle.world.proofs.Kept.{step_keeps, opening_keeps}
-use Rattle.world.proofs.Steps.Cases.{Case, case_of, refuses, submits, dispatches, finishes_one, recovers_one, recovers_unfrozen, freezes_one, releases_one, goes_on_one, gives_back, requeues_one, exits}
-use Rattle.world.proofs.Steps.Moves.{ccb_key, ccb_found, next_found}
+use Rattle.world.proofs.Steps.Cases.{case_of}
+use Rattle.world.proofs.Steps.Moves.{ccb_key, CcbMove, ccbs_stay, ccb_enters, ccb_changes, ccb_leaves}
+use Rattle.world.proofs.Steps.Effects.{effect_of}
 
 absent : (o : Option LiveCcb) (x : LiveCcb) → o ≡ None → o ≡ Some x → ⊥
 absent o x none some = let bad : None ≡ Some x = sym none ∙ some in cc
@@ -107,81 +106,27 @@ accounts_leave live ended greatest number code old found accounts =
 abbrev Accounts : World → Type 0
 Accounts world = AreAccounted world.live world.ended world.greatest_ccb
 
--- the CCBs are as they were
-accounts_stay : (before after : World) → after.live ≡ before.live → after.ended ≡ before.ended → after.greatest_ccb ≡ before.greatest_ccb → Accounts before → Accounts after
-accounts_stay before after p q r accounts = accounts_from before.live after.live before.ended after.ended before.greatest_ccb after.greatest_ccb p q r accounts
+-- where nothing is finished nothing ended
+none_more : (before after : World) (event : Event) (reply : Reply) → after.ended ≡ before.ended ++ finished_by before event reply → finished_by before event reply ≡ [] → after.ended ≡ before.ended
+none_more before after event reply ended none = ended ∙ (ap (λ (l : List EndedCcb). before.ended ++ l) none ∙ append-nil before.ended)
 
-case_accounts : (setup : Setup) (before : World) (event : Event) (reply : Reply) (after : World) → KeepsLimits setup before → Accounts before → Case setup before event reply after → Accounts after
-case_accounts setup before event reply after kept accounts (refuses it) = accounts_stay before after (ap (λ (w : World). w.live) it.after_is) (ap (λ (w : World). w.ended) it.after_is) (ap (λ (w : World). w.greatest_ccb) it.after_is) accounts
-case_accounts setup before event reply after kept accounts (submits it) =
-    accounts_from _ after.live before.ended after.ended _ after.greatest_ccb (ap (λ (w : World). w.live) it.after_is) (ap (λ (w : World). w.ended) it.after_is) (ap (λ (w : World). w.greatest_ccb) it.after_is)
-    (accounts_push before.live before.ended before.greatest_ccb _ refl accounts)
-case_accounts setup before event reply after kept accounts (dispatches it) =
-    accounts_from _ after.live before.ended after.ended before.greatest_ccb after.greatest_ccb (ap (λ (w : World). w.live) it.after_is) (ap (λ (w : World). w.ended) it.after_is) (ap (λ (w : World). w.greatest_ccb) it.after_is)
-    (accounts_put before.live before.ended before.greatest_ccb it.next _ (next_found it.queue before.live before.greatest_ccb it.next kept.ccbs.rising it.next_is).found accounts)
-case_accounts setup before event reply after kept accounts (finishes_one it) =
-    accounts_from _ after.live _ after.ended before.greatest_ccb after.greatest_ccb (ap (λ (w : World). w.live) it.after_is) (ap (λ (w : World). w.ended) it.after_is) (ap (λ (w : World). w.greatest_ccb) it.after_is)
-    (accounts_leave before.live before.ended before.greatest_ccb it.live.ccb.number.0 _ it.live (ccb_found it.outcome.ccb.0 before.live it.live it.found) accounts)
-case_accounts setup before event reply after kept accounts (recovers_one it) =
-    accounts_from _ after.live before.ended after.ended before.greatest_ccb after.greatest_ccb (ap (λ (x : Reply × World). x.1.live) it.starts_is) (ap (λ (x : Reply × World). x.1.ended) it.starts_is) (ap (λ (x : Reply × World). x.1.greatest_ccb) it.starts_is)
-    (accounts_put before.live before.ended before.greatest_ccb it.fails.live _ (ccb_found it.fails.outcome.ccb.0 before.live it.fails.live it.fails.found) accounts)
-case_accounts setup before event reply after kept accounts (recovers_unfrozen it) =
-    accounts_from _ after.live before.ended after.ended before.greatest_ccb after.greatest_ccb (ap (λ (x : Reply × World). x.1.live) it.starts_is) (ap (λ (x : Reply × World). x.1.ended) it.starts_is) (ap (λ (x : Reply × World). x.1.greatest_ccb) it.starts_is)
-    (accounts_put before.live before.ended before.greatest_ccb it.fails.live _ (ccb_found it.fails.outcome.ccb.0 before.live it.fails.live it.fails.found) accounts)
-case_accounts setup before event reply after kept accounts (freezes_one it) = accounts_stay before after (ap (λ (w : World). w.live) it.after_is) (ap (λ (w : World). w.ended) it.after_is) (ap (λ (w : World). w.greatest_ccb) it.after_is) accounts
-case_accounts setup before event reply after kept accounts (releases_one it) = accounts_stay before after (ap (λ (w : World). w.live) it.after_is) (ap (λ (w : World). w.ended) it.after_is) (ap (λ (w : World). w.greatest_ccb) it.after_is) accounts
-case_accounts setup before event reply after kept accounts (goes_on_one it) = accounts_stay before after (ap (λ (w : World). w.live) it.after_is) (ap (λ (w : World). w.ended) it.after_is) (ap (λ (w : World). w.greatest_ccb) it.after_is) accounts
-case_accounts setup before event reply after kept accounts (gives_back it) = accounts_stay before after (ap (λ (x : Reply × World). x.1.live) it.answer) (ap (λ (x : Reply × World). x.1.ended) it.answer) (ap (λ (x : Reply × World). x.1.greatest_ccb) it.answer) accounts
-case_accounts setup before event reply after kept accounts (requeues_one it) =
-    accounts_from _ after.live before.ended after.ended before.greatest_ccb after.greatest_ccb (ap (λ (x : Reply × World). x.1.live) it.answer) (ap (λ (x : Reply × World). x.1.ended) it.answer) (ap (λ (x : Reply × World). x.1.greatest_ccb) it.answer)
-    (accounts_put before.live before.ended before.greatest_ccb it.live _ (ccb_found it.it.run.ccb before.live it.live it.found) accounts)
-case_accounts setup before event reply after kept accounts (exits it) = accounts_stay before after (ap (λ (w : World). w.live) it.after_is) (ap (λ (w : World). w.ended) it.after_is) (ap (λ (w : World). w.greatest_ccb) it.after_is) accounts
-
-abbrev one_ended : ℕ → ℕ → List EndedCcb
-one_ended number code = record { number = number; code = code } ∷ []
-
--- what ended is what the event finished
-nothing_more : (before after : World) (event : Event) (reply : Reply) → finished_by before event reply ≡ [] → after.ended ≡ before.ended → after.ended ≡ before.ended ++ finished_by before event reply
-nothing_more before after event reply none e = e ∙ sym (ap (λ (l : List EndedCcb). before.ended ++ l) none ∙ append-nil before.ended)
-
-refusal_finishes : (before : World) (event : Event) (refusal : Refusal) → finished_by before event (refused refusal) ≡ []
-refusal_finishes before (submit queue priority retries) refusal = refl
-refusal_finishes before (dispatch queue) refusal = refl
-refusal_finishes before (complete outcome) refusal = refl
-refusal_finishes before (guest_freeze queue guest) refusal = refl
-refusal_finishes before (guest_release freeze) refusal = refl
-refusal_finishes before (executes run instruction) refusal = refl
-
-case_ends : (setup : Setup) (before : World) (event : Event) (reply : Reply) (after : World) → Case setup before event reply after → after.ended ≡ before.ended ++ finished_by before event reply
-case_ends setup before event reply after (refuses it) =
-    nothing_more before after event reply (ap (finished_by before event) it.reply_is ∙ refusal_finishes before event it.refusal) (ap (λ (w : World). w.ended) it.after_is)
-case_ends setup before event reply after (submits it) = nothing_more before after event reply (ap (λ (x : Event). finished_by before x reply) it.event_is) (ap (λ (w : World). w.ended) it.after_is)
-case_ends setup before event reply after (dispatches it) = nothing_more before after event reply (ap (λ (x : Event). finished_by before x reply) it.event_is) (ap (λ (w : World). w.ended) it.after_is)
-case_ends setup before event reply after (finishes_one it) =
-    let named : it.live.ccb.number.0 ≡ it.outcome.ccb.0 = found_key ccb_key it.outcome.ccb.0 before.live it.live it.found in
-    let by : finished_by before event reply ≡ record { number = it.outcome.ccb.0; code = code_of it.outcome.status } ∷ [] =
-    ap (λ (x : Event). finished_by before x reply) it.event_is ∙ ap (finished_by before (complete it.outcome)) it.reply_is in
-    ap (λ (w : World). w.ended) it.after_is
-    ∙ (ap (λ (n : ℕ). before.ended ++ one_ended n (code_of it.outcome.status)) named
-    ∙ sym (ap (λ (l : List EndedCcb). before.ended ++ l) by))
-case_ends setup before event reply after (recovers_one it) =
-    nothing_more before after event reply (ap (λ (x : Event). finished_by before x reply) it.fails.event_is ∙ ap (finished_by before (complete it.fails.outcome)) (ap (λ (x : Reply × World). x.0) it.starts_is)) (ap (λ (x : Reply × World). x.1.ended) it.starts_is)
-case_ends setup before event reply after (recovers_unfrozen it) =
-    nothing_more before after event reply (ap (λ (x : Event). finished_by before x reply) it.fails.event_is ∙ ap (finished_by before (complete it.fails.outcome)) (ap (λ (x : Reply × World). x.0) it.starts_is)) (ap (λ (x : Reply × World). x.1.ended) it.starts_is)
-case_ends setup before event reply after (freezes_one it) = nothing_more before after event reply (ap (λ (x : Event). finished_by before x reply) it.event_is) (ap (λ (w : World). w.ended) it.after_is)
-case_ends setup before event reply after (releases_one it) = nothing_more before after event reply (ap (λ (x : Event). finished_by before x reply) it.event_is) (ap (λ (w : World). w.ended) it.after_is)
-case_ends setup before event reply after (goes_on_one it) = nothing_more before after event reply (ap (λ (x : Event). finished_by before x reply) it.it.event_is) (ap (λ (w : World). w.ended) it.after_is)
-case_ends setup before event reply after (gives_back it) = nothing_more before after event reply (ap (λ (x : Event). finished_by before x reply) it.it.event_is) (ap (λ (x : Reply × World). x.1.ended) it.answer)
-case_ends setup before event reply after (requeues_one it) = nothing_more before after event reply (ap (λ (x : Event). finished_by before x reply) it.it.event_is) (ap (λ (x : Reply × World). x.1.ended) it.answer)
-case_ends setup before event reply after (exits it) = nothing_more before after event reply (ap (λ (x : Event). finished_by before x reply) it.it.event_is) (ap (λ (w : World). w.ended) it.after_is)
+move_accounts : (setup : Setup) (before : World) (event : Event) (reply : Reply) (after : World) → Accounts before → after.ended ≡ before.ended ++ finished_by before event reply → CcbMove setup before event reply after → Accounts after
+move_accounts setup before event reply after accounts ended (ccbs_stay e g unended) =
+    accounts_from before.live after.live before.ended after.ended before.greatest_ccb after.greatest_ccb e (none_more before after event reply ended unended) g accounts
+move_accounts setup before event reply after accounts ended (ccb_enters queue priority retries known full e g unended) =
+    accounts_from _ after.live before.ended after.ended _ after.greatest_ccb e (none_more before after event reply ended unended) g (accounts_push before.live before.ended before.greatest_ccb _ refl accounts)
+move_accounts setup before event reply after accounts ended (ccb_changes old new found queue_is active may e g unended) =
+    accounts_from _ after.live before.ended after.ended before.greatest_ccb after.greatest_ccb e (none_more before after event reply ended unended) g (accounts_put before.live before.ended before.greatest_ccb old new found accounts)
+move_accounts setup before event reply after accounts ended (ccb_leaves number code old found may e g one) =
+    accounts_from _ after.live _ after.ended before.greatest_ccb after.greatest_ccb e (ended ∙ ap (λ (l : List EndedCcb). before.ended ++ l) one) g (accounts_leave before.live before.ended before.greatest_ccb number code old found accounts)
 
 leads_accounts : (setup : Setup) (before : World) (xs : List (Event × Reply)) (after : World) → KeepsLimits setup before → (run : Leads setup before xs after) → Accounts before → Accounts after × (after.ended ≡ before.ended ++ finished_in setup before xs after run)
 leads_accounts setup before [] after kept run accounts = (subst Accounts run accounts, sym (ap (λ (w : World). w.ended) run) ∙ sym (append-nil before.ended))
 leads_accounts setup before (x ∷ xs) after kept run accounts =
     let between : World = run.0 in
-    let it = case_of setup before x.0 x.1 between run.1 in
-    let rest = leads_accounts setup between xs after (step_keeps setup before x.0 x.1 between run.1 kept) run.2 (case_accounts setup before x.0 x.1 between kept accounts it) in
-    (rest.0, rest.1 ∙ (ap (λ (l : List EndedCcb). l ++ finished_in setup between xs after run.2) (case_ends setup before x.0 x.1 between it) ∙ append_assoc before.ended (finished_by before x.0 x.1) (finished_in setup between xs after run.2)))
+    let it = effect_of setup before x.0 x.1 between kept (case_of setup before x.0 x.1 between run.1) in
+    let rest = leads_accounts setup between xs after (step_keeps setup before x.0 x.1 between run.1 kept) run.2 (move_accounts setup before x.0 x.1 between accounts it.ended it.ccbs) in
+    (rest.0, rest.1 ∙ (ap (λ (l : List EndedCcb). l ++ finished_in setup between xs after run.2) it.ended ∙ append_assoc before.ended (finished_by before x.0 x.1) (finished_in setup between xs after run.2)))
 
 opening_accounts : (setup : Setup) → Accounts (opening setup)
 opening_accounts setup = record { each = λ n positive most. absurd (omega (arith, positive, most)); no_other = λ n outside. (refl, refl) }

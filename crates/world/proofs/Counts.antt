@@ -1,16 +1,15 @@
 -- Frozen counts move as the entries do.
-use Rattle.std.proofs.Common.{◌≡◌, ℕ, ◌+◌, List, true, false, cond, eqb, Some, refl, ap, sym, subst, ◌∙◌, arith}
+use Rattle.std.proofs.Common.{◌≡◌, ℕ, ◌+◌, List, false, cond, eqb, Some, ap, sym, subst, ◌∙◌, arith}
 use Rattle.std.proofs.lemmas.Bool.{ne_eqb}
 use Rattle.freeze_ledger.specs.declared.freeze.Freeze.{Freeze}
 use Rattle.freeze_ledger.specs.Freezes.{frozen, entry_of, without}
 use Rattle.world.specs.FreezeSteps.{frozen_with}
-use Rattle.world.specs.declared.refusal.Refusal.{Refusal}
 use Rattle.world.specs.World.{Setup, World}
-use Rattle.world.specs.Event.{Event, submit, dispatch, complete, guest_freeze, guest_release, executes, Reply, run_started, refused}
+use Rattle.world.specs.Event.{Event, Reply, run_started}
 use Rattle.world.specs.Limits.{KeepsLimits}
 use Rattle.world.specs.FreezeLaws.{OneFewer, MovesCounts, CountsAreEntries}
 use Rattle.world.proofs.Lists.Entries.{frozen_push, frozen_without, entry_bounds}
-use Rattle.world.proofs.Steps.Cases.{may_refuse, Case, case_of, refuses, submits, dispatches, finishes_one, recovers_one, recovers_unfrozen, freezes_one, releases_one, goes_on_one, gives_back, requeues_one, exits}
+use Rattle.world.proofs.Steps.Cases.{Case, case_of, refuses, submits, dispatches, finishes_one, recovers_one, recovers_unfrozen, freezes_one, releases_one, goes_on_one, gives_back, requeues_one, exits}
 use Rattle.world.proofs.Leads.{limits_are_kept}
 
 -- the count after the freeze of this number went
@@ -26,16 +25,8 @@ goes setup before after number freeze kept entry e =
           ∙ frozen_without other 0 before.freezes before.greatest_freeze freeze.number freeze kept.freezes.numbered (subst (λ (n : ℕ). entry_of n before.freezes ≡ Some freeze) (sym is.0) entry);
     }
 
-refusal_moves : (before : World) (event : Event) (refusal : Refusal) → may_refuse event ≡ true → MovesCounts before event (refused refusal) before
-refusal_moves before (submit queue priority retries) refusal may = refl
-refusal_moves before (dispatch queue) refusal may = refl
-refusal_moves before (complete outcome) refusal may = refl
-refusal_moves before (guest_freeze queue guest) refusal may = refl
-refusal_moves before (guest_release number) refusal may = absurd (let bad : false ≡ true = may in cc)
-refusal_moves before (executes run instruction) refusal may = absurd (let bad : false ≡ true = may in cc)
-
 pub case_moves : (setup : Setup) (before : World) (event : Event) (reply : Reply) (after : World) → KeepsLimits setup before → Case setup before event reply after → MovesCounts before event reply after
-case_moves setup before event reply after kept (refuses it) = rw (it.reply_is, it.after_is) (refusal_moves before event it.refusal it.may)
+case_moves setup before event reply after kept (refuses it) = rw (it.reply_is, it.after_is) it.moves
 case_moves setup before event reply after kept (submits it) = rw it.event_is (ap (λ (w : World). w.freezes) it.after_is)
 case_moves setup before event reply after kept (dispatches it) = rw it.event_is (ap (λ (w : World). w.freezes) it.after_is)
 case_moves setup before event reply after kept (finishes_one it) = rw (it.event_is, it.reply_is) (ap (λ (w : World). w.freezes) it.after_is)

@@ -1,11 +1,10 @@
 -- An advance by no instruction stands for no event.
-use Rattle.world.specs.declared.record.StoppedAt.{StoppedAt}
 use Rattle.world.specs.declared.record.StoppedAt.TheVariants.{Release, Requeue, Exit}
-use Rattle.world.specs.World.{Setup, World}
+use Rattle.world.specs.World.{World}
 use Rattle.world.specs.Event.{went_on, result, Reply}
 use Rattle.world.specs.Flat.{EmptyAdvanceIsNone}
 use Rattle.world.proofs.Steps.Cases.{release_parts, requeue_parts, exit_parts}
-use Rattle.std.proofs.Common.{◌≡◌, ℕ, ap}
+use Rattle.std.proofs.Common.{◌≡◌, ap}
 
 pub empty_advance_is_none : EmptyAdvanceIsNone
 empty_advance_is_none setup run Release r0 before after leads =

@@ -1,6 +1,5 @@
 -- A run holds exactly the freezes that it got and did not give up yet.
 use Rattle.std.proofs.Common.{◌≡◌, ℕ, ◌+◌, ◌≤◌, List, [], ◌∷◌, ◌++◌, Bool, true, false, not, cond, eqb, Option, Some, None, inl, inr, refl, ap, sym, subst, ◌∙◌, arith}
-use Rattle.std.specs.Prelude.{◌&&◌}
 use Rattle.std.specs.List.{filter}
 use Rattle.std.proofs.lemmas.Bool.{cases_Bool, cases_eq, cond-true, cond-false, eq-eqb, ne_eqb, not_from_true, not_from_false}
 use Rattle.std.proofs.lemmas.List.Sums.{sum_by-cons, sum_by-append}
@@ -9,26 +8,25 @@ use Rattle.freeze_ledger.specs.Freezes.{entry_of}
 use Rattle.world.specs.World.{Setup, LiveRun, World}
 use Rattle.world.specs.Lawful.{IsLawful}
 use Rattle.world.specs.Lookups.{run_of}
-use Rattle.world.specs.Event.{release, requeue, Instruction, private, call, exit, Event, submit, dispatch, complete, guest_freeze, guest_release, executes, Reply}
+use Rattle.bpf_machine.specs.MachineState.{MachineState}
+use Rattle.bpf_machine.specs.Step.{request_at}
+use Rattle.world.specs.Event.{Instruction, exit, Event, instruction_of, Reply}
 use Rattle.world.specs.RunSteps.{is_run}
-use Rattle.world.specs.Step.{WorldStep}
 use Rattle.world.specs.WorldRun.{Leads}
-use Rattle.world.specs.TookGave.{taken_by, asked, request_of_run, given_by, took, gave}
+use Rattle.world.specs.TookGave.{taken_by, request_of_run, given_up, given_by, took, gave}
 use Rattle.world.specs.FreezeLaws.{held_by}
-use Rattle.world.specs.Headline.{is_step_of, times_in}
+use Rattle.world.specs.Headline.{times_in}
 use Rattle.world.proofs.Lists.Found.{at_head, at_tail}
 use Rattle.world.proofs.Lists.Entries.{freeze_key, FreezesRise, entry_bounds}
-use Rattle.world.proofs.Steps.Cases.{Case, case_of, refuses, submits, dispatches, finishes_one, recovers_one, recovers_unfrozen, freezes_one, releases_one, goes_on_one, gives_back, requeues_one, exits}
-use Rattle.world.proofs.Steps.Fates.{machine_of, Fate, stands, goes_privately, goes_releasing, goes_requeuing, leaves_world, fate_of}
-use Rattle.world.proofs.Steps.Private.{private_keeps}
+use Rattle.world.proofs.Steps.Cases.{Case, case_of}
+use Rattle.world.proofs.Steps.Effects.{effect_of}
+use Rattle.world.proofs.Steps.Fates.{machine_of, Deed, touches_nothing, gives_one_back, disposes_of_it, Fate, stands, goes, leaves_world, fate_of}
 use Rattle.world.proofs.Lists.HeldBy.{held_head, held_tail}
 use Rattle.world.proofs.Held.{live_given}
 use Rattle.world.proofs.Reaching.{same_found, reached_goes, lawful_exit}
 use Rattle.world.proofs.Steps.Beginnings.{no_some}
 use Rattle.world.proofs.Sound.{IsSound, step_sound}
 use Rattle.world.proofs.Lives.{gone_stands, rises, stays_over}
-use Rattle.world.proofs.Steps.Moves.{run_move}
-use Rattle.world.proofs.Kept.{known_queue}
 
 -- numbers in a list
 
@@ -126,97 +124,70 @@ times_held r n low (g ∷ fs) high f h entry its =
           ]
     ]
 
--- what a step gives to a run that was there, and takes from it
-
-nothing_taken : (setup : Setup) (before : World) (event : Event) (reply : Reply) (after : World) (number : ℕ) → number ≤ before.greatest_run → Case setup before event reply after → taken_by number event reply ≡ []
-nothing_taken setup before event reply after number given (refuses it) = ap (taken_by number event) it.reply_is
-nothing_taken setup before event reply after number given (submits it) = ap (taken_by number event) it.reply_is
-nothing_taken setup before event reply after number given (dispatches it) = ap (taken_by number event) it.reply_is
-nothing_taken setup before event reply after number given (finishes_one it) = ap (taken_by number event) it.reply_is
-nothing_taken setup before event reply after number given (recovers_one it) =
-    ap (λ (x : Reply × World). taken_by number event x.0) it.starts_is
-    ∙ ap (λ (b : Bool). cond (b && not (eqb (before.greatest_freeze + 1) 0)) ((before.greatest_freeze + 1) ∷ []) []) (ne_eqb _ _ (λ e. omega (arith, e, given)))
-nothing_taken setup before event reply after number given (recovers_unfrozen it) =
-    ap (λ (x : Reply × World). taken_by number event x.0) it.starts_is
-    ∙ ap (λ (b : Bool). cond (b && false) (0 ∷ []) []) (ne_eqb _ _ (λ e. omega (arith, e, given)))
-nothing_taken setup before event reply after number given (freezes_one it) = ap (taken_by number event) it.reply_is
-nothing_taken setup before event reply after number given (releases_one it) = ap (taken_by number event) it.reply_is
-nothing_taken setup before event reply after number given (goes_on_one it) = ap (taken_by number event) it.reply_is
-nothing_taken setup before event reply after number given (gives_back it) = ap (λ (x : Reply × World). taken_by number event x.0) it.answer
-nothing_taken setup before event reply after number given (requeues_one it) = ap (λ (x : Reply × World). taken_by number event x.0) it.answer
-nothing_taken setup before event reply after number given (exits it) = ap (taken_by number event) it.reply_is
-
-nothing_given : (number : ℕ) (world : World) (event : Event) → is_step_of number event ≡ false → given_by number world event ≡ []
-nothing_given number world (executes run private) other = refl
-nothing_given number world (executes run (call release)) other = cond-false (eqb run number) _ _ other
-nothing_given number world (executes run (call requeue)) other = refl
-nothing_given number world (executes run exit) other = refl
-nothing_given number world (submit queue priority retries) other = refl
-nothing_given number world (dispatch queue) other = refl
-nothing_given number world (complete outcome) other = refl
-nothing_given number world (guest_freeze queue guest) other = refl
-nothing_given number world (guest_release freeze) other = refl
-
-rising_run : (setup : Setup) (before : World) (event : Event) (reply : Reply) (after : World) (number : ℕ) (now : LiveRun) → IsSound setup before → WorldStep setup before event reply after → run_of number before.runs ≡ Some now → number ≤ after.greatest_run
-rising_run setup before event reply after number now sound step found =
-    let it = case_of setup before event reply after step in
-    omega (arith, live_given setup before number now sound.kept found, rises setup before after (run_move setup before event reply after (known_queue setup before sound.kept.ccbs) it))
+-- what a step of anyone else takes from a run
+nothing_given : (number : ℕ) (world : World) (event : Event) → instruction_of number event ≡ None → given_by number world event ≡ []
+nothing_given number world event idle = ap (λ (o : Option Instruction). given_up o (request_of_run (run_of number world.runs))) idle
 
 -- of one number: how often the run got it, and gave it up
 pub data Balance (n number got given : ℕ) (world : World) : Type 0 where
   has : (now : LiveRun) → run_of number world.runs ≡ Some now → got ≡ times_in n now.machine.held + given → Balance n number got given world
   had : run_of number world.runs ≡ None → number ≤ world.greatest_run → got ≡ given → Balance n number got given world
 
-balance_step : (setup : Setup) (n number got given : ℕ) (before : World) (event : Event) (reply : Reply) (after : World) → IsLawful setup → IsSound setup before → WorldStep setup before event reply after → Balance n number got given before → Balance n number got (given + times_in n (given_by number before event)) after
-balance_step setup n number got given before event reply after lawful sound step (had none number_given same) =
-    let still = stays_over setup before event reply after number sound.kept none number_given step in
-    let nothing : times_in n (given_by number before event) ≡ 0 = ap (times_in n) (nothing_given number before event (gone_stands setup before event reply after number none step)) in
+balance_step : (setup : Setup) (n number got given : ℕ) (before : World) (event : Event) (reply : Reply) (after : World) → IsLawful setup → IsSound setup before → Case setup before event reply after → Balance n number got given before → Balance n number got (given + times_in n (given_by number before event)) after
+balance_step setup n number got given before event reply after lawful sound it (had none number_given same) =
+    let effect = effect_of setup before event reply after sound.kept it in
+    let still = stays_over setup before event reply after number none number_given effect.runs in
+    let nothing : times_in n (given_by number before event) ≡ 0 = ap (times_in n) (nothing_given number before event (gone_stands setup before event reply after number none effect)) in
     had still.0 still.1 (omega (arith, same, nothing))
-balance_step setup n number got given before event reply after lawful sound step (has now found same) =
-    by_fate (fate_of setup before event reply after number now found (case_of setup before event reply after step))
+balance_step setup n number got given before event reply after lawful sound it (has now found same) =
+    by_fate (fate_of setup before event reply after number now sound.kept.freezes found it)
   where
-    nothing_by : (instruction : Instruction) → event ≡ executes number instruction → given_by number before (executes number instruction) ≡ [] → times_in n (given_by number before event) ≡ 0
-    nothing_by instruction event_is none = ap (λ (x : Event). times_in n (given_by number before x)) event_is ∙ ap (times_in n) none
+    gives_by : (instruction : Instruction) → instruction_of number event ≡ Some instruction → given_by number before event ≡ given_up (Some instruction) (request_at now.program now.machine)
+    gives_by instruction event_is =
+        ap (λ (o : Option Instruction). given_up o (request_of_run (run_of number before.runs))) event_is
+        ∙ ap (λ (o : Option LiveRun). given_up (Some instruction) (request_of_run o)) found
 
-    by_fate : Fate before event after number now → Balance n number got (given + times_in n (given_by number before event)) after
-    by_fate (stands other is) =
-        let nothing : times_in n (given_by number before event) ≡ 0 = ap (times_in n) (nothing_given number before event other) in
-        has now is (omega (arith, same, nothing))
-    by_fate (goes_privately machine event_is private_is is freezes live) =
-        let nothing = nothing_by private event_is refl in
-        let held : times_in n machine.held ≡ times_in n now.machine.held = ap (times_in n) (private_keeps now.program now.machine machine private_is).held in
+    by_deed : (instruction : Instruction) (machine : MachineState) → instruction_of number event ≡ Some instruction → run_of number after.runs ≡ Some (machine_of now machine) → Deed before after number now instruction machine → Balance n number got (given + times_in n (given_by number before event)) after
+    by_deed instruction machine event_is is (touches_nothing held_is disposed freezes live gives calm) =
+        let nothing : times_in n (given_by number before event) ≡ 0 = ap (times_in n) (gives_by instruction event_is ∙ gives) in
+        let held : times_in n machine.held ≡ times_in n now.machine.held = ap (times_in n) held_is in
         has (machine_of now machine) is (omega (arith, same, nothing, held))
-    by_fate (goes_releasing wanted freeze event_is call_is entry own is freezes live) =
+    by_deed instruction machine event_is is (gives_one_back wanted freeze entry own fewer disposed freezes live gives calm) =
         let named = entry_bounds 0 before.freezes before.greatest_freeze wanted freeze sound.kept.freezes.numbered entry in
-        let gives : given_by number before event ≡ wanted ∷ [] =
-        ap (given_by number before) event_is
-        ∙ (cond-true (eqb number number) (asked (request_of_run (run_of number before.runs))) [] (eq-eqb number number refl)
-        ∙ (ap (λ (o : Option LiveRun). asked (request_of_run o)) found ∙ ap asked call_is)) in
-        let asked_one : times_in n (given_by number before event) ≡ times_in n (wanted ∷ []) = ap (times_in n) gives in
+        let asked_one : times_in n (given_by number before event) ≡ times_in n (wanted ∷ []) = ap (times_in n) (gives_by instruction event_is ∙ gives) in
         let one_of : times_in n (wanted ∷ []) ≡ one (eqb wanted n) + 0 = times_cons n wanted [] in
         let given_now : times_in n (given_by number before event) ≡ one (eqb wanted n) = omega (arith, asked_one, one_of) in
         let once : times_in wanted now.machine.held ≡ 1 =
         ap (times_in wanted) (sound.held.machines number now found) ∙ times_held number wanted 0 before.freezes before.greatest_freeze freeze sound.kept.freezes.numbered entry own in
+        let left : times_in n machine.held ≡ times_in n (filter (λ (k : ℕ). not (eqb k freeze.number)) now.machine.held) = ap (times_in n) fewer in
         let out = times_out n freeze.number now.machine.held in
         elim (cases_eq wanted n) [
           | inl this ↦
               let counted : one (eqb wanted n) ≡ 1 = ap one (eq-eqb _ _ this) in
               let there : times_in n now.machine.held ≡ 1 = subst (λ (k : ℕ). times_in k now.machine.held ≡ 1) this once in
               let all : cond (eqb freeze.number n) (times_in n now.machine.held) 0 ≡ times_in n now.machine.held = cond-true (eqb freeze.number n) _ 0 (eq-eqb _ _ (named.0 ∙ this)) in
-              has (machine_of now _) is (omega (arith, same, given_now, counted, there, all, out))
+              has (machine_of now machine) is (omega (arith, same, given_now, counted, there, all, left, out))
           | inr that ↦
               let counted : one (eqb wanted n) ≡ 0 = ap one (ne_eqb _ _ that) in
               let none : cond (eqb freeze.number n) (times_in n now.machine.held) 0 ≡ 0 = cond-false (eqb freeze.number n) _ 0 (ne_eqb _ _ (λ e. that (sym named.0 ∙ e))) in
-              has (machine_of now _) is (omega (arith, same, given_now, counted, none, out))
+              has (machine_of now machine) is (omega (arith, same, given_now, counted, none, left, out))
         ]
-    by_fate (goes_requeuing retries event_is call_is fresh is freezes) =
-        let nothing = nothing_by (call requeue) event_is refl in
-        has (machine_of now _) is (omega (arith, same, nothing))
-    by_fate (leaves_world r0 event_is exit_is none freezes) =
-        let nothing = nothing_by exit event_is refl in
-        let goes = reached_goes setup lawful before sound.kept.runs number now found (sound.reached number now found) in
-        let empty : times_in n now.machine.held ≡ 0 = ap (times_in n) (lawful_exit now.program setup.limits now.machine r0 goes exit_is).0 in
-        had none (rising_run setup before event reply after number now sound step found) (omega (arith, same, nothing, empty))
+    by_deed instruction machine event_is is (disposes_of_it held_is fresh spent freezes gives disposal) =
+        let nothing : times_in n (given_by number before event) ≡ 0 = ap (times_in n) (gives_by instruction event_is ∙ gives) in
+        let held : times_in n machine.held ≡ times_in n now.machine.held = ap (times_in n) held_is in
+        has (machine_of now machine) is (omega (arith, same, nothing, held))
+
+    by_fate : Fate before event after number now → Balance n number got (given + times_in n (given_by number before event)) after
+    by_fate (stands idle is) =
+        let nothing : times_in n (given_by number before event) ≡ 0 = ap (times_in n) (nothing_given number before event idle) in
+        has now is (omega (arith, same, nothing))
+    by_fate (goes instruction machine event_is no_exit steps is deed) = by_deed instruction machine event_is is deed
+    by_fate (leaves_world r0 event_is exit_is none) =
+        let nothing : times_in n (given_by number before event) ≡ 0 = ap (times_in n) (gives_by exit event_is) in
+        let unstuck = reached_goes setup lawful before sound.kept.runs number now found (sound.reached number now found) in
+        let empty : times_in n now.machine.held ≡ 0 = ap (times_in n) (lawful_exit now.program setup.limits now.machine r0 unstuck exit_is).0 in
+        let number_given = live_given setup before number now sound.kept found in
+        had none (omega (arith, number_given, rises setup before event reply after (effect_of setup before event reply after sound.kept it).runs)) (omega (arith, same, nothing, empty))
 
 -- along a run of the world
 pub record Balanced (n number got given : ℕ) (after : World) (more gave_up : List ℕ) : Type 0 where
@@ -233,10 +204,11 @@ balance_leads setup n number got given before [] after lawful sound number_given
 balance_leads setup n number got given before (x ∷ xs) after lawful sound number_given run balance =
     let between : World = run.0 in
     let it = case_of setup before x.0 x.1 between run.1 in
-    let now = balance_step setup n number got given before x.0 x.1 between lawful sound run.1 balance in
-    let further : number ≤ between.greatest_run = omega (arith, number_given, rises setup before between (run_move setup before x.0 x.1 between (known_queue setup before sound.kept.ccbs) it)) in
+    let effect = effect_of setup before x.0 x.1 between sound.kept it in
+    let now = balance_step setup n number got given before x.0 x.1 between lawful sound it balance in
+    let further : number ≤ between.greatest_run = omega (arith, number_given, rises setup before x.0 x.1 between effect.runs) in
     let rest = balance_leads setup n number got (given + times_in n (given_by number before x.0)) between xs after lawful (step_sound setup before x.0 x.1 between lawful run.1 sound) further run.2 now in
-    let taken : times_in n (taken_by number x.0 x.1) ≡ 0 = ap (times_in n) (nothing_taken setup before x.0 x.1 between number number_given it) in
+    let taken : times_in n (taken_by number x.0 x.1) ≡ 0 = ap (times_in n) (effect.taken number number_given) in
     let first = times_append n (taken_by number x.0 x.1) (took number xs) in
     let second = times_append n (given_by number before x.0) (gave number setup between xs after run.2) in
     let sum : given + times_in n (given_by number before x.0) + times_in n (gave number setup between xs after run.2) ≡ given + times_in n (given_by number before x.0 ++ gave number setup between xs after run.2) = omega (arith, second) in

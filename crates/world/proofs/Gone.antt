@@ -1,5 +1,5 @@
 -- A number that was given up, or whose freeze is gone, is never held again.
-use Rattle.std.proofs.Common.{◌≡◌, ℕ, ◌≤◌, List, [], ◌∷◌, Option, Some, None, IsSome, refl, ap, sym, subst, ◌∙◌, arith}
+use Rattle.std.proofs.Common.{◌≡◌, ℕ, ◌≤◌, List, [], ◌∷◌, not, Option, Some, None, IsSome, refl, ap, sym, subst, ◌∙◌, arith}
 use Rattle.freeze_ledger.specs.declared.freeze.Freeze.{Freeze}
 use Rattle.freeze_ledger.specs.Freezes.{entry_of, without}
 use Rattle.helpers.specs.declared.call.Request.TheVariants.{Release}
@@ -11,10 +11,12 @@ use Rattle.world.specs.Step.{WorldStep}
 use Rattle.world.specs.WorldRun.{Leads}
 use Rattle.world.specs.Limits.{KeepsLimits}
 use Rattle.world.specs.FreezeLaws.{IsHeld, AsksFor, GivenUpStaysGivenUp, GivenUpByRunStaysGivenUp, GoneStaysGone}
-use Rattle.world.proofs.Lists.Entries.{entry_push, entry_without, entry_removed, entry_bounds, none_since}
+use Rattle.world.proofs.Lists.Found.{missing_filter}
+use Rattle.world.proofs.Lists.Entries.{freeze_key, entry_push, entry_removed, entry_bounds, none_since}
 use Rattle.world.proofs.Steps.Cases.{case_of, guest_release_parts, release_parts}
-use Rattle.world.proofs.Steps.Moves.{FreezeMove, freezes_stay, freeze_enters, freeze_leaves, freeze_move}
-use Rattle.world.proofs.Kept.{known_queue, step_keeps}
+use Rattle.world.proofs.Steps.Moves.{FreezeMove, freezes_stay, freeze_enters, freezes_leave}
+use Rattle.world.proofs.Steps.Effects.{effect_of}
+use Rattle.world.proofs.Kept.{step_keeps}
 use Rattle.world.proofs.Leads.{leads_split, leads_keeps, limits_are_kept}
 
 -- numbers only rise, and one that is not there will not be given again
@@ -22,31 +24,31 @@ pub record IsPast (number : ℕ) (world : World) : Type 0 where
   pub given : number ≤ world.greatest_freeze
   pub none : entry_of number world.freezes ≡ None
 
-move_past : (setup : Setup) (before after : World) (number : ℕ) → FreezeMove setup before after → IsPast number before → IsPast number after
-move_past setup before after number (freezes_stay e g) past = record { given = rw g past.given; none = rw e past.none }
-move_past setup before after number (freeze_enters queue holder known room e g) past =
+move_past : (setup : Setup) (before : World) (event : Event) (after : World) (number : ℕ) → FreezeMove setup before event after → IsPast number before → IsPast number after
+move_past setup before event after number (freezes_stay e g) past = record { given = rw g past.given; none = rw e past.none }
+move_past setup before event after number (freeze_enters queue holder known room e g comes) past =
     record { given = rw g (omega (arith, past.given)); none = rw e (entry_push number before.freezes _ (λ same. omega (arith, same, past.given)) past.none) }
-move_past setup before after number (freeze_leaves other freeze entry e g) past =
-    record { given = rw g past.given; none = rw e (entry_without number freeze.number before.freezes past.none) }
+move_past setup before event after number (freezes_leave gone e g from) past =
+    record { given = rw g past.given; none = rw e (missing_filter freeze_key (λ (f : Freeze). not (gone f)) number before.freezes past.none) }
 
-move_rises : (setup : Setup) (before after : World) → FreezeMove setup before after → before.greatest_freeze ≤ after.greatest_freeze
-move_rises setup before after (freezes_stay e g) = omega (arith, g)
-move_rises setup before after (freeze_enters queue holder known room e g) = omega (arith, g)
-move_rises setup before after (freeze_leaves other freeze entry e g) = omega (arith, g)
+move_rises : (setup : Setup) (before : World) (event : Event) (after : World) → FreezeMove setup before event after → before.greatest_freeze ≤ after.greatest_freeze
+move_rises setup before event after (freezes_stay e g) = omega (arith, g)
+move_rises setup before event after (freeze_enters queue holder known room e g comes) = omega (arith, g)
+move_rises setup before event after (freezes_leave gone e g from) = omega (arith, g)
 
-pub step_freeze_move : (setup : Setup) (before : World) (event : Event) (reply : Reply) (after : World) → KeepsLimits setup before → WorldStep setup before event reply after → FreezeMove setup before after
-step_freeze_move setup before event reply after kept e = freeze_move setup before event reply after (known_queue setup before kept.ccbs) (case_of setup before event reply after e)
+step_freezes : (setup : Setup) (before : World) (event : Event) (reply : Reply) (after : World) → KeepsLimits setup before → WorldStep setup before event reply after → FreezeMove setup before event after
+step_freezes setup before event reply after kept e = (effect_of setup before event reply after kept (case_of setup before event reply after e)).freezes
 
 leads_past : (setup : Setup) (before : World) (xs : List (Event × Reply)) (after : World) (number : ℕ) → KeepsLimits setup before → Leads setup before xs after → IsPast number before → IsPast number after
 leads_past setup before [] after number kept run past = subst (IsPast number) run past
 leads_past setup before (x ∷ xs) after number kept run past =
     leads_past setup run.0 xs after number (step_keeps setup before x.0 x.1 run.0 run.1 kept) run.2
-    (move_past setup before run.0 number (step_freeze_move setup before x.0 x.1 run.0 kept run.1) past)
+    (move_past setup before x.0 run.0 number (step_freezes setup before x.0 x.1 run.0 kept run.1) past)
 
 pub leads_rises : (setup : Setup) (before : World) (xs : List (Event × Reply)) (after : World) → KeepsLimits setup before → Leads setup before xs after → before.greatest_freeze ≤ after.greatest_freeze
 leads_rises setup before [] after kept run = rw run (omega arith)
 leads_rises setup before (x ∷ xs) after kept run =
-    omega (arith, move_rises setup before run.0 (step_freeze_move setup before x.0 x.1 run.0 kept run.1), leads_rises setup run.0 xs after (step_keeps setup before x.0 x.1 run.0 run.1 kept) run.2)
+    omega (arith, move_rises setup before x.0 run.0 (step_freezes setup before x.0 x.1 run.0 kept run.1), leads_rises setup run.0 xs after (step_keeps setup before x.0 x.1 run.0 run.1 kept) run.2)
 
 none_held : (number : ℕ) (world : World) → entry_of number world.freezes ≡ None → IsHeld number world → ⊥
 none_held number world none held = let bad : IsSome {T = Freeze} None = subst (λ (o : Option Freeze). IsSome o) none held in cc

@@ -1,24 +1,26 @@
 -- The laws of runs, read off their lives.
 use Rattle.std.proofs.Common.{◌≡◌, ℕ, ◌+◌, ◌<◌, ◌≤◌, List, [], ◌∷◌, Bool, true, false, not, cond, eqb, Some, None, inl, inr, refl, ap, sym, subst, ◌∙◌, arith}
 use Rattle.std.specs.Prelude.{◌&&◌}
+use Rattle.std.specs.Option.{is_some}
 use Rattle.std.proofs.lemmas.Bool.{cases_Bool, eq-eqb}
 use Rattle.ccb.specs.Completion.{Outcome}
 use Rattle.bpf_machine.specs.Reached.{Reached}
 use Rattle.world.specs.World.{Setup, queue_setup, LiveRun, World}
 use Rattle.world.specs.Lawful.{IsLawful}
 use Rattle.world.specs.Lookups.{ccb_of, run_of}
-use Rattle.world.specs.Event.{Instruction, complete, executes, Event, Reply, run_started}
+use Rattle.world.specs.Event.{complete, Event, Reply, run_started}
 use Rattle.world.specs.WorldRun.{Leads}
 use Rattle.world.specs.Headline.{is_step_of, steps_of, disposals_of, exits_of, StartedRun, KeepsWithin, WithinBudget, InRecoveryBy, DisposedOnce, OthersLeaveIt, GoneRunStaysGone, times_in, ExactFreezes}
 use Rattle.world.proofs.Lists.Found.{found_key}
 use Rattle.world.proofs.Steps.Cases.{case_of}
 use Rattle.world.specs.Limits.{KeepsLimits}
-use Rattle.world.proofs.Steps.Moves.{ccb_key, run_move}
-use Rattle.world.proofs.Kept.{known_queue, step_keeps}
+use Rattle.world.proofs.Steps.Moves.{ccb_key, Begins}
+use Rattle.world.proofs.Steps.Effects.{begun_found, effect_of}
+use Rattle.world.proofs.Kept.{step_keeps}
 use Rattle.world.proofs.Leads.{leads_keeps, limits_are_kept}
 use Rattle.world.proofs.Held.{live_given, others_entries}
-use Rattle.world.proofs.Steps.Fates.{Begins, Fate, stands, goes_privately, goes_releasing, goes_requeuing, leaves_world, fate_of}
-use Rattle.world.proofs.Steps.Beginnings.{no_some, begun_found, started_begins, begins_at_entry}
+use Rattle.world.proofs.Steps.Fates.{Fate, stands, goes, leaves_world, fate_of}
+use Rattle.world.proofs.Steps.Beginnings.{no_some, started_begins, begins_at_entry}
 use Rattle.world.proofs.Reaching.{same_found}
 use Rattle.world.proofs.Sound.{IsSound, step_sound, run_sound, leads_sound}
 use Rattle.world.specs.TookGave.{taken_by, took}
@@ -38,7 +40,7 @@ story setup lawful outcome run ys world it =
     let before : World = it.before in
     let started : World = it.started in
     let sound = run_sound setup it.xs before lawful it.run_before in
-    let begun = started_begins setup before outcome run it.freeze started (case_of setup before (complete outcome) (run_started run it.freeze) started it.step) in
+    let begun = started_begins setup before outcome run it.freeze started (effect_of setup before (complete outcome) (run_started run it.freeze) started sound.kept (case_of setup before (complete outcome) (run_started run it.freeze) started it.step)).runs in
     let begins = begun.1 in
     let same_event : complete begins.outcome ≡ complete outcome = sym begins.event_is in
     let same_outcome : begins.outcome ≡ outcome = cc in
@@ -141,7 +143,7 @@ exact_freezes setup lawful outcome run ys world it =
     let event : Event = complete outcome in
     let reply : Reply = run_started run it.freeze in
     let sound = run_sound setup it.xs before lawful it.run_before in
-    let begun = started_begins setup before outcome run it.freeze started (case_of setup before event reply started it.step) in
+    let begun = started_begins setup before outcome run it.freeze started (effect_of setup before event reply started sound.kept (case_of setup before event reply started it.step)).runs in
     let same_reply : run_started run it.freeze ≡ run_started (before.greatest_run + 1) begun.1.freeze = begun.1.reply_is in
     let named : before.greatest_run + 1 ≡ run = cc in
     let there = subst (λ (n : ℕ). run_of n started.runs ≡ Some begun.0) named (begun_found setup before event reply started begun.0 sound.kept.runs begun.1) in
@@ -162,41 +164,35 @@ exact_freezes setup lawful outcome run ys world it =
           omega (arith, all n, (balanced n).nothing_more, then_is);
     }
 
--- what is a step of the run's own
-own : (number : ℕ) (instruction : Instruction) (event : Event) → event ≡ executes number instruction → is_step_of number event ≡ false → ⊥
-own number instruction event e other =
-    let its : is_step_of number event ≡ true = ap (is_step_of number) e ∙ eq-eqb number number refl in
-    let bad : true ≡ false = sym its ∙ other in cc
-
 -- a step that is not the run's
 not_its_step : (before : World) (event : Event) (after : World) (number : ℕ) (run : LiveRun) → is_step_of number event ≡ false → Fate before event after number run → run_of number after.runs ≡ Some run
-not_its_step before event after number run other (stands same is) = is
-not_its_step before event after number run other (goes_privately machine event_is step is freezes live) = absurd (own number _ event event_is other)
-not_its_step before event after number run other (goes_releasing asked freeze event_is call_is entry own_one is freezes live) = absurd (own number _ event event_is other)
-not_its_step before event after number run other (goes_requeuing retries event_is call_is fresh is freezes) = absurd (own number _ event event_is other)
-not_its_step before event after number run other (leaves_world r0 event_is exit_is none freezes) = absurd (own number _ event event_is other)
+not_its_step before event after number run other (stands idle is) = is
+not_its_step before event after number run other (goes instruction machine event_is no_exit steps is deed) = absurd (let bad : true ≡ false = sym (ap is_some event_is) ∙ other in cc)
+not_its_step before event after number run other (leaves_world r0 event_is exit_is none) = absurd (let bad : true ≡ false = sym (ap is_some event_is) ∙ other in cc)
 
 pub others_leave_it : OthersLeaveIt
 others_leave_it setup xs before first event reply after e number run found other =
+    let kept = limits_are_kept setup xs before first in
     let it = case_of setup before event reply after e in (
-      not_its_step before event after number run other (fate_of setup before event reply after number run found it),
-      others_entries setup before event reply after number run (limits_are_kept setup xs before first) found other it,
+      not_its_step before event after number run other (fate_of setup before event reply after number run kept.freezes found it),
+      others_entries setup before event after number run kept found other (effect_of setup before event reply after kept it).freezes,
     )
 
 -- run numbers only rise, and a run that is over stays over
 leads_over : (setup : Setup) (before : World) (xs : List (Event × Reply)) (after : World) (number : ℕ) → KeepsLimits setup before → Leads setup before xs after → run_of number before.runs ≡ None → number ≤ before.greatest_run → run_of number after.runs ≡ None
 leads_over setup before [] after number kept run none given = subst (λ (w : World). run_of number w.runs ≡ None) run none
 leads_over setup before (x ∷ xs) after number kept run none given =
-    let still = stays_over setup before x.0 x.1 run.0 number kept none given run.1 in
+    let it = effect_of setup before x.0 x.1 run.0 kept (case_of setup before x.0 x.1 run.0 run.1) in
+    let still = stays_over setup before x.0 x.1 run.0 number none given it.runs in
     leads_over setup run.0 xs after number (step_keeps setup before x.0 x.1 run.0 run.1 kept) run.2 still.0 still.1
 
 leads_rise : (setup : Setup) (before : World) (xs : List (Event × Reply)) (after : World) → KeepsLimits setup before → Leads setup before xs after → before.greatest_run ≤ after.greatest_run
 leads_rise setup before [] after kept run = rw run (omega arith)
 leads_rise setup before (x ∷ xs) after kept run =
-    let it = case_of setup before x.0 x.1 run.0 run.1 in
+    let it = effect_of setup before x.0 x.1 run.0 kept (case_of setup before x.0 x.1 run.0 run.1) in
     omega (
       arith,
-      rises setup before run.0 (run_move setup before x.0 x.1 run.0 (known_queue setup before kept.ccbs) it),
+      rises setup before x.0 x.1 run.0 it.runs,
       leads_rise setup run.0 xs after (step_keeps setup before x.0 x.1 run.0 run.1 kept) run.2,
     )
 

@@ -1,26 +1,27 @@
 -- Each step keeps the limits.
-use Rattle.std.proofs.Common.{◌≡◌, ℕ, ◌+◌, ◌<◌, ◌≤◌, List, [], ◌∷◌, ◌++◌, length, length-append, Bool, true, false, not, cond, eqb, Some, inl, inr, refl, ap, sym, subst, arith, slice_index}
+use Rattle.std.proofs.Common.{◌≡◌, ℕ, ◌+◌, ◌<◌, ◌≤◌, List, [], ◌∷◌, ◌++◌, length, length-append, Bool, true, false, not, cond, eqb, inl, inr, refl, ap, sym, subst, ◌∙◌, arith, slice_index}
 use Rattle.std.specs.Prelude.{◌&&◌}
-use Rattle.std.specs.List.{count_by}
+use Rattle.std.specs.List.{count_by, filter}
 use Rattle.std.proofs.lemmas.Bool.{leb-false, or_parts, cases_eq, eq-eqb, ne_eqb, and_left, and_right}
 use Rattle.std.proofs.lemmas.List.Elements.{All-push, All-filter}
 use Rattle.std.proofs.lemmas.List.Sums.{sum_by_push, length-filter, count_by-le-length}
 use Rattle.ccb.specs.Ccb.{submitted}
 use Rattle.freeze_ledger.specs.declared.freeze.Freeze.{Freeze}
-use Rattle.freeze_ledger.specs.Freezes.{frozen, meets_limit, entry_of, without}
+use Rattle.freeze_ledger.specs.Freezes.{frozen, names, meets_limit}
 use Rattle.world.specs.declared.ccb_state.CcbState.TheVariants.{Waiting}
 use Rattle.world.specs.World.{Setup, queue_count, queue_setup, LiveCcb, LiveRun, World, opening}
-use Rattle.world.specs.Lookups.{is_active, is_of, live_count, active_count, ccb_of, with_ccb}
+use Rattle.world.specs.Lookups.{is_active, is_of, live_count, active_count, with_ccb}
 use Rattle.world.specs.Event.{Event, Reply}
 use Rattle.world.specs.CcbSteps.{ccb_meets_limit}
 use Rattle.world.specs.Step.{WorldStep}
 use Rattle.world.specs.Limits.{FreezeLimits, CcbLimits, RunLimits, KeepsLimits}
 use Rattle.world.proofs.Lists.Found.{put, leave, put_keys}
-use Rattle.world.proofs.Lists.Rising.{rising_push, rising_leave, count_put, count_leave}
+use Rattle.world.proofs.Lists.Rising.{rising_push, rising_filter, rising_leave, count_put, count_filter, count_leave}
 use Rattle.world.proofs.Lists.Each.{all_found, all_put, put_length}
-use Rattle.world.proofs.Lists.Entries.{freeze_key, frozen_push, frozen_without, length_without, entry_bounds}
+use Rattle.world.proofs.Lists.Entries.{freeze_key, frozen_push}
 use Rattle.world.proofs.Steps.Cases.{Case, case_of}
-use Rattle.world.proofs.Steps.Moves.{ccb_key, run_key, CcbMove, ccbs_stay, ccb_enters, ccb_changes, ccb_leaves, ccb_move, openings_stay, FreezeMove, freezes_stay, freeze_enters, freeze_leaves, freeze_move, RunMove, runs_stay, run_enters, run_changes, run_leaves, run_move}
+use Rattle.world.proofs.Steps.Moves.{ccb_key, run_key, CcbMove, ccbs_stay, ccb_enters, ccb_changes, ccb_leaves, FreezeMove, freezes_stay, freeze_enters, freezes_leave, RunMove, runs_stay, run_enters, run_changes, run_leaves}
+use Rattle.world.proofs.Steps.Effects.{effect_of}
 
 -- below every limit of freezes
 pub record HasRoom (queue : ℕ) (freezes : List Freeze) (greatest : ℕ) : Type 0 where
@@ -48,10 +49,10 @@ freezes_from setup world freezes greatest e g kept =
       numbers = rw g kept.numbers;
     }
 
-pub freezes_kept : (setup : Setup) (before after : World) → FreezeMove setup before after → FreezeLimits setup before → FreezeLimits setup after
-freezes_kept setup before after (freezes_stay e g) kept =
+pub freezes_kept : (setup : Setup) (before : World) (event : Event) (after : World) → FreezeMove setup before event after → FreezeLimits setup before → FreezeLimits setup after
+freezes_kept setup before event after (freezes_stay e g) kept =
     freezes_from setup after before.freezes before.greatest_freeze e g (record { queues = kept.queues; a_queue = kept.a_queue; ledger = kept.ledger; numbered = kept.numbered; numbers = kept.numbers })
-freezes_kept setup before after (freeze_enters queue holder known full e g) kept =
+freezes_kept setup before event after (freeze_enters queue holder known full e g comes) kept =
     let f : Freeze = record { number = before.greatest_freeze + 1; queue = record { 0 = queue }; holder = holder } in
     let room = room_from queue before.freezes before.greatest_freeze full in
     let one_more : (q : ℕ) → frozen q before.freezes + cond {A = ℕ} (eqb queue q) 1 0 ≤ 255 = λ q. elim (cases_eq queue q) [
@@ -65,13 +66,13 @@ freezes_kept setup before after (freeze_enters queue holder known full e g) kept
       numbered = rising_push freeze_key 0 before.freezes before.greatest_freeze f kept.numbered refl;
       numbers = omega (arith, room.numbers);
     })
-freezes_kept setup before after (freeze_leaves number freeze entry e g) kept =
-    let is = entry_bounds 0 before.freezes before.greatest_freeze number freeze kept.numbered entry in
-    freezes_from setup after (without freeze.number before.freezes) before.greatest_freeze e g (record {
-      queues = All-filter (λ (x : Freeze). not (eqb x.number freeze.number)) (λ (x : Freeze). x.queue.0 < queue_count setup) before.freezes kept.queues;
-      a_queue = λ q. omega (arith, kept.a_queue q, frozen_without q 0 before.freezes before.greatest_freeze freeze.number freeze kept.numbered (subst (λ (n : ℕ). entry_of n before.freezes ≡ Some freeze) (sym is.0) entry));
-      ledger = omega (arith, kept.ledger, length_without freeze.number before.freezes);
-      numbered = rising_leave freeze_key 0 before.freezes before.greatest_freeze freeze.number kept.numbered;
+freezes_kept setup before event after (freezes_leave gone e g from) kept =
+    let stays : Freeze → Bool = λ x. not (gone x) in
+    freezes_from setup after (filter stays before.freezes) before.greatest_freeze e g (record {
+      queues = All-filter stays (λ (x : Freeze). x.queue.0 < queue_count setup) before.freezes kept.queues;
+      a_queue = λ q. omega (arith, kept.a_queue q, count_filter freeze_key (names q) stays before.freezes);
+      ledger = omega (arith, kept.ledger, length-filter stays before.freezes, count_by-le-length stays before.freezes);
+      numbered = rising_filter freeze_key stays 0 before.freezes before.greatest_freeze kept.numbered;
       numbers = kept.numbers;
     })
 
@@ -106,10 +107,10 @@ ccb_room queue world e =
 abbrev works : ℕ → LiveCcb → Bool
 works q c = is_of q c && is_active c.state
 
-pub ccbs_kept : (setup : Setup) (before after : World) → CcbMove setup before after → after.openings ≡ before.openings → CcbLimits setup before → CcbLimits setup after
-ccbs_kept setup before after (ccbs_stay e g) o kept =
+pub ccbs_kept : (setup : Setup) (before : World) (event : Event) (reply : Reply) (after : World) → CcbMove setup before event reply after → after.openings ≡ before.openings → CcbLimits setup before → CcbLimits setup after
+ccbs_kept setup before event reply after (ccbs_stay e g unended) o kept =
     ccbs_from setup after before.openings before.live before.greatest_ccb o e g (record { queues = kept.queues; a_queue = kept.a_queue; active = kept.active; openings = kept.openings; all = kept.all; rising = kept.rising; numbers = kept.numbers })
-ccbs_kept setup before after (ccb_enters queue priority retries known full e g) o kept =
+ccbs_kept setup before event reply after (ccb_enters queue priority retries known full e g unended) o kept =
     let c : LiveCcb = record { ccb = submitted (record { 0 = before.greatest_ccb + 1 }) (record { 0 = queue }) priority retries; state = Waiting } in
     let room = ccb_room queue before full in
     let one_more : (q : ℕ) → live_count q before.live + cond {A = ℕ} (eqb queue q) 1 0 ≤ 256 = λ q. elim (cases_eq queue q) [
@@ -128,7 +129,7 @@ ccbs_kept setup before after (ccb_enters queue priority retries known full e g) 
       rising = rising_push ccb_key 0 before.live before.greatest_ccb c kept.rising refl;
       numbers = omega (arith, room.numbers);
     })
-ccbs_kept setup before after (ccb_changes old new found queue_is active_or_not e g) o kept =
+ccbs_kept setup before event reply after (ccb_changes old new found queue_is active_or_not may e g unended) o kept =
     let of_old : (q : ℕ) → is_of q new ≡ is_of q old = λ q. ap (λ (x : ℕ). eqb x q) queue_is in
     let known : new.ccb.queue.0 < queue_count setup = rw queue_is (all_found ccb_key (λ (x : LiveCcb). x.ccb.queue.0 < queue_count setup) new.ccb.number.0 before.live old kept.queues found) in
     let moved : (p : LiveCcb → Bool) → count_by p (with_ccb new before.live) + cond (p old) 1 0 ≡ count_by p before.live + cond (p new) 1 0 = λ p.
@@ -163,7 +164,7 @@ ccbs_kept setup before after (ccb_changes old new found queue_is active_or_not e
     at_most_one : (b : Bool) → cond {A = ℕ} b 1 0 ≤ 1
     at_most_one true = omega arith
     at_most_one false = omega arith
-ccbs_kept setup before after (ccb_leaves number old found e g) o kept =
+ccbs_kept setup before event reply after (ccb_leaves number code old found may e g one) o kept =
     ccbs_from setup after before.openings (leave ccb_key number before.live) before.greatest_ccb o e g (record {
       queues = All-filter (λ (x : LiveCcb). not (eqb x.ccb.number.0 number)) (λ (x : LiveCcb). x.ccb.queue.0 < queue_count setup) before.live kept.queues;
       a_queue = λ q. omega (arith, kept.a_queue q, count_leave ccb_key (is_of q) before.live number);
@@ -188,21 +189,23 @@ IsKnown setup run = run.queue < queue_count setup
 abbrev IsOfProgram : Setup → LiveRun → Type 0
 IsOfProgram setup run = run.program ≡ (queue_setup setup run.queue).program
 
-pub runs_kept : (setup : Setup) (before after : World) → RunMove setup before after → RunLimits setup before → RunLimits setup after
-runs_kept setup before after (runs_stay e g) kept =
+pub runs_kept : (setup : Setup) (before : World) (event : Event) (reply : Reply) (after : World) → RunMove setup before event reply after → RunLimits setup before → RunLimits setup after
+runs_kept setup before event reply after (runs_stay e g quiet) kept =
     runs_from setup after before.runs before.greatest_run e g (record { queues = kept.queues; programs = kept.programs; all = kept.all; rising = kept.rising; numbers = kept.numbers })
-runs_kept setup before after (run_enters run number known program full e g) kept =
+runs_kept setup before event reply after (run_enters run begins known full g) kept =
+    let number : run.number ≡ before.greatest_run + 1 = ap (λ (r : LiveRun). r.number) begins.run_is in
+    let program : IsOfProgram setup run = ap (λ (r : LiveRun). r.program) begins.run_is ∙ sym (ap (λ (r : LiveRun). (queue_setup setup r.queue).program) begins.run_is) in
     let parts = or_parts _ _ full in
     let most : length before.runs < 256 = leb-false _ _ parts.0 in
     let left : before.greatest_run < 4294967295 = leb-false _ _ parts.1 in
-    runs_from setup after (before.runs ++ run ∷ []) (before.greatest_run + 1) e g (record {
+    runs_from setup after (before.runs ++ run ∷ []) (before.greatest_run + 1) begins.runs_is g (record {
       queues = All-push (IsKnown setup) before.runs run kept.queues known;
       programs = All-push (IsOfProgram setup) before.runs run kept.programs program;
       all = omega (arith, most, length-append before.runs (run ∷ []));
       rising = rising_push run_key 0 before.runs before.greatest_run run kept.rising number;
       numbers = omega (arith, left);
     })
-runs_kept setup before after (run_changes run machine found e g) kept =
+runs_kept setup before event reply after (run_changes run machine found e g quiet) kept =
     let changed : LiveRun = record run { machine = machine } in
     runs_from setup after (put run_key changed before.runs) before.greatest_run e g (record {
       queues = all_put run_key (IsKnown setup) changed before.runs (all_found run_key (IsKnown setup) run.number before.runs run kept.queues found) kept.queues;
@@ -211,7 +214,7 @@ runs_kept setup before after (run_changes run machine found e g) kept =
       rising = rw (put_keys run_key changed before.runs) kept.rising;
       numbers = kept.numbers;
     })
-runs_kept setup before after (run_leaves run found e g) kept =
+runs_kept setup before event reply after (run_leaves run found e g quiet) kept =
     runs_from setup after (leave run_key run.number before.runs) before.greatest_run e g (record {
       queues = All-filter (λ (x : LiveRun). not (eqb x.number run.number)) (IsKnown setup) before.runs kept.queues;
       programs = All-filter (λ (x : LiveRun). not (eqb x.number run.number)) (IsOfProgram setup) before.runs kept.programs;
@@ -220,17 +223,13 @@ runs_kept setup before after (run_leaves run found e g) kept =
       numbers = kept.numbers;
     })
 
--- the queue of a live CCB exists
-pub known_queue : (setup : Setup) (world : World) → CcbLimits setup world → (number : ℕ) (live : LiveCcb) → ccb_of number world.live ≡ Some live → live.ccb.queue.0 < queue_count setup
-known_queue setup world kept number live found = all_found ccb_key (λ (x : LiveCcb). x.ccb.queue.0 < queue_count setup) number world.live live kept.queues found
-
 pub case_keeps : (setup : Setup) (before : World) (event : Event) (reply : Reply) (after : World) → Case setup before event reply after → KeepsLimits setup before → KeepsLimits setup after
 case_keeps setup before event reply after it kept =
-    let known = known_queue setup before kept.ccbs in
+    let effect = effect_of setup before event reply after kept it in
     record {
-      freezes = freezes_kept setup before after (freeze_move setup before event reply after known it) kept.freezes;
-      ccbs = ccbs_kept setup before after (ccb_move setup before event reply after kept.ccbs.rising it) (openings_stay setup before event reply after it) kept.ccbs;
-      runs = runs_kept setup before after (run_move setup before event reply after known it) kept.runs;
+      freezes = freezes_kept setup before event after effect.freezes kept.freezes;
+      ccbs = ccbs_kept setup before event reply after effect.ccbs effect.openings kept.ccbs;
+      runs = runs_kept setup before event reply after effect.runs kept.runs;
     }
 
 pub step_keeps : (setup : Setup) (before : World) (event : Event) (reply : Reply) (after : World) → WorldStep setup before event reply after → KeepsLimits setup before → KeepsLimits setup after

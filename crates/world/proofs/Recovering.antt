@@ -1,19 +1,20 @@
 -- The CCB of a run that has not disposed of it is in recovery, by that run alone.
 use Rattle.std.proofs.Common.{◌≡◌, ℕ, Bool, true, false, Option, Some, None, ◌⊎◌, inl, inr, refl, ap, sym, subst, ◌∙◌}
-use Rattle.std.proofs.lemmas.Bool.{eq-eqb}
+use Rattle.std.specs.Option.{is_some}
+use Rattle.bpf_machine.specs.MachineState.{MachineState}
 use Rattle.ccb.specs.Ccb.{completed}
 use Rattle.world.specs.declared.ccb_state.CcbState.{CcbState}
 use Rattle.world.specs.declared.ccb_state.CcbState.TheVariants.{InRecovery}
 use Rattle.world.specs.World.{Setup, LiveCcb, LiveRun, World}
-use Rattle.world.specs.Lookups.{is_waiting, is_active, ccb_of, with_ccb, run_of}
-use Rattle.world.specs.Event.{Event, Reply}
+use Rattle.world.specs.Lookups.{is_active, ccb_of, with_ccb, run_of}
+use Rattle.world.specs.Event.{Instruction, Event, Reply}
 use Rattle.world.specs.Limits.{KeepsLimits}
 use Rattle.world.specs.Headline.{is_step_of}
 use Rattle.world.proofs.Lists.Found.{found_key, found_push, put_same, put_other, leave_other}
-use Rattle.world.proofs.Steps.Cases.{Case, refuses, submits, dispatches, finishes_one, recovers_one, recovers_unfrozen, freezes_one, releases_one, goes_on_one, gives_back, requeues_one, exits}
-use Rattle.world.proofs.Steps.Moves.{ccb_key, ccb_found, next_found}
-use Rattle.world.proofs.Steps.Fates.{machine_of, Fate, stands, goes_privately, goes_releasing, goes_requeuing, leaves_world, fate_of, Begins, Newly}
-use Rattle.world.proofs.Steps.Private.{private_keeps}
+use Rattle.world.proofs.Steps.Cases.{Case}
+use Rattle.world.proofs.Steps.Moves.{ccb_key, ccb_found, MayTouch, CcbMove, ccbs_stay, ccb_enters, ccb_changes, ccb_leaves, Begins, Effect}
+use Rattle.world.proofs.Steps.Effects.{effect_of}
+use Rattle.world.proofs.Steps.Fates.{machine_of, Deed, touches_nothing, gives_one_back, disposes_of_it, Fate, stands, goes, leaves_world, fate_of, Newly}
 use Rattle.world.proofs.Steps.Beginnings.{no_some, new_run}
 use Rattle.world.proofs.Reaching.{same_found}
 
@@ -49,47 +50,37 @@ not_active_one : (ccb number : ℕ) (before : World) (it : LiveCcb) → IsInReco
 not_active_one ccb number before it recovery found is same =
     one_state ccb before it is_active recovery refl (subst (λ (n : ℕ). ccb_of n before.live ≡ Some it) same (ccb_found number before.live it found)) is
 
--- a step of anyone else leaves the CCB of a run in recovery
-others_ccb : (setup : Setup) (before : World) (event : Event) (reply : Reply) (after : World) (number : ℕ) (run : LiveRun) → KeepsLimits setup before → Recovering before → run_of number before.runs ≡ Some run → run.machine.disposed ≡ false → is_step_of number event ≡ false → Case setup before event reply after → IsInRecovery run.ccb after
-others_ccb setup before event reply after number run kept recovering found fresh other (refuses it) = same_live run.ccb before after (ap (λ (w : World). w.live) it.after_is) (recovering.ccbs number run found fresh)
-others_ccb setup before event reply after number run kept recovering found fresh other (submits it) =
+-- what a step of anyone else may touch is not the CCB of a run
+untouched : (before : World) (event : Event) (number : ℕ) (run : LiveRun) (old : LiveCcb) → Recovering before → run_of number before.runs ≡ Some run → run.machine.disposed ≡ false → is_step_of number event ≡ false → ccb_of run.ccb before.live ≡ Some old → MayTouch before event old → ⊥
+untouched before event number run old recovering found fresh other there may =
     let recovery = recovering.ccbs number run found fresh in
-    record { live = recovery.live; found = ap (λ (w : World). ccb_of run.ccb w.live) it.after_is ∙ found_push ccb_key run.ccb before.live _ recovery.live recovery.found; state = recovery.state }
-others_ccb setup before event reply after number run kept recovering found fresh other (dispatches it) =
+    let both : Some recovery.live ≡ Some old = sym recovery.found ∙ there in
+    let same : recovery.live ≡ old = cc in
+    elim may [
+      | inl idle ↦ idle (sym (ap (λ (c : LiveCcb). c.state) same) ∙ recovery.state)
+      | inr by ↦
+          let one : by.number ≡ number = recovering.alone by.number number by.run run by.found found (sym by.ccb_is ∙ found_key ccb_key run.ccb before.live old there) by.fresh fresh in
+          let bad : true ≡ false = sym (subst (λ (k : ℕ). is_step_of k event ≡ true) one by.its) ∙ other in cc
+    ]
+
+-- so it stays in recovery
+others_ccb : (setup : Setup) (before : World) (event : Event) (reply : Reply) (after : World) (number : ℕ) (run : LiveRun) → Recovering before → run_of number before.runs ≡ Some run → run.machine.disposed ≡ false → is_step_of number event ≡ false → CcbMove setup before event reply after → IsInRecovery run.ccb after
+others_ccb setup before event reply after number run recovering found fresh other (ccbs_stay e g unended) = same_live run.ccb before after e (recovering.ccbs number run found fresh)
+others_ccb setup before event reply after number run recovering found fresh other (ccb_enters queue priority retries known full e g unended) =
     let recovery = recovering.ccbs number run found fresh in
-    let next = next_found it.queue before.live before.greatest_ccb it.next kept.ccbs.rising it.next_is in
-    other_put run.ccb before after _ (ap (λ (w : World). w.live) it.after_is)
-    (λ same. one_state run.ccb before it.next is_waiting recovery refl (subst (λ (n : ℕ). ccb_of n before.live ≡ Some it.next) same next.found) next.waits) recovery
-others_ccb setup before event reply after number run kept recovering found fresh other (finishes_one it) =
+    record { live = recovery.live; found = ap (ccb_of run.ccb) e ∙ found_push ccb_key run.ccb before.live _ recovery.live recovery.found; state = recovery.state }
+others_ccb setup before event reply after number run recovering found fresh other (ccb_changes old new was queue_is active may e g unended) =
+    other_put run.ccb before after new e
+    (λ same. untouched before event number run old recovering found fresh other (subst (λ (k : ℕ). ccb_of k before.live ≡ Some old) same was) may)
+    (recovering.ccbs number run found fresh)
+others_ccb setup before event reply after number run recovering found fresh other (ccb_leaves left code old was may e g one) =
     let recovery = recovering.ccbs number run found fresh in
     record {
       live = recovery.live;
-      found = ap (λ (w : World). ccb_of run.ccb w.live) it.after_is
-          ∙ (leave_other ccb_key it.live.ccb.number.0 run.ccb before.live (not_active_one run.ccb it.outcome.ccb.0 before it.live recovery it.found it.is_active) ∙ recovery.found);
+      found = ap (ccb_of run.ccb) e
+          ∙ (leave_other ccb_key left run.ccb before.live (λ same. untouched before event number run old recovering found fresh other (subst (λ (k : ℕ). ccb_of k before.live ≡ Some old) same was) may) ∙ recovery.found);
       state = recovery.state;
     }
-others_ccb setup before event reply after number run kept recovering found fresh other (recovers_one it) =
-    let recovery = recovering.ccbs number run found fresh in
-    other_put run.ccb before after _ (ap (λ (x : Reply × World). x.1.live) it.starts_is)
-    (not_active_one run.ccb it.fails.outcome.ccb.0 before it.fails.live recovery it.fails.found it.fails.is_active) recovery
-others_ccb setup before event reply after number run kept recovering found fresh other (recovers_unfrozen it) =
-    let recovery = recovering.ccbs number run found fresh in
-    other_put run.ccb before after _ (ap (λ (x : Reply × World). x.1.live) it.starts_is)
-    (not_active_one run.ccb it.fails.outcome.ccb.0 before it.fails.live recovery it.fails.found it.fails.is_active) recovery
-others_ccb setup before event reply after number run kept recovering found fresh other (freezes_one it) = same_live run.ccb before after (ap (λ (w : World). w.live) it.after_is) (recovering.ccbs number run found fresh)
-others_ccb setup before event reply after number run kept recovering found fresh other (releases_one it) = same_live run.ccb before after (ap (λ (w : World). w.live) it.after_is) (recovering.ccbs number run found fresh)
-others_ccb setup before event reply after number run kept recovering found fresh other (goes_on_one it) = same_live run.ccb before after (ap (λ (w : World). w.live) it.after_is) (recovering.ccbs number run found fresh)
-others_ccb setup before event reply after number run kept recovering found fresh other (gives_back it) = same_live run.ccb before after (ap (λ (x : Reply × World). x.1.live) it.answer) (recovering.ccbs number run found fresh)
-others_ccb setup before event reply after number run kept recovering found fresh other (requeues_one it) =
-    let recovery = recovering.ccbs number run found fresh in
-    let bears : it.live.ccb.number.0 ≡ it.it.run.ccb = found_key ccb_key it.it.run.ccb before.live it.live it.found in
-    other_put run.ccb before after _ (ap (λ (x : Reply × World). x.1.live) it.answer)
-    (λ same.
-    let one : it.it.number ≡ number = recovering.alone it.it.number number it.it.run run it.it.found found (sym bears ∙ same) it.fresh fresh in
-    let its : is_step_of number event ≡ true = ap (is_step_of number) it.it.event_is ∙ eq-eqb _ _ one in
-    let bad : true ≡ false = sym its ∙ other in cc)
-    recovery
-others_ccb setup before event reply after number run kept recovering found fresh other (exits it) = same_live run.ccb before after (ap (λ (w : World). w.live) it.after_is) (recovering.ccbs number run found fresh)
 
 -- a run after a step: it was there before with the same CCB, and had not disposed of it if it has not now; or it begins
 pub record Continues (before : World) (number : ℕ) (now : LiveRun) : Type 0 where
@@ -98,27 +89,26 @@ pub record Continues (before : World) (number : ℕ) (now : LiveRun) : Type 0 wh
   pub ccb_is : now.ccb ≡ run.ccb
   pub fresh : now.machine.disposed ≡ false → run.machine.disposed ≡ false
 
+was_fresh : (before after : World) (number : ℕ) (run : LiveRun) (instruction : Instruction) (machine : MachineState) → Deed before after number run instruction machine → machine.disposed ≡ false → run.machine.disposed ≡ false
+was_fresh before after number run instruction machine (touches_nothing same disposed freezes live gives calm) e = sym disposed ∙ e
+was_fresh before after number run instruction machine (gives_one_back wanted freeze entry own fewer disposed freezes live gives calm) e = sym disposed ∙ e
+was_fresh before after number run instruction machine (disposes_of_it same fresh spent freezes gives disposal) e = fresh
+
 continues : (before : World) (event : Event) (after : World) (number : ℕ) (run now : LiveRun) → run_of number before.runs ≡ Some run → run_of number after.runs ≡ Some now → Fate before event after number run → Continues before number now
-continues before event after number run now found some (stands other is) =
+continues before event after number run now found some (stands idle is) =
     let same = same_found after number run now is some in
     record { run = run; found = found; ccb_is = sym (ap (λ (r : LiveRun). r.ccb) same); fresh = λ e. ap (λ (r : LiveRun). r.machine.disposed) same ∙ e }
-continues before event after number run now found some (goes_privately machine e step is freezes live) =
+continues before event after number run now found some (goes instruction machine event_is no_exit steps is deed) =
     let same = same_found after number (machine_of run machine) now is some in
-    record { run = run; found = found; ccb_is = sym (ap (λ (r : LiveRun). r.ccb) same); fresh = λ e. sym (private_keeps run.program run.machine machine step).disposed ∙ (ap (λ (r : LiveRun). r.machine.disposed) same ∙ e) }
-continues before event after number run now found some (goes_releasing asked freeze e call_is entry own is freezes live) =
-    let same = same_found after number (machine_of run _) now is some in
-    record { run = run; found = found; ccb_is = sym (ap (λ (r : LiveRun). r.ccb) same); fresh = λ e. ap (λ (r : LiveRun). r.machine.disposed) same ∙ e }
-continues before event after number run now found some (goes_requeuing retries e call_is fresh is freezes) =
-    let same = same_found after number (machine_of run _) now is some in
-    record { run = run; found = found; ccb_is = sym (ap (λ (r : LiveRun). r.ccb) same); fresh = λ e. fresh }
-continues before event after number run now found some (leaves_world r0 e exit_is none freezes) = absurd (no_some (run_of number after.runs) now none some)
+    record { run = run; found = found; ccb_is = sym (ap (λ (r : LiveRun). r.ccb) same); fresh = λ e. was_fresh before after number run instruction machine deed (ap (λ (r : LiveRun). r.machine.disposed) same ∙ e) }
+continues before event after number run now found some (leaves_world r0 event_is exit_is none) = absurd (no_some (run_of number after.runs) now none some)
 
-origin : (setup : Setup) (before : World) (event : Event) (reply : Reply) (after : World) (number : ℕ) (now : LiveRun) → Case setup before event reply after → run_of number after.runs ≡ Some now → Continues before number now ⊎ Newly setup before event reply after number now
-origin setup before event reply after number now it some = split (run_of number before.runs) refl
+origin : (setup : Setup) (before : World) (event : Event) (reply : Reply) (after : World) (number : ℕ) (now : LiveRun) → KeepsLimits setup before → Case setup before event reply after → run_of number after.runs ≡ Some now → Continues before number now ⊎ Newly setup before event reply after number now
+origin setup before event reply after number now kept it some = split (run_of number before.runs) refl
   where
     split : (o : Option LiveRun) → run_of number before.runs ≡ o → Continues before number now ⊎ Newly setup before event reply after number now
-    split None none = inr (new_run setup before event reply after number now it none some)
-    split (Some run) found = inl (continues before event after number run now found some (fate_of setup before event reply after number run found it))
+    split None none = inr (new_run setup before event reply after number now (effect_of setup before event reply after kept it).runs none some)
+    split (Some run) found = inl (continues before event after number run now found some (fate_of setup before event reply after number run kept.freezes found it))
 
 -- the CCB of a run that begins is in recovery
 pub begun_recovers : (setup : Setup) (before : World) (event : Event) (reply : Reply) (after : World) (run : LiveRun) → Begins setup before event reply after run → IsInRecovery run.ccb after
@@ -131,38 +121,39 @@ begun_recovers setup before event reply after run it =
 ccbs_recover : (setup : Setup) (before : World) (event : Event) (reply : Reply) (after : World) → KeepsLimits setup before → Recovering before → Case setup before event reply after → (number : ℕ) (now : LiveRun) → run_of number after.runs ≡ Some now → now.machine.disposed ≡ false → IsInRecovery now.ccb after
 ccbs_recover setup before event reply after kept recovering it number now some fresh_now = split (run_of number before.runs) refl
   where
+    effect : Effect setup before event reply after
+    effect = effect_of setup before event reply after kept it
+
+    by_deed : (run : LiveRun) (instruction : Instruction) (machine : MachineState) → run_of number before.runs ≡ Some run → machine.disposed ≡ false → Deed before after number run instruction machine → IsInRecovery run.ccb after
+    by_deed run instruction machine found fresh (touches_nothing same disposed freezes live gives calm) = same_live run.ccb before after live (recovering.ccbs number run found (sym disposed ∙ fresh))
+    by_deed run instruction machine found fresh (gives_one_back wanted freeze entry own fewer disposed freezes live gives calm) = same_live run.ccb before after live (recovering.ccbs number run found (sym disposed ∙ fresh))
+    by_deed run instruction machine found fresh (disposes_of_it same was spent freezes gives disposal) = absurd (let bad : true ≡ false = sym spent ∙ fresh in cc)
+
     by_fate : (run : LiveRun) → run_of number before.runs ≡ Some run → Fate before event after number run → IsInRecovery now.ccb after
-    by_fate run found (stands other is) =
+    by_fate run found (stands idle is) =
         let same = same_found after number run now is some in
         subst (λ (r : LiveRun). IsInRecovery r.ccb after) same
-        (others_ccb setup before event reply after number run kept recovering found (ap (λ (r : LiveRun). r.machine.disposed) same ∙ fresh_now) other it)
-    by_fate run found (goes_privately machine e step is freezes live) =
+        (others_ccb setup before event reply after number run recovering found (ap (λ (r : LiveRun). r.machine.disposed) same ∙ fresh_now) (ap is_some idle) effect.ccbs)
+    by_fate run found (goes instruction machine event_is no_exit steps is deed) =
         let same = same_found after number (machine_of run machine) now is some in
-        let was : run.machine.disposed ≡ false = sym (private_keeps run.program run.machine machine step).disposed ∙ (ap (λ (r : LiveRun). r.machine.disposed) same ∙ fresh_now) in
-        subst (λ (r : LiveRun). IsInRecovery r.ccb after) same (same_live run.ccb before after live (recovering.ccbs number run found was))
-    by_fate run found (goes_releasing asked freeze e call_is entry own is freezes live) =
-        let same = same_found after number (machine_of run _) now is some in
-        let was : run.machine.disposed ≡ false = ap (λ (r : LiveRun). r.machine.disposed) same ∙ fresh_now in
-        subst (λ (r : LiveRun). IsInRecovery r.ccb after) same (same_live run.ccb before after live (recovering.ccbs number run found was))
-    by_fate run found (goes_requeuing retries e call_is fresh is freezes) =
-        let same = same_found after number (machine_of run _) now is some in
-        absurd (let bad : true ≡ false = ap (λ (r : LiveRun). r.machine.disposed) same ∙ fresh_now in cc)
-    by_fate run found (leaves_world r0 e exit_is none freezes) = absurd (no_some (run_of number after.runs) now none some)
+        subst (λ (r : LiveRun). IsInRecovery r.ccb after) same
+        (by_deed run instruction machine found (ap (λ (r : LiveRun). r.machine.disposed) same ∙ fresh_now) deed)
+    by_fate run found (leaves_world r0 event_is exit_is none) = absurd (no_some (run_of number after.runs) now none some)
 
     split : (o : Option LiveRun) → run_of number before.runs ≡ o → IsInRecovery now.ccb after
-    split None none = begun_recovers setup before event reply after now (new_run setup before event reply after number now it none some).begins
-    split (Some run) found = by_fate run found (fate_of setup before event reply after number run found it)
+    split None none = begun_recovers setup before event reply after now (new_run setup before event reply after number now effect.runs none some).begins
+    split (Some run) found = by_fate run found (fate_of setup before event reply after number run kept.freezes found it)
 
-runs_alone : (setup : Setup) (before : World) (event : Event) (reply : Reply) (after : World) → Recovering before → Case setup before event reply after → (n m : ℕ) (a b : LiveRun) → run_of n after.runs ≡ Some a → run_of m after.runs ≡ Some b → a.ccb ≡ b.ccb → a.machine.disposed ≡ false → b.machine.disposed ≡ false → n ≡ m
-runs_alone setup before event reply after recovering it n m a b first second same fresh fresh_too =
-    elim (origin setup before event reply after n a it first) [
+runs_alone : (setup : Setup) (before : World) (event : Event) (reply : Reply) (after : World) → KeepsLimits setup before → Recovering before → Case setup before event reply after → (n m : ℕ) (a b : LiveRun) → run_of n after.runs ≡ Some a → run_of m after.runs ≡ Some b → a.ccb ≡ b.ccb → a.machine.disposed ≡ false → b.machine.disposed ≡ false → n ≡ m
+runs_alone setup before event reply after kept recovering it n m a b first second same fresh fresh_too =
+    elim (origin setup before event reply after n a kept it first) [
       | inl old ↦
-          elim (origin setup before event reply after m b it second) [
+          elim (origin setup before event reply after m b kept it second) [
             | inl older ↦ recovering.alone n m old.run older.run old.found older.found (sym old.ccb_is ∙ (same ∙ older.ccb_is)) (old.fresh fresh) (older.fresh fresh_too)
             | inr new ↦ absurd (not_new old.run n b new.begins old.found (old.fresh fresh) (sym old.ccb_is ∙ same))
           ]
       | inr new ↦
-          elim (origin setup before event reply after m b it second) [
+          elim (origin setup before event reply after m b kept it second) [
             | inl old ↦ absurd (not_new old.run m a new.begins old.found (old.fresh fresh_too) (sym old.ccb_is ∙ sym same))
             | inr newer ↦ new.number_is ∙ sym newer.number_is
           ]
@@ -175,4 +166,4 @@ runs_alone setup before event reply after recovering it n m a b first second sam
 
 pub case_recovers : (setup : Setup) (before : World) (event : Event) (reply : Reply) (after : World) → KeepsLimits setup before → Recovering before → Case setup before event reply after → Recovering after
 case_recovers setup before event reply after kept recovering it =
-    record { ccbs = ccbs_recover setup before event reply after kept recovering it; alone = runs_alone setup before event reply after recovering it }
+    record { ccbs = ccbs_recover setup before event reply after kept recovering it; alone = runs_alone setup before event reply after kept recovering it }

@@ -1,5 +1,5 @@
 -- What may happen in the world, and what is answered. One instruction of one run is one event.
-use Rattle.std.specs.Prelude.{ℕ}
+use Rattle.std.specs.Prelude.{ℕ, ◌==◌, Option, Some, None, if◌then◌else◌}
 use Rattle.ccb.specs.Completion.{Outcome}
 use Rattle.world.specs.declared.refusal.Refusal.{Refusal}
 
@@ -46,3 +46,8 @@ pub data Reply : Type 0 where
   -- what R0 is after a helper call, or at the exit
   result : (r0 : ℕ) → Reply
   refused : Refusal → Reply
+
+-- the instruction of this run that an event is, if it is one
+abbrev pub instruction_of : ℕ → Event → Option Instruction
+instruction_of run (executes number instruction) = if number == run then Some instruction else None
+instruction_of run event = None

@@ -1,5 +1,5 @@
 -- The headline of runs: what holds of every run of a recovery program, in every run of the world of every lawful setup.
-use Rattle.std.specs.Prelude.{◌≡◌, ℕ, ◌+◌, ◌<◌, ◌≤◌, ◌==◌, Bool, true, false, List, ◌∷◌, Some, None, count_by}
+use Rattle.std.specs.Prelude.{◌≡◌, ℕ, ◌+◌, ◌<◌, ◌≤◌, ◌==◌, Bool, true, false, List, ◌∷◌, Option, Some, None, is_some, count_by}
 use Rattle.ccb.specs.Completion.{Outcome}
 use Rattle.bpf_machine.specs.Stuck.{is_stuck}
 use Rattle.bpf_machine.specs.Reached.{Reached}
@@ -7,7 +7,7 @@ use Rattle.world.specs.declared.ccb_state.CcbState.TheVariants.{InRecovery}
 use Rattle.world.specs.World.{Setup, queue_setup, LiveCcb, LiveRun, World}
 use Rattle.world.specs.Lawful.{IsLawful}
 use Rattle.world.specs.Lookups.{ccb_of, run_of}
-use Rattle.world.specs.Event.{requeue, Instruction, call, exit, Event, complete, executes, Reply, run_started}
+use Rattle.world.specs.Event.{release, requeue, Instruction, private, call, exit, Event, complete, executes, instruction_of, Reply, run_started}
 use Rattle.world.specs.Step.{WorldStep}
 use Rattle.world.specs.WorldRun.{Leads, WorldRun}
 use Rattle.world.specs.TookGave.{took, gave}
@@ -15,18 +15,30 @@ use Rattle.world.specs.FreezeLaws.{entries_of}
 
 -- the event is a step of this run
 abbrev pub is_step_of : ℕ → Event → Bool
-is_step_of run (executes number instruction) = number == run
-is_step_of run event = false
+is_step_of run event = is_some (instruction_of run event)
 
--- the event is a call by which this run disposes of its CCB
+-- the instruction disposes of the run's CCB
+abbrev pub is_disposal : Option Instruction → Bool
+is_disposal None = false
+is_disposal (Some private) = false
+is_disposal (Some (call release)) = false
+is_disposal (Some (call requeue)) = true
+is_disposal (Some exit) = false
+
+-- it is the exit
+abbrev pub is_exit : Option Instruction → Bool
+is_exit None = false
+is_exit (Some private) = false
+is_exit (Some (call helper)) = false
+is_exit (Some exit) = true
+
+-- the event is one by which this run disposes of its CCB
 abbrev pub is_disposal_of : ℕ → Event → Bool
-is_disposal_of run (executes number (call requeue)) = number == run
-is_disposal_of run event = false
+is_disposal_of run event = is_disposal (instruction_of run event)
 
 -- the event is this run's exit
 abbrev pub is_exit_of : ℕ → Event → Bool
-is_exit_of run (executes number exit) = number == run
-is_exit_of run event = false
+is_exit_of run event = is_exit (instruction_of run event)
 
 -- how many steps, disposals and exits of this run there are in a list of events
 abbrev pub steps_of : ℕ → List (Event × Reply) → ℕ

@@ -5,7 +5,7 @@ use Rattle.helpers.specs.declared.call.Request.TheVariants.{Release, Requeue}
 use Rattle.bpf_machine.specs.Step.{request_at}
 use Rattle.world.specs.World.{Setup, LiveRun, World}
 use Rattle.world.specs.Lookups.{run_of}
-use Rattle.world.specs.Event.{release, call, Event, executes, Reply, run_started}
+use Rattle.world.specs.Event.{release, requeue, Instruction, private, call, exit, Event, instruction_of, Reply, run_started}
 use Rattle.world.specs.WorldRun.{Leads}
 
 -- the freeze that an event gives to this run by its reply: that of its start, if it got one
@@ -24,11 +24,17 @@ abbrev pub request_of_run : Option LiveRun → Option Request
 request_of_run None = None
 request_of_run (Some run) = request_at run.program run.machine
 
--- the freeze that an event takes from this run: that which it gives to helper 2
+-- the freeze that an instruction gives up by this request: that which helper 2 is asked to give back
+abbrev pub given_up : Option Instruction → Option Request → List ℕ
+given_up None request = []
+given_up (Some private) request = []
+given_up (Some (call release)) request = asked request
+given_up (Some (call requeue)) request = []
+given_up (Some exit) request = []
+
+-- the freeze that an event takes from this run
 abbrev pub given_by : ℕ → World → Event → List ℕ
-given_by run world (executes number (call release)) =
-    if number == run then asked (request_of_run (run_of run world.runs)) else []
-given_by run world event = []
+given_by run world event = given_up (instruction_of run event) (request_of_run (run_of run world.runs))
 
 -- all that a run got, in order
 abbrev pub took : ℕ → List (Event × Reply) → List ℕ

@@ -1,11 +1,10 @@
 -- Lists of freezes: what one more at the end, and one fewer by its number, leave.
-use Rattle.std.proofs.Common.{◌≡◌, ℕ, ◌+◌, ◌<◌, ◌≤◌, List, [], ◌∷◌, ◌++◌, map, length, not, cond, eqb, Option, Some, None, IsSome, inl, inr, refl, sym, subst, ◌∙◌, arith}
-use Rattle.std.proofs.lemmas.Bool.{cases_eq}
-use Rattle.std.proofs.lemmas.List.Sums.{sum_by_push, length-filter, count_by-le-length}
+use Rattle.std.proofs.Common.{◌≡◌, ℕ, ◌+◌, ◌<◌, ◌≤◌, List, [], ◌∷◌, ◌++◌, map, cond, Option, Some, None, IsSome, refl, ◌∙◌}
+use Rattle.std.proofs.lemmas.List.Sums.{sum_by_push}
 use Rattle.ccb.specs.Rising.{AreRising}
 use Rattle.freeze_ledger.specs.declared.freeze.Freeze.{Freeze}
 use Rattle.freeze_ledger.specs.Freezes.{names, frozen, entry_of, without}
-use Rattle.world.proofs.Lists.Found.{at_tail, found_key, missing_push, leave_same, leave_other}
+use Rattle.world.proofs.Lists.Found.{at_tail, found_key, missing_push, leave_same}
 use Rattle.world.proofs.Lists.Rising.{found_bounds, count_gone}
 
 abbrev pub freeze_key : Freeze → ℕ
@@ -22,14 +21,6 @@ frozen_push q fs f = sum_by_push (λ (x : Freeze). cond (names q x) 1 0) fs f
 pub entry_push : (n : ℕ) (fs : List Freeze) (f : Freeze) → (f.number ≡ n → ⊥) → entry_of n fs ≡ None → entry_of n (fs ++ f ∷ []) ≡ None
 entry_push n fs f other none = missing_push freeze_key n fs f none ∙ at_tail freeze_key n f [] other
 
--- nor does a removal
-pub entry_without : (n m : ℕ) (fs : List Freeze) → entry_of n fs ≡ None → entry_of n (without m fs) ≡ None
-entry_without n m fs none =
-    elim (cases_eq m n) [
-      | inl same ↦ subst (λ (k : ℕ). entry_of n (without k fs) ≡ None) (sym same) (leave_same freeze_key n fs)
-      | inr apart ↦ leave_other freeze_key m n fs apart ∙ none
-    ]
-
 -- the number that was removed is there no more
 pub entry_removed : (n : ℕ) (fs : List Freeze) → entry_of n (without n fs) ≡ None
 entry_removed n fs = leave_same freeze_key n fs
@@ -43,9 +34,6 @@ entry_bounds low fs high n f h e =
 -- a removal takes one from the count of what the freeze names
 pub frozen_without : (q low : ℕ) (fs : List Freeze) (high n : ℕ) (f : Freeze) → FreezesRise low fs high → entry_of n fs ≡ Some f → frozen q (without n fs) + cond (names q f) 1 0 ≡ frozen q fs
 frozen_without q low fs high n f h e = count_gone freeze_key (names q) low fs high n f h e
-
-pub length_without : (n : ℕ) (fs : List Freeze) → length (without n fs) ≤ length fs
-length_without n fs = omega (arith, length-filter (λ (x : Freeze). not (eqb x.number n)) fs, count_by-le-length (λ (x : Freeze). not (eqb x.number n)) fs)
 
 -- what is there no more is not there
 pub none_since : (o : Option Freeze) → (IsSome o → ⊥) → o ≡ None

@@ -192,6 +192,20 @@ module _ {A : Type 0} (key : A → ℕ) where
             ]
       ]
 
+  -- what is missing among all is missing among some
+  pub missing_filter : (p : A → Bool) (n : ℕ) (xs : List A) → at n xs ≡ None → at n (filter p xs) ≡ None
+  missing_filter p n [] e = refl
+  missing_filter p n (y ∷ xs) e =
+      elim (cases_eq (key y) n) [
+        | inl same ↦ absurd (let bad : Some y ≡ None = sym (at_head n y xs same) ∙ e in cc)
+        | inr apart ↦
+            let rest = missing_filter p n xs (sym (at_tail n y xs apart) ∙ e) in
+            elim (cases_Bool (p y)) [
+              | inl passes ↦ ap (at n) (filter_yes p y xs passes) ∙ (at_tail n y (filter p xs) apart ∙ rest)
+              | inr fails ↦ ap (at n) (filter_no p y xs fails) ∙ rest
+            ]
+      ]
+
   -- it does not matter which of two choices is made first
   pub filter_swap : (p q : A → Bool) (xs : List A) → filter p (filter q xs) ≡ filter q (filter p xs)
   filter_swap p q [] = refl

@@ -8,8 +8,7 @@ use Rattle.freeze_ledger.specs.Freezes.{entry_of, without}
 use Rattle.helpers.specs.Rules.{is_held}
 use Rattle.world.specs.RunSteps.{is_run}
 use Rattle.world.specs.FreezeLaws.{entries_of, held_by}
-use Rattle.world.proofs.Lists.Found.{at_head, at_tail, filter_swap}
-use Rattle.world.proofs.Lists.Rising.{leave_low}
+use Rattle.world.proofs.Lists.Found.{at_head, at_tail, found_key, filter_yes, filter_no, filter_swap}
 use Rattle.world.proofs.Lists.Entries.{freeze_key, FreezesRise, entry_bounds}
 
 -- the first entry is the run's, or it is not
@@ -74,25 +73,35 @@ held_without_own r n (g ∷ fs) =
 pub entries_without : (r n : ℕ) (fs : List Freeze) → entries_of r (without n fs) ≡ without n (entries_of r fs)
 entries_without r n fs = filter_swap freeze_key (λ (f : Freeze). is_run r f.holder) (λ (f : Freeze). not (eqb f.number n)) fs
 
--- one fewer of another holder
-pub entries_without_other : (r n low : ℕ) (fs : List Freeze) (high : ℕ) (f : Freeze) → FreezesRise low fs high → entry_of n fs ≡ Some f → is_run r f.holder ≡ false → entries_of r (without n fs) ≡ entries_of r fs
-entries_without_other r n low [] high f h entry e = refl
-entries_without_other r n low (g ∷ fs) high f h entry e =
-    elim (cases_eq g.number n) [
-      | inl same ↦
-          let both : Some g ≡ Some f = sym (at_head freeze_key n g fs same) ∙ entry in
-          let is : g ≡ f = cc in
-          ap (entries_of r) (cond-false (not (eqb g.number n)) (g ∷ without n fs) (without n fs) (not_from_true _ (eq-eqb _ _ same))
-          ∙ leave_low freeze_key g.number fs high n (omega (arith, same)) h.1)
-          ∙ sym (entries_tail r g fs (subst (λ (x : Freeze). is_run r x.holder ≡ false) (sym is) e))
-      | inr apart ↦
-          let rest = entries_without_other r n g.number fs high f h.1 (sym (at_tail freeze_key n g fs apart) ∙ entry) e in
-          ap (entries_of r) (cond-true (not (eqb g.number n)) (g ∷ without n fs) (without n fs) (not_from_false _ (ne_eqb _ _ apart)))
+-- some fewer, of which none is the run's
+pub entries_kept : (r low : ℕ) (fs : List Freeze) (high : ℕ) (gone : Freeze → Bool) → FreezesRise low fs high → ((n : ℕ) (f : Freeze) → entry_of n fs ≡ Some f → is_run r f.holder ≡ true → gone f ≡ false) → entries_of r (filter (λ f. not (gone f)) fs) ≡ entries_of r fs
+entries_kept r low [] high gone h keep = refl
+entries_kept r low (g ∷ fs) high gone h keep =
+    let rest = entries_kept r g.number fs high gone h.1 (λ n f entry its.
+    keep n f (at_tail freeze_key n g fs (λ e. let up = entry_bounds g.number fs high n f h.1 entry in omega (arith, e, up.1)) ∙ entry) its) in
+    elim (cases_Bool (gone g)) [
+      | inl goes ↦
+          let apart : is_run r g.holder ≡ false = elim (cases_Bool (is_run r g.holder)) [
+            | inl its ↦ absurd (let bad : false ≡ true = sym (keep g.number g (at_head freeze_key g.number g fs refl) its) ∙ goes in cc)
+            | inr other ↦ other
+          ] in
+          ap (entries_of r) (filter_no freeze_key (λ (f : Freeze). not (gone f)) g fs (not_from_true _ goes)) ∙ (rest ∙ sym (entries_tail r g fs apart))
+      | inr stays ↦
+          ap (entries_of r) (filter_yes freeze_key (λ (f : Freeze). not (gone f)) g fs (not_from_false _ stays))
           ∙ elim (cases_Bool (is_run r g.holder)) [
-            | inl its ↦ entries_head r g (without n fs) its ∙ (ap (λ (gs : List Freeze). g ∷ gs) rest ∙ sym (entries_head r g fs its))
-            | inr other ↦ entries_tail r g (without n fs) other ∙ (rest ∙ sym (entries_tail r g fs other))
+            | inl its ↦ entries_head r g (filter (λ (f : Freeze). not (gone f)) fs) its ∙ (ap (λ (gs : List Freeze). g ∷ gs) rest ∙ sym (entries_head r g fs its))
+            | inr other ↦ entries_tail r g (filter (λ (f : Freeze). not (gone f)) fs) other ∙ (rest ∙ sym (entries_tail r g fs other))
           ]
     ]
+
+-- one fewer of another holder
+pub entries_without_other : (r n low : ℕ) (fs : List Freeze) (high : ℕ) (f : Freeze) → FreezesRise low fs high → entry_of n fs ≡ Some f → is_run r f.holder ≡ false → entries_of r (without n fs) ≡ entries_of r fs
+entries_without_other r n low fs high f h entry e =
+    entries_kept r low fs high (λ (g : Freeze). eqb g.number n) h (λ m g there its. ne_eqb _ _ (λ same.
+    let named : g.number ≡ m = found_key freeze_key m fs g there in
+    let both : Some g ≡ Some f = sym there ∙ (ap (λ (k : ℕ). entry_of k fs) (sym named ∙ same) ∙ entry) in
+    let is : g ≡ f = cc in
+    let bad : true ≡ false = sym (subst (λ (x : Freeze). is_run r x.holder ≡ true) is its) ∙ e in cc))
 
 -- a run that no entry names holds nothing
 pub held_none : (r low : ℕ) (fs : List Freeze) (high : ℕ) → FreezesRise low fs high → ((n : ℕ) (f : Freeze) → entry_of n fs ≡ Some f → is_run r f.holder ≡ false) → held_by r fs ≡ []

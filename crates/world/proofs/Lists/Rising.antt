@@ -5,7 +5,7 @@ use Rattle.std.specs.List.{find, filter, count_by}
 use Rattle.std.proofs.lemmas.Bool.{cases_Bool, cases_eq, cond-true, cond-false, cond_both}
 use Rattle.std.proofs.lemmas.List.Sums.{sum_by-cons}
 use Rattle.ccb.specs.Rising.{AreRising}
-use Rattle.world.proofs.Lists.Found.{at, put, leave, at_head, at_tail, put_head, put_tail, leave_head, leave_tail}
+use Rattle.world.proofs.Lists.Found.{at, put, leave, found_key, at_head, at_tail, put_head, put_tail, leave_head, leave_tail}
 
 pub rising_lower : (low lower : ℕ) (ns : List ℕ) (high : ℕ) → lower ≤ low → AreRising low ns high → AreRising lower ns high
 rising_lower low lower [] high le h = omega arith
@@ -108,15 +108,18 @@ module _ {A : Type 0} (key : A → ℕ) where
             omega (arith, all, rest, left, after)
       ]
 
-  -- one fewer takes at most from a count
-  pub count_leave : (p : A → Bool) (xs : List A) (m : ℕ) → count_by p (leave key m xs) ≤ count_by p xs
-  count_leave p [] m = omega arith
-  count_leave p (y ∷ xs) m =
-      let rest = count_leave p xs m in
+  -- to leave some out takes at most from a count
+  pub count_filter : (p q : A → Bool) (xs : List A) → count_by p (filter q xs) ≤ count_by p xs
+  count_filter p q [] = omega arith
+  count_filter p q (y ∷ xs) =
+      let rest = count_filter p q xs in
       let all = sum_by-cons (λ (z : A). cond (p z) 1 0) y xs in
-      let after = sum_by-cons (λ (z : A). cond (p z) 1 0) y (leave key m xs) in
-      cond_both (not (eqb (key y) m)) (y ∷ leave key m xs) (leave key m xs) (λ ys. count_by p ys ≤ count_by p (y ∷ xs))
+      let after = sum_by-cons (λ (z : A). cond (p z) 1 0) y (filter q xs) in
+      cond_both (q y) (y ∷ filter q xs) (filter q xs) (λ ys. count_by p ys ≤ count_by p (y ∷ xs))
       (λ _. omega (arith, rest, all, after)) (λ _. omega (arith, rest, all))
+
+  pub count_leave : (p : A → Bool) (xs : List A) (m : ℕ) → count_by p (leave key m xs) ≤ count_by p xs
+  count_leave p xs m = count_filter p (λ (y : A). not (eqb (key y) m)) xs
 
   -- one fewer takes itself alone from a count
   pub count_gone : (p : A → Bool) (low : ℕ) (xs : List A) (high n : ℕ) (x : A) → AreRising low (map key xs) high → at key n xs ≡ Some x → count_by p (leave key n xs) + cond (p x) 1 0 ≡ count_by p xs
@@ -170,3 +173,9 @@ module _ {A : Type 0} (key : A → ℕ) where
             ]
         | inr is_none ↦ later (sym (ap (find test) (cond-false (some y) (y ∷ filter some xs) (filter some xs) is_none)) ∙ e)
       ]
+
+  -- what is found among some of the elements is found among all
+  pub found_unfiltered : (p : A → Bool) (low : ℕ) (xs : List A) (high n : ℕ) (x : A) → AreRising low (map key xs) high → at key n (filter p xs) ≡ Some x → at key n xs ≡ Some x
+  found_unfiltered p low xs high n x h e =
+      let named : key x ≡ n = found_key key n (filter p xs) x e in
+      subst (λ (k : ℕ). at key k xs ≡ Some x) named (found_among (λ (y : A). eqb (key y) n) p low xs high x h e).0

@@ -17,25 +17,20 @@ use Rattle.world.specs.declared.refusal.Refusal.TheVariants.{Unknown, Limit, Not
 use Rattle.world.specs.declared.ccb_state.CcbState.TheVariants.{Waiting, Active}
 use Rattle.world.specs.World.{Setup, queue_count, LiveCcb, LiveRun, World}
 use Rattle.world.specs.Lookups.{is_active, active_count, ccb_of, with_ccb, next_waiting, run_of}
-use Rattle.world.specs.Event.{release, requeue, Instruction, private, call, exit, Event, submit, dispatch, complete, guest_freeze, guest_release, executes, Reply, ccb_given, done, freeze_given, count_left, went_on, result, refused}
+use Rattle.world.specs.Event.{release, requeue, Instruction, private, call, exit, Event, instruction_of, submit, dispatch, complete, guest_freeze, guest_release, executes, Reply, ccb_given, done, freeze_given, count_left, went_on, result, refused}
 use Rattle.world.specs.FreezeSteps.{frozen_with, is_guest, froze, thawed, step_guest_release}
 use Rattle.world.specs.CcbSteps.{ccb_meets_limit, starts, is_success, run_meets_limit, finishes, run_starts, completes, is_completion}
 use Rattle.world.specs.RunSteps.{is_run, goes_on, answers, releases, requeues, step_call, ends, step_run, step_executes}
 use Rattle.world.specs.Step.{WorldStep}
+use Rattle.world.specs.FreezeLaws.{MovesCounts}
+use Rattle.world.specs.CcbLaws.{finished_by}
 
--- which events may be refused
-abbrev pub may_refuse : Event → Bool
-may_refuse (submit queue priority retries) = true
-may_refuse (dispatch queue) = true
-may_refuse (complete outcome) = true
-may_refuse (guest_freeze queue guest) = true
-may_refuse (guest_release freeze) = false
-may_refuse (executes run instruction) = false
-
--- the call is refused
+-- the call is refused: it is no run's step, changes no count and finishes nothing
 pub record Refuses (before : World) (event : Event) (reply : Reply) (after : World) : Type 0 where
-  pub may : may_refuse event ≡ true
   pub refusal : Refusal
+  pub idle : (number : ℕ) → instruction_of number event ≡ None
+  pub moves : MovesCounts before event (refused refusal) before
+  pub ends : finished_by before event (refused refusal) ≡ []
   pub reply_is : reply ≡ refused refusal
   pub after_is : after ≡ before
 
@@ -185,19 +180,19 @@ some_is p q e = let same : p ≡ q = cc in sym same
 pub pair_parts : (p q : Reply × World) → q ≡ p → (q.0 ≡ p.0) × (q.1 ≡ p.1)
 pair_parts p q e = (ap (λ (x : Reply × World). x.0) e, ap (λ (x : Reply × World). x.1) e)
 
-refused_case : (setup : Setup) (before : World) (event : Event) (reply : Reply) (after : World) (refusal : Refusal) → may_refuse event ≡ true → ◌≡◌ {A = Reply × World} (reply, after) (refused refusal, before) → Case setup before event reply after
-refused_case setup before event reply after refusal may e =
-    refuses (record { may = may; refusal = refusal; reply_is = ap (λ (x : Reply × World). x.0) e; after_is = ap (λ (x : Reply × World). x.1) e })
+refused_case : (setup : Setup) (before : World) (event : Event) (reply : Reply) (after : World) (refusal : Refusal) → ((number : ℕ) → instruction_of number event ≡ None) → MovesCounts before event (refused refusal) before → finished_by before event (refused refusal) ≡ [] → ◌≡◌ {A = Reply × World} (reply, after) (refused refusal, before) → Case setup before event reply after
+refused_case setup before event reply after refusal idle moves ends e =
+    refuses (record { refusal = refusal; idle = idle; moves = moves; ends = ends; reply_is = ap (λ (x : Reply × World). x.0) e; after_is = ap (λ (x : Reply × World). x.1) e })
 
 submit_case : (setup : Setup) (before : World) (queue priority retries : ℕ) (reply : Reply) (after : World) → WorldStep setup before (submit queue priority retries) reply after → Case setup before (submit queue priority retries) reply after
 submit_case setup before queue priority retries reply after e =
     let is = some_is _ _ e in
     elim (cases_Bool (leb (queue_count setup) queue)) [
-      | inl unknown ↦ refused_case setup before _ reply after Unknown refl (is ∙ cond-true (leb (queue_count setup) queue) _ _ unknown)
+      | inl unknown ↦ refused_case setup before (submit queue priority retries) reply after Unknown (λ n. refl) refl refl (is ∙ cond-true (leb (queue_count setup) queue) _ _ unknown)
       | inr known ↦
           let inner = is ∙ cond-false (leb (queue_count setup) queue) _ _ known in
           elim (cases_Bool (ccb_meets_limit queue before)) [
-            | inl full ↦ refused_case setup before _ reply after Limit refl (inner ∙ cond-true (ccb_meets_limit queue before) _ _ full)
+            | inl full ↦ refused_case setup before (submit queue priority retries) reply after Limit (λ n. refl) refl refl (inner ∙ cond-true (ccb_meets_limit queue before) _ _ full)
             | inr room ↦
                 let last = inner ∙ cond-false (ccb_meets_limit queue before) _ _ room in
                 submits (record {
@@ -217,15 +212,15 @@ dispatch_case : (setup : Setup) (before : World) (queue : ℕ) (reply : Reply) (
 dispatch_case setup before queue reply after e =
     let is = some_is _ _ e in
     elim (cases_Bool (leb (queue_count setup) queue)) [
-      | inl unknown ↦ refused_case setup before _ reply after Unknown refl (is ∙ cond-true (leb (queue_count setup) queue) _ _ unknown)
+      | inl unknown ↦ refused_case setup before (dispatch queue) reply after Unknown (λ n. refl) refl refl (is ∙ cond-true (leb (queue_count setup) queue) _ _ unknown)
       | inr known ↦
           let second = is ∙ cond-false (leb (queue_count setup) queue) _ _ known in
           elim (cases_Bool (ltb 0 (frozen queue before.freezes))) [
-            | inl cold ↦ refused_case setup before _ reply after Frozen refl (second ∙ cond-true (ltb 0 (frozen queue before.freezes)) _ _ cold)
+            | inl cold ↦ refused_case setup before (dispatch queue) reply after Frozen (λ n. refl) refl refl (second ∙ cond-true (ltb 0 (frozen queue before.freezes)) _ _ cold)
             | inr thawed ↦
                 let third = second ∙ cond-false (ltb 0 (frozen queue before.freezes)) _ _ thawed in
                 elim (cases_Bool (leb (slice_index before.openings queue) (active_count queue before.live))) [
-                  | inl full ↦ refused_case setup before _ reply after NoOpening refl (third ∙ cond-true (leb (slice_index before.openings queue) (active_count queue before.live)) _ _ full)
+                  | inl full ↦ refused_case setup before (dispatch queue) reply after NoOpening (λ n. refl) refl refl (third ∙ cond-true (leb (slice_index before.openings queue) (active_count queue before.live)) _ _ full)
                   | inr free ↦
                       let last = third ∙ cond-false (leb (slice_index before.openings queue) (active_count queue before.live)) _ _ free in
                       chosen (next_waiting queue before.live) refl (leb-false _ _ known) (let none = ltb-false _ _ thawed in omega (arith, none)) (leb-false _ _ free) last
@@ -234,7 +229,7 @@ dispatch_case setup before queue reply after e =
     ]
   where
     chosen : (o : Option LiveCcb) → next_waiting queue before.live ≡ o → queue < queue_count setup → frozen queue before.freezes ≡ 0 → active_count queue before.live < slice_index before.openings queue → ◌≡◌ {A = Reply × World} (reply, after) (starts before o) → Case setup before (dispatch queue) reply after
-    chosen None next_is known cold free last = refused_case setup before _ reply after NothingWaits refl last
+    chosen None next_is known cold free last = refused_case setup before (dispatch queue) reply after NothingWaits (λ n. refl) refl refl last
     chosen (Some next) next_is known cold free last =
         dispatches (record {
           queue = queue;
@@ -250,14 +245,14 @@ dispatch_case setup before queue reply after e =
 
 -- a CCB that is there: refused, finished or in recovery
 complete_case : (setup : Setup) (before : World) (outcome : Outcome) (reply : Reply) (after : World) → is_completion outcome ≡ true → (o : Option LiveCcb) → ccb_of outcome.ccb.0 before.live ≡ o → ◌≡◌ {A = Reply × World} (reply, after) (completes setup before outcome o) → Case setup before (complete outcome) reply after
-complete_case setup before outcome reply after good None found e = refused_case setup before _ reply after Unknown refl e
+complete_case setup before outcome reply after good None found e = refused_case setup before (complete outcome) reply after Unknown (λ n. refl) refl refl e
 complete_case setup before outcome reply after good (Some live) found e =
     elim (cases_Bool (not (is_success outcome.status) && run_meets_limit before)) [
-      | inl full ↦ refused_case setup before _ reply after Limit refl (e ∙ cond-true (not (is_success outcome.status) && run_meets_limit before) _ _ full)
+      | inl full ↦ refused_case setup before (complete outcome) reply after Limit (λ n. refl) refl refl (e ∙ cond-true (not (is_success outcome.status) && run_meets_limit before) _ _ full)
       | inr room ↦
           let second = e ∙ cond-false (not (is_success outcome.status) && run_meets_limit before) _ _ room in
           elim (cases_Bool (not (is_active live.state))) [
-            | inl idle ↦ refused_case setup before _ reply after NotActive refl (second ∙ cond-true (not (is_active live.state)) _ _ idle)
+            | inl idle ↦ refused_case setup before (complete outcome) reply after NotActive (λ n. refl) refl refl (second ∙ cond-true (not (is_active live.state)) _ _ idle)
             | inr busy ↦
                 let third = second ∙ cond-false (not (is_active live.state)) _ _ busy in
                 elim (cases_Bool (is_success outcome.status)) [
@@ -299,11 +294,11 @@ guest_freeze_case : (setup : Setup) (before : World) (queue guest : ℕ) (reply 
 guest_freeze_case setup before queue guest reply after e =
     let is = some_is _ _ e in
     elim (cases_Bool (leb (queue_count setup) queue)) [
-      | inl unknown ↦ refused_case setup before _ reply after Unknown refl (is ∙ cond-true (leb (queue_count setup) queue) _ _ unknown)
+      | inl unknown ↦ refused_case setup before (guest_freeze queue guest) reply after Unknown (λ n. refl) refl refl (is ∙ cond-true (leb (queue_count setup) queue) _ _ unknown)
       | inr known ↦
           let inner = is ∙ cond-false (leb (queue_count setup) queue) _ _ known in
           elim (cases_Bool (meets_limit queue before.freezes before.greatest_freeze)) [
-            | inl full ↦ refused_case setup before _ reply after Limit refl (inner ∙ cond-true (meets_limit queue before.freezes before.greatest_freeze) _ _ full)
+            | inl full ↦ refused_case setup before (guest_freeze queue guest) reply after Limit (λ n. refl) refl refl (inner ∙ cond-true (meets_limit queue before.freezes before.greatest_freeze) _ _ full)
             | inr room ↦
                 let last = inner ∙ cond-false (meets_limit queue before.freezes before.greatest_freeze) _ _ room in
                 freezes_one (record {

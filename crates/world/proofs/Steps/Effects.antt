@@ -1,0 +1,329 @@
+-- The effect of each kind of event: one entry each.
+use Rattle.std.proofs.Common.{◌≡◌, ℕ, ◌+◌, ◌<◌, ◌≤◌, List, [], ◌∷◌, ◌++◌, Bool, true, false, cond, eqb, Option, Some, None, IsSome, inl, inr, refl, ap, sym, subst, ◌∙◌, arith, append-nil, slice_index}
+use Rattle.std.specs.Prelude.{◌&&◌, not}
+use Rattle.std.specs.Option.{is_some}
+use Rattle.std.proofs.lemmas.Bool.{cases_eq, cond-true, cond-false, eq-eqb, ne_eqb, eqb-true}
+use Rattle.ccb.specs.Status.{code_of}
+use Rattle.ccb.specs.Ccb.{started, completed, requeued}
+use Rattle.freeze_ledger.specs.declared.freeze.Holder.{Holder}
+use Rattle.freeze_ledger.specs.declared.freeze.Holder.TheVariants.{Run, Timer, Guest}
+use Rattle.freeze_ledger.specs.declared.freeze.Freeze.{Freeze}
+use Rattle.freeze_ledger.specs.Freezes.{entry_of}
+use Rattle.world.specs.declared.ccb_state.CcbState.{CcbState}
+use Rattle.world.specs.declared.ccb_state.CcbState.TheVariants.{Waiting, Active, InRecovery}
+use Rattle.world.specs.World.{Setup, queue_count, LiveCcb, EndedCcb, LiveRun, World}
+use Rattle.world.specs.Lookups.{is_waiting, is_active, active_count, ccb_of, run_of}
+use Rattle.world.specs.Event.{Instruction, Event, complete, instruction_of, Reply, run_started}
+use Rattle.world.specs.FreezeSteps.{is_guest}
+use Rattle.world.specs.RunSteps.{is_run}
+use Rattle.world.specs.TookGave.{taken_by}
+use Rattle.world.specs.CcbLaws.{finished_by}
+use Rattle.world.specs.Headline.{is_step_of}
+use Rattle.world.specs.Limits.{CcbLimits, RunLimits, KeepsLimits}
+use Rattle.world.proofs.Lists.Found.{found_key, missing_push, at_head}
+use Rattle.world.proofs.Lists.Rising.{missing_high}
+use Rattle.world.proofs.Lists.Each.{all_found}
+use Rattle.world.proofs.Lists.Entries.{freeze_key}
+use Rattle.world.proofs.Steps.Cases.{Recovers, RecoversUnfrozen, Executes, Case, refuses, submits, dispatches, finishes_one, recovers_one, recovers_unfrozen, freezes_one, releases_one, goes_on_one, gives_back, requeues_one, exits, pair_parts}
+use Rattle.world.proofs.Steps.Moves.{ccb_key, run_key, ccb_found, run_found, next_found, ccbs_stay, ccb_enters, ccb_changes, ccb_leaves, Comes, freezes_stay, freeze_enters, freezes_leave, Begins, tells_start, runs_stay, run_enters, run_changes, run_leaves, Effect}
+
+-- the queue of a live CCB exists
+pub known_queue : (setup : Setup) (world : World) → CcbLimits setup world → (number : ℕ) (live : LiveCcb) → ccb_of number world.live ≡ Some live → live.ccb.queue.0 < queue_count setup
+known_queue setup world kept number live found = all_found ccb_key (λ (x : LiveCcb). x.ccb.queue.0 < queue_count setup) number world.live live kept.queues found
+
+-- where nothing is finished nothing ended
+pub none_ended : (before after : World) (event : Event) (reply : Reply) → finished_by before event reply ≡ [] → after.ended ≡ before.ended → after.ended ≡ before.ended ++ finished_by before event reply
+none_ended before after event reply none e = e ∙ sym (ap (λ (l : List EndedCcb). before.ended ++ l) none ∙ append-nil before.ended)
+
+-- an event that is no instruction is none of any run
+idle_acts : (before : World) (event : Event) → ((run : ℕ) → instruction_of run event ≡ None) → (run : ℕ) (instruction : Instruction) → instruction_of run event ≡ Some instruction → IsSome (run_of run before.runs)
+idle_acts before event idle run instruction e = absurd (let bad : None ≡ Some instruction = sym (idle run) ∙ e in cc)
+
+-- one that is, is one of the run that executes it, which is live
+pub its_instruction : (before : World) (event : Event) (instruction : Instruction) → (it : Executes before event instruction) → instruction_of it.number event ≡ Some instruction
+its_instruction before event instruction it = ap (instruction_of it.number) it.event_is ∙ cond-true (eqb it.number it.number) (Some instruction) None (eq-eqb _ _ refl)
+
+pub not_others : (before : World) (event : Event) (instruction : Instruction) (run : ℕ) → (it : Executes before event instruction) → (it.number ≡ run → ⊥) → instruction_of run event ≡ None
+not_others before event instruction run it apart = ap (instruction_of run) it.event_is ∙ cond-false (eqb it.number run) (Some instruction) None (ne_eqb _ _ apart)
+
+pub is_its_step : (before : World) (event : Event) (instruction : Instruction) → (it : Executes before event instruction) → is_step_of it.number event ≡ true
+is_its_step before event instruction it = ap is_some (its_instruction before event instruction it)
+
+executes_acts : (before : World) (event : Event) (instruction : Instruction) → Executes before event instruction → (run : ℕ) (other : Instruction) → instruction_of run event ≡ Some other → IsSome (run_of run before.runs)
+executes_acts before event instruction it run other e =
+    elim (cases_eq it.number run) [
+      | inl same ↦ subst (λ (k : ℕ). IsSome (run_of k before.runs)) same (subst (λ (o : Option LiveRun). IsSome o) (sym it.found) refl)
+      | inr apart ↦ absurd (let bad : None ≡ Some other = sym (not_others before event instruction run it apart) ∙ e in cc)
+    ]
+
+-- a CCB that waits or is active is not in recovery
+idle_waits : (state : CcbState) → is_waiting state ≡ true → state ≡ InRecovery → ⊥
+idle_waits state waits e = let bad : false ≡ true = sym (ap is_waiting e) ∙ waits in cc
+
+idle_works : (state : CcbState) → is_active state ≡ true → state ≡ InRecovery → ⊥
+idle_works state works e = let bad : false ≡ true = sym (ap is_active e) ∙ works in cc
+
+-- two entries of one number are one
+pub same_entry : (fs : List Freeze) (n m : ℕ) (f g : Freeze) → entry_of n fs ≡ Some f → entry_of m fs ≡ Some g → f.number ≡ g.number → f ≡ g
+same_entry fs n m f g first second same =
+    let numbers : n ≡ m = sym (found_key freeze_key n fs f first) ∙ (same ∙ found_key freeze_key m fs g second) in
+    let both : Some f ≡ Some g = sym first ∙ (ap (λ (k : ℕ). entry_of k fs) numbers ∙ second) in cc
+
+-- a guest is no run, and a run is no other
+pub guest_is_none : (r : ℕ) (holder : Holder) → is_guest holder ≡ true → is_run r holder ≡ false
+guest_is_none r (Run run) e = absurd (let bad : false ≡ true = e in cc)
+guest_is_none r (Timer due) e = refl
+guest_is_none r (Guest guest) e = refl
+
+one_run : (r s : ℕ) (holder : Holder) → is_run r holder ≡ true → is_run s holder ≡ true → r ≡ s
+one_run r s (Run run) p q = sym (eqb-true _ _ p) ∙ eqb-true _ _ q
+one_run r s (Timer due) p q = absurd (let bad : false ≡ true = p in cc)
+one_run r s (Guest guest) p q = absurd (let bad : false ≡ true = p in cc)
+
+-- a run that begins is found by its number
+pub begun_found : (setup : Setup) (before : World) (event : Event) (reply : Reply) (after : World) (run : LiveRun) → RunLimits setup before → Begins setup before event reply after run → run_of (before.greatest_run + 1) after.runs ≡ Some run
+begun_found setup before event reply after run kept it =
+    let named : run.number ≡ before.greatest_run + 1 = ap (λ (r : LiveRun). r.number) it.run_is in
+    let none = missing_high run_key 0 before.runs before.greatest_run (before.greatest_run + 1) (omega arith) kept.rising in
+    ap (run_of (before.greatest_run + 1)) it.runs_is
+    ∙ (missing_push run_key (before.greatest_run + 1) before.runs run none ∙ at_head run_key (before.greatest_run + 1) run [] named)
+
+-- its freeze, and no other run's, comes with it
+comes_begun : (setup : Setup) (before : World) (event : Event) (reply : Reply) (after : World) (run : LiveRun) → RunLimits setup before → Begins setup before event reply after run → Comes before event after (Run (before.greatest_run + 1))
+comes_begun setup before event reply after run kept it =
+    let there = begun_found setup before event reply after run kept it in
+    record {
+      whose = λ other its. inl (sym (eqb-true _ _ its));
+      live = λ other its.
+          subst (λ (k : ℕ). IsSome (run_of k after.runs)) (eqb-true _ _ its) (subst (λ (o : Option LiveRun). IsSome o) (sym there) refl);
+    }
+
+-- its queue exists
+known_begun : (setup : Setup) (before : World) (event : Event) (reply : Reply) (after : World) (run : LiveRun) → CcbLimits setup before → Begins setup before event reply after run → run.queue < queue_count setup
+known_begun setup before event reply after run kept it =
+    subst (λ (q : ℕ). q < queue_count setup) (sym (ap (λ (r : LiveRun). r.queue) it.run_is)) (known_queue setup before kept it.outcome.ccb.0 it.live it.found)
+
+-- nothing is taken by a run that was there, where another begins
+taken_begun : (run greatest freeze : ℕ) (event : Event) → run ≤ greatest → taken_by run event (run_started (greatest + 1) freeze) ≡ []
+taken_begun run greatest freeze event given =
+    ap (λ (b : Bool). cond (b && not (eqb freeze 0)) (freeze ∷ []) []) (ne_eqb _ _ (λ e. omega (arith, e, given)))
+
+-- the run that a completion starts, with a freeze and without
+pub begins_frozen : (setup : Setup) (before : World) (event : Event) (reply : Reply) (after : World) → Recovers setup before event reply after → (run : LiveRun) × Begins setup before event reply after run
+begins_frozen setup before event reply after it = (
+  _,
+  record {
+    outcome = it.fails.outcome;
+    event_is = it.fails.event_is;
+    completion = it.fails.completion;
+    live = it.fails.live;
+    found = it.fails.found;
+    is_active = it.fails.is_active;
+    taken = true;
+    freeze = before.greatest_freeze + 1;
+    run_is = refl;
+    reply_is = ap (λ (x : Reply × World). x.0) it.starts_is;
+    live_is = ap (λ (x : Reply × World). x.1.live) it.starts_is;
+    runs_is = ap (λ (x : Reply × World). x.1.runs) it.starts_is;
+    freezes_is = inr (refl, it.free, ap (λ (x : Reply × World). x.1.freezes) it.starts_is);
+  },
+)
+
+pub begins_unfrozen : (setup : Setup) (before : World) (event : Event) (reply : Reply) (after : World) → RecoversUnfrozen setup before event reply after → (run : LiveRun) × Begins setup before event reply after run
+begins_unfrozen setup before event reply after it = (
+  _,
+  record {
+    outcome = it.fails.outcome;
+    event_is = it.fails.event_is;
+    completion = it.fails.completion;
+    live = it.fails.live;
+    found = it.fails.found;
+    is_active = it.fails.is_active;
+    taken = false;
+    freeze = 0;
+    run_is = refl;
+    reply_is = ap (λ (x : Reply × World). x.0) it.starts_is;
+    live_is = ap (λ (x : Reply × World). x.1.live) it.starts_is;
+    runs_is = ap (λ (x : Reply × World). x.1.runs) it.starts_is;
+    freezes_is = inl (refl, ap (λ (x : Reply × World). x.1.freezes) it.starts_is);
+  },
+)
+
+abbrev one_ended : ℕ → ℕ → List EndedCcb
+one_ended number code = record { number = number; code = code } ∷ []
+
+-- what each step does
+pub effect_of : (setup : Setup) (before : World) (event : Event) (reply : Reply) (after : World) → KeepsLimits setup before → Case setup before event reply after → Effect setup before event reply after
+effect_of setup before event reply after kept (refuses it) =
+    let none : finished_by before event reply ≡ [] = ap (finished_by before event) it.reply_is ∙ it.ends in
+    record {
+      ccbs = ccbs_stay (ap (λ (w : World). w.live) it.after_is) (ap (λ (w : World). w.greatest_ccb) it.after_is) none;
+      ended = none_ended before after event reply none (ap (λ (w : World). w.ended) it.after_is);
+      freezes = freezes_stay (ap (λ (w : World). w.freezes) it.after_is) (ap (λ (w : World). w.greatest_freeze) it.after_is);
+      runs = runs_stay (ap (λ (w : World). w.runs) it.after_is) (ap (λ (w : World). w.greatest_run) it.after_is) (ap tells_start it.reply_is);
+      openings = ap (λ (w : World). w.openings) it.after_is;
+      taken = λ run given. ap (taken_by run event) it.reply_is;
+      acts = idle_acts before event it.idle;
+    }
+effect_of setup before event reply after kept (submits it) =
+    let none : finished_by before event reply ≡ [] = ap (λ (x : Event). finished_by before x reply) it.event_is in
+    record {
+      ccbs = ccb_enters it.queue it.priority it.retries it.known it.room (ap (λ (w : World). w.live) it.after_is) (ap (λ (w : World). w.greatest_ccb) it.after_is) none;
+      ended = none_ended before after event reply none (ap (λ (w : World). w.ended) it.after_is);
+      freezes = freezes_stay (ap (λ (w : World). w.freezes) it.after_is) (ap (λ (w : World). w.greatest_freeze) it.after_is);
+      runs = runs_stay (ap (λ (w : World). w.runs) it.after_is) (ap (λ (w : World). w.greatest_run) it.after_is) (ap tells_start it.reply_is);
+      openings = ap (λ (w : World). w.openings) it.after_is;
+      taken = λ run given. ap (taken_by run event) it.reply_is;
+      acts = idle_acts before event (λ run. ap (instruction_of run) it.event_is);
+    }
+effect_of setup before event reply after kept (dispatches it) =
+    let none : finished_by before event reply ≡ [] = ap (λ (x : Event). finished_by before x reply) it.event_is in
+    let next = next_found it.queue before.live before.greatest_ccb it.next kept.ccbs.rising it.next_is in
+    record {
+      ccbs = ccb_changes it.next (record { ccb = started it.next.ccb; state = Active }) next.found refl
+          (inr (subst (λ (q : ℕ). active_count q before.live < slice_index before.openings q) (sym next.queue_is) it.opening))
+          (inl (idle_waits it.next.state next.waits)) (ap (λ (w : World). w.live) it.after_is) (ap (λ (w : World). w.greatest_ccb) it.after_is) none;
+      ended = none_ended before after event reply none (ap (λ (w : World). w.ended) it.after_is);
+      freezes = freezes_stay (ap (λ (w : World). w.freezes) it.after_is) (ap (λ (w : World). w.greatest_freeze) it.after_is);
+      runs = runs_stay (ap (λ (w : World). w.runs) it.after_is) (ap (λ (w : World). w.greatest_run) it.after_is) (ap tells_start it.reply_is);
+      openings = ap (λ (w : World). w.openings) it.after_is;
+      taken = λ run given. ap (taken_by run event) it.reply_is;
+      acts = idle_acts before event (λ run. ap (instruction_of run) it.event_is);
+    }
+effect_of setup before event reply after kept (finishes_one it) =
+    let named : it.live.ccb.number.0 ≡ it.outcome.ccb.0 = found_key ccb_key it.outcome.ccb.0 before.live it.live it.found in
+    let by : finished_by before event reply ≡ one_ended it.outcome.ccb.0 (code_of it.outcome.status) =
+    ap (λ (x : Event). finished_by before x reply) it.event_is ∙ ap (finished_by before (complete it.outcome)) it.reply_is in
+    let one : finished_by before event reply ≡ one_ended it.live.ccb.number.0 (code_of it.outcome.status) = by ∙ ap (λ (n : ℕ). one_ended n (code_of it.outcome.status)) (sym named) in
+    record {
+      ccbs = ccb_leaves it.live.ccb.number.0 (code_of it.outcome.status) it.live (ccb_found _ before.live it.live it.found) (inl (idle_works it.live.state it.is_active)) (ap (λ (w : World). w.live) it.after_is) (ap (λ (w : World). w.greatest_ccb) it.after_is) one;
+      ended = ap (λ (w : World). w.ended) it.after_is ∙ sym (ap (λ (l : List EndedCcb). before.ended ++ l) one);
+      freezes = freezes_stay (ap (λ (w : World). w.freezes) it.after_is) (ap (λ (w : World). w.greatest_freeze) it.after_is);
+      runs = runs_stay (ap (λ (w : World). w.runs) it.after_is) (ap (λ (w : World). w.greatest_run) it.after_is) (ap tells_start it.reply_is);
+      openings = ap (λ (w : World). w.openings) it.after_is;
+      taken = λ run given. ap (taken_by run event) it.reply_is;
+      acts = idle_acts before event (λ run. ap (instruction_of run) it.event_is);
+    }
+effect_of setup before event reply after kept (recovers_one it) =
+    let parts = pair_parts _ _ it.starts_is in
+    let begun = begins_frozen setup before event reply after it in
+    let known = known_queue setup before kept.ccbs _ it.fails.live it.fails.found in
+    let none : finished_by before event reply ≡ [] =
+    ap (λ (x : Event). finished_by before x reply) it.fails.event_is ∙ ap (finished_by before (complete it.fails.outcome)) parts.0 in
+    record {
+      ccbs = ccb_changes it.fails.live (record { ccb = completed it.fails.live.ccb it.fails.outcome true; state = InRecovery })
+          (ccb_found _ before.live it.fails.live it.fails.found) refl (inl refl) (inl (idle_works it.fails.live.state it.fails.is_active))
+          (ap (λ (w : World). w.live) parts.1) (ap (λ (w : World). w.greatest_ccb) parts.1) none;
+      ended = none_ended before after event reply none (ap (λ (w : World). w.ended) parts.1);
+      freezes = freeze_enters it.fails.live.ccb.queue.0 (Run (before.greatest_run + 1)) known it.free (ap (λ (w : World). w.freezes) parts.1) (ap (λ (w : World). w.greatest_freeze) parts.1) (comes_begun setup before event reply after begun.0 kept.runs begun.1);
+      runs = run_enters begun.0 begun.1 (known_begun setup before event reply after begun.0 kept.ccbs begun.1) it.fails.room (ap (λ (w : World). w.greatest_run) parts.1);
+      openings = ap (λ (w : World). w.openings) parts.1;
+      taken = λ run given. ap (taken_by run event) parts.0 ∙ taken_begun run before.greatest_run (before.greatest_freeze + 1) event given;
+      acts = idle_acts before event (λ run. ap (instruction_of run) it.fails.event_is);
+    }
+effect_of setup before event reply after kept (recovers_unfrozen it) =
+    let parts = pair_parts _ _ it.starts_is in
+    let begun = begins_unfrozen setup before event reply after it in
+    let known = known_queue setup before kept.ccbs _ it.fails.live it.fails.found in
+    let none : finished_by before event reply ≡ [] =
+    ap (λ (x : Event). finished_by before x reply) it.fails.event_is ∙ ap (finished_by before (complete it.fails.outcome)) parts.0 in
+    record {
+      ccbs = ccb_changes it.fails.live (record { ccb = completed it.fails.live.ccb it.fails.outcome false; state = InRecovery })
+          (ccb_found _ before.live it.fails.live it.fails.found) refl (inl refl) (inl (idle_works it.fails.live.state it.fails.is_active))
+          (ap (λ (w : World). w.live) parts.1) (ap (λ (w : World). w.greatest_ccb) parts.1) none;
+      ended = none_ended before after event reply none (ap (λ (w : World). w.ended) parts.1);
+      freezes = freezes_stay (ap (λ (w : World). w.freezes) parts.1) (ap (λ (w : World). w.greatest_freeze) parts.1);
+      runs = run_enters begun.0 begun.1 (known_begun setup before event reply after begun.0 kept.ccbs begun.1) it.fails.room (ap (λ (w : World). w.greatest_run) parts.1);
+      openings = ap (λ (w : World). w.openings) parts.1;
+      taken = λ run given. ap (taken_by run event) parts.0 ∙ taken_begun run before.greatest_run 0 event given;
+      acts = idle_acts before event (λ run. ap (instruction_of run) it.fails.event_is);
+    }
+effect_of setup before event reply after kept (freezes_one it) =
+    let none : finished_by before event reply ≡ [] = ap (λ (x : Event). finished_by before x reply) it.event_is in
+    record {
+      ccbs = ccbs_stay (ap (λ (w : World). w.live) it.after_is) (ap (λ (w : World). w.greatest_ccb) it.after_is) none;
+      ended = none_ended before after event reply none (ap (λ (w : World). w.ended) it.after_is);
+      freezes = freeze_enters it.queue (Guest it.guest) it.known it.room (ap (λ (w : World). w.freezes) it.after_is) (ap (λ (w : World). w.greatest_freeze) it.after_is)
+          (record { whose = λ run its. absurd (let bad : false ≡ true = its in cc); live = λ run its. absurd (let bad : false ≡ true = its in cc) });
+      runs = runs_stay (ap (λ (w : World). w.runs) it.after_is) (ap (λ (w : World). w.greatest_run) it.after_is) (ap tells_start it.reply_is);
+      openings = ap (λ (w : World). w.openings) it.after_is;
+      taken = λ run given. ap (taken_by run event) it.reply_is;
+      acts = idle_acts before event (λ run. ap (instruction_of run) it.event_is);
+    }
+effect_of setup before event reply after kept (releases_one it) =
+    let none : finished_by before event reply ≡ [] = ap (λ (x : Event). finished_by before x reply) it.event_is in
+    record {
+      ccbs = ccbs_stay (ap (λ (w : World). w.live) it.after_is) (ap (λ (w : World). w.greatest_ccb) it.after_is) none;
+      ended = none_ended before after event reply none (ap (λ (w : World). w.ended) it.after_is);
+      freezes = freezes_leave (λ (f : Freeze). eqb f.number it.freeze.number) (ap (λ (w : World). w.freezes) it.after_is) (ap (λ (w : World). w.greatest_freeze) it.after_is)
+          (λ n f entry goes run its.
+          let same = same_entry before.freezes n it.number f it.freeze entry it.entry (eqb-true _ _ goes) in
+          let other : is_run run f.holder ≡ false = guest_is_none run f.holder (subst (λ (x : Freeze). is_guest x.holder ≡ true) (sym same) it.guests) in
+          absurd (let bad : false ≡ true = sym other ∙ its in cc));
+      runs = runs_stay (ap (λ (w : World). w.runs) it.after_is) (ap (λ (w : World). w.greatest_run) it.after_is) (ap tells_start it.reply_is);
+      openings = ap (λ (w : World). w.openings) it.after_is;
+      taken = λ run given. ap (taken_by run event) it.reply_is;
+      acts = idle_acts before event (λ run. ap (instruction_of run) it.event_is);
+    }
+effect_of setup before event reply after kept (goes_on_one it) =
+    let none : finished_by before event reply ≡ [] = ap (λ (x : Event). finished_by before x reply) it.it.event_is in
+    record {
+      ccbs = ccbs_stay (ap (λ (w : World). w.live) it.after_is) (ap (λ (w : World). w.greatest_ccb) it.after_is) none;
+      ended = none_ended before after event reply none (ap (λ (w : World). w.ended) it.after_is);
+      freezes = freezes_stay (ap (λ (w : World). w.freezes) it.after_is) (ap (λ (w : World). w.greatest_freeze) it.after_is);
+      runs = run_changes it.it.run it.machine (run_found _ before.runs it.it.run it.it.found) (ap (λ (w : World). w.runs) it.after_is) (ap (λ (w : World). w.greatest_run) it.after_is) (ap tells_start it.reply_is);
+      openings = ap (λ (w : World). w.openings) it.after_is;
+      taken = λ run given. ap (taken_by run event) it.reply_is;
+      acts = executes_acts before event _ it.it;
+    }
+effect_of setup before event reply after kept (gives_back it) =
+    let none : finished_by before event reply ≡ [] = ap (λ (x : Event). finished_by before x reply) it.it.event_is in
+    let parts = pair_parts _ _ it.answer in
+    record {
+      ccbs = ccbs_stay (ap (λ (w : World). w.live) parts.1) (ap (λ (w : World). w.greatest_ccb) parts.1) none;
+      ended = none_ended before after event reply none (ap (λ (w : World). w.ended) parts.1);
+      freezes = freezes_leave (λ (f : Freeze). eqb f.number it.freeze.number) (ap (λ (w : World). w.freezes) parts.1) (ap (λ (w : World). w.greatest_freeze) parts.1)
+          (λ n f entry goes run its.
+          let same = same_entry before.freezes n it.number f it.freeze entry it.entry (eqb-true _ _ goes) in
+          let held : is_run it.it.run.number f.holder ≡ true = subst (λ (x : Freeze). is_run it.it.run.number x.holder ≡ true) (sym same) it.held in
+          let one = one_run it.it.run.number run f.holder held its in
+          let bears = found_key run_key it.it.number before.runs it.it.run it.it.found in
+          subst (λ (k : ℕ). is_step_of k event ≡ true) (sym bears ∙ one) (is_its_step before event _ it.it));
+      runs = run_changes it.it.run _ (run_found _ before.runs it.it.run it.it.found) (ap (λ (w : World). w.runs) parts.1) (ap (λ (w : World). w.greatest_run) parts.1) (ap tells_start parts.0);
+      openings = ap (λ (w : World). w.openings) parts.1;
+      taken = λ run given. ap (taken_by run event) parts.0;
+      acts = executes_acts before event _ it.it;
+    }
+effect_of setup before event reply after kept (requeues_one it) =
+    let none : finished_by before event reply ≡ [] = ap (λ (x : Event). finished_by before x reply) it.it.event_is in
+    let parts = pair_parts _ _ it.answer in
+    record {
+      ccbs = ccb_changes it.live (record { ccb = requeued it.live.ccb it.retries; state = Waiting })
+          (ccb_found _ before.live it.live it.found) refl (inl refl)
+          (inr (record {
+            number = it.it.number;
+            run = it.it.run;
+            found = it.it.found;
+            its = is_its_step before event _ it.it;
+            ccb_is = found_key ccb_key it.it.run.ccb before.live it.live it.found;
+            fresh = it.fresh;
+          }))
+          (ap (λ (w : World). w.live) parts.1) (ap (λ (w : World). w.greatest_ccb) parts.1) none;
+      ended = none_ended before after event reply none (ap (λ (w : World). w.ended) parts.1);
+      freezes = freezes_stay (ap (λ (w : World). w.freezes) parts.1) (ap (λ (w : World). w.greatest_freeze) parts.1);
+      runs = run_changes it.it.run _ (run_found _ before.runs it.it.run it.it.found) (ap (λ (w : World). w.runs) parts.1) (ap (λ (w : World). w.greatest_run) parts.1) (ap tells_start parts.0);
+      openings = ap (λ (w : World). w.openings) parts.1;
+      taken = λ run given. ap (taken_by run event) parts.0;
+      acts = executes_acts before event _ it.it;
+    }
+effect_of setup before event reply after kept (exits it) =
+    let none : finished_by before event reply ≡ [] = ap (λ (x : Event). finished_by before x reply) it.it.event_is in
+    record {
+      ccbs = ccbs_stay (ap (λ (w : World). w.live) it.after_is) (ap (λ (w : World). w.greatest_ccb) it.after_is) none;
+      ended = none_ended before after event reply none (ap (λ (w : World). w.ended) it.after_is);
+      freezes = freezes_stay (ap (λ (w : World). w.freezes) it.after_is) (ap (λ (w : World). w.greatest_freeze) it.after_is);
+      runs = run_leaves it.it.run (run_found _ before.runs it.it.run it.it.found) (ap (λ (w : World). w.runs) it.after_is) (ap (λ (w : World). w.greatest_run) it.after_is) (ap tells_start it.reply_is);
+      openings = ap (λ (w : World). w.openings) it.after_is;
+      taken = λ run given. ap (taken_by run event) it.reply_is;
+      acts = executes_acts before event _ it.it;
+    }

@@ -56,7 +56,7 @@ fn test_file<W: Write>(
 ) -> Result<()> {
     for case in &reader::read(alloc, text)? {
         let came = running::run(alloc, case)?;
-        let passes = came.is(&case.wanted);
+        let passes = came.is_same(&case.wanted);
         if !passes {
             report::print(path, case, &came, out)?;
         }

@@ -12,7 +12,7 @@ pub struct Outcome {
 
 impl Outcome {
     /// Whether both show the same, byte for byte.
-    pub fn is(&self, other: &Outcome) -> bool
+    pub fn is_same(&self, other: &Outcome) -> bool
         ensures { IsTrue result ↔ ((self.now.out.items ≡ other.now.out.items)
             × (self.now.err.items ≡ other.now.err.items)
             × (self.now.status ≡ other.now.status)) }

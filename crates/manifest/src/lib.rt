@@ -2,7 +2,6 @@
 // manifest has to be, and on `programs` for what its programs are.
 #![tactic(auto)]
 
-
 mod code;
 mod form;
 mod names;

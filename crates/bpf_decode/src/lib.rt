@@ -11,6 +11,3 @@ pub mod laws;
 
 pub use decoder::{DecodeError, decode};
 pub use fault::{DecodeFault, InsnFault};
-
-#[cfg(test)]
-mod tests;

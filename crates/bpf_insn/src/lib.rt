@@ -11,6 +11,3 @@ pub use insn::{AluOp, Callee, Condition, Insn, Operand, Width};
 pub use program::{MAX_SLOTS, Program, ProgramBuilder, Slot};
 pub use reg::Reg;
 pub use target::jump_target;
-
-#[cfg(test)]
-mod tests;

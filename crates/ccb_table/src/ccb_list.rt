@@ -16,7 +16,7 @@ use std::alloc::{AllocError, Global};
 use std::marker::Model;
 
 /// How many CCBs are live at a time, in all queues.
-const MOST_CCBS: usize = 4096;
+const MAX_CCBS: usize = 4096;
 
 /// The live CCBs, the greatest number that was given, and how many are active. Contracts see the first two.
 #[derive(Drop)]
@@ -79,7 +79,7 @@ impl CcbList {
         ensures { IfOk result (λ list. list ≡ no_live) }
     {
         Ok(CcbList {
-            ccbs: Vec::with_capacity(alloc, MOST_CCBS)?,
+            ccbs: Vec::with_capacity(alloc, MAX_CCBS)?,
             greatest: 0,
             active: 0,
         })
@@ -89,7 +89,7 @@ impl CcbList {
     pub(crate) fn is_full(&self) -> bool
         ensures { result ≡ is_full self.now }
     {
-        self.ccbs.len() >= MOST_CCBS || self.greatest == u32::MAX
+        self.ccbs.len() >= MAX_CCBS || self.greatest == u32::MAX
     }
 
     /// The greatest number that was given, 0 before the first.

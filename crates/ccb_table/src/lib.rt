@@ -9,6 +9,3 @@ mod queue_list;
 
 pub use ccb_table::CcbTable;
 pub use live_ccb::LiveCcb;
-
-#[cfg(test)]
-mod tests;

@@ -2,8 +2,8 @@
 use Rattle.std.specs.Prelude.{ℕ}
 use Rattle.commands.specs.declared.fault.Fault.{Fault}
 use Rattle.commands.specs.declared.fault.Fault.TheVariants as fault
-use Rattle.commands.specs.declared.host.RunFault.{RunFault}
-use Rattle.commands.specs.declared.host.RunFault.TheVariants as run
+use Rattle.scenario_host.specs.declared.host.RunFault.{RunFault}
+use Rattle.scenario_host.specs.declared.host.RunFault.TheVariants as run
 use Rattle.manifest.specs.declared.ManifestFault.{ManifestFault}
 use Rattle.or_memory.specs.declared.OrMemory.{OrMemory}
 use Rattle.or_memory.specs.declared.OrMemory.TheVariants as part

@@ -1,18 +1,18 @@
 // A plan, carried out over the bytes of its files. It relies on the crates that read a manifest and a scenario,
-// on `host`, and on `printer` and `verdicts` for what goes out.
+// on `scenario_host`, and on `trace` and `verdicts` for what goes out.
 
 ghost use Rattle.std.specs.Prelude.{◌≡◌, ◌≤◌, Contains, IsErrAnd, IsUtf8, MatchResult, length};
 ghost use Rattle.command_line.specs.Inputs.{input_paths};
 ghost use Rattle.commands.specs.Fault.{status_of};
 
 use crate::fault::Fault;
-use crate::{host, printer, verdicts};
+use crate::verdicts;
 use command_line::Plan;
-use engine_core::Trace;
 use manifest::Manifest;
 use std::alloc::Global;
 use std::io;
 use std::io::Write;
+use world::Trace;
 
 /// Carries a plan out over the bytes of its input files, in the order of the line, and answers the status:
 /// 0 done; 1 refused; 2 for a file that is not UTF-8, for want of memory, or where a writer fails. What is to
@@ -40,7 +40,7 @@ pub fn carry<W: Write, E: Write>(
             let manifest = (manifest.as_str(), inputs[0].as_slice());
             let scenario = (scenario.as_str(), inputs[1].as_slice());
             match run(alloc, manifest, scenario) {
-                Ok(trace) => status(printer::print(&trace, out)),
+                Ok(trace) => status(trace::print(&trace, out)),
                 Err(fault) => fault.report(err),
             }
         }
@@ -77,7 +77,7 @@ fn run<'a>(
     let scenario = text(scenario)?;
     let manifest = manifest::read(alloc, manifest)?;
     let steps = scenario::read(alloc, scenario)?;
-    Ok(host::run(alloc, manifest.config, &steps)?)
+    Ok(scenario_host::run(alloc, manifest.config, &steps)?)
 }
 
 fn text<'a, 'b>(file: (&'a str, &'b [u8])) -> Result<&'b str, Fault<'a>>

@@ -3,10 +3,10 @@
 ghost use Rattle.std.specs.Prelude.{◌≡◌, ◌≤◌, ◌⊎◌};
 ghost use Rattle.commands.specs.Fault.{fault_of_manifest, fault_of_run, fault_of_scenario, status_of};
 
-use crate::host::RunFault;
 use manifest::{ManifestError, ManifestFault};
 use or_memory::OrMemory;
 use scenario::{FaultyLine, ScenarioError};
+use scenario_host::RunFault;
 use std::io::Write;
 use thiserror::Error;
 

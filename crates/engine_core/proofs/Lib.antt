@@ -7,4 +7,3 @@ pub mod Deciding
 pub mod OneMore
 pub mod StopEnds
 pub mod Going
-pub mod Setups

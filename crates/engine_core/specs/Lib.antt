@@ -7,7 +7,6 @@ pub use Rattle.world.specs.Headline
 pub use Rattle.world.specs.Limits
 pub use Rattle.world.specs.FreezeLaws
 pub use Rattle.world.specs.CcbLaws
-pub mod Configured
 pub mod EngineState
 pub mod Invariant
 pub mod Faults

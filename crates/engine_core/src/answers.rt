@@ -3,7 +3,7 @@
 use crate::run::Run;
 use std::alloc::AllocError;
 use thiserror::Error;
-use world::{Record, Refusal, Totals};
+use world::Refusal;
 
 /// Why a call was not carried out.
 #[derive(Clone, Copy, Debug, PartialEq, Eq, Error)]
@@ -64,11 +64,4 @@ pub enum AdvanceAnswer {
     Goes(Run, u64),
     /// The run exited.
     Ended(u64),
-}
-
-/// A whole history with its sums.
-#[derive(Debug, Drop)]
-pub struct Trace {
-    pub records: Vec<Record>,
-    pub totals: Totals,
 }

@@ -11,10 +11,10 @@ ghost use Rattle.world.specs.CcbSteps.{is_success, run_meets_limit, recovers, st
 ghost use Rattle.engine_core.specs.Courses.{takes, IsActive, IsOpen};
 ghost use Rattle.engine_core.specs.RunState.{IsOutUnder};
 
-use crate::config::Config;
 use crate::run::Run;
 use ccb::{CamStatus, Ccb, Completion};
 use ccb_table::CcbTable;
+use engine_config::Config;
 use recoveries::Recoveries;
 use std::alloc::AllocError;
 use std::sync::Arc;

@@ -14,19 +14,19 @@ ghost use Rattle.engine_core.specs.EngineState.{EngineState, opened, IsRun, Reco
 ghost use Rattle.engine_core.specs.Answers.{completed_of, StartsOut, stopped_at, r0_of, GoesOrEnds};
 ghost use Rattle.engine_core.specs.Faults.{FaultIs, HoldsUnlessTold, AdmitsUnlessTold};
 
-use crate::answers::{AdvanceAnswer, AdvanceFault, CallFault, CompleteAnswer, ReleaseFault, Trace};
-use crate::config::Config;
+use crate::answers::{AdvanceAnswer, AdvanceFault, CallFault, CompleteAnswer, ReleaseFault};
 use crate::course::{Course, decide, recover};
 use crate::run::Run;
 use crate::taking_over::take_over;
 use ccb::{CcbId, Completion, QueueId};
 use ccb_table::CcbTable;
+use engine_config::Config;
 use freeze_ledger::FreezeToken;
 use interpreter::Segment;
 use recoveries::Recoveries;
 use std::alloc::{AllocError, Global};
 use std::marker::Model;
-use world::{Completed, Record, Refusal, StoppedAt, Totals};
+use world::{Completed, Record, Refusal, StoppedAt, Totals, Trace};
 
 /// Device queues with their CCBs, freezes and recovery runs, and the whole history of the calls made on them.
 /// Contracts see the setup, the history and the world that it leads to.

@@ -4,17 +4,14 @@
 #![tactic(auto)]
 
 mod answers;
-mod config;
 mod course;
 mod engine;
 pub mod laws;
 mod run;
 mod taking_over;
-#[cfg(test)]
-mod tests;
 
-pub use answers::{AdvanceAnswer, AdvanceFault, CallFault, CompleteAnswer, ReleaseFault, Trace};
-pub use config::Config;
+pub use answers::{AdvanceAnswer, AdvanceFault, CallFault, CompleteAnswer, ReleaseFault};
 pub use engine::Engine;
+pub use engine_config::Config;
 pub use run::Run;
-pub use world::{Completed, Record, Refusal, StoppedAt, Totals};
+pub use world::{Completed, Record, Refusal, StoppedAt, Totals, Trace};

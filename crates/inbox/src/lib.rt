@@ -11,6 +11,3 @@ mod rule;
 pub use closing::{CloseFault, Unclosed};
 pub use inbox::{Inbox, MAX_CAPACITY, MAX_PASSES};
 pub use passes::{PutPass, TakePass};
-
-#[cfg(test)]
-mod tests;

@@ -1,20 +1,14 @@
 // The form of a manifest: its keys, their types, ranges, and how many there are of each. It relies on `code`
-// for the form of a program's text.
+// for the form of a program's text, and on `engine_config` for the limits.
 
 ghost use Rattle.std.specs.Prelude.{◌≤◌, IfSome};
 
 use super::{ManifestFault, code, elements, text_of};
+use engine_config::{MAX_QUEUES, MAX_TABLES, MAX_WORDS};
 use toml::{Table, Value};
 
-/// How many device queues there may be, and how many programs.
-const QUEUES: usize = 64;
-
-const PROGRAMS: usize = 64;
-
-/// How many tables of words there may be, and how many words each may have.
-const TABLES: usize = 16;
-
-const WORDS: u16 = 4096;
+/// How many programs there may be.
+const MAX_PROGRAMS: usize = 64;
 
 /// The lowest of M2 to M5 that holds.
 pub fn fault_of(manifest: &Table) -> Option<ManifestFault> {
@@ -90,9 +84,9 @@ fn is_in_range(manifest: &Table) -> bool {
 fn has_lawful_numbers(manifest: &Table) -> bool {
     let queues = elements(manifest, "queue").len();
     let programs = elements(manifest, "program").len();
-    (1..=QUEUES).contains(&queues)
-        && (1..=PROGRAMS).contains(&programs)
-        && elements(manifest, "table").len() <= TABLES
+    (1..=MAX_QUEUES).contains(&queues)
+        && (1..=MAX_PROGRAMS).contains(&programs)
+        && elements(manifest, "table").len() <= MAX_TABLES
 }
 
 fn integer_of(table: &Value, key: &str) -> Option<i64> {
@@ -114,7 +108,7 @@ pub fn length_of(table: &Value) -> Option<u16>
     ensures { IfSome result (λ length. (1 ≤ length) × (length ≤ 4096)) }
 {
     match u16::try_from(integer_of(table, "length")?) {
-        Ok(length) if 0 < length && length <= WORDS => Some(length),
+        Ok(length) if 0 < length && length <= MAX_WORDS => Some(length),
         _ => None,
     }
 }

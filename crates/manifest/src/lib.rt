@@ -8,7 +8,7 @@ mod names;
 mod programs;
 
 use bpf_decode::DecodeFault;
-use engine_core::Config;
+use engine_config::Config;
 use helpers::{HelperLimits, TableLengths};
 use or_memory::OrMemory;
 pub use programs::NamedProgram;

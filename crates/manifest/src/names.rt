@@ -4,7 +4,7 @@ use super::{elements, text_of};
 use toml::{Table, Value};
 
 /// How many characters a name may have.
-const CHARACTERS: usize = 32;
+const MAX_CHARACTERS: usize = 32;
 
 /// Whether each program has a name of the form, no two have the same, and each queue's program is one of them.
 pub fn are_lawful(manifest: &Table) -> bool {
@@ -23,7 +23,7 @@ fn has_name(program: &Value) -> bool {
 
 // A name has 1 to 32 of the characters a to z, 0 to 9, `_` and `-`.
 fn is_name(name: &str) -> bool {
-    !name.is_empty() && name.len() <= CHARACTERS && name.bytes().all(is_of_names)
+    !name.is_empty() && name.len() <= MAX_CHARACTERS && name.bytes().all(is_of_names)
 }
 
 fn is_of_names(byte: u8) -> bool {

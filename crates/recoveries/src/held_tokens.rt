@@ -1,19 +1,17 @@
 // The rights of one run to give its freezes back: a list of at most eight, which takes no memory. It relies on
-// `freeze_ledger` for tokens and on `arrayvec` for the list.
+// `freeze_ledger` for tokens, on `bpf_machine` for how many there may be, and on `arrayvec` for the list.
 
 ghost use Rattle.std.specs.Prelude.{◌≡◌, ℕ, ◌<◌, ◌≢◌, length, Some, None, IfSome, IfNone, slice_index_or};
 ghost use Rattle.std.specs.Option.{option_to_list};
 ghost use Rattle.recoveries.specs.RecoveryState.{told, tokens_of};
 
 use arrayvec::ArrayVec;
+use bpf_machine::MAX_HELD;
 use freeze_ledger::FreezeToken;
 use std::marker::Model;
 
-/// How many freezes a run holds at most.
-const MOST_HELD: usize = 8;
-
 /// The tokens of a run, in the order of their numbers. Each place that is used has one.
-pub(crate) type HeldTokens = ArrayVec<Option<HeldToken>, MOST_HELD>;
+pub(crate) type HeldTokens = ArrayVec<Option<HeldToken>, MAX_HELD>;
 
 /// The right of a run to give a freeze back. Where it is dropped, as with its engine, the freeze is forfeited.
 pub(crate) struct HeldToken(FreezeToken);

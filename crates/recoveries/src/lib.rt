@@ -10,6 +10,3 @@ mod started;
 
 pub use recoveries::Recoveries;
 pub use started::Started;
-
-#[cfg(test)]
-mod tests;

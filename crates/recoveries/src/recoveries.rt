@@ -40,7 +40,7 @@ use verifier::Accepted;
 use world::Refusal;
 
 /// How many runs can be live at a time.
-const MOST_RUNS: usize = 256;
+const MAX_RUNS: usize = 256;
 
 /// The freezes of a fixed number of device queues, and the live runs with what they hold of them. Contracts see the
 /// freezes and the runs, each in the order of their numbers, and the greatest numbers given so far.
@@ -90,7 +90,7 @@ impl Recoveries {
     {
         Ok(Recoveries {
             ledger: Ledger::with_room(alloc, queues)?,
-            runs: Vec::with_capacity(alloc, MOST_RUNS)?,
+            runs: Vec::with_capacity(alloc, MAX_RUNS)?,
             greatest_run: 0,
         })
     }
@@ -155,7 +155,7 @@ impl Recoveries {
     pub fn is_full(&self) -> bool
         ensures { (world : World) → result ≡ run_meets_limit (with_recoveries self.now world) }
     {
-        self.runs.len() >= MOST_RUNS || self.greatest_run >= u32::MAX
+        self.runs.len() >= MAX_RUNS || self.greatest_run >= u32::MAX
     }
 
     /// Starts a run of a program for a CCB whose completion failed, under the number after the greatest given. A freeze

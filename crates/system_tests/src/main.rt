@@ -1,18 +1,12 @@
 // The tests of the whole program, as data: it reads the cases of the files that its words name, carries each out
-// as `camr` would, and prints each case that comes out otherwise, and how many passed. It relies on `command_line`
-// and `commands`, which are all of `camr` but its files. How a case is written stands in data/README.
+// as `camr` would, and prints each case that comes out otherwise, and how many passed. It relies on `test_cases` for
+// cases, and on `command_line` and `commands`, which are all of `camr` but its files. How a case is written stands in
+// data/README.
 #![tactic(auto)]
 
-mod case;
-mod draft;
-mod escapes;
-mod fault;
-mod outcome;
-mod reader;
 mod report;
 mod running;
 mod tally;
-mod text;
 
 use anyhow::{Context, Result};
 use std::alloc::Global;
@@ -54,7 +48,7 @@ fn test_file<W: Write>(
     tally: &mut Tally,
     out: &mut W,
 ) -> Result<()> {
-    for case in &reader::read(alloc, text)? {
+    for case in &test_cases::read(alloc, text)? {
         let came = running::run(alloc, case)?;
         let passes = came.is_same(&case.wanted);
         if !passes {

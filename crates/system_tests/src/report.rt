@@ -1,10 +1,9 @@
 // Prints how a case came out otherwise: for each output the first line that differs, and the status. It relies on
-// `case` and `outcome`.
+// `test_cases`.
 
-use crate::case::Case;
-use crate::outcome::Outcome;
 use std::io;
 use std::io::Write;
+use test_cases::{Case, Outcome};
 
 /// Writes the case's name and place, and what differs.
 pub fn print<W: Write>(path: &str, case: &Case<'_>, came: &Outcome, out: &mut W) -> io::Result<()> {

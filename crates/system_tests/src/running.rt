@@ -3,11 +3,10 @@
 ghost use Rattle.std.specs.Prelude.{◌≡◌, IfOk, length};
 ghost use Rattle.command_line.specs.Inputs.{input_paths};
 
-use crate::case::Case;
-use crate::outcome::Outcome;
 use command_line::{Plan, not_utf8, plan};
 use commands::{Fault, carry, report_usage};
 use std::alloc::{AllocError, Global};
+use test_cases::{Case, Outcome};
 
 /// What the case's words show over its files. A file that it does not have is one that cannot be read.
 pub fn run(alloc: Global, case: &Case<'_>) -> Result<Outcome, AllocError> {

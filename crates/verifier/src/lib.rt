@@ -15,6 +15,3 @@ mod verification;
 pub use accepted::Accepted;
 pub use refusal::{Cause, Refusal, VerifyError};
 pub use verification::verify;
-
-#[cfg(test)]
-mod tests;

@@ -7,8 +7,10 @@ mod ccb_state;
 mod record;
 mod refusal;
 mod totals;
+mod trace;
 
 pub use ccb_state::CcbState;
 pub use record::{Completed, Record, StoppedAt};
 pub use refusal::Refusal;
 pub use totals::Totals;
+pub use trace::Trace;

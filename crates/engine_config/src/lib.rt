@@ -1,0 +1,7 @@
+// What an engine is opened with: the limits of the helper calls, and the device queues with their openings and their
+// accepted programs. It relies on `verifier` for these and on `world` for what a setup is.
+#![tactic(auto)]
+
+mod config;
+
+pub use config::{Config, MAX_QUEUES, MAX_TABLES, MAX_WORDS};

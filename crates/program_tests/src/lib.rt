@@ -1,0 +1,6 @@
+// The tests of the program that no command shows, apart from it, so that it is proved once. It relies on `commands`
+// and on `trace`.
+#![tactic(auto)]
+
+#[cfg(test)]
+mod tests;

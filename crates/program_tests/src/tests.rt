@@ -1,0 +1,172 @@
+// What no command shows: writers that fail, memory that is refused, and records that no scenario makes yet.
+// Expected texts are worked out by hand.
+
+use ccb::{CamStatus, CcbId, Completion};
+use command_line::Plan;
+use commands::carry;
+use std::alloc::{AllocError, Global};
+use std::io;
+use std::io::Write;
+use std::test::Fail;
+use trace::print;
+use world::{Completed, Record, StoppedAt, Totals, Trace};
+
+// The two paths have 5 and 7 instructions: jeq r2, 0, +2; mov64 r1, r2; call 2; mov64 r1, 1; call 4;
+// mov64 r0, 0; exit.
+const MANIFEST: &str = "version = 1\n[[queue]]\nopenings = 2\nprogram = \"p1\"\n\
+    [[program]]\nname = \"p1\"\ncode = \"\"\"\n\
+    15 02 02 00 00 00 00 00\n\
+    bf 21 00 00 00 00 00 00\n\
+    85 00 00 00 02 00 00 00\n\
+    b7 01 00 00 01 00 00 00\n\
+    85 00 00 00 04 00 00 00\n\
+    b7 00 00 00 00 00 00 00\n\
+    95 00 00 00 00 00 00 00\n\
+    \"\"\"\n";
+
+const SCENARIO: &str = "submit 0 10 3\ndispatch 0\ngfreeze 0 7\ngrelease 1\ncomplete 1 0b 00 -\n";
+
+const TRACE: &str = "camr-trace 1\nsubmit 0 10 3 = ccb 1\ndispatch 0 = ccb 1\n\
+    gfreeze 0 7 = freeze 1\ngrelease 1 = 0\ncomplete 1 0b 00 - = run 1 freeze 2\n\
+    advance 1 3 helper 2 = 0\nadvance 1 2 helper 4 = 0\nadvance 1 2 exit = 0\nend 8 0 0 0\n";
+
+// Takes so many bytes, and then fails.
+#[derive(Drop)]
+struct Failing {
+    taken: Vec<u8>,
+    room: usize,
+}
+
+impl Write for Failing {
+    fn write(&mut self, buf: &[u8]) -> io::Result<usize> {
+        let count = buf.len().min(self.room.saturating_sub(self.taken.len()));
+        if count == 0 {
+            return Err(io::Error::from(io::ErrorKind::BrokenPipe));
+        }
+        self.taken.extend_from_slice(&buf[..count])?;
+        Ok(count)
+    }
+
+    fn flush(&mut self) -> io::Result<()> {
+        Ok(())
+    }
+}
+
+fn with_room(alloc: Global, room: usize) -> Failing {
+    Failing {
+        taken: Vec::new(alloc),
+        room,
+    }
+}
+
+// The status of a run of a scenario over the manifest.
+fn run<W: Write, E: Write>(
+    alloc: Global,
+    scenario: &str,
+    out: &mut W,
+    err: &mut E,
+) -> Result<u8, AllocError> {
+    let plan = Plan::Run(
+        1,
+        String::from_str(alloc, "m.toml")?,
+        String::from_str(alloc, "s.txt")?,
+    );
+    let inputs = vec![in alloc;
+        MANIFEST.as_bytes().to_vec(alloc)?,
+        scenario.as_bytes().to_vec(alloc)?,
+    ]?;
+    Ok(if inputs.len() == 2 {
+        carry(alloc, &plan, &inputs, out, err)
+    } else {
+        2
+    })
+}
+
+// A writer that fails at any byte of the trace is status 2 without a line, and what went out is a beginning
+// of the trace.
+#[test]
+fn writers_that_fail(rt: HostRuntime) -> Result<(), Fail> {
+    let alloc = rt.alloc();
+    for room in 0..TRACE.len() {
+        let mut out = with_room(alloc, room);
+        let mut err = Vec::new(alloc);
+        let status = run(alloc, SCENARIO, &mut out, &mut err)?;
+        assert_eq!(rt; status, 2, "{room} bytes");
+        assert_eq!(rt; out.taken.len(), room, "{room} bytes");
+        assert!(rt; TRACE.as_bytes().starts_with(&out.taken), "{room} bytes");
+        assert_eq!(rt; err.len(), 0, "{room} bytes");
+    }
+    Ok(())
+}
+
+// A refusal whose line cannot be written is status 2.
+#[test]
+fn line_that_cannot_be_written(rt: HostRuntime) -> Result<(), Fail> {
+    let alloc = rt.alloc();
+    let mut out = Vec::new(alloc);
+    let mut err = with_room(alloc, 6);
+    let status = run(alloc, "thaw 1\n", &mut out, &mut err)?;
+    assert_eq!(rt; status, 2);
+    assert_eq!(rt; out.len(), 0);
+    Ok(())
+}
+
+// Where the run is refused memory it says so and nothing goes out; where the writer is, what went out is a
+// beginning of the trace. In both the status is 2, and the same run again succeeds. Which allocation is refused
+// is set from outside, by `rt try --test --fail-alloc N`.
+#[test]
+fn memory_refused_once(rt: HostRuntime) -> Result<(), Fail> {
+    let alloc = rt.alloc();
+    let mut out = Vec::new(alloc);
+    let mut err = Vec::new(alloc);
+    if let Ok(status) = run(alloc, SCENARIO, &mut out, &mut err)
+        && status != 0
+    {
+        assert_eq!(rt; status, 2);
+        if err.is_empty() {
+            assert!(rt; TRACE.as_bytes().starts_with(&out));
+        } else {
+            assert_eq!(rt; err.as_slice(), "camr: out of memory\n".as_bytes());
+            assert_eq!(rt; out.len(), 0);
+        }
+    }
+    let mut again = Vec::new(alloc);
+    let mut none = Vec::new(alloc);
+    let status = run(alloc, SCENARIO, &mut again, &mut none)?;
+    assert_eq!(rt; status, 0);
+    assert_eq!(rt; again.as_slice(), TRACE.as_bytes());
+    assert_eq!(rt; none.len(), 0);
+    Ok(())
+}
+
+// Sense bytes, and the greatest numbers.
+#[test]
+fn records_of_no_scenario(rt: HostRuntime) -> Result<(), Fail> {
+    let alloc = rt.alloc();
+    let sense = [0x70, 0, 6, 10];
+    let completion = Completion::new(CcbId(1), CamStatus::ScsiStatusError, 2, &sense);
+    let completion = completion.ok_or("no completion")?;
+    let started = Record::Complete {
+        completion,
+        answer: Ok(Completed::Started { run: 1, freeze: 1 }),
+    };
+    let ended = Record::Advance {
+        run: 4294967295,
+        instructions: 65536,
+        stop: StoppedAt::Exit,
+        r0: 18446744073709551615,
+    };
+    let records = vec![in alloc; started, ended]?;
+    let totals = Totals {
+        history: 2,
+        frozen: 1024,
+        active: 4096,
+        runs: 256,
+    };
+    let mut out = Vec::new(alloc);
+    print(&Trace { records, totals }, &mut out)?;
+    let text = "camr-trace 1\ncomplete 1 0c 02 7000060a = run 1 freeze 1\n\
+        advance 4294967295 65536 exit = 18446744073709551615\nend 2 1024 4096 256\n";
+    assert_eq!(rt; out.as_slice(), text.as_bytes());
+    Ok(())
+}

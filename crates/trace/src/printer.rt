@@ -1,0 +1,105 @@
+// The trace as text, version 1: a header, a line a record, and the sums. It relies on `world`.
+
+use ccb::{CcbId, Completion};
+use std::io;
+use std::io::Write;
+use world::{Completed, Record, Refusal, StoppedAt, Trace};
+
+/// Writes the whole trace.
+pub fn print<W: Write>(trace: &Trace, out: &mut W) -> io::Result<()> {
+    writeln!(out, "camr-trace 1")?;
+    for record in &trace.records {
+        print_record(record, out)?;
+    }
+    let totals = trace.totals;
+    writeln!(
+        out,
+        "end {} {} {} {}",
+        totals.history, totals.frozen, totals.active, totals.runs
+    )
+}
+
+fn print_record<W: Write>(record: &Record, out: &mut W) -> io::Result<()> {
+    match *record {
+        Record::Submit {
+            queue,
+            priority,
+            retries,
+            answer,
+        } => {
+            write!(out, "submit {} {priority} {retries} = ", queue.0)?;
+            print_ccb(answer, out)
+        }
+        Record::Dispatch { queue, answer } => {
+            write!(out, "dispatch {} = ", queue.0)?;
+            print_ccb(answer, out)
+        }
+        Record::Complete { completion, answer } => {
+            print_completion(&completion, out)?;
+            print_completed(answer, out)
+        }
+        Record::Advance {
+            run,
+            instructions,
+            stop,
+            r0,
+        } => {
+            let stop = match stop {
+                StoppedAt::Release => "helper 2",
+                StoppedAt::Requeue => "helper 4",
+                StoppedAt::Exit => "exit",
+            };
+            writeln!(out, "advance {run} {instructions} {stop} = {r0}")
+        }
+        Record::GuestFreeze {
+            queue,
+            guest,
+            answer,
+        } => {
+            write!(out, "gfreeze {} {guest} = ", queue.0)?;
+            print_freeze(answer, out)
+        }
+        Record::GuestRelease { freeze, count } => writeln!(out, "grelease {freeze} = {count}"),
+    }
+}
+
+fn print_ccb<W: Write>(answer: Result<CcbId, Refusal>, out: &mut W) -> io::Result<()> {
+    match answer {
+        Ok(ccb) => writeln!(out, "ccb {}", ccb.0),
+        Err(refusal) => writeln!(out, "{refusal}"),
+    }
+}
+
+fn print_freeze<W: Write>(answer: Result<u32, Refusal>, out: &mut W) -> io::Result<()> {
+    match answer {
+        Ok(freeze) => writeln!(out, "freeze {freeze}"),
+        Err(refusal) => writeln!(out, "{refusal}"),
+    }
+}
+
+fn print_completed<W: Write>(answer: Result<Completed, Refusal>, out: &mut W) -> io::Result<()> {
+    match answer {
+        Ok(Completed::Done) => writeln!(out, "done"),
+        Ok(Completed::Started { run, freeze }) => writeln!(out, "run {run} freeze {freeze}"),
+        Err(refusal) => writeln!(out, "{refusal}"),
+    }
+}
+
+// The status, the SCSI status and the sense bytes are pairs of hexadecimal digits, and no bytes are `-`.
+fn print_completion<W: Write>(completion: &Completion, out: &mut W) -> io::Result<()> {
+    let status = completion.status().code();
+    let scsi = completion.scsi();
+    write!(
+        out,
+        "complete {} {status:02x} {scsi:02x} ",
+        completion.ccb().0
+    )?;
+    let sense = completion.sense();
+    if sense.is_empty() {
+        write!(out, "-")?;
+    }
+    for byte in sense.as_slice() {
+        write!(out, "{byte:02x}")?;
+    }
+    write!(out, " = ")
+}

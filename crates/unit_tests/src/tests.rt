@@ -1,0 +1,12 @@
+// A module for what is tested, and the policies that they share.
+
+mod ccbs;
+mod decoding;
+mod engine;
+mod freezes;
+mod instructions;
+mod passes;
+mod policies;
+mod recovery;
+mod tables;
+mod verdicts;

@@ -1,0 +1,284 @@
+// Recoveries of failed CCBs, call by call, with ample memory and with one allocation refused. What each call answers
+// is worked out by hand.
+
+use super::engine::{QUEUE, one_queue, open, shut, totals};
+use ccb::{CamStatus, CcbId, Completion, QueueId};
+use engine_core::{
+    AdvanceAnswer, AdvanceFault, CallFault, CompleteAnswer, Completed, Engine, Record, Run,
+    StoppedAt,
+};
+use interpreter::{Segment, to_stop};
+use std::alloc::Global;
+use std::process::Abort;
+use std::sync::Arc;
+use std::test::Fail;
+
+fn completion(ccb: u32, status: CamStatus) -> Result<Completion, Fail> {
+    Ok(Completion::new(CcbId(ccb), status, 0, &[]).ok_or("no completion")?)
+}
+
+// The engine's calls as they are: their clauses stay here, so that the tests below are checked without them.
+
+fn submit_once(
+    engine: &mut Engine,
+    queue: QueueId,
+    priority: u32,
+    retries: u32,
+) -> Result<CcbId, CallFault> {
+    engine.submit(queue, priority, retries)
+}
+
+fn dispatch_once(engine: &mut Engine, queue: QueueId) -> Result<CcbId, CallFault> {
+    engine.dispatch(queue)
+}
+
+fn complete_once(
+    engine: &mut Engine,
+    completion: Completion,
+) -> Result<CompleteAnswer, (CallFault, Completion)> {
+    engine.complete(completion)
+}
+
+fn advance_once(
+    engine: &mut Engine,
+    run: Run,
+    segment: Segment,
+) -> Result<AdvanceAnswer, (AdvanceFault, Run, Segment)> {
+    engine.advance(run, segment)
+}
+
+// Where memory is refused the sums are as before, and the same call again succeeds.
+fn submit(rt: &impl Abort, engine: &mut Engine) -> Result<CcbId, CallFault> {
+    let before = totals(engine);
+    match submit_once(engine, QUEUE, 10, 3) {
+        Err(CallFault::OutOfMemory) => {
+            assert_eq!(rt; totals(engine), before);
+            submit_once(engine, QUEUE, 10, 3)
+        }
+        answer => answer,
+    }
+}
+
+fn dispatch(rt: &impl Abort, engine: &mut Engine) -> Result<CcbId, CallFault> {
+    let before = totals(engine);
+    match dispatch_once(engine, QUEUE) {
+        Err(CallFault::OutOfMemory) => {
+            assert_eq!(rt; totals(engine), before);
+            dispatch_once(engine, QUEUE)
+        }
+        answer => answer,
+    }
+}
+
+// The run that starts, with the number of its freeze.
+fn started(answer: Result<CompleteAnswer, (CallFault, Completion)>) -> Result<(Run, u32), Fail> {
+    match answer {
+        Ok(CompleteAnswer::Started(run, freeze)) => Ok((run, freeze)),
+        Ok(CompleteAnswer::Done) => Err(Fail::new("no run starts")),
+        Err((fault, _)) => Err(Fail::from(fault)),
+    }
+}
+
+// Where memory is refused the sums are as before and the completion comes back, and the same call again succeeds.
+fn fail(rt: &impl Abort, engine: &mut Engine, completion: Completion) -> Result<(Run, u32), Fail> {
+    let before = totals(engine);
+    match complete_once(engine, completion) {
+        Err((CallFault::OutOfMemory, back)) => {
+            assert_eq!(rt; totals(engine), before);
+            assert_eq!(rt; back, completion);
+            started(complete_once(engine, back))
+        }
+        answer => started(answer),
+    }
+}
+
+// What the run does next.
+fn next_segment(run: &Run) -> Result<Segment, Fail> {
+    Ok(to_stop(Arc::try_clone(run.program())?, run.machine()))
+}
+
+// The run with what it does next.
+fn with_segment(run: Run) -> Result<(Run, Segment), Fail> {
+    match next_segment(&run) {
+        Ok(segment) => Ok((run, segment)),
+        Err(fault) => {
+            run.forfeit();
+            Err(fault)
+        }
+    }
+}
+
+fn taken_over(
+    answer: Result<AdvanceAnswer, (AdvanceFault, Run, Segment)>,
+) -> Result<AdvanceAnswer, Fail> {
+    match answer {
+        Ok(answer) => Ok(answer),
+        Err((fault, run, _)) => {
+            run.forfeit();
+            Err(Fail::from(fault))
+        }
+    }
+}
+
+// Where memory is refused the sums are as before, the run and its segment come back, and the same call again
+// succeeds.
+fn advance(rt: &impl Abort, engine: &mut Engine, run: Run) -> Result<AdvanceAnswer, Fail> {
+    let (run, segment) = with_segment(run)?;
+    let before = totals(engine);
+    let number = run.number();
+    let steps = segment.steps();
+    match advance_once(engine, run, segment) {
+        Err((AdvanceFault::OutOfMemory, run, segment)) => {
+            assert_eq!(rt; totals(engine), before);
+            assert_eq!(rt; run.number(), number);
+            assert_eq!(rt; segment.steps(), steps);
+            taken_over(advance_once(engine, run, segment))
+        }
+        answer => taken_over(answer),
+    }
+}
+
+// The run comes back: the engine has no such run at such a place.
+fn refused(engine: &mut Engine, run: Run, segment: Segment) -> Result<Run, Fail> {
+    match advance_once(engine, run, segment) {
+        Err((AdvanceFault::NotOut, run, _)) => Ok(run),
+        answer => {
+            taken_over(answer).map(end)?;
+            Err(Fail::new("it is taken over"))
+        }
+    }
+}
+
+// Nobody drives it any more.
+fn end(answer: AdvanceAnswer) {
+    match answer {
+        AdvanceAnswer::Goes(run, _) => run.forfeit(),
+        AdvanceAnswer::Ended(_) => {}
+    }
+}
+
+fn going_on(answer: AdvanceAnswer) -> Result<Run, Fail> {
+    match answer {
+        AdvanceAnswer::Goes(run, _) => Ok(run),
+        AdvanceAnswer::Ended(_) => Err(Fail::new("it ended")),
+    }
+}
+
+// CCB 1 is active.
+fn begin(rt: &impl Abort, engine: &mut Engine) -> Result<(), CallFault> {
+    submit(rt, engine)?;
+    dispatch(rt, engine)?;
+    Ok(())
+}
+
+// Drives a run of the two-path program to its end.
+fn drive(rt: &impl Abort, engine: &mut Engine, run: Run) -> Result<u64, Fail> {
+    let mut run = run;
+    for _ in 0..3 {
+        match advance(rt, engine, run)? {
+            AdvanceAnswer::Goes(next, _) => run = next,
+            AdvanceAnswer::Ended(r0) => return Ok(r0),
+        }
+    }
+    run.forfeit();
+    Err(Fail::new("a fourth segment"))
+}
+
+const fn advanced(instructions: u32, stop: StoppedAt) -> Record {
+    Record::Advance {
+        run: 1,
+        instructions,
+        stop,
+        r0: 0,
+    }
+}
+
+fn recover_once(rt: &impl Abort, engine: &mut Engine) -> Result<(), Fail> {
+    begin(rt, engine)?;
+    let (run, freeze) = fail(rt, engine, completion(1, CamStatus::CommandTimeout)?)?;
+    let sums = totals(engine);
+    let r0 = drive(rt, engine, run)?;
+    assert_eq!(rt; (freeze, r0), (1, 0));
+    assert_eq!(rt;
+        (sums.history, sums.frozen, sums.active, sums.runs),
+        (3, 1, 0, 1)
+    );
+    Ok(())
+}
+
+#[test]
+fn failed_once_and_memory_refused_once(rt: HostRuntime) -> Result<(), Fail> {
+    let mut engine = open(&rt, rt.alloc(), one_queue(rt.alloc())?)?;
+    let outcome = recover_once(&rt, &mut engine);
+    let trace = shut(engine);
+    outcome?;
+    let records = [
+        Record::Submit {
+            queue: QUEUE,
+            priority: 10,
+            retries: 3,
+            answer: Ok(CcbId(1)),
+        },
+        Record::Dispatch {
+            queue: QUEUE,
+            answer: Ok(CcbId(1)),
+        },
+        Record::Complete {
+            completion: completion(1, CamStatus::CommandTimeout)?,
+            answer: Ok(Completed::Started { run: 1, freeze: 1 }),
+        },
+        advanced(3, StoppedAt::Release),
+        advanced(2, StoppedAt::Requeue),
+        advanced(2, StoppedAt::Exit),
+    ];
+    assert_eq!(rt; trace.records.as_slice(), records.as_slice());
+    assert_eq!(rt;
+        (trace.totals.frozen, trace.totals.active, trace.totals.runs),
+        (0, 0, 0)
+    );
+    Ok(())
+}
+
+// C4 is no record, and the run comes back to where it is out.
+fn presented_elsewhere(
+    rt: &impl Abort,
+    first: &mut Engine,
+    second: &mut Engine,
+) -> Result<(), Fail> {
+    begin(rt, first)?;
+    let (run, _) = fail(rt, first, completion(1, CamStatus::CommandTimeout)?)?;
+    let (run, segment) = with_segment(run)?;
+    let run = refused(second, run, segment)?;
+    drive(rt, first, run)?;
+    assert_eq!(rt; (totals(first).history, totals(second).history), (6, 0));
+    Ok(())
+}
+
+#[test]
+fn run_of_another_engine(rt: HostRuntime) -> Result<(), Fail> {
+    let mut first = open(&rt, rt.alloc(), one_queue(rt.alloc())?)?;
+    let mut second = open(&rt, rt.alloc(), one_queue(rt.alloc())?)?;
+    let outcome = presented_elsewhere(&rt, &mut first, &mut second);
+    let _ = shut(first);
+    let _ = shut(second);
+    outcome
+}
+
+// A segment is taken over once: the second time it begins in a machine that is not the recorded one.
+fn presented_twice(rt: &impl Abort, engine: &mut Engine) -> Result<(), Fail> {
+    begin(rt, engine)?;
+    let (run, _) = fail(rt, engine, completion(1, CamStatus::CommandTimeout)?)?;
+    let (run, old) = with_segment(run)?;
+    let run = going_on(advance(rt, engine, run)?)?;
+    refused(engine, run, old)?.forfeit();
+    assert_eq!(rt; (totals(engine).history, totals(engine).runs), (4, 1));
+    Ok(())
+}
+
+#[test]
+fn same_segment_twice(rt: HostRuntime) -> Result<(), Fail> {
+    let mut engine = open(&rt, rt.alloc(), one_queue(rt.alloc())?)?;
+    let outcome = presented_twice(&rt, &mut engine);
+    let _ = shut(engine);
+    outcome
+}

@@ -1,16 +1,15 @@
-// The fields of a slot, and which of the faults of one instruction hold of them.
+// The fields of a slot, and which of the faults of one instruction hold of them. The tables of
+// opcodes are in `kind`. It relies on `byteorder` for little-endian words.
 
 ghost use Rattle.std.specs.Prelude.{◌≡◌, ◌≤◌, length};
 ghost use Rattle.bpf_decode.specs.Fields.{fields_of};
-ghost use Rattle.bpf_decode.specs.FieldTests.{is_outside_profile, is_known, has_unused_field, has_no_form, writes_frame_pointer};
+ghost use Rattle.bpf_decode.specs.FieldTests.{class_in, code_in, takes_register, is_division, is_register_move, is_sign_extension, is_outside_profile, has_no_form, writes_frame_pointer};
+ghost use Rattle.bpf_decode.specs.Kinds.{has_other_operand, has_needless_offset};
 
 use byteorder::{ByteOrder, LittleEndian};
 
 /// How many bytes a slot has (RFC 9669, section 3.1).
 pub const SLOT_BYTES: usize = 8;
-
-/// `if dst == imm` (class JMP, code JEQ, source K).
-pub const JUMP_EQUAL: u8 = 0x15;
 
 /// A call of a helper, a local function or a BTF function, by `src` (class JMP, code CALL).
 pub const CALL: u8 = 0x85;
@@ -18,14 +17,29 @@ pub const CALL: u8 = 0x85;
 /// The end of a function (class JMP, code EXIT).
 pub const EXIT: u8 = 0x95;
 
-/// `dst = imm` (class ALU64, code MOV, source K).
-pub const MOV_IMMEDIATE: u8 = 0xb7;
-
-/// `dst = src` (class ALU64, code MOV, source X).
-pub const MOV_REGISTER: u8 = 0xbf;
-
 /// A 64-bit immediate, which takes two slots (class LD).
 pub const LOAD_IMMEDIATE: u8 = 0x18;
+
+/// The class of arithmetic of 32 bits.
+pub const ALU: u8 = 4;
+
+/// The class of arithmetic of 64 bits.
+pub const ALU64: u8 = 7;
+
+/// The class of jumps, which compare 64 bits.
+pub const JMP: u8 = 5;
+
+/// The class of jumps that compare 32 bits.
+pub const JMP32: u8 = 6;
+
+/// The code of a division.
+pub const DIV: u8 = 0x3;
+
+/// The code of a remainder.
+pub const MOD: u8 = 0x9;
+
+/// The code of a move.
+pub const MOV: u8 = 0xb;
 
 /// The number of R10.
 const FRAME_POINTER: u8 = 10;
@@ -55,6 +69,71 @@ impl Fields {
         }
     }
 
+    /// The instruction's class (RFC 9669, section 3.3).
+    pub fn class(&self) -> u8
+        ensures { result ≡ class_in self.now }
+    {
+        self.opcode % 8
+    }
+
+    /// The code of an arithmetic or jump instruction (RFC 9669, section 4).
+    pub fn code(&self) -> u8
+        ensures { result ≡ code_in self.now }
+    {
+        self.opcode / 16
+    }
+
+    /// The second operand is the register `src` and not `imm`.
+    pub fn takes_register(&self) -> bool
+        ensures { result ≡ takes_register self.now }
+    {
+        self.opcode / 8 % 2 == 1
+    }
+
+    /// Of `src` and `imm`, the one that is not the second operand is not zero.
+    pub fn has_other_operand(&self) -> bool
+        ensures { result ≡ has_other_operand self.now }
+    {
+        if self.takes_register() {
+            self.imm != 0
+        } else {
+            self.src != 0
+        }
+    }
+
+    /// A division or a remainder: the offset says whether it is a signed one.
+    fn is_division(&self) -> bool
+        ensures { result ≡ is_division self.now }
+    {
+        matches!(self.class(), ALU | ALU64) && matches!(self.code(), DIV | MOD)
+    }
+
+    /// A move of a register: the offset says whether it extends a sign.
+    fn is_register_move(&self) -> bool
+        ensures { result ≡ is_register_move self.now }
+    {
+        matches!(self.class(), ALU | ALU64) && self.code() == MOV && self.takes_register()
+    }
+
+    /// The offset of an arithmetic instruction is not zero and selects no form.
+    pub fn has_needless_offset(&self) -> bool
+        ensures { result ≡ has_needless_offset self.now }
+    {
+        self.offset != 0 && !self.is_division() && !self.is_register_move()
+    }
+
+    /// A move of a register that extends the sign of its low 8, 16 or, in ALU64, 32 bits.
+    pub fn is_sign_extension(&self) -> bool
+        ensures { result ≡ is_sign_extension self.now }
+    {
+        self.is_register_move()
+            && match self.offset {
+                8 | 16 => true,
+                32 => self.class() == ALU64,
+                _ => false,
+            }
+    }
+
     /// The instruction is one that this project's profile leaves out (E5).
     pub fn is_outside_profile(&self) -> bool
         ensures { result ≡ is_outside_profile self.now }
@@ -67,44 +146,21 @@ impl Fields {
         }
     }
 
-    /// The instruction is one of those that are decoded, or is outside the profile by its `src`. An
-    /// instruction that is neither known nor outside the profile is E4.
-    pub fn is_known(&self) -> bool
-        ensures { result ≡ is_known self.now }
-    {
-        match self.opcode {
-            JUMP_EQUAL | MOV_IMMEDIATE | EXIT => true,
-            MOV_REGISTER => !matches!(self.offset, 8 | 16 | 32),
-            CALL => self.src != 1,
-            _ => false,
-        }
-    }
-
-    /// A field that a known instruction does not use is not zero (E7).
-    pub fn has_unused_field(&self) -> bool
-        ensures { result ≡ has_unused_field self.now }
-    {
-        let unused_are_zero = match self.opcode {
-            JUMP_EQUAL => self.src == 0,
-            MOV_IMMEDIATE => self.src == 0 && self.offset == 0,
-            MOV_REGISTER => self.imm == 0,
-            CALL => self.dst == 0 && self.src == 0 && self.offset == 0,
-            _ => self.dst == 0 && self.src == 0 && self.offset == 0 && self.imm == 0,
-        };
-        !unused_are_zero
-    }
-
-    /// A move from a register has an offset without a meaning (E8).
+    /// The offset of a division, a remainder or a move of a register selects no form of it (E8).
     pub fn has_no_form(&self) -> bool
         ensures { result ≡ has_no_form self.now }
     {
-        self.opcode == MOV_REGISTER && self.offset != 0
+        if self.is_division() {
+            self.offset != 0 && self.offset != 1
+        } else {
+            self.is_register_move() && self.offset != 0 && !self.is_sign_extension()
+        }
     }
 
     /// R10 is the destination of an instruction of class LD, LDX, ALU or ALU64 (E10).
     pub fn writes_frame_pointer(&self) -> bool
         ensures { result ≡ writes_frame_pointer self.now }
     {
-        matches!(self.opcode % 8, 0 | 1 | 4 | 7) && self.dst == FRAME_POINTER
+        matches!(self.class(), 0 | 1 | ALU | ALU64) && self.dst == FRAME_POINTER
     }
 }

@@ -1,21 +1,67 @@
-// One instruction from the fields of its slot.
+// One instruction from the fields of its slot. It relies on `kind` for what the opcode says, and on
+// `fields` for the tests of the other fields.
 
-ghost use Rattle.std.specs.Prelude.{◌≡◌, Some, IfOk, IfErr};
-ghost use Rattle.bpf_decode.specs.FieldTests.{fault_of};
-ghost use Rattle.bpf_decode.specs.Spells.{SpellsInsn};
+ghost use Rattle.std.specs.Prelude.{◌≡◌, Some, IfOk, IfErr, false};
+ghost use Rattle.bpf_insn.specs.Reg.{number_of};
+ghost use Rattle.bpf_decode.specs.FieldTests.{fault_of, has_no_form, has_unused_field};
+ghost use Rattle.bpf_decode.specs.Kinds.{IsKind, operand_in};
+ghost use Rattle.bpf_decode.specs.Spells.{SpellsInsn, row};
 
 use crate::fault::InsnFault;
-use crate::fields::{CALL, EXIT, Fields, JUMP_EQUAL, MOV_IMMEDIATE, MOV_REGISTER};
-use bpf_insn::{AluOp, Callee, Condition, Insn, Operand, Reg, Width};
+use crate::fields::Fields;
+use crate::kind::{Kind, kind_of};
+use bpf_insn::{Callee, Insn, Operand, Reg};
 
-fn mov(dst: Reg, src: Operand) -> Insn
-    ensures { result ≡ Insn.Alu Width.Bits64 AluOp.Mov dst src }
+/// A field that the instruction of this kind does not use is not zero (E7).
+fn has_unused_field(fields: &Fields, kind: Kind) -> bool
+    requires { IsKind fields.now kind }
+    ensures { result ≡ has_unused_field fields.now }
 {
-    Insn::Alu {
-        width: Width::Bits64,
-        op: AluOp::Mov,
-        dst,
-        src,
+    match kind {
+        Kind::Alu(..) => fields.has_other_operand() || fields.has_needless_offset(),
+        Kind::JumpIf(..) => fields.has_other_operand(),
+        Kind::Call => fields.dst != 0 || fields.src != 0 || fields.offset != 0,
+        Kind::Exit => fields.dst != 0 || fields.src != 0 || fields.offset != 0 || fields.imm != 0,
+    }
+}
+
+/// The second operand, where `src` is the register that the fields name.
+fn operand(fields: &Fields, src: Reg) -> Operand
+    ensures { result ≡ operand_in fields.now src }
+{
+    if fields.takes_register() {
+        Operand::Register(src)
+    } else {
+        Operand::Immediate(fields.imm)
+    }
+}
+
+/// The instruction of this kind, whose row the fields are.
+fn spelled(fields: &Fields, kind: Kind, dst: Reg, src: Reg) -> Insn
+    requires kind { IsKind fields.now kind }
+    requires dst { number_of dst ≡ fields.now.dst }
+    requires src { number_of src ≡ fields.now.src }
+    requires used { has_unused_field fields.now ≡ false }
+    requires form { has_no_form fields.now ≡ false }
+    ensures { fields.now ≡ row result }
+{
+    let operand = operand(fields, src);
+    match kind {
+        Kind::Alu(width, op) => Insn::Alu {
+            width,
+            op,
+            dst,
+            src: operand,
+        },
+        Kind::JumpIf(width, condition) => Insn::JumpIf {
+            width,
+            condition,
+            dst,
+            src: operand,
+            offset: fields.offset,
+        },
+        Kind::Call => Insn::Call(Callee::Helper(fields.imm)),
+        Kind::Exit => Insn::Exit,
     }
 }
 
@@ -27,13 +73,13 @@ pub fn insn(fields: &Fields) -> Result<Insn, InsnFault>
     if fields.is_outside_profile() {
         return Err(InsnFault::OutsideProfile);
     }
-    if !fields.is_known() {
+    let Some(kind) = kind_of(fields) else {
         return Err(InsnFault::UnknownOpcode);
-    }
+    };
     let (Some(dst), Some(src)) = (Reg::from_number(fields.dst), Reg::from_number(fields.src)) else {
         return Err(InsnFault::NoSuchRegister);
     };
-    if fields.has_unused_field() {
+    if has_unused_field(fields, kind) {
         return Err(InsnFault::UnusedField);
     }
     if fields.has_no_form() {
@@ -42,17 +88,5 @@ pub fn insn(fields: &Fields) -> Result<Insn, InsnFault>
     if fields.writes_frame_pointer() {
         return Err(InsnFault::FramePointer);
     }
-    Ok(match fields.opcode {
-        JUMP_EQUAL => Insn::JumpIf {
-            width: Width::Bits64,
-            condition: Condition::Equal,
-            dst,
-            src: Operand::Immediate(fields.imm),
-            offset: fields.offset,
-        },
-        MOV_IMMEDIATE => mov(dst, Operand::Immediate(fields.imm)),
-        MOV_REGISTER => mov(dst, Operand::Register(src)),
-        CALL => Insn::Call(Callee::Helper(fields.imm)),
-        _ => Insn::Exit,
-    })
+    Ok(spelled(fields, kind, dst, src))
 }

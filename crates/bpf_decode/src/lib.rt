@@ -7,6 +7,7 @@ mod decoder;
 mod fault;
 mod fields;
 mod insn;
+mod kind;
 pub mod laws;
 
 pub use decoder::{DecodeError, decode};

@@ -5,6 +5,8 @@ use crate::reg::Reg;
 /// How many bits of its operands an arithmetic instruction or a comparison takes.
 #[derive(Clone, Copy, Debug, PartialEq, Eq)]
 pub enum Width {
+    /// The low 32 (class ALU or JMP32). A result's upper half is 0.
+    Bits32,
     /// All 64 (class ALU64 or JMP).
     Bits64,
 }
@@ -12,7 +14,33 @@ pub enum Width {
 /// What an arithmetic instruction computes (RFC 9669, section 4.1).
 #[derive(Clone, Copy, Debug, PartialEq, Eq)]
 pub enum AluOp {
-    /// `dst = src`.
+    /// `dst + src`.
+    Add,
+    /// `dst - src`.
+    Sub,
+    /// `dst * src`.
+    Mul,
+    /// `dst / src`, and 0 where `src` is 0.
+    Div,
+    /// The same of signed words, rounded towards zero.
+    SignedDiv,
+    /// What is left of `dst` by `src`, and `dst` where `src` is 0.
+    Mod,
+    /// The same of signed words, with the sign of `dst`.
+    SignedMod,
+    /// The bits of either.
+    Or,
+    /// The bits of both.
+    And,
+    /// The bits of just one.
+    Xor,
+    /// `dst << src`, by `src` modulo the width.
+    Lsh,
+    /// `dst >> src`, by `src` modulo the width.
+    Rsh,
+    /// The same of a signed word.
+    Arsh,
+    /// `src`.
     Mov,
 }
 
@@ -21,6 +49,26 @@ pub enum AluOp {
 pub enum Condition {
     /// `dst == src`.
     Equal,
+    /// `dst != src`.
+    NotEqual,
+    /// `dst > src`.
+    Greater,
+    /// `dst >= src`.
+    GreaterOrEqual,
+    /// `dst < src`.
+    Less,
+    /// `dst <= src`.
+    LessOrEqual,
+    /// `dst & src` is not 0.
+    AnyBit,
+    /// `dst > src` of signed words.
+    SignedGreater,
+    /// `dst >= src` of signed words.
+    SignedGreaterOrEqual,
+    /// `dst < src` of signed words.
+    SignedLess,
+    /// `dst <= src` of signed words.
+    SignedLessOrEqual,
 }
 
 /// The second operand (RFC 9669, section 4, source bit).

@@ -2,3 +2,4 @@ pub mod Held
 pub mod Progress
 pub mod Rows
 pub mod Same
+pub mod WordRows

@@ -5,9 +5,9 @@ use Rattle.bpf_insn.specs.declared.insn.Insn.{Insn}
 use Rattle.bpf_insn.specs.declared.insn.Insn.TheVariants.{Alu, JumpIf, Call, Exit}
 use Rattle.bpf_insn.specs.declared.insn.Callee.TheVariants.{Helper}
 use Rattle.bpf_insn.specs.declared.insn.Operand.TheVariants.{Immediate, Register}
-use Rattle.bpf_insn.specs.declared.insn.Width.TheVariants.{Bits64}
-use Rattle.bpf_insn.specs.declared.insn.AluOp.TheVariants.{Mov}
-use Rattle.bpf_insn.specs.declared.insn.Condition.TheVariants.{Equal}
+use Rattle.bpf_insn.specs.declared.insn.Width.TheVariants.{Bits32, Bits64}
+use Rattle.bpf_insn.specs.declared.insn.AluOp.TheVariants.{Add, Sub, Mov}
+use Rattle.bpf_insn.specs.declared.insn.Condition.TheVariants.{Equal, Less, SignedLess}
 use Rattle.bpf_insn.specs.declared.reg.Reg.{Reg}
 use Rattle.bpf_insn.specs.declared.reg.Reg.TheVariants.{R0, R1, R2, R3, R10}
 use Rattle.bpf_insn.specs.declared.program.Slot.{Slot}
@@ -89,12 +89,39 @@ mov_negative = refl
 mov_register : private_step (one (copy R3 R2)) with_freeze ≡ Some (moved_to (with_register with_freeze R3 7) 1)
 mov_register = refl
 
+-- an operation of two registers, and one of 32 bits, whose result's upper half is 0
+add_registers : private_step (one (Alu Bits64 Add R1 (Register R2))) with_freeze ≡ Some (moved_to (with_register with_freeze R1 0x10000007) 1)
+add_registers = refl
+
+sub_32 : private_step (one (Alu Bits32 Sub R2 (Immediate (pos 8)))) with_freeze ≡ Some (moved_to (with_register with_freeze R2 0xffffffff) 1)
+sub_32 = refl
+
+-- an operation but a move reads its first register
+add_to_unwritten : private_step (one (Alu Bits64 Add R3 (Immediate (pos 1)))) with_freeze ≡ None
+add_to_unwritten = refl
+
+add_to_unwritten_stuck : is_stuck (one (Alu Bits64 Add R3 (Immediate (pos 1)))) limits with_freeze ≡ true
+add_to_unwritten_stuck = refl
+
+mov_to_unwritten_goes_on : is_stuck (one (mov R3 (pos 1))) limits with_freeze ≡ false
+mov_to_unwritten_goes_on = refl
+
+mov_of_unwritten_stuck : is_stuck (one (copy R2 R3)) limits with_freeze ≡ true
+mov_of_unwritten_stuck = refl
+
 -- R2 is 0: two slots behind the next instruction
 jump_taken : private_step two_paths without_freeze ≡ Some (moved_to without_freeze 3)
 jump_taken = refl
 
 jump_not_taken : private_step two_paths with_freeze ≡ Some (moved_to with_freeze 1)
 jump_not_taken = refl
+
+-- 7 is not less than -1, and less than the greatest word
+jump_signed : private_step (one (JumpIf Bits32 SignedLess R2 (Immediate (negsuc 0)) (pos 4))) with_freeze ≡ Some (moved_to with_freeze 1)
+jump_signed = refl
+
+jump_unsigned : private_step (one (JumpIf Bits64 Less R2 (Immediate (negsuc 0)) (pos 4))) with_freeze ≡ Some (moved_to with_freeze 5)
+jump_unsigned = refl
 
 -- an unwritten register cannot be compared
 jump_unwritten : private_step (one (jeq R3 (pos 0) (pos 0))) with_freeze ≡ None

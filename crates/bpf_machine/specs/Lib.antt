@@ -2,6 +2,7 @@ pub use Rattle.helpers.specs.Rules
 pub use Rattle.bpf_insn.specs.Program
 pub mod HeldPlaces
 pub mod MachineState
+pub mod Words
 pub mod Step
 pub mod Stops
 pub mod Stuck

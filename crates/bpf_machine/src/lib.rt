@@ -1,13 +1,19 @@
-// What a program means (specs/): machines, their steps, when a machine is stuck, and which machines a
-// program reaches; with the machine of the code, which takes one instruction's step and passes a helper call
-// that was answered. It relies on `bpf_insn` for instructions and on `helpers` for the rules of helper calls.
+// What a program means (specs/): machines, their steps, when a machine is stuck, and which machines a program
+// reaches; with the machine of the code, which takes one instruction's step and passes a helper call that was
+// answered, and with what each operation and each condition computes. It relies on `bpf_insn` for instructions
+// and on `helpers` for the rules of helper calls.
 #![tactic(auto)]
 
 mod held_freezes;
 pub mod laws;
 mod machine;
 mod stop;
+mod words;
+mod words32;
+mod words64;
 
 pub use held_freezes::MAX_HELD;
 pub use machine::Machine;
 pub use stop::Stop;
+pub use words::{alu, alu32, holds};
+pub use words64::alu64;

@@ -1,19 +1,20 @@
 // The machine of the code, of fixed size: it is copied and compared without memory. No instruction so far
-// writes the stack or opens a call, so neither is stored. It relies on `bpf_insn` for instructions, on `helpers`
-// for the calls, and on `held_freezes`.
+// writes the stack or opens a call, so neither is stored. It relies on `bpf_insn` for instructions, on `words` for
+// what they compute, on `helpers` for the calls, and on `held_freezes`.
 
 ghost use Rattle.std.specs.Prelude.{◌≡◌, ◌+◌, ◌<◌, ◌↔◌, ◌∷◌, ◌++◌, true, false, Some, None, IsTrue, drop, replicate, if◌then◌else◌};
 ghost use Rattle.bpf_insn.specs.declared.program.TheConstants.{MAX_SLOTS};
 ghost use Rattle.helpers.specs.Rules.{request_of};
 ghost use Rattle.bpf_insn.specs.Target.{target};
 ghost use Rattle.bpf_machine.specs.MachineState.{entry, register, with_register, moved_to};
-ghost use Rattle.bpf_machine.specs.Step.{operand, private_step, request_at, exit_at, after_call, answered};
+ghost use Rattle.bpf_machine.specs.Step.{first_operand, operand, private_step, request_at, exit_at, after_call, answered};
 ghost use Rattle.bpf_machine.specs.Stops.{stop_at};
 ghost use Rattle.bpf_machine.specs.Reached.{IsEntry};
 
 use crate::held_freezes::HeldFreezes;
 use crate::stop::Stop;
-use bpf_insn::{AluOp, Callee, Condition, Insn, Operand, Program, Reg, Width, jump_target};
+use crate::words::{alu, holds};
+use bpf_insn::{AluOp, Callee, Insn, Operand, Program, Reg, jump_target};
 use helpers::{Answer, Request};
 use std::marker::Model;
 
@@ -96,29 +97,29 @@ impl Machine {
         match program.fetch(self.place) {
             Some(
                 Insn::Alu {
-                    width: Width::Bits64,
-                    op: AluOp::Mov,
+                    width,
+                    op,
                     dst,
                     src,
                 },
-            ) => match self.value_of(src) {
-                Some(value) => {
-                    self.set(dst, value);
+            ) => match (self.first_operand(op, dst), self.value_of(src)) {
+                (Some(left), Some(right)) => {
+                    self.set(dst, alu(width, op, left, right));
                     true
                 }
-                None => false,
+                _ => false,
             },
             Some(
                 Insn::JumpIf {
-                    width: Width::Bits64,
-                    condition: Condition::Equal,
+                    width,
+                    condition,
                     dst,
                     src,
                     offset,
                 },
             ) => match (self.register(dst), self.value_of(src)) {
                 (Some(left), Some(right)) => {
-                    self.jump(left == right, offset);
+                    self.jump(holds(width, condition, left, right), offset);
                     true
                 }
                 _ => false,
@@ -183,6 +184,28 @@ impl Machine {
         next.registers = answered_registers(self.registers, r0);
         next.place = self.place + 1;
         next
+    }
+
+    // What the first operand stands for. A move does not read it, so it may be unwritten there.
+    fn first_operand(&self, op: AluOp, dst: Reg) -> Option<u64>
+        ensures { result ≡ first_operand self.now op dst }
+    {
+        match op {
+            AluOp::Mov => Some(0),
+            AluOp::Add
+            | AluOp::Sub
+            | AluOp::Mul
+            | AluOp::Div
+            | AluOp::SignedDiv
+            | AluOp::Mod
+            | AluOp::SignedMod
+            | AluOp::Or
+            | AluOp::And
+            | AluOp::Xor
+            | AluOp::Lsh
+            | AluOp::Rsh
+            | AluOp::Arsh => self.register(dst),
+        }
     }
 
     // What an operand stands for: a constant is sign-extended.

@@ -4,6 +4,8 @@ use Rattle.std.proofs.Common.{◌≡◌, ℕ, ℤ, ◌≤◌, Bool, true, false,
 use Rattle.std.specs.Prelude.{pos}
 use Rattle.std.specs.Ordering.{int_eq}
 use Rattle.std.proofs.lemmas.Bool.{cases_Bool, cond-true, cond-false, leb-true}
+use Rattle.bpf_insn.specs.declared.insn.Width.{Width}
+use Rattle.bpf_insn.specs.declared.insn.AluOp.{AluOp}
 use Rattle.bpf_insn.specs.declared.reg.Reg.{Reg}
 use Rattle.bpf_insn.specs.declared.reg.Reg.TheVariants.{R0}
 use Rattle.verifier.specs.declared.kind.Kind.{Kind}
@@ -13,8 +15,10 @@ use Rattle.verifier.specs.declared.description.Held.TheVariants.{Nothing, Open, 
 use Rattle.verifier.specs.declared.description.Description.{Description}
 use Rattle.verifier.specs.declared.check.Flow.{Flow}
 use Rattle.verifier.specs.declared.refusal.Cause.{Cause}
+use Rattle.verifier.specs.declared.refusal.Cause.TheVariants.{AddressAsNumber}
+use Rattle.verifier.specs.RegisterKind.{any_number}
 use Rattle.verifier.specs.Knowledge.{kind_at, with_kind, sure_freeze, zero_freeze, released_freeze, requeued}
-use Rattle.verifier.specs.InsnCheck.{goes_on, goes_both, ends, check_move, compared, jump_on_number, jump_on_freeze, check_jump, release_held, check_release, check_requeue, check_call, exit_result, exit_held, check_exit}
+use Rattle.verifier.specs.InsnCheck.{goes_on, goes_both, ends, is_copy, check_move, check_alu, check_numbers, compute_with, compared, jump_on_number, jump_on_freeze, check_jump, release_held, check_release, check_requeue, check_call, exit_result, exit_held, check_exit}
 
 -- a kind of which something is written
 abbrev pub IsWritten : Kind → Type 0
@@ -46,6 +50,58 @@ move_passes d dst Context flow e = record { written = tt; leads = ok_is _ _ e }
 move_passes d dst Frame flow e = record { written = tt; leads = ok_is _ _ e }
 move_passes d dst OpenFreeze flow e = record { written = tt; leads = ok_is _ _ e }
 move_passes d dst SureFreeze flow e = record { written = tt; leads = ok_is _ _ e }
+
+pub record NumbersPass (d : Description) (dst : Reg) (first second : Kind) (flow : Flow) : Type 0 where
+  pub first_written : IsWritten first
+  pub second_written : IsWritten second
+  pub leads : flow ≡ goes_on (with_kind d dst any_number)
+
+compute_passes : (d : Description) (dst : Reg) (second : Kind) (flow : Flow) → compute_with d dst second ≡ Ok flow → IsWritten second × (flow ≡ goes_on (with_kind d dst any_number))
+compute_passes d dst Unwritten flow e = not_ok _ _ e
+compute_passes d dst (Number least most) flow e = (tt, ok_is _ _ e)
+compute_passes d dst Context flow e = not_ok _ _ e
+compute_passes d dst Frame flow e = not_ok _ _ e
+compute_passes d dst OpenFreeze flow e = not_ok _ _ e
+compute_passes d dst SureFreeze flow e = not_ok _ _ e
+
+address_fails : {A : Type 0} (second : Kind) (flow : Flow) → compared second (Err AddressAsNumber) ≡ Ok flow → A
+address_fails Unwritten flow e = not_ok _ _ e
+address_fails (Number least most) flow e = not_ok _ _ e
+address_fails Context flow e = not_ok _ _ e
+address_fails Frame flow e = not_ok _ _ e
+address_fails OpenFreeze flow e = not_ok _ _ e
+address_fails SureFreeze flow e = not_ok _ _ e
+
+pub numbers_pass : (d : Description) (dst : Reg) (first second : Kind) (flow : Flow) → check_numbers d dst first second ≡ Ok flow → NumbersPass d dst first second flow
+numbers_pass d dst Unwritten second flow e = not_ok _ _ e
+numbers_pass d dst (Number least most) second flow e =
+    let it = compute_passes d dst second flow e in
+    record { first_written = tt; second_written = it.0; leads = it.1 }
+numbers_pass d dst Context second flow e = address_fails second flow e
+numbers_pass d dst Frame second flow e = address_fails second flow e
+numbers_pass d dst OpenFreeze second flow e = address_fails second flow e
+numbers_pass d dst SureFreeze second flow e = address_fails second flow e
+
+-- an arithmetic instruction is a copy, or computes a number
+pub record Copies (d : Description) (width : Width) (op : AluOp) (dst : Reg) (second : Kind) (flow : Flow) : Type 0 where
+  pub copy : is_copy width op ≡ true
+  pub passes : MovePasses d dst second flow
+
+pub record Computes (d : Description) (width : Width) (op : AluOp) (dst : Reg) (first second : Kind) (flow : Flow) : Type 0 where
+  pub no_copy : is_copy width op ≡ false
+  pub passes : NumbersPass d dst first second flow
+
+pub alu_passes : (d : Description) (width : Width) (op : AluOp) (dst : Reg) (first second : Kind) (flow : Flow) → check_alu d width op dst first second ≡ Ok flow → Copies d width op dst second flow ⊎ Computes d width op dst first second flow
+alu_passes d width op dst first second flow e =
+    elim (cases_Bool (is_copy width op)) [
+      | inl copy ↦ inl (record { copy = copy; passes = move_passes d dst second flow (sym (cond-true (is_copy width op) _ _ copy) ∙ e) })
+      | inr not_so ↦ inr (record { no_copy = not_so; passes = numbers_pass d dst first second flow (sym (cond-false (is_copy width op) _ _ not_so) ∙ e) })
+    ]
+
+-- the next slot, with something new in dst
+pub alu_leads : (d : Description) (width : Width) (op : AluOp) (dst : Reg) (first second : Kind) (flow : Flow) → Copies d width op dst second flow ⊎ Computes d width op dst first second flow → (kind : Kind) × (flow ≡ goes_on (with_kind d dst kind))
+alu_leads d width op dst first second flow (inl copies) = (second, copies.passes.leads)
+alu_leads d width op dst first second flow (inr computes) = (any_number, computes.passes.leads)
 
 -- a freeze that may be 0 is compared with 0
 pub record Splits (d : Description) (to : ℕ) (zero : Bool) (left : Kind) (flow : Flow) : Type 0 where

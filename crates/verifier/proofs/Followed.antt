@@ -1,18 +1,20 @@
 -- An instruction that passes its check leads to machines that are described by what the check says of its ways on.
-use Rattle.std.proofs.Common.{◌≡◌, ◌≢◌, ℕ, ℤ, ◌+◌, ◌<◌, true, false, cond, eqb, List, Some, None, Ok, refl, ap, sym, subst, ◌∙◌, arith, ◌⊎◌, inl, inr}
+use Rattle.std.proofs.Common.{◌≡◌, ◌≢◌, ℕ, ℤ, ◌+◌, ◌%◌, ◌^◌, ◌<◌, ◌≤◌, Bool, true, false, cond, eqb, List, Some, None, Ok, refl, ap, sym, subst, ◌∙◌, arith, ◌⊎◌, inl, inr}
 use Rattle.std.specs.Prelude.{pos}
-use Rattle.std.specs.Option.{option_map, option_and_then}
-use Rattle.std.specs.Int.{w64, cast_unsigned}
-use Rattle.std.proofs.lemmas.Bool.{cases_Bool, cond-true, cond-false, eqb-true, eqb-false}
+use Rattle.std.specs.Option.{option_and_then}
+use Rattle.std.specs.Int.{w32, w64, cast_unsigned}
+use Rattle.std.proofs.lemmas.Bool.{and_parts, cases_Bool, cond-true, cond-false, eqb-true, eqb-false, not-false, not-true}
 use Rattle.std.proofs.lemmas.Bool.Decides.{Decides-int_eq}
 use Rattle.bpf_insn.specs.declared.insn.Insn.{Insn}
 use Rattle.bpf_insn.specs.declared.insn.Insn.TheVariants.{Alu, JumpIf, Call, Exit}
 use Rattle.bpf_insn.specs.declared.insn.Callee.TheVariants.{Helper}
 use Rattle.bpf_insn.specs.declared.insn.Operand.{Operand}
 use Rattle.bpf_insn.specs.declared.insn.Operand.TheVariants.{Immediate, Register}
-use Rattle.bpf_insn.specs.declared.insn.Width.TheVariants.{Bits64}
-use Rattle.bpf_insn.specs.declared.insn.AluOp.TheVariants.{Mov}
-use Rattle.bpf_insn.specs.declared.insn.Condition.TheVariants.{Equal}
+use Rattle.bpf_insn.specs.declared.insn.Width.{Width}
+use Rattle.bpf_insn.specs.declared.insn.Width.TheVariants.{Bits32, Bits64}
+use Rattle.bpf_insn.specs.declared.insn.AluOp.{AluOp}
+use Rattle.bpf_insn.specs.declared.insn.Condition.{Condition}
+use Rattle.bpf_insn.specs.declared.insn.Condition.TheVariants.{Equal, NotEqual, Greater, GreaterOrEqual, Less, LessOrEqual, AnyBit, SignedGreater, SignedGreaterOrEqual, SignedLess, SignedLessOrEqual}
 use Rattle.bpf_insn.specs.declared.reg.Reg.{Reg}
 use Rattle.bpf_insn.specs.declared.reg.Reg.TheVariants.{R1}
 use Rattle.bpf_insn.specs.declared.program.Slot.{Slot}
@@ -23,19 +25,21 @@ use Rattle.helpers.specs.declared.call.Request.TheVariants.{Release, Requeue}
 use Rattle.helpers.specs.declared.call.Answer.{Answer}
 use Rattle.helpers.specs.Rules.{request_of}
 use Rattle.bpf_machine.specs.MachineState.{MachineState, register, with_register, moved_to}
-use Rattle.bpf_machine.specs.Step.{operand, jump_if_equal, returned, does, request_in, Allowed, answered}
+use Rattle.bpf_machine.specs.Step.{compute, first_operand, operand, jump_if, returned, does, request_in, Allowed, answered}
+use Rattle.bpf_machine.specs.Words.{alu_of, computed, holds_of, low, reads_dst}
 use Rattle.bpf_machine.specs.Reached.{Steps}
 use Rattle.call_shape.specs.StaticPath.{outermost, LeadsTo}
 use Rattle.verifier.specs.declared.kind.Kind.{Kind}
 use Rattle.verifier.specs.declared.kind.Kind.TheVariants.{SureFreeze}
 use Rattle.verifier.specs.declared.description.Description.{Description}
 use Rattle.verifier.specs.declared.check.Flow.{Flow}
+use Rattle.verifier.specs.RegisterKind.{any_number}
 use Rattle.verifier.specs.Knowledge.{kind_at, source_kind, with_kind, sure_freeze, zero_freeze, released_freeze, requeued}
-use Rattle.verifier.specs.InsnCheck.{goes_on, goes_both, check, is_zero}
+use Rattle.verifier.specs.InsnCheck.{goes_on, goes_both, check, first_kind, is_copy, is_equality, is_zero, tests_equality, tests_zero}
 use Rattle.verifier.proofs.Describes.{HoldsKind, Describes}
 use Rattle.verifier.proofs.Kept.{register_held, operand_held, moved_described, with_described, sure_described, zero_described, released_described, requeued_described}
-use Rattle.verifier.proofs.Checked.{move_passes, JumpPasses, jump_passes, IsRelease, IsRequeue, call_passes}
-use Rattle.verifier.proofs.Unstuck.{value_of, has_freeze, has_retries, is_release, is_requeue}
+use Rattle.verifier.proofs.Checked.{Copies, Computes, alu_passes, JumpPasses, jump_passes, IsRelease, IsRequeue, call_passes}
+use Rattle.verifier.proofs.Unstuck.{alu_operands, value_of, has_freeze, has_retries, is_release, is_requeue}
 
 -- the machine stands at the next slot, or at the jump's target, and is described by what flows there
 abbrev pub Follows : Flow → ℕ → ℕ → MachineState → Type 0
@@ -64,64 +68,121 @@ zero_operand : (m : MachineState) (src : Operand) → is_zero src ≡ true → o
 zero_operand m (Immediate value) e = ap (λ v. Some (cast_unsigned w64 v)) ((Decides-int_eq value (pos 0)).0 e)
 zero_operand m (Register reg) e = absurd (let bad : false ≡ true = e in cc)
 
+-- a test of all 64 bits for being equal
+equality_holds : (width : Width) (condition : Condition) (a b : ℕ) → tests_equality width condition ≡ true → holds_of width condition a b ≡ eqb a b
+equality_holds Bits64 Equal a b e = refl
+equality_holds Bits64 NotEqual a b e = absurd (let bad : false ≡ true = e in cc)
+equality_holds Bits64 Greater a b e = absurd (let bad : false ≡ true = e in cc)
+equality_holds Bits64 GreaterOrEqual a b e = absurd (let bad : false ≡ true = e in cc)
+equality_holds Bits64 Less a b e = absurd (let bad : false ≡ true = e in cc)
+equality_holds Bits64 LessOrEqual a b e = absurd (let bad : false ≡ true = e in cc)
+equality_holds Bits64 AnyBit a b e = absurd (let bad : false ≡ true = e in cc)
+equality_holds Bits64 SignedGreater a b e = absurd (let bad : false ≡ true = e in cc)
+equality_holds Bits64 SignedGreaterOrEqual a b e = absurd (let bad : false ≡ true = e in cc)
+equality_holds Bits64 SignedLess a b e = absurd (let bad : false ≡ true = e in cc)
+equality_holds Bits64 SignedLessOrEqual a b e = absurd (let bad : false ≡ true = e in cc)
+equality_holds Bits32 condition a b e = absurd (let bad : false ≡ true = e in cc)
+
+-- where dst is tested for being 0: what the test says, and that the second operand is 0
+zero_test : (m : MachineState) (width : Width) (condition : Condition) (src : Operand) (a b : ℕ) → operand m src ≡ Some b → tests_zero width condition src ≡ true → (holds_of width condition a b ≡ eqb a b) × (b ≡ 0)
+zero_test m width condition src a b right e =
+    let parts = and_parts _ _ e in
+    (equality_holds width condition a b parts.0, some_is 0 b (sym (zero_operand m src parts.1) ∙ right))
+
 -- where a described machine goes on by a jump
-jump_next : (d : Description) (freeze : ℕ) (m : MachineState) (dst : Reg) (src : Operand) (to : ℕ) (flow : Flow) (a b : ℕ) → Describes d freeze m → register m dst ≡ Some a → operand m src ≡ Some b → JumpPasses d to (is_zero src) (kind_at d dst) (source_kind d src) flow → eqb a b ≡ false → Follows flow freeze m.place (moved_to m (m.place + 1))
-jump_next d freeze m dst src to flow a b is left right passes apart =
+jump_next : (d : Description) (freeze : ℕ) (m : MachineState) (width : Width) (condition : Condition) (dst : Reg) (src : Operand) (to : ℕ) (flow : Flow) (a b : ℕ) → Describes d freeze m → register m dst ≡ Some a → operand m src ≡ Some b → JumpPasses d to (tests_zero width condition src) (kind_at d dst) (source_kind d src) flow → holds_of width condition a b ≡ false → Follows flow freeze m.place (moved_to m (m.place + 1))
+jump_next d freeze m width condition dst src to flow a b is left right passes apart =
     elim passes.leads [
       | inl leads ↦ to_first flow freeze m.place (moved_to m (m.place + 1)) d to d leads refl (moved_described d freeze m (m.place + 1) is)
       | inr (inl split) ↦
           let has : register m dst ≡ Some freeze = subst (λ (k : Kind). HoldsKind freeze k (register m dst)) split.left_is (register_held d freeze m is dst) in
           let same_a : a ≡ freeze = some_is freeze a (sym has ∙ left) in
-          let same_b : b ≡ 0 = some_is 0 b (sym (zero_operand m src split.with_zero) ∙ right) in
-          let other : a ≢ b = eqb-false a b apart in
+          let test = zero_test m width condition src a b right split.with_zero in
+          let same_b : b ≡ 0 = test.1 in
+          let other : a ≢ b = eqb-false a b (sym test.0 ∙ apart) in
           let above : 0 < freeze = omega (arith, same_a, same_b, other) in
           to_first flow freeze m.place (moved_to m (m.place + 1)) (sure_freeze d) to (zero_freeze d) split.leads refl (moved_described (sure_freeze d) freeze m (m.place + 1) (sure_described d freeze m above is))
       | inr (inr on) ↦ to_next flow freeze m.place (moved_to m (m.place + 1)) d on.leads refl (moved_described d freeze m (m.place + 1) is)
     ]
 
-jump_taken : (d : Description) (freeze : ℕ) (m : MachineState) (dst : Reg) (src : Operand) (to : ℕ) (flow : Flow) (a b : ℕ) → Describes d freeze m → register m dst ≡ Some a → operand m src ≡ Some b → JumpPasses d to (is_zero src) (kind_at d dst) (source_kind d src) flow → a ≡ b → Follows flow freeze m.place (moved_to m to)
-jump_taken d freeze m dst src to flow a b is left right passes same =
+jump_taken : (d : Description) (freeze : ℕ) (m : MachineState) (width : Width) (condition : Condition) (dst : Reg) (src : Operand) (to : ℕ) (flow : Flow) (a b : ℕ) → Describes d freeze m → register m dst ≡ Some a → operand m src ≡ Some b → JumpPasses d to (tests_zero width condition src) (kind_at d dst) (source_kind d src) flow → holds_of width condition a b ≡ true → Follows flow freeze m.place (moved_to m to)
+jump_taken d freeze m width condition dst src to flow a b is left right passes holds =
     elim passes.leads [
       | inl leads ↦ to_target flow freeze m.place (moved_to m to) d to d leads refl (moved_described d freeze m to is)
       | inr (inl split) ↦
           let has : register m dst ≡ Some freeze = subst (λ (k : Kind). HoldsKind freeze k (register m dst)) split.left_is (register_held d freeze m is dst) in
           let same_a : a ≡ freeze = some_is freeze a (sym has ∙ left) in
-          let same_b : b ≡ 0 = some_is 0 b (sym (zero_operand m src split.with_zero) ∙ right) in
+          let test = zero_test m width condition src a b right split.with_zero in
+          let same_b : b ≡ 0 = test.1 in
+          let same : a ≡ b = eqb-true a b (sym test.0 ∙ holds) in
           let none : freeze ≡ 0 = omega (arith, same_a, same_b, same) in
           to_target flow freeze m.place (moved_to m to) (sure_freeze d) to (zero_freeze d) split.leads refl (moved_described (zero_freeze d) freeze m to (zero_described d freeze m none is))
       | inr (inr on) ↦
           let has : HoldsKind freeze SureFreeze (register m dst) = subst (λ (k : Kind). HoldsKind freeze k (register m dst)) on.left_is (register_held d freeze m is dst) in
           let same_a : a ≡ freeze = some_is freeze a (sym has.0 ∙ left) in
-          let same_b : b ≡ 0 = some_is 0 b (sym (zero_operand m src on.with_zero) ∙ right) in
+          let test = zero_test m width condition src a b right on.with_zero in
+          let same_b : b ≡ 0 = test.1 in
+          let same : a ≡ b = eqb-true a b (sym test.0 ∙ holds) in
           absurd (omega (arith, same_a, same_b, same, has.1))
     ]
 
+-- any word is below 2^64
+low_fits : (n : ℕ) → n % 2 ^ 64 ≤ 0xffffffffffffffff
+low_fits n = omega arith
+
+low_half_fits : (n : ℕ) → n % 2 ^ 32 ≤ 0xffffffffffffffff
+low_half_fits n = omega arith
+
+cut_fits : (reads : Bool) (cut second : ℕ) → cut ≤ 0xffffffffffffffff → second ≤ 0xffffffffffffffff → cond reads cut second ≤ 0xffffffffffffffff
+cut_fits true cut second first fits = first
+cut_fits false cut second first fits = fits
+
+-- what is no copy computes a word
+alu_fits : (width : Width) (op : AluOp) (a b : ℕ) → is_copy width op ≡ false → alu_of width op a b ≤ 0xffffffffffffffff
+alu_fits Bits64 op a b e = rw (cond-true (reads_dst op) (low w64 (computed w64 op a b)) b (not-false _ e)) (low_fits (computed w64 op a b))
+alu_fits Bits32 op a b e = cut_fits (reads_dst op) _ _ (low_half_fits (computed w32 op (low w32 a) (low w32 b))) (low_half_fits b)
+
+-- a copy is what is read
+copy_is : (width : Width) (op : AluOp) (a b : ℕ) → is_copy width op ≡ true → alu_of width op a b ≡ b
+copy_is Bits64 op a b e = cond-false (reads_dst op) _ _ (not-true _ e)
+copy_is Bits32 op a b e = absurd (let bad : false ≡ true = e in cc)
+
+-- dst is described by its new kind
+alu_held : (d : Description) (freeze : ℕ) (m : MachineState) (width : Width) (op : AluOp) (dst : Reg) (src : Operand) (flow : Flow) (a b : ℕ) → Describes d freeze m → operand m src ≡ Some b → Copies d width op dst (source_kind d src) flow ⊎ Computes d width op dst (first_kind d op dst) (source_kind d src) flow → (kind : Kind) × (flow ≡ goes_on (with_kind d dst kind)) × HoldsKind freeze kind (Some (alu_of width op a b))
+alu_held d freeze m width op dst src flow a b is right (inl copies) =
+    let held : HoldsKind freeze (source_kind d src) (Some b) = subst (HoldsKind freeze (source_kind d src)) right (operand_held d freeze m is src) in
+    (source_kind d src, copies.passes.leads, subst (λ n. HoldsKind freeze (source_kind d src) (Some n)) (sym (copy_is width op a b copies.copy)) held)
+alu_held d freeze m width op dst src flow a b is right (inr computes) =
+    (any_number, computes.passes.leads, (alu_of width op a b, refl, omega arith, alu_fits width op a b computes.no_copy))
+
 -- a private instruction
 pub private_led : (d : Description) (freeze : ℕ) (m m' : MachineState) (insn : Insn) (flow : Flow) → Describes d freeze m → check m.place insn d ≡ Ok flow → does m insn ≡ Some m' → Led flow freeze m.place insn m'
-private_led d freeze m m' (Alu Bits64 Mov dst src) flow is e step =
-    let passes = move_passes d dst (source_kind d src) flow e in
-    let held = operand_held d freeze m is src in
-    let value = value_of freeze (source_kind d src) (operand m src) passes.written held in
-    let next : MachineState = moved_to (with_register m dst value.0) (m.place + 1) in
-    let is_next : m' ≡ next = some_is next m' (sym (ap (option_map (λ v. moved_to (with_register m dst v) (m.place + 1))) value.1) ∙ step) in
-    let kept = with_described d freeze m dst (source_kind d src) value.0 (subst (HoldsKind freeze (source_kind d src)) value.1 held) is in
-    subst (Led flow freeze m.place (Alu Bits64 Mov dst src)) (sym is_next) (
-      to_next flow freeze m.place next (with_kind d dst (source_kind d src)) passes.leads refl (moved_described _ freeze _ (m.place + 1) kept),
+private_led d freeze m m' (Alu width op dst src) flow is e step =
+    let passes = alu_passes d width op dst (first_kind d op dst) (source_kind d src) flow e in
+    let has = alu_operands d freeze m width op dst src flow is passes in
+    let value : ℕ = alu_of width op has.first_value has.second_value in
+    let next : MachineState = moved_to (with_register m dst value) (m.place + 1) in
+    let is_next : m' ≡ next = some_is next m' (sym (ap (λ o. compute m width op dst o (operand m src)) has.first_is ∙ ap (compute m width op dst (Some has.first_value)) has.second_is) ∙ step) in
+    let new = alu_held d freeze m width op dst src flow has.first_value has.second_value is has.second_is passes in
+    let kept = with_described d freeze m dst new.0 value new.2 is in
+    subst (Led flow freeze m.place (Alu width op dst src)) (sym is_next) (
+      to_next flow freeze m.place next (with_kind d dst new.0) new.1 refl (moved_described _ freeze _ (m.place + 1) kept),
       refl,
     )
-private_led d freeze m m' (JumpIf Bits64 Equal dst src offset) flow is e step =
+private_led d freeze m m' (JumpIf width condition dst src offset) flow is e step =
     let to : ℕ = target m.place offset in
-    let passes = jump_passes d to (is_zero src) (kind_at d dst) (source_kind d src) flow e in
+    let passes = jump_passes d to (tests_zero width condition src) (kind_at d dst) (source_kind d src) flow e in
     let left = value_of freeze (kind_at d dst) (register m dst) passes.left_written (register_held d freeze m is dst) in
     let right = value_of freeze (source_kind d src) (operand m src) passes.right_written (operand_held d freeze m is src) in
-    let is_next : m' ≡ moved_to m (cond (eqb left.0 right.0) to (m.place + 1)) = some_is _ m' (sym (ap (λ o. jump_if_equal m offset o (operand m src)) left.1 ∙ ap (jump_if_equal m offset (Some left.0)) right.1) ∙ step) in
-    elim (cases_Bool (eqb left.0 right.0)) [
-      | inl same ↦
-          let here : m' ≡ moved_to m to = is_next ∙ ap (moved_to m) (cond-true (eqb left.0 right.0) _ _ same) in
-          subst (Led flow freeze m.place (JumpIf Bits64 Equal dst src offset)) (sym here) (jump_taken d freeze m dst src to flow left.0 right.0 is left.1 right.1 passes (eqb-true left.0 right.0 same), inr refl)
+    let test : Bool = holds_of width condition left.0 right.0 in
+    let is_next : m' ≡ moved_to m (cond test to (m.place + 1)) = some_is _ m' (sym (ap (λ o. jump_if m width condition offset o (operand m src)) left.1 ∙ ap (jump_if m width condition offset (Some left.0)) right.1) ∙ step) in
+    elim (cases_Bool test) [
+      | inl taken ↦
+          let here : m' ≡ moved_to m to = is_next ∙ ap (moved_to m) (cond-true test _ _ taken) in
+          subst (Led flow freeze m.place (JumpIf width condition dst src offset)) (sym here) (jump_taken d freeze m width condition dst src to flow left.0 right.0 is left.1 right.1 passes taken, inr refl)
       | inr apart ↦
-          let here : m' ≡ moved_to m (m.place + 1) = is_next ∙ ap (moved_to m) (cond-false (eqb left.0 right.0) _ _ apart) in
-          subst (Led flow freeze m.place (JumpIf Bits64 Equal dst src offset)) (sym here) (jump_next d freeze m dst src to flow left.0 right.0 is left.1 right.1 passes apart, inl refl)
+          let here : m' ≡ moved_to m (m.place + 1) = is_next ∙ ap (moved_to m) (cond-false test _ _ apart) in
+          subst (Led flow freeze m.place (JumpIf width condition dst src offset)) (sym here) (jump_next d freeze m width condition dst src to flow left.0 right.0 is left.1 right.1 passes apart, inl refl)
     ]
 private_led d freeze m m' (Call (Helper number)) flow is e step = absurd (let bad : None ≡ Some m' = step in cc)
 private_led d freeze m m' Exit flow is e step = absurd (let bad : None ≡ Some m' = sym (ap (returned m) is.calls) ∙ step in cc)

@@ -1,4 +1,3 @@
-pub mod Branches
 pub mod Visits
 pub mod Describes
 pub mod Kept

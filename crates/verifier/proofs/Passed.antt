@@ -5,9 +5,6 @@ use Rattle.std.proofs.lemmas.List.{length-replicate}
 use Rattle.bpf_insn.specs.declared.insn.Insn.{Insn}
 use Rattle.bpf_insn.specs.declared.insn.Insn.TheVariants.{Alu, JumpIf, Call, Exit}
 use Rattle.bpf_insn.specs.declared.insn.Callee.TheVariants.{Helper}
-use Rattle.bpf_insn.specs.declared.insn.Width.TheVariants.{Bits64}
-use Rattle.bpf_insn.specs.declared.insn.AluOp.TheVariants.{Mov}
-use Rattle.bpf_insn.specs.declared.insn.Condition.TheVariants.{Equal}
 use Rattle.bpf_insn.specs.declared.program.Slot.{Slot}
 use Rattle.bpf_insn.specs.declared.reg.Reg.TheVariants.{R1}
 use Rattle.bpf_insn.specs.Program.{IsProgram, insn_at}
@@ -20,9 +17,9 @@ use Rattle.verifier.specs.declared.check.Flow.{Flow}
 use Rattle.verifier.specs.declared.refusal.Cause.{Cause}
 use Rattle.verifier.specs.declared.refusal.Refusal.{Refusal}
 use Rattle.verifier.specs.Knowledge.{entry_description, kind_at, source_kind}
-use Rattle.verifier.specs.InsnCheck.{goes_on, goes_both, check, is_zero}
+use Rattle.verifier.specs.InsnCheck.{goes_on, goes_both, check, first_kind, tests_zero}
 use Rattle.verifier.specs.SlotPass.{Table, LeadsInside, described, merge_next, merge_jump, and_then, flow_into, visit_at, visit, visits, first_table, pass}
-use Rattle.verifier.proofs.Checked.{move_passes, jump_passes, call_passes, exit_passes}
+use Rattle.verifier.proofs.Checked.{alu_leads, alu_passes, jump_passes, call_passes, exit_passes}
 use Rattle.verifier.proofs.Tables.{IsCovered, IsChecked, IsSound, inside}
 use Rattle.verifier.proofs.Merges.{Grows, itself, still_covered, merged}
 
@@ -50,12 +47,13 @@ both_ways program place next to d flow is lt target_is = record {
 
 -- only the exit has no slot behind it
 pub flows_on : (program : List Slot) (place : ℕ) (insn : Insn) (d : Description) (flow : Flow) → IsProgram program → IsLawful program → place < length program → insn_at program place ≡ Some insn → check place insn d ≡ Ok flow → FlowsOn program place flow
-flows_on program place (Alu Bits64 Mov dst src) d flow is lawful lt at e =
-    no_jump program place _ flow (move_passes d dst (source_kind d src) flow e).leads (slot_behind program place _ is lawful lt at (λ same. cc))
-flows_on program place (JumpIf Bits64 Equal dst src offset) d flow is lawful lt at e =
+flows_on program place (Alu width op dst src) d flow is lawful lt at e =
+    let new = alu_leads d width op dst (first_kind d op dst) (source_kind d src) flow (alu_passes d width op dst (first_kind d op dst) (source_kind d src) flow e) in
+    no_jump program place _ flow new.1 (slot_behind program place _ is lawful lt at (λ same. cc))
+flows_on program place (JumpIf width condition dst src offset) d flow is lawful lt at e =
     let behind = slot_behind program place _ is lawful lt at (λ same. cc) in
-    let there = lawful_target program place Bits64 Equal dst src offset lawful at in
-    elim (jump_passes d (target place offset) (is_zero src) (kind_at d dst) (source_kind d src) flow e).leads [
+    let there = lawful_target program place width condition dst src offset lawful at in
+    elim (jump_passes d (target place offset) (tests_zero width condition src) (kind_at d dst) (source_kind d src) flow e).leads [
       | inl leads ↦ both_ways program place d (target place offset) d flow leads behind there
       | inr (inl split) ↦ both_ways program place _ (target place offset) _ flow split.leads behind there
       | inr (inr on) ↦ no_jump program place d flow on.leads behind

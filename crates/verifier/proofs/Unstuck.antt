@@ -2,13 +2,15 @@
 use Rattle.std.proofs.Common.{◌≡◌, ℕ, ℤ, ◌<◌, ◌≤◌, true, false, not, ◌||◌, ◌&&◌, List, [], ◌∷◌, Option, Some, Ok, refl, ap, subst, ◌∙◌, arith, ◌⊎◌, inl, inr}
 use Rattle.std.specs.Prelude.{is_none, pos}
 use Rattle.std.specs.Ordering.{int_eq}
-use Rattle.std.proofs.lemmas.Bool.{cond-true, cond-false, le-leb, eq-eqb}
+use Rattle.std.proofs.lemmas.Bool.{cases_Bool, cond-true, cond-false, le-leb, eq-eqb, not-true}
 use Rattle.bpf_insn.specs.declared.insn.Insn.{Insn}
 use Rattle.bpf_insn.specs.declared.insn.Insn.TheVariants.{Alu, JumpIf, Call, Exit}
 use Rattle.bpf_insn.specs.declared.insn.Callee.TheVariants.{Helper}
-use Rattle.bpf_insn.specs.declared.insn.Width.TheVariants.{Bits64}
-use Rattle.bpf_insn.specs.declared.insn.AluOp.TheVariants.{Mov}
-use Rattle.bpf_insn.specs.declared.insn.Condition.TheVariants.{Equal}
+use Rattle.bpf_insn.specs.declared.insn.Operand.{Operand}
+use Rattle.bpf_insn.specs.declared.insn.Width.{Width}
+use Rattle.bpf_insn.specs.declared.insn.Width.TheVariants.{Bits32, Bits64}
+use Rattle.bpf_insn.specs.declared.insn.AluOp.{AluOp}
+use Rattle.bpf_insn.specs.declared.reg.Reg.{Reg}
 use Rattle.bpf_insn.specs.declared.reg.Reg.TheVariants.{R0, R1}
 use Rattle.bpf_insn.specs.Target.{target}
 use Rattle.helpers.specs.declared.limits.HelperLimits.{HelperLimits}
@@ -16,7 +18,8 @@ use Rattle.helpers.specs.declared.call.Request.{Request}
 use Rattle.helpers.specs.declared.call.Request.TheVariants.{Release, Requeue}
 use Rattle.helpers.specs.Rules.{is_held, meets_rule, request_of}
 use Rattle.bpf_machine.specs.MachineState.{MachineState, context_address, frame_pointer, register}
-use Rattle.bpf_machine.specs.Step.{operand}
+use Rattle.bpf_machine.specs.Words.{reads_dst}
+use Rattle.bpf_machine.specs.Step.{first_operand, operand}
 use Rattle.bpf_machine.specs.Stuck.{breaks_rule, call_is_stuck, holds_none, exit_is_stuck, insn_is_stuck}
 use Rattle.verifier.specs.declared.kind.Kind.{Kind}
 use Rattle.verifier.specs.declared.kind.Kind.TheVariants.{Unwritten, Number, Context, Frame, OpenFreeze, SureFreeze}
@@ -24,11 +27,12 @@ use Rattle.verifier.specs.declared.description.Held.{Held}
 use Rattle.verifier.specs.declared.description.Held.TheVariants.{Nothing, Sure}
 use Rattle.verifier.specs.declared.description.Description.{Description}
 use Rattle.verifier.specs.declared.check.Flow.{Flow}
+use Rattle.verifier.specs.RegisterKind.{exactly}
 use Rattle.verifier.specs.Knowledge.{kind_at, source_kind}
-use Rattle.verifier.specs.InsnCheck.{check, is_zero}
+use Rattle.verifier.specs.InsnCheck.{check, first_kind, is_copy, tests_zero}
 use Rattle.verifier.proofs.Describes.{HoldsKind, HoldsFreeze, Describes}
 use Rattle.verifier.proofs.Kept.{register_held, operand_held}
-use Rattle.verifier.proofs.Checked.{IsWritten, move_passes, jump_passes, ReleasePasses, RequeuePasses, IsRelease, IsRequeue, call_passes, ExitPasses, exit_passes}
+use Rattle.verifier.proofs.Checked.{IsWritten, Copies, Computes, alu_passes, jump_passes, ReleasePasses, RequeuePasses, IsRelease, IsRequeue, call_passes, ExitPasses, exit_passes}
 
 -- what is written is some number
 pub value_of : (freeze : ℕ) (kind : Kind) (o : Option ℕ) → IsWritten kind → HoldsKind freeze kind o → (value : ℕ) × (o ≡ Some value)
@@ -95,12 +99,41 @@ exit_unstuck d freeze m flow is passes =
     let disposed : not m.disposed ≡ false = ap not (is.disposal ∙ passes.once) in
     ap (exit_is_stuck m) is.calls ∙ (ap (λ b. (b || not m.disposed) || is_none (register m R0)) held ∙ (ap (λ b. b || is_none (register m R0)) disposed ∙ ap is_none r0.1))
 
+-- the first operand is described by its kind
+pub first_held : (d : Description) (freeze : ℕ) (m : MachineState) (op : AluOp) (dst : Reg) → Describes d freeze m → HoldsKind freeze (first_kind d op dst) (first_operand m op dst)
+first_held d freeze m op dst is =
+    elim (cases_Bool (reads_dst op)) [
+      | inl reads ↦ rw (cond-true (reads_dst op) (register m dst) (Some 0) reads, cond-true (reads_dst op) (kind_at d dst) (exactly 0) reads) (register_held d freeze m is dst)
+      | inr not_so ↦ rw (cond-false (reads_dst op) (register m dst) (Some 0) not_so, cond-false (reads_dst op) (kind_at d dst) (exactly 0) not_so) (0, refl, omega arith, omega arith)
+    ]
+
+-- a copy reads no first operand
+pub copy_first : (m : MachineState) (width : Width) (op : AluOp) (dst : Reg) → is_copy width op ≡ true → first_operand m op dst ≡ Some 0
+copy_first m Bits64 op dst copy = cond-false (reads_dst op) _ _ (not-true _ copy)
+copy_first m Bits32 op dst copy = absurd (let bad : false ≡ true = copy in cc)
+
+-- what an arithmetic instruction that passes reads is there
+pub record HasOperands (m : MachineState) (op : AluOp) (dst : Reg) (second : Option ℕ) : Type 0 where
+  pub first_value : ℕ
+  pub second_value : ℕ
+  pub first_is : first_operand m op dst ≡ Some first_value
+  pub second_is : second ≡ Some second_value
+
+pub alu_operands : (d : Description) (freeze : ℕ) (m : MachineState) (width : Width) (op : AluOp) (dst : Reg) (src : Operand) (flow : Flow) → Describes d freeze m → Copies d width op dst (source_kind d src) flow ⊎ Computes d width op dst (first_kind d op dst) (source_kind d src) flow → HasOperands m op dst (operand m src)
+alu_operands d freeze m width op dst src flow is (inl copies) =
+    let value = value_of freeze (source_kind d src) (operand m src) copies.passes.written (operand_held d freeze m is src) in
+    record { first_value = 0; second_value = value.0; first_is = copy_first m width op dst copies.copy; second_is = value.1 }
+alu_operands d freeze m width op dst src flow is (inr computes) =
+    let first = value_of freeze (first_kind d op dst) (first_operand m op dst) computes.passes.first_written (first_held d freeze m op dst is) in
+    let value = value_of freeze (source_kind d src) (operand m src) computes.passes.second_written (operand_held d freeze m is src) in
+    record { first_value = first.0; second_value = value.0; first_is = first.1; second_is = value.1 }
+
 pub unstuck : (limits : HelperLimits) (d : Description) (freeze : ℕ) (m : MachineState) (place : ℕ) (insn : Insn) (flow : Flow) → Describes d freeze m → check place insn d ≡ Ok flow → insn_is_stuck limits m insn ≡ false
-unstuck limits d freeze m place (Alu Bits64 Mov dst src) flow is e =
-    let passes = move_passes d dst (source_kind d src) flow e in
-    ap is_none (value_of freeze (source_kind d src) (operand m src) passes.written (operand_held d freeze m is src)).1
-unstuck limits d freeze m place (JumpIf Bits64 Equal dst src offset) flow is e =
-    let passes = jump_passes d (target place offset) (is_zero src) (kind_at d dst) (source_kind d src) flow e in
+unstuck limits d freeze m place (Alu width op dst src) flow is e =
+    let has = alu_operands d freeze m width op dst src flow is (alu_passes d width op dst (first_kind d op dst) (source_kind d src) flow e) in
+    ap (λ o. is_none {T = ℕ} o || is_none (operand m src)) has.first_is ∙ ap is_none has.second_is
+unstuck limits d freeze m place (JumpIf width condition dst src offset) flow is e =
+    let passes = jump_passes d (target place offset) (tests_zero width condition src) (kind_at d dst) (source_kind d src) flow e in
     let left = value_of freeze (kind_at d dst) (register m dst) passes.left_written (register_held d freeze m is dst) in
     let right = value_of freeze (source_kind d src) (operand m src) passes.right_written (operand_held d freeze m is src) in
     ap (λ o. is_none {T = ℕ} o || is_none (operand m src)) left.1 ∙ ap is_none right.1

@@ -6,6 +6,10 @@ use Rattle.verifier.specs.declared.kind.Kind.TheVariants.{Unwritten, Number, Con
 abbrev pub exactly : ℕ → Kind
 exactly value = Number value value
 
+-- any word
+abbrev pub any_number : Kind
+any_number = Number 0 0xffffffffffffffff
+
 abbrev pub join_kind : Kind → Kind → Kind
 join_kind (Number least most) (Number low high) = Number (min least low) (max most high)
 join_kind Context Context = Context

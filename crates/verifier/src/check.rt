@@ -3,9 +3,7 @@
 ghost use Rattle.std.specs.Prelude.{◌≡◌, ◌<◌, length, IfSome};
 ghost use Rattle.bpf_insn.specs.Program.{IsProgram, insn_at};
 ghost use Rattle.bpf_insn.specs.declared.program.TheConstants.{MAX_SLOTS};
-ghost use Rattle.bpf_insn.specs.Target.{target};
-ghost use Rattle.verifier.specs.Knowledge.{source_kind, kind_at};
-ghost use Rattle.verifier.specs.InsnCheck.{check, check_move, check_jump, check_call, check_release, check_requeue, check_exit, is_zero};
+ghost use Rattle.verifier.specs.InsnCheck.{check, check_alu, check_move, check_numbers, check_jump, check_call, check_release, check_requeue, check_exit, first_kind, is_zero, tests_zero};
 
 use crate::description::{Description, Held};
 use crate::kind::Kind;
@@ -45,18 +43,28 @@ pub fn check(program: &Program, place: usize, description: &Description) -> Resu
     };
     match insn {
         Insn::Alu {
-            width: Width::Bits64,
-            op: AluOp::Mov,
+            width,
+            op,
             dst,
             src,
-        } => check_move(description, dst, description.source(src)),
+        } => check_alu(description, width, op, dst, description.source(src)),
         Insn::JumpIf {
-            width: Width::Bits64,
-            condition: Condition::Equal,
+            width,
+            condition,
             dst,
             src,
             offset,
-        } => check_branch(description, place, dst, src, offset),
+        } => {
+            let target = jump_target(place, offset);
+            let is_zero = tests_zero(width, condition, src);
+            check_jump(
+                description,
+                target,
+                is_zero,
+                description.kind(dst),
+                description.source(src),
+            )
+        }
         Insn::Call(Callee::Helper(number)) => check_call(
             description,
             number,
@@ -76,25 +84,46 @@ fn check_move(description: &Description, dst: Reg, source: Kind) -> Result<Flow,
     }
 }
 
-// The target of a jump and what it compares.
-fn check_branch(
+// A move of 64 bits copies what it reads, and all else computes numbers.
+fn check_alu(
     description: &Description,
-    place: usize,
+    width: Width,
+    op: AluOp,
     dst: Reg,
-    src: Operand,
-    offset: i16,
+    second: Kind,
 ) -> Result<Flow, Cause>
-    requires { place < MAX_SLOTS }
-    ensures { result ≡ check_jump description.now (target place offset) (is_zero src) (kind_at description.now dst) (source_kind description.now src) }
+    ensures { result ≡ check_alu description.now width op dst (first_kind description.now op dst) second }
 {
-    let target = jump_target(place, offset);
-    check_jump(
-        description,
-        target,
-        is_zero(src),
-        description.kind(dst),
-        description.source(src),
-    )
+    match (width, op) {
+        (Width::Bits64, AluOp::Mov) => check_move(description, dst, second),
+        (Width::Bits32, AluOp::Mov) => check_numbers(description, dst, Kind::exactly(0), second),
+        _ => check_numbers(description, dst, description.kind(dst), second),
+    }
+}
+
+// A number is computed of numbers alone, and may be any.
+fn check_numbers(
+    description: &Description,
+    dst: Reg,
+    first: Kind,
+    second: Kind,
+) -> Result<Flow, Cause>
+    ensures { result ≡ check_numbers description.now dst first second }
+{
+    match (first, second) {
+        (Kind::Unwritten, _) | (_, Kind::Unwritten) => Err(Cause::UnwrittenRegister),
+        (Kind::Number { .. }, Kind::Number { .. }) => {
+            Ok(Flow::goes_on(description.with(dst, Kind::any_number())))
+        }
+        _ => Err(Cause::AddressAsNumber),
+    }
+}
+
+// Whether all 64 bits are tested for being the constant 0.
+fn tests_zero(width: Width, condition: Condition, src: Operand) -> bool
+    ensures { result ≡ tests_zero width condition src }
+{
+    width == Width::Bits64 && condition == Condition::Equal && is_zero(src)
 }
 
 // Numbers are compared with numbers. A freeze is compared with the constant 0 alone: where they are equal
@@ -119,7 +148,7 @@ fn check_jump(
             jump: Some((target, description.zero())),
         }),
         (Kind::SureFreeze, _) if is_zero => Ok(Flow::goes_on(*description)),
-        _ => Err(Cause::AddressCompared),
+        _ => Err(Cause::AddressAsNumber),
     }
 }
 

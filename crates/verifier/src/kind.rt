@@ -1,7 +1,7 @@
 // What is known of one register.
 
 ghost use Rattle.std.specs.Prelude.{◌≡◌};
-ghost use Rattle.verifier.specs.RegisterKind.{exactly, join_kind, released_kind, sure_kind, zero_kind};
+ghost use Rattle.verifier.specs.RegisterKind.{any_number, exactly, join_kind, released_kind, sure_kind, zero_kind};
 
 /// What a register holds, as far as it is known.
 #[derive(Clone, Copy, Debug, PartialEq, Eq)]
@@ -28,6 +28,16 @@ impl Kind {
         Kind::Number {
             least: value,
             most: value,
+        }
+    }
+
+    /// Any number.
+    pub fn any_number() -> Self
+        ensures { result ≡ any_number }
+    {
+        Kind::Number {
+            least: 0,
+            most: u64::MAX,
         }
     }
 

@@ -10,7 +10,7 @@ pub enum Cause {
     /// V1: a register that is read is unwritten.
     UnwrittenRegister,
     /// V5: an address or a freeze is compared, but for the test of a freeze for 0.
-    AddressCompared,
+    AddressAsNumber,
     /// V6: there is no helper of the number.
     UnknownHelper,
     /// V7: a helper's argument is against its rule.
@@ -36,7 +36,7 @@ impl fmt::Display for Cause {
     fn fmt<W: fmt::Write>(&self, f: &mut fmt::Formatter<W>) -> fmt::Result {
         f.write_str(match self {
             Cause::UnwrittenRegister => "V1",
-            Cause::AddressCompared => "V5",
+            Cause::AddressAsNumber => "V5",
             Cause::UnknownHelper => "V6",
             Cause::ArgumentAgainstRule => "V7",
             Cause::FreezeHeld => "V8",

@@ -1,7 +1,7 @@
 // What no command shows: want of memory, and that the same call answers later.
 
-use super::policies::{jeq, limits, mov, policy};
-use bpf_insn::{Insn, Operand, Program, Reg};
+use super::policies::{limits, policy};
+use bpf_insn::{Insn, Program};
 use or_memory::OrMemory;
 use std::alloc::{AllocError, Global};
 use std::test::Fail;
@@ -35,46 +35,5 @@ fn one_accepted_and_one_refused(rt: HostRuntime) -> Result<(), Fail> {
     assert_eq!(rt; verdict(rt.alloc(), &insns)?, Some(Ok(7)));
     let leaks = Refusal::Check(Cause::FreezeHeld, 3);
     assert_eq!(rt; verdict(rt.alloc(), &insns[3..])?, Some(Err(leaks)));
-    Ok(())
-}
-
-const fn compared(dst: Reg, src: Reg) -> Insn {
-    jeq(dst, Operand::Register(src), 0)
-}
-
-// Comparisons of two registers, which no bytes spell yet: both are read, and neither may be a freeze or an address.
-#[test]
-fn comparisons_of_registers(rt: HostRuntime) -> Result<(), Fail> {
-    let zero = mov(Reg::R3, Operand::Immediate(0));
-    for (insns, cause, slot) in [
-        (
-            [compared(Reg::R2, Reg::R4), Insn::Exit].as_slice(),
-            Cause::UnwrittenRegister,
-            0,
-        ),
-        (
-            [zero, compared(Reg::R3, Reg::R0), Insn::Exit].as_slice(),
-            Cause::UnwrittenRegister,
-            1,
-        ),
-        (
-            [zero, compared(Reg::R2, Reg::R3), Insn::Exit].as_slice(),
-            Cause::AddressCompared,
-            1,
-        ),
-        (
-            [zero, compared(Reg::R3, Reg::R2), Insn::Exit].as_slice(),
-            Cause::AddressCompared,
-            1,
-        ),
-        (
-            [zero, compared(Reg::R3, Reg::R1), Insn::Exit].as_slice(),
-            Cause::AddressCompared,
-            1,
-        ),
-    ] {
-        let refusal = Refusal::Check(cause, slot);
-        assert_eq!(rt; verdict(rt.alloc(), insns)?, Some(Err(refusal)));
-    }
     Ok(())
 }

@@ -1,0 +1,93 @@
+// The tables of opcodes: what an instruction does, by class and code (RFC 9669, section 4). What
+// the tables do not list is not known. It relies on `fields` for the parts of an opcode.
+
+ghost use Rattle.std.specs.Prelude.{◌≡◌, ◌&&◌, ◌==◌, not, nat_le, is_some, IfSome};
+ghost use Rattle.bpf_decode.specs.FieldTests.{is_known};
+ghost use Rattle.bpf_decode.specs.Spells.{alu_code, alu_offset, condition_code};
+ghost use Rattle.bpf_decode.specs.Kinds.{IsKind, form_in};
+
+use crate::fields::{ALU, ALU64, CALL, DIV, EXIT, Fields, JMP, JMP32, MOD, MOV};
+use bpf_insn::{AluOp, Condition, Width};
+
+/// `src` of a call of a local function.
+const LOCAL_FUNCTION: u8 = 1;
+
+/// What an instruction does, without its operands.
+#[derive(Clone, Copy)]
+pub enum Kind {
+    Alu(Width, AluOp),
+    JumpIf(Width, Condition),
+    Call,
+    Exit,
+}
+
+/// The operation of a code (RFC 9669, section 4.1). With the offset 1 a division is a signed one.
+fn alu_op(code: u8, offset: i16) -> Option<AluOp>
+    ensures code { IfSome result (λ op. code ≡ alu_code op) }
+    ensures form { IfSome result (λ op. alu_offset op ≡ form_in code offset) }
+    ensures known { is_some result ≡ (nat_le code 0xc && not (code == 0x8)) }
+{
+    let is_signed = offset == 1;
+    Some(match code {
+        0x0 => AluOp::Add,
+        0x1 => AluOp::Sub,
+        0x2 => AluOp::Mul,
+        DIV if is_signed => AluOp::SignedDiv,
+        DIV => AluOp::Div,
+        0x4 => AluOp::Or,
+        0x5 => AluOp::And,
+        0x6 => AluOp::Lsh,
+        0x7 => AluOp::Rsh,
+        MOD if is_signed => AluOp::SignedMod,
+        MOD => AluOp::Mod,
+        0xa => AluOp::Xor,
+        MOV => AluOp::Mov,
+        0xc => AluOp::Arsh,
+        _ => return None,
+    })
+}
+
+/// The condition of a code (RFC 9669, section 4.3).
+fn condition(code: u8) -> Option<Condition>
+    ensures code { IfSome result (λ condition. code ≡ condition_code condition) }
+    ensures known { is_some result ≡ (nat_le 0x1 code && nat_le code 0xd && not (code == 0x8) && not (code == 0x9)) }
+{
+    Some(match code {
+        0x1 => Condition::Equal,
+        0x2 => Condition::Greater,
+        0x3 => Condition::GreaterOrEqual,
+        0x4 => Condition::AnyBit,
+        0x5 => Condition::NotEqual,
+        0x6 => Condition::SignedGreater,
+        0x7 => Condition::SignedGreaterOrEqual,
+        0xa => Condition::Less,
+        0xb => Condition::LessOrEqual,
+        0xc => Condition::SignedLess,
+        0xd => Condition::SignedLessOrEqual,
+        _ => return None,
+    })
+}
+
+/// The kind of the instruction whose fields these are, and None where it is not known.
+pub fn kind_of(fields: &Fields) -> Option<Kind>
+    ensures found { IfSome result (IsKind fields.now) }
+    ensures known { is_some result ≡ is_known fields.now }
+{
+    if fields.is_sign_extension() {
+        return None;
+    }
+    match fields.opcode {
+        CALL if fields.src == LOCAL_FUNCTION => return None,
+        CALL => return Some(Kind::Call),
+        EXIT => return Some(Kind::Exit),
+        _ => {}
+    }
+    let code = fields.code();
+    Some(match fields.class() {
+        ALU => Kind::Alu(Width::Bits32, alu_op(code, fields.offset)?),
+        ALU64 => Kind::Alu(Width::Bits64, alu_op(code, fields.offset)?),
+        JMP => Kind::JumpIf(Width::Bits64, condition(code)?),
+        JMP32 => Kind::JumpIf(Width::Bits32, condition(code)?),
+        _ => return None,
+    })
+}

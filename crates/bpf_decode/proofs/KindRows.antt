@@ -1,12 +1,15 @@
 -- What follows from an instruction's kind: which of its fields are used, and that its fields are its row where no fault
 -- holds of them.
-use Rattle.std.proofs.Common.{◌≡◌, ℤ, pos, ◌/◌, ◌%◌, ◌⊎◌, inl, inr, [], ◌∷◌, Bool, true, false, not, ◌&&◌, ◌||◌, ◌==◌, if◌then◌else◌, refl, sym, ◌∙◌, arith}
+use Rattle.std.proofs.Common.{ℕ, ap, ◌≡◌, ℤ, pos, ◌/◌, ◌%◌, ◌⊎◌, inl, inr, [], ◌∷◌, Bool, true, false, not, ◌&&◌, ◌||◌, ◌==◌, if◌then◌else◌, refl, sym, ◌∙◌, arith}
 use Rattle.std.specs.Ordering.{int_eq}
 use Rattle.std.proofs.Math.Bool.{or_comm}
-use Rattle.std.proofs.lemmas.Bool.{ne_eqb, eqb-true, eqb-false, not-false, or_parts, and_parts, cases_Bool}
+use Rattle.std.proofs.lemmas.Bool.{false≢true, ne_eqb, eqb-true, eqb-false, not-false, or_parts, and_parts, cases_Bool}
 use Rattle.std.proofs.lemmas.Bool.Decides.{Decides-int_eq}
 use Rattle.bpf_insn.specs.declared.reg.Reg.{Reg}
-use Rattle.bpf_insn.specs.declared.insn.Insn.TheVariants.{Alu, JumpIf}
+use Rattle.bpf_insn.specs.declared.reg.Reg.TheVariants.{R10}
+use Rattle.bpf_insn.specs.declared.insn.Insn.{Insn}
+use Rattle.bpf_insn.specs.declared.insn.Insn.TheVariants.{Alu, JumpIf, Call, Exit}
+use Rattle.bpf_insn.specs.declared.insn.Operand.{Operand}
 use Rattle.bpf_insn.specs.declared.insn.Width.{Width}
 use Rattle.bpf_insn.specs.declared.insn.Width.TheVariants.{Bits32, Bits64}
 use Rattle.bpf_insn.specs.declared.insn.AluOp.{AluOp}
@@ -15,9 +18,9 @@ use Rattle.bpf_insn.specs.declared.insn.Condition.{Condition}
 use Rattle.bpf_insn.specs.declared.insn.Condition.TheVariants.{Equal}
 use Rattle.bpf_insn.specs.Reg.{number_of}
 use Rattle.bpf_decode.specs.declared.fields.Fields.{Fields}
-use Rattle.bpf_decode.specs.FieldTests.{class_in, code_in, takes_register, is_one_of, is_zero, is_arithmetic, is_division, is_register_move, is_sign_extension, is_conditional, is_call, uses_dst, uses_offset, has_unused_field, has_no_form}
+use Rattle.bpf_decode.specs.FieldTests.{class_in, code_in, takes_register, is_one_of, is_zero, is_arithmetic, is_division, is_register_move, is_sign_extension, is_conditional, is_call, uses_dst, uses_offset, has_unused_field, has_no_form, writes_frame_pointer}
 use Rattle.bpf_decode.specs.Kinds.{form_in, has_other_operand, has_needless_offset, operand_in}
-use Rattle.bpf_decode.specs.Spells.{row, opcode_of, alu_class, alu_code, alu_offset, jump_class, condition_code, source_of, src_of, imm_of}
+use Rattle.bpf_decode.specs.Spells.{row, SparesFramePointer, opcode_of, alu_class, alu_code, alu_offset, jump_class, condition_code, source_of, src_of, imm_of}
 
 -- the tests on class and code, of arithmetic
 alu_tests : (f : Fields) (width : Width) (op : AluOp) → class_in f ≡ alu_class width → code_in f ≡ alu_code op → (is_arithmetic f ≡ true) × (is_conditional f ≡ false) × (is_call f ≡ false)
@@ -111,3 +114,19 @@ jump_row f width condition dst src class code dst_is src_is used =
     let operand = operand_when f src src_is (sym (jump_unused f width condition class code) ∙ used) (cases_Bool (takes_register f)) in
     let opcode : f.opcode ≡ opcode_of (condition_code condition) (source_of (operand_in f src)) (jump_class width) = omega (arith, operand.0) in
     λ i. record { opcode = opcode i; dst = sym dst_is i; src = operand.1 i; offset = f.offset; imm = operand.2 i }
+
+class_of_row : (code source : ℕ) (width : Width) → opcode_of code source (alu_class width) % 8 ≡ alu_class width
+class_of_row code source Bits32 = omega arith
+class_of_row code source Bits64 = omega arith
+
+writes_r10 : (width : Width) (op : AluOp) (src : Operand) → writes_frame_pointer (row (Alu width op R10 src)) ≡ true
+writes_r10 Bits32 op src = rw (class_of_row (alu_code op) (source_of src) Bits32) refl
+writes_r10 Bits64 op src = rw (class_of_row (alu_code op) (source_of src) Bits64) refl
+
+-- a row that passes the test of the frame pointer spares it
+pub spares : (f : Fields) (i : Insn) → f ≡ row i → writes_frame_pointer f ≡ false → SparesFramePointer i
+spares f (Alu width op dst src) e passed =
+    λ ten. false≢true (sym passed ∙ ap writes_frame_pointer e ∙ ap (λ (r : Reg). writes_frame_pointer (row (Alu width op r src))) ten ∙ writes_r10 width op src)
+spares f (JumpIf width condition dst src offset) e passed = tt
+spares f (Call callee) e passed = tt
+spares f Exit e passed = tt

@@ -5,17 +5,23 @@ use Rattle.std.specs.Ordering.{int_eq}
 use Rattle.bpf_insn.specs.declared.reg.Reg.{Reg}
 use Rattle.bpf_insn.specs.declared.reg.Reg.TheVariants.{R0, R1, R2, R3, R4, R5, R6, R7, R8, R9, R10}
 use Rattle.bpf_insn.specs.declared.insn.Insn.{Insn}
-use Rattle.bpf_insn.specs.declared.insn.Insn.TheVariants.{Alu, JumpIf, Call, Exit}
+use Rattle.bpf_insn.specs.declared.insn.Insn.TheVariants.{Alu, InPlace, SignExtend, JumpIf, Call, Exit}
 use Rattle.bpf_insn.specs.declared.insn.Operand.TheVariants.{Immediate, Register}
 use Rattle.bpf_insn.specs.declared.insn.Callee.TheVariants.{Helper}
 use Rattle.bpf_insn.specs.declared.insn.Width.TheVariants.{Bits32, Bits64}
 use Rattle.bpf_insn.specs.declared.insn.AluOp.{AluOp}
 use Rattle.bpf_insn.specs.declared.insn.AluOp.TheVariants.{Add, Sub, Mul, Div, SignedDiv, Mod, SignedMod, Or, And, Xor, Lsh, Rsh, Arsh, Mov}
+use Rattle.bpf_insn.specs.declared.insn.InPlaceOp.TheVariants.{Neg, Reorder}
+use Rattle.bpf_insn.specs.declared.insn.ByteOrder.TheVariants.{Little, Big, Swapped}
+use Rattle.bpf_insn.specs.declared.insn.WordSize.{WordSize}
+use Rattle.bpf_insn.specs.declared.insn.WordSize.TheVariants.{Word16, Word32, Word64}
+use Rattle.bpf_insn.specs.declared.insn.SignExtension.{SignExtension}
+use Rattle.bpf_insn.specs.declared.insn.SignExtension.TheVariants.{From8To32, From16To32, From8To64, From16To64, From32To64}
 use Rattle.bpf_insn.specs.declared.insn.Condition.{Condition}
 use Rattle.bpf_insn.specs.declared.insn.Condition.TheVariants.{Equal, NotEqual, Greater, GreaterOrEqual, Less, LessOrEqual, AnyBit, SignedGreater, SignedGreaterOrEqual, SignedLess, SignedLessOrEqual}
 use Rattle.bpf_insn.specs.Reg.{number_of}
 use Rattle.bpf_decode.specs.declared.fields.Fields.{Fields}
-use Rattle.bpf_decode.specs.FieldTests.{class_in, code_in, fault_of}
+use Rattle.bpf_decode.specs.FieldTests.{class_in, code_in, is_sign_extension, fault_of}
 use Rattle.bpf_decode.specs.Kinds.{operand_in}
 use Rattle.bpf_decode.specs.Spells.{row, SparesFramePointer, SpellsInsn}
 
@@ -37,7 +43,7 @@ not_ten : (r : Reg) → r ≢ R10 → (number_of r == 10) ≡ false
 not_ten R10 ne = absurd (ne refl)
 not_ten r ne = refl
 
--- the operation of a code and an offset, and the condition of a code
+-- the operation of a code and an offset, the size of an imm, the extension of a class and an offset, the condition of a code
 abbrev op_from : ℕ → ℤ → AluOp
 op_from code offset =
     if code == 0x0 then Add else if code == 0x1 then Sub else if code == 0x2 then Mul
@@ -45,6 +51,15 @@ op_from code offset =
     else if code == 0x4 then Or else if code == 0x5 then And else if code == 0x6 then Lsh else if code == 0x7 then Rsh
     else if code == 0x9 then (if int_eq offset (pos 1) then SignedMod else Mod)
     else if code == 0xa then Xor else if code == 0xb then Mov else Arsh
+
+abbrev size_from : ℤ → WordSize
+size_from imm = if int_eq imm (pos 16) then Word16 else if int_eq imm (pos 32) then Word32 else Word64
+
+abbrev extension_from : ℕ → ℤ → SignExtension
+extension_from class offset =
+    if int_eq offset (pos 32) then From32To64
+    else if class == 7 then (if int_eq offset (pos 8) then From8To64 else From16To64)
+    else if int_eq offset (pos 8) then From8To32 else From16To32
 
 abbrev condition_from : ℕ → Condition
 condition_from code =
@@ -58,6 +73,12 @@ abbrev insn_from : Fields → Insn
 insn_from f =
     if f.opcode == 0x85 then Call (Helper f.imm)
     else if f.opcode == 0x95 then Exit
+    else if f.opcode == 0x84 then InPlace (Neg Bits32) (reg_of f.dst)
+    else if f.opcode == 0x87 then InPlace (Neg Bits64) (reg_of f.dst)
+    else if f.opcode == 0xd4 then InPlace (Reorder Little (size_from f.imm)) (reg_of f.dst)
+    else if f.opcode == 0xdc then InPlace (Reorder Big (size_from f.imm)) (reg_of f.dst)
+    else if f.opcode == 0xd7 then InPlace (Reorder Swapped (size_from f.imm)) (reg_of f.dst)
+    else if is_sign_extension f then SignExtend (extension_from (class_in f) f.offset) (reg_of f.dst) (reg_of f.src)
     else if class_in f == 4 then Alu Bits32 (op_from (code_in f) f.offset) (reg_of f.dst) (operand_in f (reg_of f.src))
     else if class_in f == 7 then Alu Bits64 (op_from (code_in f) f.offset) (reg_of f.dst) (operand_in f (reg_of f.src))
     else if class_in f == 5 then JumpIf Bits64 (condition_from (code_in f)) (reg_of f.dst) (operand_in f (reg_of f.src)) f.offset
@@ -73,6 +94,16 @@ insn_from_row (Alu Bits64 Add dst (Immediate value)) = rw (reg_of-number_of dst)
 insn_from_row (Alu Bits64 op dst (Immediate value)) = rw (reg_of-number_of dst) refl
 insn_from_row (Alu Bits64 Add dst (Register src)) = rw (reg_of-number_of dst, reg_of-number_of src) refl
 insn_from_row (Alu Bits64 op dst (Register src)) = rw (reg_of-number_of dst, reg_of-number_of src) refl
+insn_from_row (InPlace (Neg Bits32) dst) = rw (reg_of-number_of dst) refl
+insn_from_row (InPlace (Neg Bits64) dst) = rw (reg_of-number_of dst) refl
+insn_from_row (InPlace (Reorder Little Word16) dst) = rw (reg_of-number_of dst) refl
+insn_from_row (InPlace (Reorder Little size) dst) = rw (reg_of-number_of dst) refl
+insn_from_row (InPlace (Reorder Big Word16) dst) = rw (reg_of-number_of dst) refl
+insn_from_row (InPlace (Reorder Big size) dst) = rw (reg_of-number_of dst) refl
+insn_from_row (InPlace (Reorder Swapped Word16) dst) = rw (reg_of-number_of dst) refl
+insn_from_row (InPlace (Reorder Swapped size) dst) = rw (reg_of-number_of dst) refl
+insn_from_row (SignExtend From8To32 dst src) = rw (reg_of-number_of dst, reg_of-number_of src) refl
+insn_from_row (SignExtend extension dst src) = rw (reg_of-number_of dst, reg_of-number_of src) refl
 insn_from_row (JumpIf Bits32 Equal dst (Immediate value) offset) = rw (reg_of-number_of dst) refl
 insn_from_row (JumpIf Bits32 condition dst (Immediate value) offset) = rw (reg_of-number_of dst) refl
 insn_from_row (JumpIf Bits32 Equal dst (Register src) offset) = rw (reg_of-number_of dst, reg_of-number_of src) refl
@@ -102,6 +133,16 @@ no_fault_of_row (Alu Bits64 Add dst (Immediate value)) ne = rw (in_range dst, no
 no_fault_of_row (Alu Bits64 op dst (Immediate value)) ne = rw (in_range dst, not_ten dst ne) refl
 no_fault_of_row (Alu Bits64 Add dst (Register src)) ne = rw (in_range dst, in_range src, not_ten dst ne) refl
 no_fault_of_row (Alu Bits64 op dst (Register src)) ne = rw (in_range dst, in_range src, not_ten dst ne) refl
+no_fault_of_row (InPlace (Neg Bits32) dst) ne = rw (in_range dst, not_ten dst ne) refl
+no_fault_of_row (InPlace (Neg Bits64) dst) ne = rw (in_range dst, not_ten dst ne) refl
+no_fault_of_row (InPlace (Reorder Little Word16) dst) ne = rw (in_range dst, not_ten dst ne) refl
+no_fault_of_row (InPlace (Reorder Little size) dst) ne = rw (in_range dst, not_ten dst ne) refl
+no_fault_of_row (InPlace (Reorder Big Word16) dst) ne = rw (in_range dst, not_ten dst ne) refl
+no_fault_of_row (InPlace (Reorder Big size) dst) ne = rw (in_range dst, not_ten dst ne) refl
+no_fault_of_row (InPlace (Reorder Swapped Word16) dst) ne = rw (in_range dst, not_ten dst ne) refl
+no_fault_of_row (InPlace (Reorder Swapped size) dst) ne = rw (in_range dst, not_ten dst ne) refl
+no_fault_of_row (SignExtend From8To32 dst src) ne = rw (in_range dst, in_range src, not_ten dst ne) refl
+no_fault_of_row (SignExtend extension dst src) ne = rw (in_range dst, in_range src, not_ten dst ne) refl
 no_fault_of_row (JumpIf Bits32 Equal dst (Immediate value) offset) h = rw (in_range dst) refl
 no_fault_of_row (JumpIf Bits32 condition dst (Immediate value) offset) h = rw (in_range dst) refl
 no_fault_of_row (JumpIf Bits32 Equal dst (Register src) offset) h = rw (in_range dst, in_range src) refl

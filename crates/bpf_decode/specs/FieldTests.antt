@@ -41,6 +41,14 @@ abbrev pub is_sign_extension : Fields → Bool
 is_sign_extension f =
     is_register_move f && (int_eq f.offset (pos 8) || int_eq f.offset (pos 16) || (int_eq f.offset (pos 32) && class_in f == 7))
 
+-- NEG 8 with source K, in ALU and ALU64
+abbrev pub is_negation : Fields → Bool
+is_negation f = is_one_of (class_in f) (4 ∷ 7 ∷ []) && code_in f == 0x8 && not (takes_register f)
+
+-- END d: in ALU to little-endian by source K and to big-endian by source X, and in ALU64 swapped, with source K
+abbrev pub is_byte_order : Fields → Bool
+is_byte_order f = is_one_of (class_in f) (4 ∷ 7 ∷ []) && code_in f == 0xd && not (class_in f == 7 && takes_register f)
+
 -- conditional jumps: the codes from 1 to d in JMP and JMP32, but for CALL 8 and EXIT 9
 abbrev pub is_conditional : Fields → Bool
 is_conditional f = is_one_of (class_in f) (5 ∷ 6 ∷ []) && nat_le 0x1 (code_in f) && nat_le (code_in f) 0xd && not (is_one_of (code_in f) (0x8 ∷ 0x9 ∷ []))
@@ -53,9 +61,9 @@ is_call f = f.opcode == 0x85
 abbrev pub is_exit : Fields → Bool
 is_exit f = f.opcode == 0x95
 
--- the instructions that there are so far: no sign extensions, and no calls of local functions
+-- the instructions that there are so far: no calls of local functions
 abbrev pub is_known : Fields → Bool
-is_known f = (is_arithmetic f && not (is_sign_extension f)) || is_conditional f || (is_call f && not (f.src == 1)) || is_exit f
+is_known f = is_arithmetic f || is_negation f || is_byte_order f || is_conditional f || (is_call f && not (f.src == 1)) || is_exit f
 
 -- E5: atomic instructions, packet access, 64-bit immediates that are no numbers, calls by BTF identifier
 abbrev pub is_outside_profile : Fields → Bool
@@ -72,18 +80,22 @@ is_unknown f = not (is_known f) && not (is_outside_profile f)
 abbrev pub has_no_register : Fields → Bool
 has_no_register f = nat_lt 10 f.dst || nat_lt 10 f.src
 
+-- a second operand beside dst, in src or imm
+abbrev pub has_two_operands : Fields → Bool
+has_two_operands f = is_arithmetic f || is_conditional f
+
 -- The fields that an instruction uses. The src of a call is not among them: by it other calls are told from a helper's.
 abbrev pub uses_dst : Fields → Bool
-uses_dst f = is_arithmetic f || is_conditional f
+uses_dst f = has_two_operands f || is_negation f || is_byte_order f
 
 abbrev pub uses_src : Fields → Bool
-uses_src f = uses_dst f && takes_register f
+uses_src f = has_two_operands f && takes_register f
 
 abbrev pub uses_offset : Fields → Bool
 uses_offset f = is_conditional f || is_division f || is_register_move f
 
 abbrev pub uses_imm : Fields → Bool
-uses_imm f = (uses_dst f && not (takes_register f)) || is_call f
+uses_imm f = (has_two_operands f && not (takes_register f)) || is_byte_order f || is_call f
 
 -- E7: a field that the instruction does not use is not zero
 abbrev pub has_unused_field : Fields → Bool
@@ -93,11 +105,17 @@ has_unused_field f =
     || (not (uses_offset f) && not (is_zero f.offset))
     || (not (uses_imm f) && not (is_zero f.imm))
 
--- E8: The offset selects no form. A division is unsigned by 0 and signed by 1; a move of a register is plain by 0.
+-- how many bits a byte order is for
+abbrev pub has_word_size : Fields → Bool
+has_word_size f = int_eq f.imm (pos 16) || int_eq f.imm (pos 32) || int_eq f.imm (pos 64)
+
+-- E8: The offset or imm selects no form. A division is unsigned by 0 and signed by 1; a move of a register is plain by 0;
+-- a byte order is for 16, 32 or 64 bits.
 abbrev pub has_no_form : Fields → Bool
 has_no_form f =
     (is_division f && not (is_zero f.offset || int_eq f.offset (pos 1)))
     || (is_register_move f && not (is_zero f.offset || is_sign_extension f))
+    || (is_byte_order f && not (has_word_size f))
 
 -- E10: dst is the frame pointer in one of the classes LD, LDX, ALU and ALU64
 abbrev pub writes_frame_pointer : Fields → Bool

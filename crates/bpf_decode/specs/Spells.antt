@@ -2,7 +2,7 @@
 -- and source of its opcode.
 use Rattle.std.specs.Prelude.{◌≡◌, ◌≢◌, ◌<◌, ◌≤◌, ◌+◌, ◌*◌, ℕ, ℤ, pos, List, [], ◌∷◌, length, drop, slice_index}
 use Rattle.bpf_insn.specs.declared.insn.Insn.{Insn}
-use Rattle.bpf_insn.specs.declared.insn.Insn.TheVariants.{Alu, JumpIf, Call, Exit}
+use Rattle.bpf_insn.specs.declared.insn.Insn.TheVariants.{Alu, InPlace, SignExtend, JumpIf, Call, Exit}
 use Rattle.bpf_insn.specs.declared.insn.Operand.{Operand}
 use Rattle.bpf_insn.specs.declared.insn.Operand.TheVariants.{Immediate, Register}
 use Rattle.bpf_insn.specs.declared.insn.Callee.TheVariants.{Helper}
@@ -10,6 +10,13 @@ use Rattle.bpf_insn.specs.declared.insn.Width.{Width}
 use Rattle.bpf_insn.specs.declared.insn.Width.TheVariants.{Bits32, Bits64}
 use Rattle.bpf_insn.specs.declared.insn.AluOp.{AluOp}
 use Rattle.bpf_insn.specs.declared.insn.AluOp.TheVariants.{Add, Sub, Mul, Div, SignedDiv, Mod, SignedMod, Or, And, Xor, Lsh, Rsh, Arsh, Mov}
+use Rattle.bpf_insn.specs.declared.insn.InPlaceOp.TheVariants.{Neg, Reorder}
+use Rattle.bpf_insn.specs.declared.insn.ByteOrder.{ByteOrder}
+use Rattle.bpf_insn.specs.declared.insn.ByteOrder.TheVariants.{Little, Big, Swapped}
+use Rattle.bpf_insn.specs.declared.insn.WordSize.{WordSize}
+use Rattle.bpf_insn.specs.declared.insn.WordSize.TheVariants.{Word16, Word32, Word64}
+use Rattle.bpf_insn.specs.declared.insn.SignExtension.{SignExtension}
+use Rattle.bpf_insn.specs.declared.insn.SignExtension.TheVariants.{From8To32, From16To32, From8To64, From16To64, From32To64}
 use Rattle.bpf_insn.specs.declared.insn.Condition.{Condition}
 use Rattle.bpf_insn.specs.declared.insn.Condition.TheVariants.{Equal, NotEqual, Greater, GreaterOrEqual, Less, LessOrEqual, AnyBit, SignedGreater, SignedGreaterOrEqual, SignedLess, SignedLessOrEqual}
 use Rattle.bpf_insn.specs.declared.reg.Reg.TheVariants.{R10}
@@ -57,6 +64,37 @@ alu_code op = (alu_form op).0
 abbrev pub alu_offset : AluOp → ℤ
 alu_offset op = (alu_form op).1
 
+-- Source and class of a byte order (section 4.2). In ALU the source tells little-endian from big-endian.
+abbrev pub order_source : ByteOrder → ℕ
+order_source Little = 0
+order_source Big = 1
+order_source Swapped = 0
+
+abbrev pub order_class : ByteOrder → ℕ
+order_class Little = 4
+order_class Big = 4
+order_class Swapped = 7
+
+-- how many bits are ordered, as imm says
+abbrev pub size_imm : WordSize → ℤ
+size_imm Word16 = pos 16
+size_imm Word32 = pos 32
+size_imm Word64 = pos 64
+
+-- how many bits are sign-extended, as the offset of a move says, and to how many
+abbrev pub extension_form : SignExtension → ℤ × Width
+extension_form From8To32 = (pos 8, Bits32)
+extension_form From16To32 = (pos 16, Bits32)
+extension_form From8To64 = (pos 8, Bits64)
+extension_form From16To64 = (pos 16, Bits64)
+extension_form From32To64 = (pos 32, Bits64)
+
+abbrev pub extension_offset : SignExtension → ℤ
+extension_offset extension = (extension_form extension).0
+
+abbrev pub extension_class : SignExtension → ℕ
+extension_class extension = alu_class (extension_form extension).1
+
 -- the code of a condition, as in the table of section 4.3
 abbrev pub condition_code : Condition → ℕ
 condition_code Equal = 0x1
@@ -88,6 +126,12 @@ imm_of (Register reg) = pos 0
 abbrev pub row : Insn → Fields
 row (Alu width op dst src) =
     record { opcode = opcode_of (alu_code op) (source_of src) (alu_class width); dst = number_of dst; src = src_of src; offset = alu_offset op; imm = imm_of src }
+row (InPlace (Neg width) dst) =
+    record { opcode = opcode_of 0x8 0 (alu_class width); dst = number_of dst; src = 0; offset = pos 0; imm = pos 0 }
+row (InPlace (Reorder order size) dst) =
+    record { opcode = opcode_of 0xd (order_source order) (order_class order); dst = number_of dst; src = 0; offset = pos 0; imm = size_imm size }
+row (SignExtend extension dst src) =
+    record { opcode = opcode_of 0xb 1 (extension_class extension); dst = number_of dst; src = number_of src; offset = extension_offset extension; imm = pos 0 }
 row (JumpIf width condition dst src offset) =
     record { opcode = opcode_of (condition_code condition) (source_of src) (jump_class width); dst = number_of dst; src = src_of src; offset = offset; imm = imm_of src }
 row (Call (Helper number)) = record { opcode = 0x85; dst = 0; src = 0; offset = pos 0; imm = number }
@@ -96,6 +140,8 @@ row Exit = record { opcode = 0x95; dst = 0; src = 0; offset = pos 0; imm = pos 0
 -- what writes a register does not write the frame pointer
 abbrev pub SparesFramePointer : Insn → Type 0
 SparesFramePointer (Alu width op dst src) = dst ≢ R10
+SparesFramePointer (InPlace op dst) = dst ≢ R10
+SparesFramePointer (SignExtend extension dst src) = dst ≢ R10
 SparesFramePointer (JumpIf width condition dst src offset) = Unit {0}
 SparesFramePointer (Call callee) = Unit {0}
 SparesFramePointer Exit = Unit {0}

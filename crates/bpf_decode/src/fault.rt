@@ -18,7 +18,7 @@ pub enum InsnFault {
     /// E7: a field that the instruction does not use is not zero.
     UnusedField,
     /// E8: the offset of a division, a remainder or a move from a register is none that RFC 9669,
-    /// section 4.1, gives a meaning.
+    /// section 4.1, gives a meaning, or the imm of a byte order none that section 4.2 does.
     NoSuchForm,
     /// E10: an instruction of class LD, LDX, ALU or ALU64 has the frame pointer R10 as its
     /// destination, which is only read.

@@ -1,11 +1,14 @@
 // The fields of a slot, and which of the faults of one instruction hold of them. The tables of
-// opcodes are in `kind`. It relies on `byteorder` for little-endian words.
+// opcodes are in `kind`. It relies on `byteorder` for little-endian words, and on `bpf_insn` for the
+// forms that offset and imm select.
 
-ghost use Rattle.std.specs.Prelude.{◌≡◌, ◌≤◌, length};
+ghost use Rattle.std.specs.Prelude.{◌≡◌, ◌≤◌, length, is_some, IfSome};
 ghost use Rattle.bpf_decode.specs.Fields.{fields_of};
-ghost use Rattle.bpf_decode.specs.FieldTests.{class_in, code_in, takes_register, is_division, is_register_move, is_sign_extension, is_outside_profile, has_no_form, writes_frame_pointer};
-ghost use Rattle.bpf_decode.specs.Kinds.{has_other_operand, has_needless_offset};
+ghost use Rattle.bpf_decode.specs.FieldTests.{class_in, code_in, takes_register, is_division, is_register_move, is_sign_extension, is_byte_order, has_word_size, is_outside_profile, has_no_form, writes_frame_pointer};
+ghost use Rattle.bpf_decode.specs.Kinds.{IsExtension, has_other_operand, has_needless_offset};
+ghost use Rattle.bpf_decode.specs.Spells.{size_imm};
 
+use bpf_insn::{SignExtension, WordSize};
 use byteorder::{ByteOrder, LittleEndian};
 
 /// How many bytes a slot has (RFC 9669, section 3.1).
@@ -35,11 +38,17 @@ pub const JMP32: u8 = 6;
 /// The code of a division.
 pub const DIV: u8 = 0x3;
 
+/// The code of a negation.
+pub const NEG: u8 = 0x8;
+
 /// The code of a remainder.
 pub const MOD: u8 = 0x9;
 
 /// The code of a move.
 pub const MOV: u8 = 0xb;
+
+/// The code of a byte order.
+pub const END: u8 = 0xd;
 
 /// The number of R10.
 const FRAME_POINTER: u8 = 10;
@@ -122,16 +131,48 @@ impl Fields {
         self.offset != 0 && !self.is_division() && !self.is_register_move()
     }
 
-    /// A move of a register that extends the sign of its low 8, 16 or, in ALU64, 32 bits.
-    pub fn is_sign_extension(&self) -> bool
-        ensures { result ≡ is_sign_extension self.now }
+    /// The sign extension that a move of a register is, by its class and offset.
+    pub fn sign_extension(&self) -> Option<SignExtension>
+        ensures found { IfSome result (IsExtension self.now) }
+        ensures known { is_some result ≡ is_sign_extension self.now }
     {
-        self.is_register_move()
-            && match self.offset {
-                8 | 16 => true,
-                32 => self.class() == ALU64,
+        if !self.is_register_move() {
+            return None;
+        }
+        let is_wide = self.class() == ALU64;
+        Some(match self.offset {
+            8 if is_wide => SignExtension::From8To64,
+            8 => SignExtension::From8To32,
+            16 if is_wide => SignExtension::From16To64,
+            16 => SignExtension::From16To32,
+            32 if is_wide => SignExtension::From32To64,
+            _ => return None,
+        })
+    }
+
+    /// The bytes of a register in an order: `imm` says of how many bits.
+    fn is_byte_order(&self) -> bool
+        ensures { result ≡ is_byte_order self.now }
+    {
+        self.code() == END
+            && match self.class() {
+                ALU => true,
+                ALU64 => !self.takes_register(),
                 _ => false,
             }
+    }
+
+    /// How many bits a byte order is for.
+    pub fn word_size(&self) -> Option<WordSize>
+        ensures found { IfSome result (λ size. self.now.imm ≡ size_imm size) }
+        ensures known { is_some result ≡ has_word_size self.now }
+    {
+        Some(match self.imm {
+            16 => WordSize::Word16,
+            32 => WordSize::Word32,
+            64 => WordSize::Word64,
+            _ => return None,
+        })
     }
 
     /// The instruction is one that this project's profile leaves out (E5).
@@ -146,14 +187,17 @@ impl Fields {
         }
     }
 
-    /// The offset of a division, a remainder or a move of a register selects no form of it (E8).
+    /// The offset of a division, a remainder or a move of a register, or the imm of a byte order,
+    /// selects no form of it (E8).
     pub fn has_no_form(&self) -> bool
         ensures { result ≡ has_no_form self.now }
     {
         if self.is_division() {
             self.offset != 0 && self.offset != 1
+        } else if self.is_register_move() {
+            self.offset != 0 && self.sign_extension().is_none()
         } else {
-            self.is_register_move() && self.offset != 0 && !self.is_sign_extension()
+            self.is_byte_order() && self.word_size().is_none()
         }
     }
 

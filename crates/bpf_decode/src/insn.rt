@@ -10,7 +10,7 @@ ghost use Rattle.bpf_decode.specs.Spells.{SpellsInsn, row};
 use crate::fault::InsnFault;
 use crate::fields::Fields;
 use crate::kind::{Kind, kind_of};
-use bpf_insn::{Callee, Insn, Operand, Reg};
+use bpf_insn::{Callee, InPlaceOp, Insn, Operand, Reg};
 
 /// A field that the instruction of this kind does not use is not zero (E7).
 fn has_unused_field(fields: &Fields, kind: Kind) -> bool
@@ -19,6 +19,9 @@ fn has_unused_field(fields: &Fields, kind: Kind) -> bool
 {
     match kind {
         Kind::Alu(..) => fields.has_other_operand() || fields.has_needless_offset(),
+        Kind::Neg(..) => fields.src != 0 || fields.offset != 0 || fields.imm != 0,
+        Kind::Reorder(..) => fields.src != 0 || fields.offset != 0,
+        Kind::SignExtend(..) => fields.imm != 0,
         Kind::JumpIf(..) => fields.has_other_operand(),
         Kind::Call => fields.dst != 0 || fields.src != 0 || fields.offset != 0,
         Kind::Exit => fields.dst != 0 || fields.src != 0 || fields.offset != 0 || fields.imm != 0,
@@ -52,6 +55,25 @@ fn spelled(fields: &Fields, kind: Kind, dst: Reg, src: Reg) -> Insn
             op,
             dst,
             src: operand,
+        },
+        Kind::Neg(width) => Insn::InPlace {
+            op: InPlaceOp::Neg(width),
+            dst,
+        },
+        Kind::Reorder(order) => {
+            // A byte order of no size is a fault.
+            let Some(size) = fields.word_size() else {
+                unreachable!()
+            };
+            Insn::InPlace {
+                op: InPlaceOp::Reorder(order, size),
+                dst,
+            }
+        }
+        Kind::SignExtend(extension) => Insn::SignExtend {
+            extension,
+            dst,
+            src,
         },
         Kind::JumpIf(width, condition) => Insn::JumpIf {
             width,

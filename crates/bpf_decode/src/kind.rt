@@ -1,21 +1,24 @@
-// The tables of opcodes: what an instruction does, by class and code (RFC 9669, section 4). What
-// the tables do not list is not known. It relies on `fields` for the parts of an opcode.
+// The tables of opcodes: what an instruction does, by class, code and source (RFC 9669, section 4).
+// What the tables do not list is not known. It relies on `fields` for the parts of an opcode.
 
 ghost use Rattle.std.specs.Prelude.{◌≡◌, ◌&&◌, ◌==◌, not, nat_le, is_some, IfSome};
 ghost use Rattle.bpf_decode.specs.FieldTests.{is_known};
 ghost use Rattle.bpf_decode.specs.Spells.{alu_code, alu_offset, condition_code};
 ghost use Rattle.bpf_decode.specs.Kinds.{IsKind, form_in};
 
-use crate::fields::{ALU, ALU64, CALL, DIV, EXIT, Fields, JMP, JMP32, MOD, MOV};
-use bpf_insn::{AluOp, Condition, Width};
+use crate::fields::{ALU, ALU64, CALL, DIV, END, EXIT, Fields, JMP, JMP32, MOD, MOV, NEG};
+use bpf_insn::{AluOp, ByteOrder, Condition, SignExtension, Width};
 
 /// `src` of a call of a local function.
 const LOCAL_FUNCTION: u8 = 1;
 
-/// What an instruction does, without its operands.
+/// What an instruction does, without its operands and without how many bits a byte order is for.
 #[derive(Clone, Copy)]
 pub enum Kind {
     Alu(Width, AluOp),
+    Neg(Width),
+    Reorder(ByteOrder),
+    SignExtend(SignExtension),
     JumpIf(Width, Condition),
     Call,
     Exit,
@@ -73,8 +76,8 @@ pub fn kind_of(fields: &Fields) -> Option<Kind>
     ensures found { IfSome result (IsKind fields.now) }
     ensures known { is_some result ≡ is_known fields.now }
 {
-    if fields.is_sign_extension() {
-        return None;
+    if let Some(extension) = fields.sign_extension() {
+        return Some(Kind::SignExtend(extension));
     }
     match fields.opcode {
         CALL if fields.src == LOCAL_FUNCTION => return None,
@@ -82,12 +85,18 @@ pub fn kind_of(fields: &Fields) -> Option<Kind>
         EXIT => return Some(Kind::Exit),
         _ => {}
     }
-    let code = fields.code();
-    Some(match fields.class() {
-        ALU => Kind::Alu(Width::Bits32, alu_op(code, fields.offset)?),
-        ALU64 => Kind::Alu(Width::Bits64, alu_op(code, fields.offset)?),
-        JMP => Kind::JumpIf(Width::Bits64, condition(code)?),
-        JMP32 => Kind::JumpIf(Width::Bits32, condition(code)?),
-        _ => return None,
-    })
+    Some(
+        match (fields.class(), fields.code(), fields.takes_register()) {
+            (ALU, NEG, false) => Kind::Neg(Width::Bits32),
+            (ALU64, NEG, false) => Kind::Neg(Width::Bits64),
+            (ALU, END, false) => Kind::Reorder(ByteOrder::Little),
+            (ALU, END, true) => Kind::Reorder(ByteOrder::Big),
+            (ALU64, END, false) => Kind::Reorder(ByteOrder::Swapped),
+            (ALU, code, _) => Kind::Alu(Width::Bits32, alu_op(code, fields.offset)?),
+            (ALU64, code, _) => Kind::Alu(Width::Bits64, alu_op(code, fields.offset)?),
+            (JMP, code, _) => Kind::JumpIf(Width::Bits64, condition(code)?),
+            (JMP32, code, _) => Kind::JumpIf(Width::Bits32, condition(code)?),
+            _ => return None,
+        },
+    )
 }

@@ -44,6 +44,45 @@ pub enum AluOp {
     Mov,
 }
 
+/// In which order the bytes of a word come to stand (RFC 9669, section 4.2). The machine is little-endian.
+#[derive(Clone, Copy, Debug, PartialEq, Eq)]
+pub enum ByteOrder {
+    /// Little-endian: as they stand.
+    Little,
+    /// Big-endian: reversed.
+    Big,
+    /// Reversed, whatever the machine's order is.
+    Swapped,
+}
+
+/// How many of the low bits a byte order is for.
+#[derive(Clone, Copy, Debug, PartialEq, Eq)]
+pub enum WordSize {
+    Word16,
+    Word32,
+    Word64,
+}
+
+/// What an instruction makes of one register in its place.
+#[derive(Clone, Copy, Debug, PartialEq, Eq)]
+pub enum InPlaceOp {
+    /// `-dst` (RFC 9669, section 4.1, NEG).
+    Neg(Width),
+    /// The bytes of the low bits in an order; the bits above become 0 (section 4.2, END).
+    Reorder(ByteOrder, WordSize),
+}
+
+/// How many low bits are extended by their sign, and to how many (RFC 9669, section 4.1, MOVSX). To 32 bits the upper
+/// half is 0.
+#[derive(Clone, Copy, Debug, PartialEq, Eq)]
+pub enum SignExtension {
+    From8To32,
+    From16To32,
+    From8To64,
+    From16To64,
+    From32To64,
+}
+
 /// When a conditional jump is taken (RFC 9669, section 4.3).
 #[derive(Clone, Copy, Debug, PartialEq, Eq)]
 pub enum Condition {
@@ -96,6 +135,17 @@ pub enum Insn {
         op: AluOp,
         dst: Reg,
         src: Operand,
+    },
+    /// Computes `dst` from itself.
+    InPlace {
+        op: InPlaceOp,
+        dst: Reg,
+    },
+    /// `dst` is the low bits of `src`, extended by their sign.
+    SignExtend {
+        extension: SignExtension,
+        dst: Reg,
+        src: Reg,
     },
     /// Where the condition holds of `dst` and `src`, goes on `offset` slots behind the next
     /// instruction, and else at the next instruction.

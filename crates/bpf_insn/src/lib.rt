@@ -7,7 +7,9 @@ mod program;
 mod reg;
 mod target;
 
-pub use insn::{AluOp, Callee, Condition, Insn, Operand, Width};
+pub use insn::{
+    AluOp, ByteOrder, Callee, Condition, InPlaceOp, Insn, Operand, SignExtension, Width, WordSize,
+};
 pub use program::{MAX_SLOTS, Program, ProgramBuilder, Slot};
 pub use reg::Reg;
 pub use target::jump_target;

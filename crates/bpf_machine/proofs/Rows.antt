@@ -2,11 +2,15 @@
 -- the freeze back first, and without one it jumps to the requeue.
 use Rattle.std.proofs.Common.{◌≡◌, ℕ, ℤ, pos, negsuc, true, false, List, [], ◌∷◌, Some, None, refl, replicate}
 use Rattle.bpf_insn.specs.declared.insn.Insn.{Insn}
-use Rattle.bpf_insn.specs.declared.insn.Insn.TheVariants.{Alu, JumpIf, Call, Exit}
+use Rattle.bpf_insn.specs.declared.insn.Insn.TheVariants.{Alu, InPlace, SignExtend, JumpIf, Call, Exit}
 use Rattle.bpf_insn.specs.declared.insn.Callee.TheVariants.{Helper}
 use Rattle.bpf_insn.specs.declared.insn.Operand.TheVariants.{Immediate, Register}
 use Rattle.bpf_insn.specs.declared.insn.Width.TheVariants.{Bits32, Bits64}
 use Rattle.bpf_insn.specs.declared.insn.AluOp.TheVariants.{Add, Sub, Mov}
+use Rattle.bpf_insn.specs.declared.insn.ByteOrder.TheVariants.{Big}
+use Rattle.bpf_insn.specs.declared.insn.WordSize.TheVariants.{Word16}
+use Rattle.bpf_insn.specs.declared.insn.InPlaceOp.TheVariants.{Neg, Reorder}
+use Rattle.bpf_insn.specs.declared.insn.SignExtension.TheVariants.{From8To64}
 use Rattle.bpf_insn.specs.declared.insn.Condition.TheVariants.{Equal, Less, SignedLess}
 use Rattle.bpf_insn.specs.declared.reg.Reg.{Reg}
 use Rattle.bpf_insn.specs.declared.reg.Reg.TheVariants.{R0, R1, R2, R3, R10}
@@ -108,6 +112,32 @@ mov_to_unwritten_goes_on = refl
 
 mov_of_unwritten_stuck : is_stuck (one (copy R2 R3)) limits with_freeze ≡ true
 mov_of_unwritten_stuck = refl
+
+-- one register in its place
+neg_register : private_step (one (InPlace (Neg Bits32) R2)) with_freeze ≡ Some (moved_to (with_register with_freeze R2 0xfffffff9) 1)
+neg_register = refl
+
+be_register : private_step (one (InPlace (Reorder Big Word16) R2)) with_freeze ≡ Some (moved_to (with_register with_freeze R2 0x700) 1)
+be_register = refl
+
+neg_of_unwritten : private_step (one (InPlace (Neg Bits64) R3)) with_freeze ≡ None
+neg_of_unwritten = refl
+
+neg_of_unwritten_stuck : is_stuck (one (InPlace (Neg Bits64) R3)) limits with_freeze ≡ true
+neg_of_unwritten_stuck = refl
+
+-- a sign extension reads its second register alone
+movsx_to_unwritten : private_step (one (SignExtend From8To64 R3 R2)) (with_register with_freeze R2 0x1ff) ≡ Some (moved_to (with_register (with_register with_freeze R2 0x1ff) R3 0xffffffffffffffff) 1)
+movsx_to_unwritten = refl
+
+movsx_to_unwritten_goes_on : is_stuck (one (SignExtend From8To64 R3 R2)) limits with_freeze ≡ false
+movsx_to_unwritten_goes_on = refl
+
+movsx_of_unwritten : private_step (one (SignExtend From8To64 R2 R3)) with_freeze ≡ None
+movsx_of_unwritten = refl
+
+movsx_of_unwritten_stuck : is_stuck (one (SignExtend From8To64 R2 R3)) limits with_freeze ≡ true
+movsx_of_unwritten_stuck = refl
 
 -- R2 is 0: two slots behind the next instruction
 jump_taken : private_step two_paths without_freeze ≡ Some (moved_to without_freeze 3)

@@ -4,16 +4,21 @@
 // and on `helpers` for the rules of helper calls.
 #![tactic(auto)]
 
+mod extensions;
 mod held_freezes;
 pub mod laws;
+mod low;
 mod machine;
 mod stop;
+mod swaps;
 mod words;
 mod words32;
 mod words64;
 
+pub use extensions::extend;
 pub use held_freezes::MAX_HELD;
 pub use machine::Machine;
 pub use stop::Stop;
-pub use words::{alu, alu32, holds};
+pub use swaps::swap;
+pub use words::{alu, alu32, holds, in_place, negated32, negated64};
 pub use words64::alu64;

@@ -1,6 +1,6 @@
 // The machine of the code, of fixed size: it is copied and compared without memory. No instruction so far
-// writes the stack or opens a call, so neither is stored. It relies on `bpf_insn` for instructions, on `words` for
-// what they compute, on `helpers` for the calls, and on `held_freezes`.
+// writes the stack or opens a call, so neither is stored. It relies on `bpf_insn` for instructions, on `words` and
+// `extensions` for what they compute, on `helpers` for the calls, and on `held_freezes`.
 
 ghost use Rattle.std.specs.Prelude.{◌≡◌, ◌+◌, ◌<◌, ◌↔◌, ◌∷◌, ◌++◌, true, false, Some, None, IsTrue, drop, replicate, if◌then◌else◌};
 ghost use Rattle.bpf_insn.specs.declared.program.TheConstants.{MAX_SLOTS};
@@ -11,9 +11,10 @@ ghost use Rattle.bpf_machine.specs.Step.{first_operand, operand, private_step, r
 ghost use Rattle.bpf_machine.specs.Stops.{stop_at};
 ghost use Rattle.bpf_machine.specs.Reached.{IsEntry};
 
+use crate::extensions::extend;
 use crate::held_freezes::HeldFreezes;
 use crate::stop::Stop;
-use crate::words::{alu, holds};
+use crate::words::{alu, holds, in_place};
 use bpf_insn::{AluOp, Callee, Insn, Operand, Program, Reg, jump_target};
 use helpers::{Answer, Request};
 use std::marker::Model;
@@ -109,6 +110,26 @@ impl Machine {
                 }
                 _ => false,
             },
+            Some(Insn::InPlace { op, dst }) => match self.register(dst) {
+                Some(word) => {
+                    self.set(dst, in_place(op, word));
+                    true
+                }
+                None => false,
+            },
+            Some(
+                Insn::SignExtend {
+                    extension,
+                    dst,
+                    src,
+                },
+            ) => match self.register(src) {
+                Some(word) => {
+                    self.set(dst, extend(extension, word));
+                    true
+                }
+                None => false,
+            },
             Some(
                 Insn::JumpIf {
                     width,
@@ -135,7 +156,11 @@ impl Machine {
     {
         match program.fetch(self.place)? {
             Insn::Call(Callee::Helper(number)) => request(number, self.register(Reg::R1)?),
-            Insn::Alu { .. } | Insn::JumpIf { .. } | Insn::Exit => None,
+            Insn::Alu { .. }
+            | Insn::InPlace { .. }
+            | Insn::SignExtend { .. }
+            | Insn::JumpIf { .. }
+            | Insn::Exit => None,
         }
     }
 
@@ -145,7 +170,11 @@ impl Machine {
     {
         match program.fetch(self.place)? {
             Insn::Exit => self.register(Reg::R0),
-            Insn::Alu { .. } | Insn::JumpIf { .. } | Insn::Call(_) => None,
+            Insn::Alu { .. }
+            | Insn::InPlace { .. }
+            | Insn::SignExtend { .. }
+            | Insn::JumpIf { .. }
+            | Insn::Call(_) => None,
         }
     }
 

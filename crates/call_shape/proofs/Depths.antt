@@ -1,7 +1,7 @@
 -- No instruction so far opens a frame, so every static path has one.
 use Rattle.std.proofs.Common.{◌≡◌, ℕ, zero, suc, ◌+◌, ◌≤◌, List, [], ◌∷◌, length, Some, refl, ap, sym, subst, ◌∙◌, arith, inl, inr}
 use Rattle.bpf_insn.specs.declared.insn.Insn.{Insn}
-use Rattle.bpf_insn.specs.declared.insn.Insn.TheVariants.{Alu, JumpIf, Call, Exit}
+use Rattle.bpf_insn.specs.declared.insn.Insn.TheVariants.{Alu, InPlace, SignExtend, JumpIf, Call, Exit}
 use Rattle.bpf_insn.specs.declared.program.Slot.{Slot}
 use Rattle.bpf_insn.specs.Program.{IsProgram}
 use Rattle.call_shape.specs.Shape.{IsLawful}
@@ -15,6 +15,8 @@ returns_nowhere (return ∷ returns) to none leads = absurd cc
 -- no call is open where none was
 none_open : (at : Standing) (insn : Insn) (to : Standing) → at.returns ≡ [] → LeadsTo at insn to → to.returns ≡ []
 none_open at (Alu width op dst src) to none leads = ap (λ (s : Standing). s.returns) leads ∙ none
+none_open at (InPlace op dst) to none leads = ap (λ (s : Standing). s.returns) leads ∙ none
+none_open at (SignExtend extension dst src) to none leads = ap (λ (s : Standing). s.returns) leads ∙ none
 none_open at (JumpIf width condition dst src offset) to none (inl next) = ap (λ (s : Standing). s.returns) next ∙ none
 none_open at (JumpIf width condition dst src offset) to none (inr taken) = ap (λ (s : Standing). s.returns) taken ∙ none
 none_open at (Call callee) to none leads = ap (λ (s : Standing). s.returns) leads ∙ none

@@ -2,7 +2,7 @@
 use Rattle.std.proofs.Common.{◌≡◌, ℕ, zero, suc, ◌+◌, ◌-◌, ◌<◌, ◌≤◌, List, length, Option, Some, None, is_some, true, false, cond, refl, ap, sym, ◌∙◌, arith, inl, inr, ◌⊎◌}
 use Rattle.std.proofs.lemmas.Bool.{cond-true}
 use Rattle.bpf_insn.specs.declared.insn.Insn.{Insn}
-use Rattle.bpf_insn.specs.declared.insn.Insn.TheVariants.{Alu, JumpIf, Call, Exit}
+use Rattle.bpf_insn.specs.declared.insn.Insn.TheVariants.{Alu, InPlace, SignExtend, JumpIf, Call, Exit}
 use Rattle.bpf_insn.specs.declared.program.Slot.{Slot}
 use Rattle.bpf_insn.specs.Program.{IsProgram, insn_at}
 use Rattle.call_shape.specs.Shape.{IsLawful, last_place}
@@ -20,6 +20,8 @@ last_is_exit program is lawful =
 -- one way on, whatever the instruction is
 on : (program : List Slot) (place n : ℕ) (insn : Insn) → insn_at program place ≡ Some insn → StaticPath program (outermost (place + 1)) n → (k : ℕ) × StaticPath program (outermost place) k
 on program place n (Alu width op dst src) e path = (suc n, (Alu width op dst src, e, inr (outermost (place + 1), refl, path)))
+on program place n (InPlace op dst) e path = (suc n, (InPlace op dst, e, inr (outermost (place + 1), refl, path)))
+on program place n (SignExtend extension dst src) e path = (suc n, (SignExtend extension dst src, e, inr (outermost (place + 1), refl, path)))
 on program place n (JumpIf width condition dst src offset) e path = (suc n, (JumpIf width condition dst src offset, e, inr (outermost (place + 1), inl refl, path)))
 on program place n (Call callee) e path = (suc n, (Call callee, e, inr (outermost (place + 1), refl, path)))
 on program place n Exit e path = (1, (Exit, e, inl ((refl, refl), refl)))

@@ -3,7 +3,7 @@
 use Rattle.std.specs.Prelude.{◌≡◌, ◌≢◌, ℕ, ◌-◌, ◌<◌, Bool, true, false, nat_le, List, length, Option, Some, None, is_some, if◌then◌else◌}
 use Rattle.std.specs.Option.{option_and_then, option_map_or}
 use Rattle.bpf_insn.specs.declared.insn.Insn.{Insn}
-use Rattle.bpf_insn.specs.declared.insn.Insn.TheVariants.{Alu, JumpIf, Call, Exit}
+use Rattle.bpf_insn.specs.declared.insn.Insn.TheVariants.{Alu, InPlace, SignExtend, JumpIf, Call, Exit}
 use Rattle.bpf_insn.specs.declared.program.Slot.{Slot}
 use Rattle.bpf_insn.specs.Program.{insn_at}
 use Rattle.bpf_insn.specs.Target.{target}
@@ -18,6 +18,8 @@ last_place program = if is_some (insn_at program (length program - 1)) then leng
 abbrev pub target_in : ℕ → Insn → Option ℕ
 target_in place (JumpIf width condition dst src offset) = Some (target place offset)
 target_in place (Alu width op dst src) = None
+target_in place (InPlace op dst) = None
+target_in place (SignExtend extension dst src) = None
 target_in place (Call callee) = None
 target_in place Exit = None
 

@@ -3,7 +3,7 @@
 use Rattle.std.specs.Prelude.{◌≡◌, ℕ, zero, suc, ◌+◌, ◌<◌, ◌≤◌, max, List, [], ◌∷◌, length, Some, ◌⊎◌}
 use Rattle.std.proofs.Common.{inl, inr}
 use Rattle.bpf_insn.specs.declared.insn.Insn.{Insn}
-use Rattle.bpf_insn.specs.declared.insn.Insn.TheVariants.{Alu, JumpIf, Call, Exit}
+use Rattle.bpf_insn.specs.declared.insn.Insn.TheVariants.{Alu, InPlace, SignExtend, JumpIf, Call, Exit}
 use Rattle.bpf_insn.specs.declared.program.Slot.{Slot}
 use Rattle.bpf_insn.specs.Program.{IsProgram, insn_at}
 use Rattle.bpf_insn.specs.Target.{target}
@@ -34,6 +34,8 @@ ReturnsTo (return ∷ returns) to = to ≡ record { slot = return; returns = ret
 -- where an instruction may lead, whatever the machine
 abbrev pub LeadsTo : Standing → Insn → Standing → Type 0
 LeadsTo at (Alu width op dst src) to = to ≡ moved at (at.slot + 1)
+LeadsTo at (InPlace op dst) to = to ≡ moved at (at.slot + 1)
+LeadsTo at (SignExtend extension dst src) to = to ≡ moved at (at.slot + 1)
 LeadsTo at (JumpIf width condition dst src offset) to = (to ≡ moved at (at.slot + 1)) ⊎ (to ≡ moved at (target at.slot offset))
 LeadsTo at (Call callee) to = to ≡ moved at (at.slot + 1)
 LeadsTo at Exit to = ReturnsTo at.returns to

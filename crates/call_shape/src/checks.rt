@@ -73,6 +73,10 @@ fn target_at(program: &Program, place: usize) -> Option<usize>
 {
     match program.fetch(place)? {
         Insn::JumpIf { offset, .. } => Some(jump_target(place, offset)),
-        Insn::Alu { .. } | Insn::Call(_) | Insn::Exit => None,
+        Insn::Alu { .. }
+        | Insn::InPlace { .. }
+        | Insn::SignExtend { .. }
+        | Insn::Call(_)
+        | Insn::Exit => None,
     }
 }

@@ -56,7 +56,7 @@ pub record NumbersPass (d : Description) (dst : Reg) (first second : Kind) (flow
   pub second_written : IsWritten second
   pub leads : flow ≡ goes_on (with_kind d dst any_number)
 
-compute_passes : (d : Description) (dst : Reg) (second : Kind) (flow : Flow) → compute_with d dst second ≡ Ok flow → IsWritten second × (flow ≡ goes_on (with_kind d dst any_number))
+pub compute_passes : (d : Description) (dst : Reg) (second : Kind) (flow : Flow) → compute_with d dst second ≡ Ok flow → IsWritten second × (flow ≡ goes_on (with_kind d dst any_number))
 compute_passes d dst Unwritten flow e = not_ok _ _ e
 compute_passes d dst (Number least most) flow e = (tt, ok_is _ _ e)
 compute_passes d dst Context flow e = not_ok _ _ e

@@ -6,13 +6,18 @@ use Rattle.std.specs.Int.{w32, w64, cast_unsigned}
 use Rattle.std.proofs.lemmas.Bool.{and_parts, cases_Bool, cond-true, cond-false, eqb-true, eqb-false, not-false, not-true}
 use Rattle.std.proofs.lemmas.Bool.Decides.{Decides-int_eq}
 use Rattle.bpf_insn.specs.declared.insn.Insn.{Insn}
-use Rattle.bpf_insn.specs.declared.insn.Insn.TheVariants.{Alu, JumpIf, Call, Exit}
+use Rattle.bpf_insn.specs.declared.insn.Insn.TheVariants.{Alu, InPlace, SignExtend, JumpIf, Call, Exit}
 use Rattle.bpf_insn.specs.declared.insn.Callee.TheVariants.{Helper}
 use Rattle.bpf_insn.specs.declared.insn.Operand.{Operand}
 use Rattle.bpf_insn.specs.declared.insn.Operand.TheVariants.{Immediate, Register}
 use Rattle.bpf_insn.specs.declared.insn.Width.{Width}
 use Rattle.bpf_insn.specs.declared.insn.Width.TheVariants.{Bits32, Bits64}
 use Rattle.bpf_insn.specs.declared.insn.AluOp.{AluOp}
+use Rattle.bpf_insn.specs.declared.insn.WordSize.TheVariants.{Word16, Word32, Word64}
+use Rattle.bpf_insn.specs.declared.insn.InPlaceOp.{InPlaceOp}
+use Rattle.bpf_insn.specs.declared.insn.InPlaceOp.TheVariants.{Neg, Reorder}
+use Rattle.bpf_insn.specs.declared.insn.SignExtension.{SignExtension}
+use Rattle.bpf_insn.specs.declared.insn.SignExtension.TheVariants.{From8To32, From16To32, From8To64, From16To64, From32To64}
 use Rattle.bpf_insn.specs.declared.insn.Condition.{Condition}
 use Rattle.bpf_insn.specs.declared.insn.Condition.TheVariants.{Equal, NotEqual, Greater, GreaterOrEqual, Less, LessOrEqual, AnyBit, SignedGreater, SignedGreaterOrEqual, SignedLess, SignedLessOrEqual}
 use Rattle.bpf_insn.specs.declared.reg.Reg.{Reg}
@@ -25,8 +30,8 @@ use Rattle.helpers.specs.declared.call.Request.TheVariants.{Release, Requeue}
 use Rattle.helpers.specs.declared.call.Answer.{Answer}
 use Rattle.helpers.specs.Rules.{request_of}
 use Rattle.bpf_machine.specs.MachineState.{MachineState, register, with_register, moved_to}
-use Rattle.bpf_machine.specs.Step.{compute, first_operand, operand, jump_if, returned, does, request_in, Allowed, answered}
-use Rattle.bpf_machine.specs.Words.{alu_of, computed, holds_of, low, reads_dst}
+use Rattle.bpf_machine.specs.Step.{compute, compute_one, first_operand, operand, jump_if, returned, does, request_in, Allowed, answered}
+use Rattle.bpf_machine.specs.Words.{alu_of, computed, holds_of, in_place, low, reads_dst, sign_extended}
 use Rattle.bpf_machine.specs.Reached.{Steps}
 use Rattle.call_shape.specs.StaticPath.{outermost, LeadsTo}
 use Rattle.verifier.specs.declared.kind.Kind.{Kind}
@@ -35,10 +40,10 @@ use Rattle.verifier.specs.declared.description.Description.{Description}
 use Rattle.verifier.specs.declared.check.Flow.{Flow}
 use Rattle.verifier.specs.RegisterKind.{any_number}
 use Rattle.verifier.specs.Knowledge.{kind_at, source_kind, with_kind, sure_freeze, zero_freeze, released_freeze, requeued}
-use Rattle.verifier.specs.InsnCheck.{goes_on, goes_both, check, first_kind, is_copy, is_equality, is_zero, tests_equality, tests_zero}
+use Rattle.verifier.specs.InsnCheck.{goes_on, goes_both, check, compute_with, first_kind, is_copy, is_equality, is_zero, tests_equality, tests_zero}
 use Rattle.verifier.proofs.Describes.{HoldsKind, Describes}
 use Rattle.verifier.proofs.Kept.{register_held, operand_held, moved_described, with_described, sure_described, zero_described, released_described, requeued_described}
-use Rattle.verifier.proofs.Checked.{Copies, Computes, alu_passes, JumpPasses, jump_passes, IsRelease, IsRequeue, call_passes}
+use Rattle.verifier.proofs.Checked.{Copies, Computes, alu_passes, compute_passes, JumpPasses, jump_passes, IsRelease, IsRequeue, call_passes}
 use Rattle.verifier.proofs.Unstuck.{alu_operands, value_of, has_freeze, has_retries, is_release, is_requeue}
 
 -- the machine stands at the next slot, or at the jump's target, and is described by what flows there
@@ -133,6 +138,9 @@ low_fits n = omega arith
 low_half_fits : (n : ℕ) → n % 2 ^ 32 ≤ 0xffffffffffffffff
 low_half_fits n = omega arith
 
+low_quarter_fits : (n : ℕ) → n % 2 ^ 16 ≤ 0xffffffffffffffff
+low_quarter_fits n = omega arith
+
 cut_fits : (reads : Bool) (cut second : ℕ) → cut ≤ 0xffffffffffffffff → second ≤ 0xffffffffffffffff → cond reads cut second ≤ 0xffffffffffffffff
 cut_fits true cut second first fits = first
 cut_fits false cut second first fits = fits
@@ -155,6 +163,30 @@ alu_held d freeze m width op dst src flow a b is right (inl copies) =
 alu_held d freeze m width op dst src flow a b is right (inr computes) =
     (any_number, computes.passes.leads, (alu_of width op a b, refl, omega arith, alu_fits width op a b computes.no_copy))
 
+in_place_fits : (op : InPlaceOp) (n : ℕ) → in_place op n ≤ 0xffffffffffffffff
+in_place_fits (Neg Bits64) n = low_fits _
+in_place_fits (Neg Bits32) n = low_half_fits _
+in_place_fits (Reorder order Word16) n = low_quarter_fits _
+in_place_fits (Reorder order Word32) n = low_half_fits _
+in_place_fits (Reorder order Word64) n = low_fits _
+
+extension_fits : (extension : SignExtension) (n : ℕ) → sign_extended extension n ≤ 0xffffffffffffffff
+extension_fits From8To32 n = low_half_fits _
+extension_fits From16To32 n = low_half_fits _
+extension_fits From8To64 n = low_fits _
+extension_fits From16To64 n = low_fits _
+extension_fits From32To64 n = low_fits _
+
+-- a number of one word
+one_led : (d : Description) (freeze : ℕ) (m m' : MachineState) (dst src : Reg) (f : ℕ → ℕ) → ((n : ℕ) → f n ≤ 0xffffffffffffffff) → (flow : Flow) → Describes d freeze m → compute_with d dst (kind_at d src) ≡ Ok flow → compute_one m dst f (register m src) ≡ Some m' → (m'.place ≡ m.place + 1) × Follows flow freeze m.place m'
+one_led d freeze m m' dst src f fits flow is e step =
+    let passes = compute_passes d dst (kind_at d src) flow e in
+    let value = value_of freeze (kind_at d src) (register m src) passes.0 (register_held d freeze m is src) in
+    let next : MachineState = moved_to (with_register m dst (f value.0)) (m.place + 1) in
+    let is_next : m' ≡ next = some_is next m' (sym (ap (compute_one m dst f) value.1) ∙ step) in
+    let kept = with_described d freeze m dst any_number (f value.0) (f value.0, refl, omega arith, fits value.0) is in
+    (ap (λ (n : MachineState). n.place) is_next, subst (Follows flow freeze m.place) (sym is_next) (to_next flow freeze m.place next (with_kind d dst any_number) passes.1 refl (moved_described _ freeze _ (m.place + 1) kept)))
+
 -- a private instruction
 pub private_led : (d : Description) (freeze : ℕ) (m m' : MachineState) (insn : Insn) (flow : Flow) → Describes d freeze m → check m.place insn d ≡ Ok flow → does m insn ≡ Some m' → Led flow freeze m.place insn m'
 private_led d freeze m m' (Alu width op dst src) flow is e step =
@@ -169,6 +201,12 @@ private_led d freeze m m' (Alu width op dst src) flow is e step =
       to_next flow freeze m.place next (with_kind d dst new.0) new.1 refl (moved_described _ freeze _ (m.place + 1) kept),
       refl,
     )
+private_led d freeze m m' (InPlace op dst) flow is e step =
+    let next = one_led d freeze m m' dst dst (in_place op) (in_place_fits op) flow is e step in
+    (next.1, ap outermost next.0)
+private_led d freeze m m' (SignExtend extension dst src) flow is e step =
+    let next = one_led d freeze m m' dst src (sign_extended extension) (extension_fits extension) flow is e step in
+    (next.1, ap outermost next.0)
 private_led d freeze m m' (JumpIf width condition dst src offset) flow is e step =
     let to : ℕ = target m.place offset in
     let passes = jump_passes d to (tests_zero width condition src) (kind_at d dst) (source_kind d src) flow e in
@@ -207,6 +245,8 @@ helper_led d freeze m m' number flow request answer is (inr requeue) made allowe
 call_led : (d : Description) (freeze : ℕ) (m m' : MachineState) (insn : Insn) (flow : Flow) (request : Request) (answer : Answer) → Describes d freeze m → check m.place insn d ≡ Ok flow → request_in m insn ≡ Some request → Allowed request answer m m' → Led flow freeze m.place insn m'
 call_led d freeze m m' (Call (Helper number)) flow request answer is e made allowed = helper_led d freeze m m' number flow request answer is (call_passes d number (kind_at d R1) flow e) made allowed
 call_led d freeze m m' (Alu width op dst src) flow request answer is e made allowed = absurd (let bad : None ≡ Some request = made in cc)
+call_led d freeze m m' (InPlace op dst) flow request answer is e made allowed = absurd (let bad : None ≡ Some request = made in cc)
+call_led d freeze m m' (SignExtend extension dst src) flow request answer is e made allowed = absurd (let bad : None ≡ Some request = made in cc)
 call_led d freeze m m' (JumpIf width condition dst src offset) flow request answer is e made allowed = absurd (let bad : None ≡ Some request = made in cc)
 call_led d freeze m m' Exit flow request answer is e made allowed = absurd (let bad : None ≡ Some request = made in cc)
 

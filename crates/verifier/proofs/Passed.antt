@@ -3,7 +3,7 @@ use Rattle.std.proofs.Common.{◌≡◌, ℕ, zero, suc, ◌+◌, ◌-◌, ◌<�
 use Rattle.std.proofs.lemmas.Bool.{cases_eq}
 use Rattle.std.proofs.lemmas.List.{length-replicate}
 use Rattle.bpf_insn.specs.declared.insn.Insn.{Insn}
-use Rattle.bpf_insn.specs.declared.insn.Insn.TheVariants.{Alu, JumpIf, Call, Exit}
+use Rattle.bpf_insn.specs.declared.insn.Insn.TheVariants.{Alu, InPlace, SignExtend, JumpIf, Call, Exit}
 use Rattle.bpf_insn.specs.declared.insn.Callee.TheVariants.{Helper}
 use Rattle.bpf_insn.specs.declared.program.Slot.{Slot}
 use Rattle.bpf_insn.specs.declared.reg.Reg.TheVariants.{R1}
@@ -19,7 +19,7 @@ use Rattle.verifier.specs.declared.refusal.Refusal.{Refusal}
 use Rattle.verifier.specs.Knowledge.{entry_description, kind_at, source_kind}
 use Rattle.verifier.specs.InsnCheck.{goes_on, goes_both, check, first_kind, tests_zero}
 use Rattle.verifier.specs.SlotPass.{Table, LeadsInside, described, merge_next, merge_jump, and_then, flow_into, visit_at, visit, visits, first_table, pass}
-use Rattle.verifier.proofs.Checked.{alu_leads, alu_passes, jump_passes, call_passes, exit_passes}
+use Rattle.verifier.proofs.Checked.{alu_leads, alu_passes, compute_passes, jump_passes, call_passes, exit_passes}
 use Rattle.verifier.proofs.Tables.{IsCovered, IsChecked, IsSound, inside}
 use Rattle.verifier.proofs.Merges.{Grows, itself, still_covered, merged}
 
@@ -50,6 +50,10 @@ pub flows_on : (program : List Slot) (place : ℕ) (insn : Insn) (d : Descriptio
 flows_on program place (Alu width op dst src) d flow is lawful lt at e =
     let new = alu_leads d width op dst (first_kind d op dst) (source_kind d src) flow (alu_passes d width op dst (first_kind d op dst) (source_kind d src) flow e) in
     no_jump program place _ flow new.1 (slot_behind program place _ is lawful lt at (λ same. cc))
+flows_on program place (InPlace op dst) d flow is lawful lt at e =
+    no_jump program place _ flow (compute_passes d dst (kind_at d dst) flow e).1 (slot_behind program place _ is lawful lt at (λ same. cc))
+flows_on program place (SignExtend extension dst src) d flow is lawful lt at e =
+    no_jump program place _ flow (compute_passes d dst (kind_at d src) flow e).1 (slot_behind program place _ is lawful lt at (λ same. cc))
 flows_on program place (JumpIf width condition dst src offset) d flow is lawful lt at e =
     let behind = slot_behind program place _ is lawful lt at (λ same. cc) in
     let there = lawful_target program place width condition dst src offset lawful at in

@@ -4,7 +4,7 @@ use Rattle.std.specs.Prelude.{is_none, pos}
 use Rattle.std.specs.Ordering.{int_eq}
 use Rattle.std.proofs.lemmas.Bool.{cases_Bool, cond-true, cond-false, le-leb, eq-eqb, not-true}
 use Rattle.bpf_insn.specs.declared.insn.Insn.{Insn}
-use Rattle.bpf_insn.specs.declared.insn.Insn.TheVariants.{Alu, JumpIf, Call, Exit}
+use Rattle.bpf_insn.specs.declared.insn.Insn.TheVariants.{Alu, InPlace, SignExtend, JumpIf, Call, Exit}
 use Rattle.bpf_insn.specs.declared.insn.Callee.TheVariants.{Helper}
 use Rattle.bpf_insn.specs.declared.insn.Operand.{Operand}
 use Rattle.bpf_insn.specs.declared.insn.Width.{Width}
@@ -32,7 +32,7 @@ use Rattle.verifier.specs.Knowledge.{kind_at, source_kind}
 use Rattle.verifier.specs.InsnCheck.{check, first_kind, is_copy, tests_zero}
 use Rattle.verifier.proofs.Describes.{HoldsKind, HoldsFreeze, Describes}
 use Rattle.verifier.proofs.Kept.{register_held, operand_held}
-use Rattle.verifier.proofs.Checked.{IsWritten, Copies, Computes, alu_passes, jump_passes, ReleasePasses, RequeuePasses, IsRelease, IsRequeue, call_passes, ExitPasses, exit_passes}
+use Rattle.verifier.proofs.Checked.{IsWritten, Copies, Computes, alu_passes, compute_passes, jump_passes, ReleasePasses, RequeuePasses, IsRelease, IsRequeue, call_passes, ExitPasses, exit_passes}
 
 -- what is written is some number
 pub value_of : (freeze : ℕ) (kind : Kind) (o : Option ℕ) → IsWritten kind → HoldsKind freeze kind o → (value : ℕ) × (o ≡ Some value)
@@ -132,6 +132,12 @@ pub unstuck : (limits : HelperLimits) (d : Description) (freeze : ℕ) (m : Mach
 unstuck limits d freeze m place (Alu width op dst src) flow is e =
     let has = alu_operands d freeze m width op dst src flow is (alu_passes d width op dst (first_kind d op dst) (source_kind d src) flow e) in
     ap (λ o. is_none {T = ℕ} o || is_none (operand m src)) has.first_is ∙ ap is_none has.second_is
+unstuck limits d freeze m place (InPlace op dst) flow is e =
+    let passes = compute_passes d dst (kind_at d dst) flow e in
+    ap is_none (value_of freeze (kind_at d dst) (register m dst) passes.0 (register_held d freeze m is dst)).1
+unstuck limits d freeze m place (SignExtend extension dst src) flow is e =
+    let passes = compute_passes d dst (kind_at d src) flow e in
+    ap is_none (value_of freeze (kind_at d src) (register m src) passes.0 (register_held d freeze m is src)).1
 unstuck limits d freeze m place (JumpIf width condition dst src offset) flow is e =
     let passes = jump_passes d (target place offset) (tests_zero width condition src) (kind_at d dst) (source_kind d src) flow e in
     let left = value_of freeze (kind_at d dst) (register m dst) passes.left_written (register_held d freeze m is dst) in

@@ -2,7 +2,7 @@
 use Rattle.std.specs.Prelude.{ℕ, ℤ, pos, Bool, true, false, not, ◌&&◌, nat_le, Some, None, Result, Ok, Err, if◌then◌else◌}
 use Rattle.std.specs.Ordering.{int_eq}
 use Rattle.bpf_insn.specs.declared.insn.Insn.{Insn}
-use Rattle.bpf_insn.specs.declared.insn.Insn.TheVariants.{Alu, JumpIf, Call, Exit}
+use Rattle.bpf_insn.specs.declared.insn.Insn.TheVariants.{Alu, InPlace, SignExtend, JumpIf, Call, Exit}
 use Rattle.bpf_insn.specs.declared.insn.Operand.{Operand}
 use Rattle.bpf_insn.specs.declared.insn.Operand.TheVariants.{Immediate, Register}
 use Rattle.bpf_insn.specs.declared.insn.Callee.TheVariants.{Helper}
@@ -148,6 +148,8 @@ check_exit d = exit_held d d.held
 
 abbrev pub check : ℕ → Insn → Description → Result Flow Cause
 check place (Alu width op dst src) d = check_alu d width op dst (first_kind d op dst) (source_kind d src)
+check place (InPlace op dst) d = compute_with d dst (kind_at d dst)
+check place (SignExtend extension dst src) d = compute_with d dst (kind_at d src)
 check place (JumpIf width condition dst src offset) d =
     check_jump d (target place offset) (tests_zero width condition src) (kind_at d dst) (source_kind d src)
 check place (Call (Helper number)) d = check_call d number (kind_at d R1)

@@ -3,7 +3,7 @@
 ghost use Rattle.std.specs.Prelude.{◌≡◌, ◌<◌, length, IfSome};
 ghost use Rattle.bpf_insn.specs.Program.{IsProgram, insn_at};
 ghost use Rattle.bpf_insn.specs.declared.program.TheConstants.{MAX_SLOTS};
-ghost use Rattle.verifier.specs.InsnCheck.{check, check_alu, check_move, check_numbers, check_jump, check_call, check_release, check_requeue, check_exit, first_kind, is_zero, tests_zero};
+ghost use Rattle.verifier.specs.InsnCheck.{check, check_alu, check_move, check_numbers, compute_with, check_jump, check_call, check_release, check_requeue, check_exit, first_kind, is_zero, tests_zero};
 
 use crate::description::{Description, Held};
 use crate::kind::Kind;
@@ -48,6 +48,12 @@ pub fn check(program: &Program, place: usize, description: &Description) -> Resu
             dst,
             src,
         } => check_alu(description, width, op, dst, description.source(src)),
+        Insn::InPlace { op: _, dst } => compute_with(description, dst, description.kind(dst)),
+        Insn::SignExtend {
+            extension: _,
+            dst,
+            src,
+        } => compute_with(description, dst, description.kind(src)),
         Insn::JumpIf {
             width,
             condition,
@@ -112,9 +118,18 @@ fn check_numbers(
 {
     match (first, second) {
         (Kind::Unwritten, _) | (_, Kind::Unwritten) => Err(Cause::UnwrittenRegister),
-        (Kind::Number { .. }, Kind::Number { .. }) => {
-            Ok(Flow::goes_on(description.with(dst, Kind::any_number())))
-        }
+        (Kind::Number { .. }, _) => compute_with(description, dst, second),
+        _ => Err(Cause::AddressAsNumber),
+    }
+}
+
+// What is computed of one word that is a number, or of it and a number.
+fn compute_with(description: &Description, dst: Reg, source: Kind) -> Result<Flow, Cause>
+    ensures { result ≡ compute_with description.now dst source }
+{
+    match source {
+        Kind::Unwritten => Err(Cause::UnwrittenRegister),
+        Kind::Number { .. } => Ok(Flow::goes_on(description.with(dst, Kind::any_number()))),
         _ => Err(Cause::AddressAsNumber),
     }
 }

@@ -2,7 +2,7 @@
 use Rattle.std.proofs.Common.{◌≡◌, ℕ, ℤ, List, [], ◌∷◌, Option, Some, None, refl, ap, sym, ◌∙◌}
 use Rattle.std.specs.Option.{option_and_then}
 use Rattle.bpf_insn.specs.declared.insn.Insn.{Insn}
-use Rattle.bpf_insn.specs.declared.insn.Insn.TheVariants.{Alu, JumpIf, Call, Exit}
+use Rattle.bpf_insn.specs.declared.insn.Insn.TheVariants.{Alu, InPlace, SignExtend, JumpIf, Call, Exit}
 use Rattle.bpf_insn.specs.declared.insn.Callee.TheVariants.{Helper}
 use Rattle.bpf_insn.specs.declared.insn.Width.{Width}
 use Rattle.bpf_insn.specs.declared.insn.AluOp.{AluOp}
@@ -11,7 +11,8 @@ use Rattle.bpf_insn.specs.declared.reg.Reg.{Reg}
 use Rattle.bpf_insn.specs.declared.program.Slot.{Slot}
 use Rattle.bpf_insn.specs.Program.{insn_at}
 use Rattle.bpf_machine.specs.MachineState.{OpenCall, MachineState, register}
-use Rattle.bpf_machine.specs.Step.{compute, first_operand, operand, jump_if, returned, does, private_step}
+use Rattle.bpf_machine.specs.Words.{in_place, sign_extended}
+use Rattle.bpf_machine.specs.Step.{compute, compute_one, first_operand, operand, jump_if, returned, does, private_step}
 
 -- what one machine has of another
 pub record HasTheSame (before after : MachineState) : Type 0 where
@@ -28,6 +29,10 @@ computed m width op dst (Some a) (Some b) after e = some_same m _ after e (recor
 computed m width op dst (Some a) None after e = absurd cc
 computed m width op dst None b after e = absurd cc
 
+computed_one : (m : MachineState) (dst : Reg) (f : ℕ → ℕ) (word : Option ℕ) (after : MachineState) → compute_one m dst f word ≡ Some after → HasTheSame m after
+computed_one m dst f (Some a) after e = some_same m _ after e (record { held = refl; disposed = refl })
+computed_one m dst f None after e = absurd cc
+
 jumped : (m : MachineState) (width : Width) (condition : Condition) (offset : ℤ) (first second : Option ℕ) (after : MachineState) → jump_if m width condition offset first second ≡ Some after → HasTheSame m after
 jumped m width condition offset (Some a) (Some b) after e = some_same m _ after e (record { held = refl; disposed = refl })
 jumped m width condition offset (Some a) None after e = absurd cc
@@ -39,6 +44,8 @@ came_back m (call ∷ calls) after e = some_same m _ after e (record { held = re
 
 did : (m : MachineState) (insn : Insn) (after : MachineState) → does m insn ≡ Some after → HasTheSame m after
 did m (Alu width op dst src) after e = computed m width op dst (first_operand m op dst) (operand m src) after e
+did m (InPlace op dst) after e = computed_one m dst (in_place op) (register m dst) after e
+did m (SignExtend extension dst src) after e = computed_one m dst (sign_extended extension) (register m src) after e
 did m (JumpIf width condition dst src offset) after e = jumped m width condition offset (register m dst) (operand m src) after e
 did m (Call (Helper number)) after e = absurd cc
 did m Exit after e = came_back m m.open_calls after e

@@ -41,9 +41,8 @@ fn longest_from(program: &Program, place: usize, lengths: &[u32]) -> u32
             let target = jump_target(place, offset);
             lengths[place + 1].max(lengths[target]) + 1
         }
-        Some(
-            Insn::Alu { .. } | Insn::InPlace { .. } | Insn::SignExtend { .. } | Insn::Call(_),
-        ) => lengths[place + 1] + 1,
+        Some(Insn::Alu { .. } | Insn::InPlace { .. } | Insn::SignExtend { .. } | Insn::Call(_)) =>
+            lengths[place + 1] + 1,
         None => unreachable!(),
     }
 }

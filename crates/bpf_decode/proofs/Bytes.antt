@@ -1,14 +1,15 @@
 -- The 8 bytes of a slot are those of its fields.
-use Rattle.std.proofs.Common.{◌≡◌, ◌≤◌, ◌<◌, ℕ, ◌+◌, ◌*◌, ◌^◌, ◌%◌, ◌/◌, List, [], ◌∷◌, ◌++◌, length, get_or, take, drop, refl, sym, ap, ap₂, ◌∙◌, arith}
-use Rattle.std.proofs.lemmas.List.{take-append-drop, get_or-drop}
+use Rattle.std.proofs.Common.{◌≡◌, ◌≤◌, ◌<◌, ℕ, suc, subst, ◌+◌, ◌*◌, ◌^◌, ◌%◌, ◌/◌, List, [], ◌∷◌, ◌++◌, length, get_or, take, drop, refl, sym, ap, ap₂, ◌∙◌, arith}
+use Rattle.std.proofs.lemmas.List.{take-append-drop, get_or-drop, drop-drop}
 use Rattle.std.proofs.lemmas.Int.{of_z-to_z}
 use Rattle.std.specs.Int.{Width, w16, w32, cast_signed, cast_unsigned}
 use mir.Val.{bits}
 use Rattle.bpf_insn.specs.declared.insn.Insn.{Insn}
 use Rattle.bpf_decode.specs.declared.fields.Fields.{Fields}
 use Rattle.bpf_decode.specs.Fields.{fields_of}
-use Rattle.bpf_decode.specs.Spells.{SpellsThen, AreBytes}
-use Rattle.bpf_decode.proofs.Rows.{one_row}
+use Rattle.bpf_insn.specs.Program.{slots_of}
+use Rattle.bpf_decode.specs.Spells.{rows, BeginsWith, SpellsThen, behind_insn, AreBytes}
+use Rattle.bpf_decode.proofs.Texts.{length-rows}
 
 -- the first 8 of at least 8 elements, one by one
 front_of : (a : List ℕ) → 8 ≤ length a → take 8 a ≡ get_or a 0 0 ∷ get_or a 1 0 ∷ get_or a 2 0 ∷ get_or a 3 0 ∷ get_or a 4 0 ∷ get_or a 5 0 ∷ get_or a 6 0 ∷ get_or a 7 0 ∷ []
@@ -50,10 +51,27 @@ same_front a b bytes_a bytes_b long_a long_b same =
     let imm = digits_4 _ _ _ _ _ _ _ _ (bytes_a 4) (bytes_a 5) (bytes_a 6) (bytes_a 7) (bytes_b 4) (bytes_b 5) (bytes_b 6) (bytes_b 7) (ap (λ (f : Fields). f.imm) same) in
     front_of a long_a ∙ rw (opcode, registers, offset.0, offset.1, imm.0, imm.1, imm.2, imm.3) (sym (front_of b long_b))
 
+AreBytes-drop : (n : ℕ) (bytes : List ℕ) → AreBytes bytes → AreBytes (drop n bytes)
+AreBytes-drop n bytes h i = rw get_or-drop (h (n + i))
+
+drop-suc : (n : ℕ) (bytes : List ℕ) → drop (8 * n) (drop 8 bytes) ≡ drop (8 * suc n) bytes
+drop-suc n bytes = drop-drop (8 * n) 8 bytes ∙ ap (λ (m : ℕ). drop m bytes) (omega arith)
+
+-- slots of the same fields are the same bytes
+one_text_of_slots : (a b : List ℕ) (slots : List Fields) → AreBytes a → AreBytes b → BeginsWith a slots → BeginsWith b slots
+    → drop (8 * length slots) a ≡ drop (8 * length slots) b → a ≡ b
+one_text_of_slots a b [] bytes_a bytes_b h k behind = behind
+one_text_of_slots a b (first ∷ slots) bytes_a bytes_b h k behind =
+    let front = same_front a b bytes_a bytes_b h.0 k.0 (h.1 ∙ sym k.1) in
+    let rest = one_text_of_slots (drop 8 a) (drop 8 b) slots (AreBytes-drop 8 a bytes_a) (AreBytes-drop 8 b bytes_b) h.2 k.2
+    (drop-suc (length slots) a ∙ behind ∙ sym (drop-suc (length slots) b)) in
+    sym (take-append-drop 8 a) ∙ ap₂ (λ (x y : List ℕ). x ++ y) front rest ∙ take-append-drop 8 b
+
 -- instructions have one row of bytes
 pub one_text_of_insns : (a b : List ℕ) (insns : List Insn) → AreBytes a → AreBytes b → SpellsThen a insns [] → SpellsThen b insns [] → a ≡ b
 one_text_of_insns a b [] bytes_a bytes_b h k = h ∙ sym k
 one_text_of_insns a b (insn ∷ insns) bytes_a bytes_b h k =
-    let front = same_front a b bytes_a bytes_b h.0 k.0 (one_row (fields_of a) (fields_of b) insn h.1 k.1) in
-    let behind = one_text_of_insns (drop 8 a) (drop 8 b) insns (λ i. rw get_or-drop (bytes_a (8 + i))) (λ i. rw get_or-drop (bytes_b (8 + i))) h.2 k.2 in
-    sym (take-append-drop 8 a) ∙ ap₂ (λ (x y : List ℕ). x ++ y) front behind ∙ take-append-drop 8 b
+    let slots : 8 * length (slots_of insn) ≡ 8 * length (rows insn) = omega (arith, length-rows insn) in
+    let behind = one_text_of_insns (behind_insn a insn) (behind_insn b insn) insns
+    (AreBytes-drop (8 * length (slots_of insn)) a bytes_a) (AreBytes-drop (8 * length (slots_of insn)) b bytes_b) h.1 k.1 in
+    one_text_of_slots a b (rows insn) bytes_a bytes_b h.0.0 k.0.0 (subst (λ (n : ℕ). drop n a ≡ drop n b) slots behind)

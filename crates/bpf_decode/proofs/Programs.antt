@@ -28,11 +28,11 @@ pub no_fault_of_text : (text : List ℕ) (program : List Slot) (fault : DecodeFa
 no_fault_of_text text program Empty h f = omega (arith, length-Spells text program h, h.is_program.in_range.0)
 no_fault_of_text text program PartialSlot h f = f (omega (arith, length-Spells text program h))
 no_fault_of_text text program TooManySlots h f = omega (arith, length-Spells text program h, h.is_program.in_range.1)
-no_fault_of_text text program (At slot fault) h f = no_fault_within text f.1.insns f.1.rest (insns_in program) fault f.1.before f.1.here f.1.has h.in_a_row
+no_fault_of_text text program (At slot fault) h f = no_fault_within text f.1.insns f.1.rest (insns_in program) fault f.1.before f.1.here f.1.has h.in_a_row h.is_program.spares
 
 same_at : (bytes : List ℕ) (s t : ℕ) (f g : InsnFault) → FaultAt bytes s f → FaultAt bytes t g → At s f ≡ At t g
 same_at bytes s t f g h k =
-    let both = one_first_fault bytes h.insns h.rest f k.insns k.rest g h.before h.has k.before k.has in
+    let both = one_first_fault bytes h.insns h.rest f k.insns k.rest g h.before h.spares h.has k.before k.spares k.has in
     let slots : s ≡ t = sym h.slots ∙ both.0 ∙ k.slots in
     λ i. At (slots i) (both.1 i)
 

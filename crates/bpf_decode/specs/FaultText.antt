@@ -1,7 +1,7 @@
 -- How a fault is printed: its number, and behind the faults of an instruction the slot in decimal.
 use Rattle.std.specs.Prelude.{ℕ, List, ◌++◌, codes, decimal}
 use Rattle.bpf_decode.specs.declared.fault.InsnFault.{InsnFault}
-use Rattle.bpf_decode.specs.declared.fault.InsnFault.TheVariants.{UnknownOpcode, OutsideProfile, NoSuchRegister, UnusedField, NoSuchForm, FramePointer}
+use Rattle.bpf_decode.specs.declared.fault.InsnFault.TheVariants.{UnknownOpcode, OutsideProfile, NoSuchRegister, UnusedField, NoSuchForm, CutShort, FramePointer}
 use Rattle.bpf_decode.specs.declared.fault.DecodeFault.{DecodeFault}
 use Rattle.bpf_decode.specs.declared.fault.DecodeFault.TheVariants.{Empty, PartialSlot, TooManySlots, At}
 
@@ -11,6 +11,7 @@ insn_fault_text OutsideProfile = codes "E5"
 insn_fault_text NoSuchRegister = codes "E6"
 insn_fault_text UnusedField = codes "E7"
 insn_fault_text NoSuchForm = codes "E8"
+insn_fault_text CutShort = codes "E9"
 insn_fault_text FramePointer = codes "E10"
 
 abbrev pub fault_text : DecodeFault → List ℕ

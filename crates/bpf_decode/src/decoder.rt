@@ -3,15 +3,16 @@
 ghost use Rattle.std.specs.Prelude.{◌≡◌, ◌≤◌, ◌*◌, List, length, IfOk, IfErr, MatchResult};
 ghost use Rattle.bpf_insn.specs.declared.program.TheConstants.{MAX_SLOTS};
 ghost use Rattle.bpf_insn.specs.declared.program.Slot.{Slot};
+ghost use Rattle.bpf_insn.specs.Program.{slots_of};
 ghost use Rattle.bpf_decode.specs.Spells.{Spells};
 ghost use Rattle.bpf_decode.specs.FirstFault.{HasFault};
 ghost use Rattle.bpf_decode.specs.Decoded.{IfFault};
 ghost use Rattle.or_memory.specs.declared.OrMemory.TheVariants.{OutOfMemory};
 
 use crate::fault::DecodeFault;
-use crate::fields::{Fields, SLOT_BYTES};
+use crate::fields::SLOT_BYTES;
 use crate::insn::insn;
-use bpf_insn::{MAX_SLOTS, Program, ProgramBuilder};
+use bpf_insn::{Insn, MAX_SLOTS, Program, ProgramBuilder};
 use or_memory::OrMemory;
 use std::alloc::Global;
 
@@ -36,6 +37,13 @@ fn slot_count(bytes: &[u8]) -> Result<usize, DecodeError>
     Ok(slots)
 }
 
+/// How many slots the instruction takes.
+fn slots_of(insn: Insn) -> usize
+    ensures { result ≡ length (slots_of insn) }
+{
+    if insn.is_wide() { 2 } else { 1 }
+}
+
 /// The program that the bytes spell, or the first fault of the bytes.
 fn program(alloc: Global, bytes: &[u8]) -> Result<Program, DecodeError>
     ensures found { IfOk result (Spells bytes.now) }
@@ -43,15 +51,19 @@ fn program(alloc: Global, bytes: &[u8]) -> Result<Program, DecodeError>
 {
     let slots = slot_count(bytes)?;
     let mut builder = ProgramBuilder::with_capacity(alloc, slots)?;
-    let mut rest = bytes;
-    for slot in 0..slots {
-        match insn(&Fields::from_bytes(rest)) {
-            Ok(insn) => builder.push(insn)?,
+    let (mut slot, mut rest) = (0, bytes);
+    while slot < slots {
+        match insn(rest) {
+            Ok(insn) => {
+                builder.push(insn)?;
+                let taken = slots_of(insn);
+                rest = rest.split_at(SLOT_BYTES * taken).1;
+                slot += taken;
+            }
             Err(fault) => return Err(OrMemory::Fault(DecodeFault::At { slot, fault })),
         }
-        rest = rest.split_at(SLOT_BYTES).1;
     }
-    // From 1 to `MAX_SLOTS` slots make a program.
+    // From 1 to `MAX_SLOTS` slots, none of which writes R10, make a program.
     let Some(program) = builder.build() else {
         unreachable!()
     };

@@ -7,7 +7,7 @@ use std::fmt;
 /// named.
 #[derive(Clone, Copy, Debug, PartialEq, Eq)]
 pub enum InsnFault {
-    /// E4: no instruction has the opcode, or this version does not know it yet.
+    /// E4: no instruction has the opcode.
     UnknownOpcode,
     /// E5: an instruction outside this project's profile of RFC 9669: the atomic ones (section 5.3),
     /// the legacy packet access (section 5.5), the 64-bit immediates with `src` 1 to 6 (section 5.4)
@@ -15,11 +15,14 @@ pub enum InsnFault {
     OutsideProfile,
     /// E6: a register number above 10.
     NoSuchRegister,
-    /// E7: a field that the instruction does not use is not zero.
+    /// E7: a field that the instruction does not use is not zero, or, of the second slot of a 64-bit
+    /// immediate, one of the first four bytes (section 5.4).
     UnusedField,
     /// E8: the offset of a division, a remainder or a move from a register is none that RFC 9669,
     /// section 4.1, gives a meaning, or the imm of a byte order none that section 4.2 does.
     NoSuchForm,
+    /// E9: a 64-bit immediate begins in the last slot, so that its second one is missing.
+    CutShort,
     /// E10: an instruction of class LD, LDX, ALU or ALU64 has the frame pointer R10 as its
     /// destination, which is only read.
     FramePointer,
@@ -51,6 +54,7 @@ impl fmt::Display for InsnFault {
             InsnFault::NoSuchRegister => "E6",
             InsnFault::UnusedField => "E7",
             InsnFault::NoSuchForm => "E8",
+            InsnFault::CutShort => "E9",
             InsnFault::FramePointer => "E10",
         })
     }

@@ -2,10 +2,10 @@
 // opcodes are in `kind`. It relies on `byteorder` for little-endian words, and on `bpf_insn` for the
 // forms that offset and imm select.
 
-ghost use Rattle.std.specs.Prelude.{◌≡◌, ◌≤◌, length, is_some, IfSome};
-ghost use Rattle.bpf_decode.specs.Fields.{fields_of};
-ghost use Rattle.bpf_decode.specs.FieldTests.{class_in, code_in, takes_register, is_division, is_register_move, is_sign_extension, is_byte_order, has_word_size, is_outside_profile, has_no_form, writes_frame_pointer};
-ghost use Rattle.bpf_decode.specs.Kinds.{IsExtension, has_other_operand, has_needless_offset};
+ghost use Rattle.std.specs.Prelude.{◌≡◌, ◌<◌, ◌≤◌, ◌||◌, length, is_some, IfSome};
+ghost use Rattle.bpf_decode.specs.Fields.{fields_of, fields_behind};
+ghost use Rattle.bpf_decode.specs.FieldTests.{class_in, code_in, size_in, mode_in, takes_register, is_division, is_register_move, is_sign_extension, is_byte_order, is_call, is_load_immediate, has_word_size, is_outside_profile, has_no_form, writes_frame_pointer};
+ghost use Rattle.bpf_decode.specs.Kinds.{IsExtension};
 ghost use Rattle.bpf_decode.specs.Spells.{size_imm};
 
 use bpf_insn::{SignExtension, WordSize};
@@ -14,14 +14,17 @@ use byteorder::{ByteOrder, LittleEndian};
 /// How many bytes a slot has (RFC 9669, section 3.1).
 pub const SLOT_BYTES: usize = 8;
 
-/// A call of a helper, a local function or a BTF function, by `src` (class JMP, code CALL).
-pub const CALL: u8 = 0x85;
+/// The class of loads that are not from memory.
+pub const LD: u8 = 0;
 
-/// The end of a function (class JMP, code EXIT).
-pub const EXIT: u8 = 0x95;
+/// The class of loads from memory.
+pub const LDX: u8 = 1;
 
-/// A 64-bit immediate, which takes two slots (class LD).
-pub const LOAD_IMMEDIATE: u8 = 0x18;
+/// The class of stores of a constant.
+pub const ST: u8 = 2;
+
+/// The class of stores of a register.
+pub const STX: u8 = 3;
 
 /// The class of arithmetic of 32 bits.
 pub const ALU: u8 = 4;
@@ -35,8 +38,14 @@ pub const JMP: u8 = 5;
 /// The class of jumps that compare 32 bits.
 pub const JMP32: u8 = 6;
 
+/// The code of a jump without a condition.
+pub const JA: u8 = 0x0;
+
 /// The code of a division.
 pub const DIV: u8 = 0x3;
+
+/// The code of a call.
+pub const CALL: u8 = 0x8;
 
 /// The code of a negation.
 pub const NEG: u8 = 0x8;
@@ -44,11 +53,41 @@ pub const NEG: u8 = 0x8;
 /// The code of a remainder.
 pub const MOD: u8 = 0x9;
 
+/// The code of a function's end.
+pub const EXIT: u8 = 0x9;
+
 /// The code of a move.
 pub const MOV: u8 = 0xb;
 
 /// The code of a byte order.
 pub const END: u8 = 0xd;
+
+/// The mode of a constant.
+pub const IMM: u8 = 0;
+
+/// The mode of memory.
+pub const MEM: u8 = 3;
+
+/// The mode of memory whose sign is extended.
+pub const MEMSX: u8 = 4;
+
+/// The size of 4 bytes.
+pub const WORD: u8 = 0;
+
+/// The size of 2 bytes.
+pub const HALF_WORD: u8 = 1;
+
+/// The size of 1 byte.
+pub const BYTE: u8 = 2;
+
+/// The size of 8 bytes.
+pub const DOUBLE_WORD: u8 = 3;
+
+/// `src` of a call of a local function.
+pub const LOCAL_FUNCTION: u8 = 1;
+
+/// `src` of a call by BTF identifier.
+const BTF_IDENTIFIER: u8 = 2;
 
 /// The number of R10.
 const FRAME_POINTER: u8 = 10;
@@ -78,6 +117,31 @@ impl Fields {
         }
     }
 
+    /// The fields of the slot behind that one, if there is one.
+    pub fn behind(bytes: &[u8]) -> Option<Self>
+        ensures { result ≡ fields_behind bytes.now }
+    {
+        if bytes.len() < 2 * SLOT_BYTES {
+            return None;
+        }
+        Some(Fields::from_bytes(&bytes[SLOT_BYTES..]))
+    }
+
+    /// The 8 bytes of a slot with these fields.
+    pub fn to_bytes(&self) -> [u8; SLOT_BYTES]
+        requires dst { self.now.dst < 16 }
+        requires src { self.now.src < 16 }
+        ensures fields { fields_of result ≡ self.now }
+        ensures slot { length result ≡ 8 }
+    {
+        let mut bytes = [0; SLOT_BYTES];
+        bytes[0] = self.opcode;
+        bytes[1] = 16 * self.src + self.dst;
+        LittleEndian::write_i16(&mut bytes[2..4], self.offset);
+        LittleEndian::write_i32(&mut bytes[4..8], self.imm);
+        bytes
+    }
+
     /// The instruction's class (RFC 9669, section 3.3).
     pub fn class(&self) -> u8
         ensures { result ≡ class_in self.now }
@@ -99,15 +163,18 @@ impl Fields {
         self.opcode / 8 % 2 == 1
     }
 
-    /// Of `src` and `imm`, the one that is not the second operand is not zero.
-    pub fn has_other_operand(&self) -> bool
-        ensures { result ≡ has_other_operand self.now }
+    /// The size of a load or store (RFC 9669, section 5).
+    pub fn size(&self) -> u8
+        ensures { result ≡ size_in self.now }
     {
-        if self.takes_register() {
-            self.imm != 0
-        } else {
-            self.src != 0
-        }
+        self.opcode / 8 % 4
+    }
+
+    /// The mode of a load or store (RFC 9669, section 5).
+    pub fn mode(&self) -> u8
+        ensures { result ≡ mode_in self.now }
+    {
+        self.opcode / 32
     }
 
     /// A division or a remainder: the offset says whether it is a signed one.
@@ -124,11 +191,11 @@ impl Fields {
         matches!(self.class(), ALU | ALU64) && self.code() == MOV && self.takes_register()
     }
 
-    /// The offset of an arithmetic instruction is not zero and selects no form.
-    pub fn has_needless_offset(&self) -> bool
-        ensures { result ≡ has_needless_offset self.now }
+    /// An arithmetic instruction whose offset selects a form of it.
+    pub fn has_forms(&self) -> bool
+        ensures { result ≡ (is_division self.now || is_register_move self.now) }
     {
-        self.offset != 0 && !self.is_division() && !self.is_register_move()
+        self.is_division() || self.is_register_move()
     }
 
     /// The sign extension that a move of a register is, by its class and offset.
@@ -175,15 +242,28 @@ impl Fields {
         })
     }
 
+    /// A call of a helper, a local function or a BTF function, by `src`.
+    fn is_call(&self) -> bool
+        ensures { result ≡ is_call self.now }
+    {
+        self.class() == JMP && self.code() == CALL && !self.takes_register()
+    }
+
+    /// A 64-bit immediate, which takes two slots.
+    pub fn is_load_immediate(&self) -> bool
+        ensures { result ≡ is_load_immediate self.now }
+    {
+        self.class() == LD && self.mode() == IMM && self.size() == DOUBLE_WORD
+    }
+
     /// The instruction is one that this project's profile leaves out (E5).
     pub fn is_outside_profile(&self) -> bool
         ensures { result ≡ is_outside_profile self.now }
     {
         match self.opcode {
             0xc3 | 0xdb | 0x20 | 0x28 | 0x30 | 0x40 | 0x48 | 0x50 => true,
-            LOAD_IMMEDIATE => 1 <= self.src && self.src <= 6,
-            CALL => self.src == 2,
-            _ => false,
+            _ if self.is_load_immediate() => 1 <= self.src && self.src <= 6,
+            _ => self.is_call() && self.src == BTF_IDENTIFIER,
         }
     }
 

@@ -1,16 +1,15 @@
-// The tables of opcodes: what an instruction does, by class, code and source (RFC 9669, section 4).
-// What the tables do not list is not known. It relies on `fields` for the parts of an opcode.
+// The tables of opcodes: what an instruction does, by class, code and source (RFC 9669, section 4). What
+// the tables do not list is not known. It relies on `fields` for the parts of an opcode, and on
+// `transfer` for loads and stores.
 
 ghost use Rattle.std.specs.Prelude.{◌≡◌, ◌&&◌, ◌==◌, not, nat_le, is_some, IfSome};
 ghost use Rattle.bpf_decode.specs.FieldTests.{is_known};
 ghost use Rattle.bpf_decode.specs.Spells.{alu_code, alu_offset, condition_code};
 ghost use Rattle.bpf_decode.specs.Kinds.{IsKind, form_in};
 
-use crate::fields::{ALU, ALU64, CALL, DIV, END, EXIT, Fields, JMP, JMP32, MOD, MOV, NEG};
+use crate::fields::{ALU, ALU64, CALL, DIV, END, EXIT, Fields, JA, JMP, JMP32, MOD, MOV, NEG};
+use crate::transfer::{Transfer, transfer_of};
 use bpf_insn::{AluOp, ByteOrder, Condition, SignExtension, Width};
-
-/// `src` of a call of a local function.
-const LOCAL_FUNCTION: u8 = 1;
 
 /// What an instruction does, without its operands and without how many bits a byte order is for.
 #[derive(Clone, Copy)]
@@ -20,8 +19,11 @@ pub enum Kind {
     Reorder(ByteOrder),
     SignExtend(SignExtension),
     JumpIf(Width, Condition),
+    JumpNear,
+    JumpFar,
     Call,
     Exit,
+    Transfer(Transfer),
 }
 
 /// The operation of a code (RFC 9669, section 4.1). With the offset 1 a division is a signed one.
@@ -79,12 +81,6 @@ pub fn kind_of(fields: &Fields) -> Option<Kind>
     if let Some(extension) = fields.sign_extension() {
         return Some(Kind::SignExtend(extension));
     }
-    match fields.opcode {
-        CALL if fields.src == LOCAL_FUNCTION => return None,
-        CALL => return Some(Kind::Call),
-        EXIT => return Some(Kind::Exit),
-        _ => {}
-    }
     Some(
         match (fields.class(), fields.code(), fields.takes_register()) {
             (ALU, NEG, false) => Kind::Neg(Width::Bits32),
@@ -94,9 +90,13 @@ pub fn kind_of(fields: &Fields) -> Option<Kind>
             (ALU64, END, false) => Kind::Reorder(ByteOrder::Swapped),
             (ALU, code, _) => Kind::Alu(Width::Bits32, alu_op(code, fields.offset)?),
             (ALU64, code, _) => Kind::Alu(Width::Bits64, alu_op(code, fields.offset)?),
+            (JMP, JA, false) => Kind::JumpNear,
+            (JMP32, JA, false) => Kind::JumpFar,
+            (JMP, CALL, false) => Kind::Call,
+            (JMP, EXIT, false) => Kind::Exit,
             (JMP, code, _) => Kind::JumpIf(Width::Bits64, condition(code)?),
             (JMP32, code, _) => Kind::JumpIf(Width::Bits32, condition(code)?),
-            _ => return None,
+            _ => Kind::Transfer(transfer_of(fields)?),
         },
     )
 }

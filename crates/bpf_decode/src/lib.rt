@@ -4,11 +4,17 @@
 #![tactic(auto)]
 
 mod decoder;
+mod encoder;
 mod fault;
 mod fields;
 mod insn;
 mod kind;
 pub mod laws;
+mod opcodes;
+mod row;
+mod transfer;
+mod used;
 
 pub use decoder::{DecodeError, decode};
+pub use encoder::encode;
 pub use fault::{DecodeFault, InsnFault};

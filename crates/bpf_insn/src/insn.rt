@@ -119,11 +119,61 @@ pub enum Operand {
     Register(Reg),
 }
 
+/// How far an unconditional jump leads, in slots from the next instruction (RFC 9669, section 4.3, JA). Both forms are
+/// instructions of their own, also where they lead equally far.
+#[derive(Clone, Copy, Debug, PartialEq, Eq)]
+pub enum Distance {
+    /// Class JMP: the offset.
+    Near(i16),
+    /// Class JMP32: the imm.
+    Far(i32),
+}
+
+impl Distance {
+    ghost use Rattle.std.specs.Prelude.{◌≡◌};
+    ghost use Rattle.bpf_insn.specs.Target.{distance_of};
+
+    /// The number of slots.
+    pub fn slots(self) -> i32
+        ensures { result ≡ distance_of self }
+    {
+        match self {
+            Distance::Near(offset) => i32::from(offset),
+            Distance::Far(imm) => imm,
+        }
+    }
+}
+
 /// What a call calls (RFC 9669, section 4.3.1).
 #[derive(Clone, Copy, Debug, PartialEq, Eq)]
 pub enum Callee {
     /// The helper function of this number. Which numbers have a helper is the verifier's concern.
     Helper(i32),
+    /// The function of the program that begins so many slots from the next instruction.
+    Local(i32),
+}
+
+/// How many bytes of memory a load reads, and how they become 64 bits (RFC 9669, section 5.1, MEM, and section 5.2,
+/// MEMSX).
+#[derive(Clone, Copy, Debug, PartialEq, Eq)]
+pub enum LoadForm {
+    Byte,
+    HalfWord,
+    Word,
+    DoubleWord,
+    /// Extended by its sign, as the two that follow.
+    SignedByte,
+    SignedHalfWord,
+    SignedWord,
+}
+
+/// How many bytes of memory a store writes (RFC 9669, section 5.1): 1, 2, 4 or 8.
+#[derive(Clone, Copy, Debug, PartialEq, Eq)]
+pub enum StoreSize {
+    Byte,
+    HalfWord,
+    Word,
+    DoubleWord,
 }
 
 /// An instruction.
@@ -156,8 +206,63 @@ pub enum Insn {
         src: Operand,
         offset: i16,
     },
+    /// Goes on that far behind the next instruction.
+    Jump(Distance),
+    /// `dst` is a constant of 64 bits. It takes two slots (RFC 9669, section 5.4).
+    LoadImmediate {
+        dst: Reg,
+        value: u64,
+    },
+    /// `dst` is what stands in memory at `src + offset`.
+    Load {
+        form: LoadForm,
+        dst: Reg,
+        src: Reg,
+        offset: i16,
+    },
+    /// Writes the low bytes of `src` to memory at `dst + offset`.
+    Store {
+        size: StoreSize,
+        dst: Reg,
+        src: Operand,
+        offset: i16,
+    },
     /// Calls a function with arguments in R1 to R5, whose answer comes in R0.
     Call(Callee),
     /// Ends the function, and with the outermost one the program, whose result is R0.
     Exit,
+}
+
+impl Insn {
+    ghost use Rattle.std.specs.Prelude.{◌≡◌, length};
+    ghost use Rattle.bpf_insn.specs.Program.{is_wide, slots_of, writes_frame_pointer};
+
+    /// Whether the instruction takes two slots (RFC 9669, section 3.2).
+    pub fn is_wide(self) -> bool
+        ensures { result ≡ is_wide self }
+    {
+        matches!(self, Insn::LoadImmediate { .. })
+    }
+
+    /// How many slots the instruction takes: 1 or 2.
+    pub fn slots(self) -> usize
+        ensures { result ≡ length (slots_of self) }
+    {
+        if self.is_wide() { 2 } else { 1 }
+    }
+
+    /// Whether the instruction writes R10, which is only read.
+    pub fn writes_frame_pointer(self) -> bool
+        ensures { result ≡ writes_frame_pointer self }
+    {
+        match self {
+            Insn::Alu { dst, .. }
+            | Insn::InPlace { dst, .. }
+            | Insn::SignExtend { dst, .. }
+            | Insn::LoadImmediate { dst, .. }
+            | Insn::Load { dst, .. } => dst == Reg::R10,
+            Insn::JumpIf { .. } | Insn::Jump(_) | Insn::Store { .. } | Insn::Call(_) | Insn::Exit =>
+                false,
+        }
+    }
 }

@@ -8,7 +8,8 @@ mod reg;
 mod target;
 
 pub use insn::{
-    AluOp, ByteOrder, Callee, Condition, InPlaceOp, Insn, Operand, SignExtension, Width, WordSize,
+    AluOp, ByteOrder, Callee, Condition, Distance, InPlaceOp, Insn, LoadForm, Operand,
+    SignExtension, StoreSize, Width, WordSize,
 };
 pub use program::{MAX_SLOTS, Program, ProgramBuilder, Slot};
 pub use reg::Reg;

@@ -1,6 +1,10 @@
 pub mod Held
 pub mod Progress
+pub mod RegisterLists
+pub mod Room
 pub mod Rows
 pub mod Same
 pub mod SignedWords
+pub mod Unchecked
+pub mod Ways
 pub mod WordRows

@@ -8,4 +8,7 @@ pub mod Stops
 pub mod Stuck
 pub mod Reached
 pub mod Progress
+pub mod RegisterWords
 pub mod Inside
+pub mod Unchecked
+pub mod Able

@@ -1,7 +1,7 @@
 // What a program means (specs/): machines, their steps, when a machine is stuck, and which machines a program
-// reaches; with the machine of the code, which takes one instruction's step and passes a helper call that was
-// answered, and with what each operation and each condition computes. It relies on `bpf_insn` for instructions
-// and on `helpers` for the rules of helper calls.
+// reaches; with the machine of the code, which executes private instructions up to a stop and passes a helper call
+// that was answered, and with what each operation and each condition computes. It relies on `bpf_insn` for
+// instructions and on `helpers` for the rules of helper calls.
 #![tactic(auto)]
 
 mod extensions;
@@ -9,6 +9,8 @@ mod held_freezes;
 pub mod laws;
 mod low;
 mod machine;
+mod registers;
+mod stepping;
 mod stop;
 mod swaps;
 mod words;

@@ -1,21 +1,21 @@
 // The machine of the code, of fixed size: it is copied and compared without memory. No instruction so far
-// writes the stack or opens a call, so neither is stored. It relies on `bpf_insn` for instructions, on `words` and
-// `extensions` for what they compute, on `helpers` for the calls, and on `held_freezes`.
+// writes the stack or opens a call, so neither is stored. It relies on `registers` and `held_freezes` for what it
+// keeps, on `stepping` for an instruction, on `bpf_insn` for programs, and on `helpers` for the calls.
 
-ghost use Rattle.std.specs.Prelude.{◌≡◌, ◌+◌, ◌<◌, ◌↔◌, ◌∷◌, ◌++◌, true, false, Some, None, IsTrue, drop, replicate, if◌then◌else◌};
+ghost use Rattle.std.specs.Prelude.{◌≡◌, ◌+◌, ◌<◌, ◌↔◌, true, None, IsTrue};
 ghost use Rattle.bpf_insn.specs.declared.program.TheConstants.{MAX_SLOTS};
 ghost use Rattle.helpers.specs.Rules.{request_of};
-ghost use Rattle.bpf_insn.specs.Target.{target};
-ghost use Rattle.bpf_machine.specs.MachineState.{entry, register, with_register, moved_to};
-ghost use Rattle.bpf_machine.specs.Step.{first_operand, operand, private_step, request_at, exit_at, after_call, answered};
+ghost use Rattle.bpf_machine.specs.MachineState.{entry, register};
+ghost use Rattle.bpf_machine.specs.Step.{private_step, request_at, exit_at, after_call, answered};
 ghost use Rattle.bpf_machine.specs.Stops.{stop_at};
-ghost use Rattle.bpf_machine.specs.Reached.{IsEntry};
+ghost use Rattle.bpf_machine.specs.Reached.{IsEntry, PrivateSteps};
+ghost use Rattle.bpf_machine.specs.Able.{GoesOnWithin};
 
-use crate::extensions::extend;
 use crate::held_freezes::HeldFreezes;
+use crate::registers::Registers;
+use crate::stepping::advance;
 use crate::stop::Stop;
-use crate::words::{alu, holds, in_place};
-use bpf_insn::{AluOp, Callee, Insn, Operand, Program, Reg, jump_target};
+use bpf_insn::{Callee, Insn, Program, Reg};
 use helpers::{Answer, Request};
 use std::marker::Model;
 
@@ -29,7 +29,7 @@ const FRAME_POINTER: u64 = 0x2000_0000 + 512;
 #[derive(Clone, Copy, Debug, PartialEq, Eq)]
 pub struct Machine {
     place: usize,
-    registers: [Option<u64>; 11],
+    registers: Registers,
     context: [u8; 96],
     held: HeldFreezes,
     disposed: bool,
@@ -54,10 +54,10 @@ impl Machine {
         ensures value { result ≡ entry context.now freeze }
         ensures entry { IsEntry result }
     {
-        let mut registers = [None; 11];
-        registers[1] = Some(CONTEXT_ADDRESS);
-        registers[2] = Some(u64::from(freeze));
-        registers[10] = Some(FRAME_POINTER);
+        let mut registers = Registers::unwritten();
+        registers.set(Reg::R1, CONTEXT_ADDRESS);
+        registers.set(Reg::R2, u64::from(freeze));
+        registers.set(Reg::R10, FRAME_POINTER);
         Machine {
             place: 0,
             registers,
@@ -86,67 +86,28 @@ impl Machine {
     pub fn register(&self, reg: Reg) -> Option<u64>
         ensures { result ≡ register self.now reg }
     {
-        self.registers[usize::from(reg.number())]
+        self.registers.get(reg)
     }
 
-    /// Takes the next instruction, where that is a private one that can be done, and tells whether it was. A helper
-    /// call, the outermost exit, and what cannot be done leave the machine as it is.
-    pub fn step(&mut self, program: &Program) -> bool
-        ensures taken { result ≡ true → private_step program.now self.old ≡ Some self.new }
-        ensures none { result ≡ false → (private_step program.now self.old ≡ None) × (self.new ≡ self.old) }
+    /// Executes private instructions until there is none, and tells how many. None of them is tested for being stuck,
+    /// so the machine may be stuck nowhere on its way, and the way has to be shorter than the budget.
+    pub fn execute(&mut self, program: &Program, budget: u32) -> u32
+        requires { GoesOnWithin program.now self.old budget }
+        ensures steps { PrivateSteps program.now result self.old self.new }
+        ensures end { private_step program.now self.new ≡ None }
+        ensures short { result < budget }
     {
-        match program.fetch(self.place) {
-            Some(
-                Insn::Alu {
-                    width,
-                    op,
-                    dst,
-                    src,
-                },
-            ) => match (self.first_operand(op, dst), self.value_of(src)) {
-                (Some(left), Some(right)) => {
-                    self.set(dst, alu(width, op, left, right));
-                    true
-                }
-                _ => false,
-            },
-            Some(Insn::InPlace { op, dst }) => match self.register(dst) {
-                Some(word) => {
-                    self.set(dst, in_place(op, word));
-                    true
-                }
-                None => false,
-            },
-            Some(
-                Insn::SignExtend {
-                    extension,
-                    dst,
-                    src,
-                },
-            ) => match self.register(src) {
-                Some(word) => {
-                    self.set(dst, extend(extension, word));
-                    true
-                }
-                None => false,
-            },
-            Some(
-                Insn::JumpIf {
-                    width,
-                    condition,
-                    dst,
-                    src,
-                    offset,
-                },
-            ) => match (self.register(dst), self.value_of(src)) {
-                (Some(left), Some(right)) => {
-                    self.jump(holds(width, condition, left, right), offset);
-                    true
-                }
-                _ => false,
-            },
-            Some(Insn::Call(Callee::Helper(_)) | Insn::Exit) | None => false,
+        let mut place = self.place;
+        let mut registers = self.registers;
+        let mut steps = 0;
+        while let Some(next) = advance(program, place, &mut registers) {
+            prove!(steps < budget);
+            place = next;
+            steps += 1;
         }
+        self.place = place;
+        self.registers = registers;
+        steps
     }
 
     /// The helper call at which the machine stands, where its argument is written and a helper has its
@@ -160,6 +121,11 @@ impl Machine {
             | Insn::InPlace { .. }
             | Insn::SignExtend { .. }
             | Insn::JumpIf { .. }
+            | Insn::Jump(_)
+            | Insn::LoadImmediate { .. }
+            | Insn::Load { .. }
+            | Insn::Store { .. }
+            | Insn::Call(Callee::Local(_))
             | Insn::Exit => None,
         }
     }
@@ -174,6 +140,10 @@ impl Machine {
             | Insn::InPlace { .. }
             | Insn::SignExtend { .. }
             | Insn::JumpIf { .. }
+            | Insn::Jump(_)
+            | Insn::LoadImmediate { .. }
+            | Insn::Load { .. }
+            | Insn::Store { .. }
             | Insn::Call(_) => None,
         }
     }
@@ -210,77 +180,10 @@ impl Machine {
         ensures { result ≡ after_call self.now r0 }
     {
         let mut next = *self;
-        next.registers = answered_registers(self.registers, r0);
+        next.registers = self.registers.answered(r0);
         next.place = self.place + 1;
         next
     }
-
-    // What the first operand stands for. A move does not read it, so it may be unwritten there.
-    fn first_operand(&self, op: AluOp, dst: Reg) -> Option<u64>
-        ensures { result ≡ first_operand self.now op dst }
-    {
-        match op {
-            AluOp::Mov => Some(0),
-            AluOp::Add
-            | AluOp::Sub
-            | AluOp::Mul
-            | AluOp::Div
-            | AluOp::SignedDiv
-            | AluOp::Mod
-            | AluOp::SignedMod
-            | AluOp::Or
-            | AluOp::And
-            | AluOp::Xor
-            | AluOp::Lsh
-            | AluOp::Rsh
-            | AluOp::Arsh => self.register(dst),
-        }
-    }
-
-    // What an operand stands for: a constant is sign-extended.
-    fn value_of(&self, source: Operand) -> Option<u64>
-        ensures { result ≡ operand self.now source }
-    {
-        match source {
-            Operand::Immediate(value) => Some(i64::from(value).cast_unsigned()),
-            Operand::Register(reg) => self.register(reg),
-        }
-    }
-
-    // To the next slot, with a register set.
-    fn set(&mut self, dst: Reg, value: u64)
-        requires { self.old.place < MAX_SLOTS }
-        ensures { self.new ≡ moved_to (with_register self.old dst value) (self.old.place + 1) }
-    {
-        self.registers[usize::from(dst.number())] = Some(value);
-        self.place += 1;
-    }
-
-    // To the jump's target, or to the next slot.
-    fn jump(&mut self, is_taken: bool, offset: i16)
-        requires { self.old.place < MAX_SLOTS }
-        ensures { self.new ≡ moved_to self.old (if is_taken then target self.old.place offset else self.old.place + 1) }
-    {
-        self.place = if is_taken {
-            jump_target(self.place, offset)
-        } else {
-            self.place + 1
-        };
-    }
-}
-
-// The registers behind a helper call: R0 is the answer and R1 to R5 are unwritten.
-fn answered_registers(registers: [Option<u64>; 11], r0: u64) -> [Option<u64>; 11]
-    ensures { result ≡ Some r0 ∷ replicate 5 None ++ drop 6 registers }
-{
-    let mut after = registers;
-    after[0] = Some(r0);
-    after[1] = None;
-    after[2] = None;
-    after[3] = None;
-    after[4] = None;
-    after[5] = None;
-    after
 }
 
 // The call of a helper by its number, with the argument in R1.

@@ -13,16 +13,37 @@ use crate::words64::{alu64, holds64};
 use bpf_insn::{AluOp, Condition, InPlaceOp, Width};
 
 /// What an operation of that width makes of two words.
+#[inline(always)]
 pub fn alu(width: Width, op: AluOp, dst: u64, src: u64) -> u64
     ensures { result ≡ alu_of width op dst src }
 {
-    match width {
-        Width::Bits32 => alu32(op, dst, src),
-        Width::Bits64 => alu64(op, dst, src),
+    if divides(op) {
+        match width {
+            Width::Bits32 => alu32(op, dst, src),
+            Width::Bits64 => alu64(op, dst, src),
+        }
+    } else {
+        // Both are computed and one is taken, so that a processor has to foresee the operation alone.
+        let narrow = alu32(op, dst, src);
+        let wide = alu64(op, dst, src);
+        match width {
+            Width::Bits32 => narrow,
+            Width::Bits64 => wide,
+        }
     }
 }
 
+// Whether an operation takes so long that it is computed only where it is wanted.
+#[inline(always)]
+fn divides(op: AluOp) -> bool {
+    matches!(
+        op,
+        AluOp::Div | AluOp::SignedDiv | AluOp::Mod | AluOp::SignedMod
+    )
+}
+
 /// What an operation makes of the low 32 bits of two words. The upper half of the result is 0.
+#[inline(always)]
 pub fn alu32(op: AluOp, dst: u64, src: u64) -> u64
     ensures { result ≡ alu w32 op (low w32 dst) (low w32 src) }
 {
@@ -55,11 +76,15 @@ pub fn negated32(word: u64) -> u64
 }
 
 /// Whether a condition holds of two words, or of their low 32 bits.
+#[inline(always)]
 pub fn holds(width: Width, condition: Condition, dst: u64, src: u64) -> bool
     ensures { result ≡ holds_of width condition dst src }
 {
+    // Both are computed, as in `alu`.
+    let narrow = holds32(condition, low32(dst), low32(src));
+    let wide = holds64(condition, dst, src);
     match width {
-        Width::Bits32 => holds32(condition, low32(dst), low32(src)),
-        Width::Bits64 => holds64(condition, dst, src),
+        Width::Bits32 => narrow,
+        Width::Bits64 => wide,
     }
 }

@@ -9,6 +9,7 @@ ghost use Rattle.bpf_machine.specs.Words.{alu, holds};
 use bpf_insn::{AluOp, Condition};
 
 /// What an operation makes of two words of 32 bits.
+#[inline(always)]
 pub fn alu_of_32(op: AluOp, dst: u32, src: u32) -> u32
     ensures { result ≡ alu w32 op dst src }
 {
@@ -31,6 +32,7 @@ pub fn alu_of_32(op: AluOp, dst: u32, src: u32) -> u32
 }
 
 /// Whether a condition holds of two words of 32 bits.
+#[inline(always)]
 pub fn holds32(condition: Condition, dst: u32, src: u32) -> bool
     ensures { result ≡ holds w32 condition dst src }
 {

@@ -9,6 +9,7 @@ ghost use Rattle.bpf_machine.specs.Words.{alu, holds};
 use bpf_insn::{AluOp, Condition};
 
 /// What an operation makes of two words of 64 bits.
+#[inline(always)]
 pub fn alu64(op: AluOp, dst: u64, src: u64) -> u64
     ensures { result ≡ alu w64 op dst src }
 {
@@ -31,6 +32,7 @@ pub fn alu64(op: AluOp, dst: u64, src: u64) -> u64
 }
 
 /// Whether a condition holds of two words of 64 bits.
+#[inline(always)]
 pub fn holds64(condition: Condition, dst: u64, src: u64) -> bool
     ensures { result ≡ holds w64 condition dst src }
 {

@@ -1,2 +1,3 @@
 pub mod Rows
-pub mod Ways
+pub mod Within
+pub mod Lengths

@@ -1,2 +1,2 @@
 pub use Rattle.call_shape.specs.StaticPath
-pub mod Longest
+pub mod Length

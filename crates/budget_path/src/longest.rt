@@ -1,48 +1,46 @@
-// The longest path from each place, found from the program's end backward. It relies on `call_shape`.
+// The longest path from each place, found place after place in the shape's postorder. It relies on `call_shape`.
 
-ghost use Rattle.std.specs.Prelude.{◌≡◌, ℕ, ◌<◌, ◌≤◌, length, slice_index, IfOk};
-ghost use Rattle.bpf_insn.specs.Program.{IsProgram};
-ghost use Rattle.call_shape.specs.Shape.{IsLawful};
+ghost use Rattle.std.specs.Prelude.{◌≡◌, ℕ, ◌+◌, ◌<◌, ◌≤◌, length, slice_index, IfOk};
 ghost use Rattle.call_shape.specs.StaticPath.{outermost, StaticPath};
-ghost use Rattle.budget_path.specs.Longest.{IsLongest};
+ghost use Rattle.call_shape.specs.Tables.{HasEntries};
+ghost use Rattle.call_shape.specs.declared.lawful_shape.TheConstants.{MAX_WRITTEN_OUT};
+ghost use Rattle.budget_path.specs.Length.{length_by};
 
-use bpf_insn::{Insn, Program, jump_target};
-use call_shape::Shape;
+use call_shape::{MAX_WRITTEN_OUT, Onward, Shape};
 use std::alloc::{AllocError, Global};
 
-/// The greatest number of instructions on a static path, the exit included: 1 to 4096. It takes memory for
-/// one number a slot.
+/// The greatest number of instructions on a static path, local calls written out and the exit included: 1 to
+/// `MAX_WRITTEN_OUT`. It takes memory for one number a slot, and time that grows with the slots.
 pub fn budget(alloc: Global, shape: &Shape<'_>) -> Result<u32, AllocError>
     ensures path { IfOk result (StaticPath shape.now (outermost 0)) }
     ensures longest { IfOk result (λ budget. (n : ℕ) → StaticPath shape.now (outermost 0) n → n ≤ budget) }
+    ensures within { IfOk result (λ budget. budget ≤ MAX_WRITTEN_OUT) }
 {
     let program = shape.program();
-    let len = program.len();
-    let mut lengths = vec![in alloc; 0u32; len]?;
-    for place in (0..len).rev() {
-        let longest = longest_from(program, place, &lengths);
+    let mut lengths = vec![in alloc; 0u32; program.len()]?;
+    for place in shape.postorder() {
+        let place = usize::from(*place);
+        let Some(insn) = program.fetch(place) else {
+            unreachable!();
+        };
+        let longest = length_by(&lengths, Onward::of(place, insn));
         lengths[place] = longest;
     }
     Ok(lengths[0])
 }
 
-// The longest path from a place, by those from the places behind it.
-fn longest_from(program: &Program, place: usize, lengths: &[u32]) -> u32
-    requires program { IsProgram program.now }
-    requires lawful { IsLawful program.now }
-    requires place { place < length program.now }
-    requires whole { length lengths.now ≡ length program.now }
-    requires behind { (k : ℕ) → place < k → k < length program.now → IsLongest program.now k (slice_index lengths.now k) }
-    ensures { IsLongest program.now place result }
+// The length of the longest path from a place, by those from where control goes on, up to one that is too great. A
+// function that slot 0's does not come to may have such a path.
+fn length_by(lengths: &[u32], way: Onward) -> u32
+    requires entries { HasEntries (length lengths.now) way }
+    requires small { (k : ℕ) → slice_index lengths.now k ≤ MAX_WRITTEN_OUT + 1 }
+    ensures { result ≡ length_by lengths.now way }
 {
-    match program.fetch(place) {
-        Some(Insn::Exit) => 1,
-        Some(Insn::JumpIf { offset, .. }) => {
-            let target = jump_target(place, offset);
-            lengths[place + 1].max(lengths[target]) + 1
-        }
-        Some(Insn::Alu { .. } | Insn::InPlace { .. } | Insn::SignExtend { .. } | Insn::Call(_)) =>
-            lengths[place + 1] + 1,
-        None => unreachable!(),
-    }
+    let length = match way {
+        Onward::Leaves => 1,
+        Onward::Continues(next) => lengths[next] + 1,
+        Onward::Branches(next, other) => lengths[next].max(lengths[other]) + 1,
+        Onward::Enters(callee, next) => lengths[callee] + lengths[next] + 1,
+    };
+    length.min(MAX_WRITTEN_OUT + 1)
 }

@@ -1,4 +1,16 @@
 pub use Rattle.bpf_insn.specs.Program
+pub mod Calls
+pub mod Onward
+pub mod Postorder
+pub mod Tables
+pub mod Walk
+pub mod WrittenOut
+pub mod Reached
 pub mod Shape
+pub mod InsnFaults
+pub mod ShapeParts
 pub mod StaticPath
+pub mod WaysOut
+pub mod Counts
+pub mod Depth
 pub mod FaultText

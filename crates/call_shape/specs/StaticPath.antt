@@ -1,13 +1,13 @@
 -- Static paths: lists of instructions from a slot to the outermost exit, along both ways of each conditional jump and
--- back from each function that was called to where its call goes on.
-use Rattle.std.specs.Prelude.{◌≡◌, ℕ, zero, suc, ◌+◌, ◌<◌, ◌≤◌, max, List, [], ◌∷◌, length, Some, ◌⊎◌}
+-- into and back out of each function that is called.
+use Rattle.std.specs.Prelude.{◌≡◌, ℕ, zero, suc, ◌+◌, ◌≤◌, max, List, [], ◌∷◌, length, Some, ◌⊎◌}
 use Rattle.std.proofs.Common.{inl, inr}
 use Rattle.bpf_insn.specs.declared.insn.Insn.{Insn}
-use Rattle.bpf_insn.specs.declared.insn.Insn.TheVariants.{Alu, InPlace, SignExtend, JumpIf, Call, Exit}
+use Rattle.bpf_insn.specs.declared.insn.Insn.TheVariants.{Alu, InPlace, SignExtend, JumpIf, Jump, LoadImmediate, Load, Store, Call, Exit}
+use Rattle.bpf_insn.specs.declared.insn.Callee.TheVariants.{Helper, Local}
 use Rattle.bpf_insn.specs.declared.program.Slot.{Slot}
-use Rattle.bpf_insn.specs.Program.{IsProgram, insn_at}
-use Rattle.bpf_insn.specs.Target.{target}
-use Rattle.call_shape.specs.Shape.{IsLawful}
+use Rattle.bpf_insn.specs.Program.{insn_at}
+use Rattle.bpf_insn.specs.Target.{target, distance_of}
 
 -- where a path stands: a slot, and where the calls that are open there go on, the innermost first
 pub record Standing : Type 0 where
@@ -21,6 +21,10 @@ outermost slot = record { slot = slot; returns = [] }
 -- at another slot of the same function
 abbrev pub moved : Standing → ℕ → Standing
 moved at slot = record at { slot = slot }
+
+-- at the start of a function that is called there, and that returns to behind its call
+abbrev pub called : Standing → ℕ → Standing
+called at start = record { slot = start; returns = (at.slot + 1) ∷ at.returns }
 
 -- how many functions are open, each with its frame
 abbrev pub frames_at : Standing → ℕ
@@ -37,7 +41,12 @@ LeadsTo at (Alu width op dst src) to = to ≡ moved at (at.slot + 1)
 LeadsTo at (InPlace op dst) to = to ≡ moved at (at.slot + 1)
 LeadsTo at (SignExtend extension dst src) to = to ≡ moved at (at.slot + 1)
 LeadsTo at (JumpIf width condition dst src offset) to = (to ≡ moved at (at.slot + 1)) ⊎ (to ≡ moved at (target at.slot offset))
-LeadsTo at (Call callee) to = to ≡ moved at (at.slot + 1)
+LeadsTo at (Jump distance) to = to ≡ moved at (target at.slot (distance_of distance))
+LeadsTo at (LoadImmediate dst value) to = to ≡ moved at (at.slot + 2)
+LeadsTo at (Load form dst src offset) to = to ≡ moved at (at.slot + 1)
+LeadsTo at (Store size dst src offset) to = to ≡ moved at (at.slot + 1)
+LeadsTo at (Call (Helper number)) to = to ≡ moved at (at.slot + 1)
+LeadsTo at (Call (Local distance)) to = to ≡ called at (target at.slot distance)
 LeadsTo at Exit to = ReturnsTo at.returns to
 
 -- an exit while no call is open
@@ -63,9 +72,3 @@ pub record IsFrames (program : List Slot) (frames : ℕ) : Type 0 where
   pub path : StaticPath program (outermost 0) instructions
   pub met : depth program (outermost 0) instructions path ≡ frames
   pub deepest : (n : ℕ) (other : StaticPath program (outermost 0) n) → depth program (outermost 0) n other ≤ frames
-
--- from every place of a program of lawful shape a path leads out
-abbrev pub EveryPlaceHasAWayOut : Type 0
-EveryPlaceHasAWayOut =
-    (program : List Slot) → IsProgram program → IsLawful program →
-    (place : ℕ) → place < length program → (n : ℕ) × StaticPath program (outermost place) n

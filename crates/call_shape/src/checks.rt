@@ -1,82 +1,76 @@
-// The checks of a program's shape, in the order of the faults' numbers. They rely on `fault`.
+// The check of a program's shape: its faults in the order of their numbers. It relies on a module for each kind of fault.
 
-ghost use Rattle.std.specs.Prelude.{◌≡◌, length, IfOk, IfErr, IfSome, IfNone};
+ghost use Rattle.std.specs.Prelude.{◌≡◌, ℕ, IfOk, IfErr};
 ghost use Rattle.bpf_insn.specs.Program.{IsProgram};
-ghost use Rattle.call_shape.specs.Shape.{IsLawful, FaultIs, last_place, target_at, is_outside, is_backward, IsFirst, IsNowhere};
+ghost use Rattle.call_shape.specs.Calls.{IsOnCycle};
+ghost use Rattle.call_shape.specs.Shape.{AreContained, AreOrdered, IsLawful, FaultIs};
+ghost use Rattle.call_shape.specs.Tables.{AreFunctions};
+ghost use Rattle.call_shape.specs.Walk.{IsOrderOf};
 
+use crate::cycle::first_on_cycle;
 use crate::fault::ShapeFault;
-use crate::lawful_shape::Shape;
-use bpf_insn::{Insn, Program, jump_target};
+use crate::frames::frames_of;
+use crate::functions::functions_of;
+use crate::insn_faults::insn_fault;
+use crate::lawful_shape::{MAX_FRAMES, MAX_WRITTEN_OUT, Shape};
+use crate::postorder::Postorder;
+use crate::walk::Walk;
+use crate::written_out::written_out_of;
+use bpf_insn::{MAX_SLOTS, Program};
 
-/// The program's shape, or the lowest fault that holds, with the lowest slot that has it. It takes no
-/// memory.
+/// The program's shape, or the lowest fault that holds, with the lowest slot that has it. It takes no memory, and time
+/// that grows with the slots. Only where calls lie on a cycle it takes more, to name the first of them.
 pub fn shape(program: &Program) -> Result<Shape<'_>, ShapeFault>
     ensures value { IfOk result (λ shape. shape ≡ program.now) }
     ensures lawful { IfOk result (λ _. IsLawful program.now) }
     ensures fault { IfErr result (FaultIs program.now) }
 {
-    let last = last_place(program, program.len());
-    if program.fetch(last) != Some(Insn::Exit) {
-        return Err(ShapeFault::OpenEnd(last));
+    let _slots = program.len();
+    let functions = functions_of(program);
+    if let Some(fault) = insn_fault(program, &functions) {
+        return Err(fault);
     }
-    if let Some(slot) = first_outside(program) {
-        return Err(ShapeFault::TargetOutside(slot));
+    match Walk::postorder_of(program, &functions) {
+        Ok(order) => measured(program, &functions, order),
+        Err(_) => Err(call_cycle(program, &functions)),
     }
-    if let Some(slot) = first_backward(program) {
-        return Err(ShapeFault::TargetBackward(slot));
-    }
-    Ok(Shape::new(program))
 }
 
-// The first slot of the last instruction.
-fn last_place(program: &Program, len: usize) -> usize
+// The first local call on a cycle, where there is one.
+fn call_cycle(program: &Program, functions: &[u16; MAX_SLOTS]) -> ShapeFault
     requires program { IsProgram program.now }
-    requires slots { len ≡ length program.now }
-    ensures { result ≡ last_place program.now }
+    requires functions { AreFunctions program.now functions.now }
+    requires contained { AreContained program.now }
+    requires cycle { (place : ℕ) × IsOnCycle program.now place }
+    ensures { FaultIs program.now result }
 {
-    match program.fetch(len - 1) {
-        Some(_) => len - 1,
-        None => len.saturating_sub(2),
+    match first_on_cycle(program, functions) {
+        Some(slot) => ShapeFault::CallCycle(slot),
+        None => unreachable!(),
     }
 }
 
-// The first jump whose target is outside the program.
-fn first_outside(program: &Program) -> Option<usize>
-    ensures first { IfSome result (IsFirst (is_outside program.now)) }
-    ensures nowhere { IfNone result (IsNowhere (is_outside program.now)) }
+// The shape of a program whose calls are acyclic, unless its paths go too deep or it is too long.
+fn measured<'a>(
+    program: &'a Program,
+    functions: &[u16; MAX_SLOTS],
+    order: Postorder,
+) -> Result<Shape<'a>, ShapeFault>
+    requires program { IsProgram program.now }
+    requires functions { AreFunctions program.now functions.now }
+    requires contained { AreContained program.now }
+    requires order { IsOrderOf program.now order }
+    ensures value { IfOk result (λ shape. shape ≡ program.entry.now) }
+    ensures lawful { IfOk result (λ _. IsLawful program.entry.now) }
+    ensures fault { IfErr result (FaultIs program.entry.now) }
 {
-    let len = program.len();
-    for place in 0..len {
-        if target_at(program, place).is_some_and(|target| len <= target) {
-            return Some(place);
-        }
+    let frames = frames_of(program, order.as_slice());
+    if frames > u16::from(MAX_FRAMES) {
+        return Err(ShapeFault::TooManyFrames);
     }
-    None
-}
-
-// The first jump whose target is not after it.
-fn first_backward(program: &Program) -> Option<usize>
-    ensures first { IfSome result (IsFirst (is_backward program.now)) }
-    ensures nowhere { IfNone result (IsNowhere (is_backward program.now)) }
-{
-    for place in 0..program.len() {
-        if target_at(program, place).is_some_and(|target| target <= place) {
-            return Some(place);
-        }
+    let written_out = written_out_of(program, functions, order.as_slice());
+    if written_out > MAX_WRITTEN_OUT {
+        return Err(ShapeFault::TooLong);
     }
-    None
-}
-
-// Where the jump at a place leads, if a jump is there.
-fn target_at(program: &Program, place: usize) -> Option<usize>
-    ensures { result ≡ target_at program.now place }
-{
-    match program.fetch(place)? {
-        Insn::JumpIf { offset, .. } => Some(jump_target(place, offset)),
-        Insn::Alu { .. }
-        | Insn::InPlace { .. }
-        | Insn::SignExtend { .. }
-        | Insn::Call(_)
-        | Insn::Exit => None,
-    }
+    Ok(Shape::new(program, order, frames as u8, written_out))
 }

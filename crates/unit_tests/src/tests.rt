@@ -8,5 +8,6 @@ mod instructions;
 mod passes;
 mod policies;
 mod recovery;
+mod structure;
 mod tables;
 mod verdicts;

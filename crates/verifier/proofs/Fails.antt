@@ -1,6 +1,7 @@
 -- What a pass fails by is a check, and no shape fault.
 use Rattle.std.proofs.Common.{◌≡◌, ℕ, zero, suc, ◌+◌, List, Option, Some, None, Result, Ok, Err, subst}
 use Rattle.call_shape.specs.declared.fault.ShapeFault.{ShapeFault}
+use Rattle.call_shape.specs.Shape.{behind}
 use Rattle.bpf_insn.specs.declared.insn.Insn.{Insn}
 use Rattle.bpf_insn.specs.declared.program.Slot.{Slot}
 use Rattle.bpf_insn.specs.Program.{insn_at}
@@ -42,14 +43,14 @@ then_by : (r : Result Table Refusal) (next : Table → Result Table Refusal) →
 then_by (Ok table) next h on = on table
 then_by (Err refusal) next h on = h
 
-flow_by : (table : Table) (place : ℕ) (checked : Result Flow Cause) → FailsByCheck (flow_into table place checked)
-flow_by table place (Err cause) = tt
-flow_by table place (Ok flow) = then_by (merge_next table (place + 1) flow.next) (merge_jump flow.jump) (next_by table (place + 1) flow.next) (λ t. jump_by t flow.jump)
+flow_by : (table : Table) (place next_slot : ℕ) (checked : Result Flow Cause) → FailsByCheck (flow_into table place next_slot checked)
+flow_by table place next_slot (Err cause) = tt
+flow_by table place next_slot (Ok flow) = then_by (merge_next table next_slot flow.next) (merge_jump flow.jump) (next_by table next_slot flow.next) (λ t. jump_by t flow.jump)
 
 visit_by : (table : Table) (place : ℕ) (insn : Option Insn) (o : Option Description) → FailsByCheck (visit_at table place insn o)
 visit_by table place insn None = tt
 visit_by table place None (Some d) = tt
-visit_by table place (Some insn) (Some d) = flow_by table place (check place insn d)
+visit_by table place (Some insn) (Some d) = flow_by table place (behind place insn) (check place insn d)
 
 visits_by : (program : List Slot) (left : ℕ) (table : Table) (place : ℕ) → FailsByCheck (visits program table place left)
 visits_by program zero table place = tt

@@ -6,8 +6,8 @@ use Rattle.std.specs.Int.{w32, w64, cast_unsigned}
 use Rattle.std.proofs.lemmas.Bool.{and_parts, cases_Bool, cond-true, cond-false, eqb-true, eqb-false, not-false, not-true}
 use Rattle.std.proofs.lemmas.Bool.Decides.{Decides-int_eq}
 use Rattle.bpf_insn.specs.declared.insn.Insn.{Insn}
-use Rattle.bpf_insn.specs.declared.insn.Insn.TheVariants.{Alu, InPlace, SignExtend, JumpIf, Call, Exit}
-use Rattle.bpf_insn.specs.declared.insn.Callee.TheVariants.{Helper}
+use Rattle.bpf_insn.specs.declared.insn.Insn.TheVariants.{Alu, InPlace, SignExtend, JumpIf, Jump, LoadImmediate, Load, Store, Call, Exit}
+use Rattle.bpf_insn.specs.declared.insn.Callee.TheVariants.{Helper, Local}
 use Rattle.bpf_insn.specs.declared.insn.Operand.{Operand}
 use Rattle.bpf_insn.specs.declared.insn.Operand.TheVariants.{Immediate, Register}
 use Rattle.bpf_insn.specs.declared.insn.Width.{Width}
@@ -24,7 +24,7 @@ use Rattle.bpf_insn.specs.declared.reg.Reg.{Reg}
 use Rattle.bpf_insn.specs.declared.reg.Reg.TheVariants.{R1}
 use Rattle.bpf_insn.specs.declared.program.Slot.{Slot}
 use Rattle.bpf_insn.specs.Program.{insn_at}
-use Rattle.bpf_insn.specs.Target.{target}
+use Rattle.bpf_insn.specs.Target.{target, distance_of}
 use Rattle.helpers.specs.declared.call.Request.{Request}
 use Rattle.helpers.specs.declared.call.Request.TheVariants.{Release, Requeue}
 use Rattle.helpers.specs.declared.call.Answer.{Answer}
@@ -34,36 +34,37 @@ use Rattle.bpf_machine.specs.Step.{compute, compute_one, first_operand, operand,
 use Rattle.bpf_machine.specs.Words.{alu_of, computed, holds_of, in_place, low, reads_dst, sign_extended}
 use Rattle.bpf_machine.specs.Reached.{Steps}
 use Rattle.call_shape.specs.StaticPath.{outermost, LeadsTo}
+use Rattle.call_shape.specs.Shape.{behind}
 use Rattle.verifier.specs.declared.kind.Kind.{Kind}
 use Rattle.verifier.specs.declared.kind.Kind.TheVariants.{SureFreeze}
 use Rattle.verifier.specs.declared.description.Description.{Description}
 use Rattle.verifier.specs.declared.check.Flow.{Flow}
-use Rattle.verifier.specs.RegisterKind.{any_number}
+use Rattle.verifier.specs.RegisterKind.{any_number, exactly}
 use Rattle.verifier.specs.Knowledge.{kind_at, source_kind, with_kind, sure_freeze, zero_freeze, released_freeze, requeued}
-use Rattle.verifier.specs.InsnCheck.{goes_on, goes_both, check, compute_with, first_kind, is_copy, is_equality, is_zero, tests_equality, tests_zero}
+use Rattle.verifier.specs.InsnCheck.{goes_on, goes_both, goes_to, check, compute_with, first_kind, is_copy, is_equality, is_zero, tests_equality, tests_zero}
 use Rattle.verifier.proofs.Describes.{HoldsKind, Describes}
 use Rattle.verifier.proofs.Kept.{register_held, operand_held, moved_described, with_described, sure_described, zero_described, released_described, requeued_described}
 use Rattle.verifier.proofs.Checked.{Copies, Computes, alu_passes, compute_passes, JumpPasses, jump_passes, IsRelease, IsRequeue, call_passes}
 use Rattle.verifier.proofs.Unstuck.{alu_operands, value_of, has_freeze, has_retries, is_release, is_requeue}
 
--- the machine stands at the next slot, or at the jump's target, and is described by what flows there
+-- the machine stands at the slot behind the instruction, or at the jump's target, and is described by what flows there
 abbrev pub Follows : Flow → ℕ → ℕ → MachineState → Type 0
-Follows flow freeze place m' =
-    ((d : Description) × (flow.next ≡ Some d) × (m'.place ≡ place + 1) × Describes d freeze m')
+Follows flow freeze next_slot m' =
+    ((d : Description) × (flow.next ≡ Some d) × (m'.place ≡ next_slot) × Describes d freeze m')
     ⊎ ((to : ℕ) × (d : Description) × (flow.jump ≡ Some (to, d)) × (m'.place ≡ to) × Describes d freeze m')
 
 -- and that is a place to which the instruction may lead
 abbrev pub Led : Flow → ℕ → ℕ → Insn → MachineState → Type 0
-Led flow freeze place insn m' = Follows flow freeze place m' × LeadsTo (outermost place) insn (outermost m'.place)
+Led flow freeze place insn m' = Follows flow freeze (behind place insn) m' × LeadsTo (outermost place) insn (outermost m'.place)
 
-to_next : (flow : Flow) (freeze place : ℕ) (m' : MachineState) (d : Description) → flow ≡ goes_on d → m'.place ≡ place + 1 → Describes d freeze m' → Follows flow freeze place m'
-to_next flow freeze place m' d leads at is = inl (d, ap (λ (f : Flow). f.next) leads, at, is)
+to_next : (flow : Flow) (freeze next_slot : ℕ) (m' : MachineState) (d : Description) → flow ≡ goes_on d → m'.place ≡ next_slot → Describes d freeze m' → Follows flow freeze next_slot m'
+to_next flow freeze next_slot m' d leads at is = inl (d, ap (λ (f : Flow). f.next) leads, at, is)
 
-to_first : (flow : Flow) (freeze place : ℕ) (m' : MachineState) (next : Description) (to : ℕ) (d : Description) → flow ≡ goes_both next to d → m'.place ≡ place + 1 → Describes next freeze m' → Follows flow freeze place m'
-to_first flow freeze place m' next to d leads at is = inl (next, ap (λ (f : Flow). f.next) leads, at, is)
+to_first : (flow : Flow) (freeze next_slot : ℕ) (m' : MachineState) (next : Description) (to : ℕ) (d : Description) → flow ≡ goes_both next to d → m'.place ≡ next_slot → Describes next freeze m' → Follows flow freeze next_slot m'
+to_first flow freeze next_slot m' next to d leads at is = inl (next, ap (λ (f : Flow). f.next) leads, at, is)
 
-to_target : (flow : Flow) (freeze place : ℕ) (m' : MachineState) (next : Description) (to : ℕ) (d : Description) → flow ≡ goes_both next to d → m'.place ≡ to → Describes d freeze m' → Follows flow freeze place m'
-to_target flow freeze place m' next to d leads at is = inr (to, d, ap (λ (f : Flow). f.jump) leads, at, is)
+to_target : (flow : Flow) (freeze next_slot : ℕ) (m' : MachineState) (next : Description) (to : ℕ) (d : Description) → flow ≡ goes_both next to d → m'.place ≡ to → Describes d freeze m' → Follows flow freeze next_slot m'
+to_target flow freeze next_slot m' next to d leads at is = inr (to, d, ap (λ (f : Flow). f.jump) leads, at, is)
 
 some_is : {A : Type 0} (x y : A) → Some x ≡ Some y → y ≡ x
 some_is x y e = let same : x ≡ y = cc in sym same
@@ -95,10 +96,10 @@ zero_test m width condition src a b right e =
     (equality_holds width condition a b parts.0, some_is 0 b (sym (zero_operand m src parts.1) ∙ right))
 
 -- where a described machine goes on by a jump
-jump_next : (d : Description) (freeze : ℕ) (m : MachineState) (width : Width) (condition : Condition) (dst : Reg) (src : Operand) (to : ℕ) (flow : Flow) (a b : ℕ) → Describes d freeze m → register m dst ≡ Some a → operand m src ≡ Some b → JumpPasses d to (tests_zero width condition src) (kind_at d dst) (source_kind d src) flow → holds_of width condition a b ≡ false → Follows flow freeze m.place (moved_to m (m.place + 1))
+jump_next : (d : Description) (freeze : ℕ) (m : MachineState) (width : Width) (condition : Condition) (dst : Reg) (src : Operand) (to : ℕ) (flow : Flow) (a b : ℕ) → Describes d freeze m → register m dst ≡ Some a → operand m src ≡ Some b → JumpPasses d to (tests_zero width condition src) (kind_at d dst) (source_kind d src) flow → holds_of width condition a b ≡ false → Follows flow freeze (m.place + 1) (moved_to m (m.place + 1))
 jump_next d freeze m width condition dst src to flow a b is left right passes apart =
     elim passes.leads [
-      | inl leads ↦ to_first flow freeze m.place (moved_to m (m.place + 1)) d to d leads refl (moved_described d freeze m (m.place + 1) is)
+      | inl leads ↦ to_first flow freeze (m.place + 1) (moved_to m (m.place + 1)) d to d leads refl (moved_described d freeze m (m.place + 1) is)
       | inr (inl split) ↦
           let has : register m dst ≡ Some freeze = subst (λ (k : Kind). HoldsKind freeze k (register m dst)) split.left_is (register_held d freeze m is dst) in
           let same_a : a ≡ freeze = some_is freeze a (sym has ∙ left) in
@@ -106,14 +107,14 @@ jump_next d freeze m width condition dst src to flow a b is left right passes ap
           let same_b : b ≡ 0 = test.1 in
           let other : a ≢ b = eqb-false a b (sym test.0 ∙ apart) in
           let above : 0 < freeze = omega (arith, same_a, same_b, other) in
-          to_first flow freeze m.place (moved_to m (m.place + 1)) (sure_freeze d) to (zero_freeze d) split.leads refl (moved_described (sure_freeze d) freeze m (m.place + 1) (sure_described d freeze m above is))
-      | inr (inr on) ↦ to_next flow freeze m.place (moved_to m (m.place + 1)) d on.leads refl (moved_described d freeze m (m.place + 1) is)
+          to_first flow freeze (m.place + 1) (moved_to m (m.place + 1)) (sure_freeze d) to (zero_freeze d) split.leads refl (moved_described (sure_freeze d) freeze m (m.place + 1) (sure_described d freeze m above is))
+      | inr (inr on) ↦ to_next flow freeze (m.place + 1) (moved_to m (m.place + 1)) d on.leads refl (moved_described d freeze m (m.place + 1) is)
     ]
 
-jump_taken : (d : Description) (freeze : ℕ) (m : MachineState) (width : Width) (condition : Condition) (dst : Reg) (src : Operand) (to : ℕ) (flow : Flow) (a b : ℕ) → Describes d freeze m → register m dst ≡ Some a → operand m src ≡ Some b → JumpPasses d to (tests_zero width condition src) (kind_at d dst) (source_kind d src) flow → holds_of width condition a b ≡ true → Follows flow freeze m.place (moved_to m to)
+jump_taken : (d : Description) (freeze : ℕ) (m : MachineState) (width : Width) (condition : Condition) (dst : Reg) (src : Operand) (to : ℕ) (flow : Flow) (a b : ℕ) → Describes d freeze m → register m dst ≡ Some a → operand m src ≡ Some b → JumpPasses d to (tests_zero width condition src) (kind_at d dst) (source_kind d src) flow → holds_of width condition a b ≡ true → Follows flow freeze (m.place + 1) (moved_to m to)
 jump_taken d freeze m width condition dst src to flow a b is left right passes holds =
     elim passes.leads [
-      | inl leads ↦ to_target flow freeze m.place (moved_to m to) d to d leads refl (moved_described d freeze m to is)
+      | inl leads ↦ to_target flow freeze (m.place + 1) (moved_to m to) d to d leads refl (moved_described d freeze m to is)
       | inr (inl split) ↦
           let has : register m dst ≡ Some freeze = subst (λ (k : Kind). HoldsKind freeze k (register m dst)) split.left_is (register_held d freeze m is dst) in
           let same_a : a ≡ freeze = some_is freeze a (sym has ∙ left) in
@@ -121,7 +122,7 @@ jump_taken d freeze m width condition dst src to flow a b is left right passes h
           let same_b : b ≡ 0 = test.1 in
           let same : a ≡ b = eqb-true a b (sym test.0 ∙ holds) in
           let none : freeze ≡ 0 = omega (arith, same_a, same_b, same) in
-          to_target flow freeze m.place (moved_to m to) (sure_freeze d) to (zero_freeze d) split.leads refl (moved_described (zero_freeze d) freeze m to (zero_described d freeze m none is))
+          to_target flow freeze (m.place + 1) (moved_to m to) (sure_freeze d) to (zero_freeze d) split.leads refl (moved_described (zero_freeze d) freeze m to (zero_described d freeze m none is))
       | inr (inr on) ↦
           let has : HoldsKind freeze SureFreeze (register m dst) = subst (λ (k : Kind). HoldsKind freeze k (register m dst)) on.left_is (register_held d freeze m is dst) in
           let same_a : a ≡ freeze = some_is freeze a (sym has.0 ∙ left) in
@@ -178,14 +179,14 @@ extension_fits From16To64 n = low_fits _
 extension_fits From32To64 n = low_fits _
 
 -- a number of one word
-one_led : (d : Description) (freeze : ℕ) (m m' : MachineState) (dst src : Reg) (f : ℕ → ℕ) → ((n : ℕ) → f n ≤ 0xffffffffffffffff) → (flow : Flow) → Describes d freeze m → compute_with d dst (kind_at d src) ≡ Ok flow → compute_one m dst f (register m src) ≡ Some m' → (m'.place ≡ m.place + 1) × Follows flow freeze m.place m'
+one_led : (d : Description) (freeze : ℕ) (m m' : MachineState) (dst src : Reg) (f : ℕ → ℕ) → ((n : ℕ) → f n ≤ 0xffffffffffffffff) → (flow : Flow) → Describes d freeze m → compute_with d dst (kind_at d src) ≡ Ok flow → compute_one m dst f (register m src) ≡ Some m' → (m'.place ≡ m.place + 1) × Follows flow freeze (m.place + 1) m'
 one_led d freeze m m' dst src f fits flow is e step =
     let passes = compute_passes d dst (kind_at d src) flow e in
     let value = value_of freeze (kind_at d src) (register m src) passes.0 (register_held d freeze m is src) in
     let next : MachineState = moved_to (with_register m dst (f value.0)) (m.place + 1) in
     let is_next : m' ≡ next = some_is next m' (sym (ap (compute_one m dst f) value.1) ∙ step) in
     let kept = with_described d freeze m dst any_number (f value.0) (f value.0, refl, omega arith, fits value.0) is in
-    (ap (λ (n : MachineState). n.place) is_next, subst (Follows flow freeze m.place) (sym is_next) (to_next flow freeze m.place next (with_kind d dst any_number) passes.1 refl (moved_described _ freeze _ (m.place + 1) kept)))
+    (ap (λ (n : MachineState). n.place) is_next, subst (Follows flow freeze (m.place + 1)) (sym is_next) (to_next flow freeze (m.place + 1) next (with_kind d dst any_number) passes.1 refl (moved_described _ freeze _ (m.place + 1) kept)))
 
 -- a private instruction
 pub private_led : (d : Description) (freeze : ℕ) (m m' : MachineState) (insn : Insn) (flow : Flow) → Describes d freeze m → check m.place insn d ≡ Ok flow → does m insn ≡ Some m' → Led flow freeze m.place insn m'
@@ -198,7 +199,7 @@ private_led d freeze m m' (Alu width op dst src) flow is e step =
     let new = alu_held d freeze m width op dst src flow has.first_value has.second_value is has.second_is passes in
     let kept = with_described d freeze m dst new.0 value new.2 is in
     subst (Led flow freeze m.place (Alu width op dst src)) (sym is_next) (
-      to_next flow freeze m.place next (with_kind d dst new.0) new.1 refl (moved_described _ freeze _ (m.place + 1) kept),
+      to_next flow freeze (m.place + 1) next (with_kind d dst new.0) new.1 refl (moved_described _ freeze _ (m.place + 1) kept),
       refl,
     )
 private_led d freeze m m' (InPlace op dst) flow is e step =
@@ -222,6 +223,20 @@ private_led d freeze m m' (JumpIf width condition dst src offset) flow is e step
           let here : m' ≡ moved_to m (m.place + 1) = is_next ∙ ap (moved_to m) (cond-false test _ _ apart) in
           subst (Led flow freeze m.place (JumpIf width condition dst src offset)) (sym here) (jump_next d freeze m width condition dst src to flow left.0 right.0 is left.1 right.1 passes apart, inl refl)
     ]
+private_led d freeze m m' (Jump distance) flow is e step =
+    let to : ℕ = target m.place (distance_of distance) in
+    let leads : flow ≡ goes_to to d = let same : goes_to to d ≡ flow = cc in sym same in
+    let is_next : m' ≡ moved_to m to = some_is (moved_to m to) m' step in
+    subst (Led flow freeze m.place (Jump distance)) (sym is_next) (inr (to, d, ap (λ (f : Flow). f.jump) leads, refl, moved_described d freeze m to is), refl)
+private_led d freeze m m' (LoadImmediate dst value) flow is e step =
+    let next : MachineState = moved_to (with_register m dst value) (m.place + 2) in
+    let leads : flow ≡ goes_on (with_kind d dst (exactly value)) = let same : goes_on (with_kind d dst (exactly value)) ≡ flow = cc in sym same in
+    let is_next : m' ≡ next = some_is next m' step in
+    let kept = with_described d freeze m dst (exactly value) value (value, refl, omega arith, omega arith) is in
+    subst (Led flow freeze m.place (LoadImmediate dst value)) (sym is_next) (to_next flow freeze (m.place + 2) next (with_kind d dst (exactly value)) leads refl (moved_described _ freeze _ (m.place + 2) kept), refl)
+private_led d freeze m m' (Load form dst src offset) flow is e step = absurd cc
+private_led d freeze m m' (Store size dst src offset) flow is e step = absurd cc
+private_led d freeze m m' (Call (Local distance)) flow is e step = absurd cc
 private_led d freeze m m' (Call (Helper number)) flow is e step = absurd (let bad : None ≡ Some m' = step in cc)
 private_led d freeze m m' Exit flow is e step = absurd (let bad : None ≡ Some m' = sym (ap (returned m) is.calls) ∙ step in cc)
 
@@ -233,14 +248,14 @@ helper_led d freeze m m' number flow request answer is (inl release) made allowe
     let told : Allowed (Release freeze) answer m m' = subst (λ (r : Request). Allowed r answer m m') same allowed in
     let next : MachineState = answered (Release freeze) answer m in
     let kept : Describes (released_freeze d) freeze next = released_described d freeze m answer.r0 told.0 (has.held, has.above) is in
-    subst (Led flow freeze m.place (Call (Helper number))) (sym told.1) (to_next flow freeze m.place next (released_freeze d) release.passes.leads refl kept, refl)
+    subst (Led flow freeze m.place (Call (Helper number))) (sym told.1) (to_next flow freeze (m.place + 1) next (released_freeze d) release.passes.leads refl kept, refl)
 helper_led d freeze m m' number flow request answer is (inr requeue) made allowed =
     let has = has_retries d freeze m flow is requeue.passes in
     let same : request ≡ Requeue has.retries = some_is _ request (sym (ap (option_and_then (request_of number)) has.argument ∙ is_requeue number has.retries requeue.other requeue.helper) ∙ made) in
     let told : Allowed (Requeue has.retries) answer m m' = subst (λ (r : Request). Allowed r answer m m') same allowed in
     let next : MachineState = answered (Requeue has.retries) answer m in
     let kept : Describes (requeued d) freeze next = requeued_described d freeze m answer.r0 told.0 is in
-    subst (Led flow freeze m.place (Call (Helper number))) (sym told.1) (to_next flow freeze m.place next (requeued d) requeue.passes.leads refl kept, refl)
+    subst (Led flow freeze m.place (Call (Helper number))) (sym told.1) (to_next flow freeze (m.place + 1) next (requeued d) requeue.passes.leads refl kept, refl)
 
 call_led : (d : Description) (freeze : ℕ) (m m' : MachineState) (insn : Insn) (flow : Flow) (request : Request) (answer : Answer) → Describes d freeze m → check m.place insn d ≡ Ok flow → request_in m insn ≡ Some request → Allowed request answer m m' → Led flow freeze m.place insn m'
 call_led d freeze m m' (Call (Helper number)) flow request answer is e made allowed = helper_led d freeze m m' number flow request answer is (call_passes d number (kind_at d R1) flow e) made allowed
@@ -248,6 +263,11 @@ call_led d freeze m m' (Alu width op dst src) flow request answer is e made allo
 call_led d freeze m m' (InPlace op dst) flow request answer is e made allowed = absurd (let bad : None ≡ Some request = made in cc)
 call_led d freeze m m' (SignExtend extension dst src) flow request answer is e made allowed = absurd (let bad : None ≡ Some request = made in cc)
 call_led d freeze m m' (JumpIf width condition dst src offset) flow request answer is e made allowed = absurd (let bad : None ≡ Some request = made in cc)
+call_led d freeze m m' (Jump distance) flow request answer is e made allowed = absurd (let bad : None ≡ Some request = made in cc)
+call_led d freeze m m' (LoadImmediate dst value) flow request answer is e made allowed = absurd (let bad : None ≡ Some request = made in cc)
+call_led d freeze m m' (Load form dst src offset) flow request answer is e made allowed = absurd (let bad : None ≡ Some request = made in cc)
+call_led d freeze m m' (Store size dst src offset) flow request answer is e made allowed = absurd (let bad : None ≡ Some request = made in cc)
+call_led d freeze m m' (Call (Local distance)) flow request answer is e made allowed = absurd (let bad : None ≡ Some request = made in cc)
 call_led d freeze m m' Exit flow request answer is e made allowed = absurd (let bad : None ≡ Some request = made in cc)
 
 -- one instruction on

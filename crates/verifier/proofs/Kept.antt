@@ -23,7 +23,7 @@ use Rattle.verifier.specs.RegisterKind.{exactly, released_kind, sure_kind, zero_
 use Rattle.verifier.specs.Knowledge.{entry_description, kind_at, source_kind, with_kind, each_register, sure_held, zero_held, sure_freeze, zero_freeze, after_call_kinds, released_freeze, requeued}
 use Rattle.verifier.proofs.Describes.{HoldsKind, HoldsFreeze, Describes, sure_holds, zero_holds, released_holds}
 
-number_below : (reg : Reg) → number_of reg < 11
+pub number_below : (reg : Reg) → number_of reg < 11
 number_below R0 = omega arith
 number_below R1 = omega arith
 number_below R2 = omega arith
@@ -142,7 +142,7 @@ zero_described d freeze m none is = record {
 }
 
 -- so many as before
-six_replaced : {A : Type 0} (front xs : List A) → length front ≡ 6 → length xs ≡ 11 → length (front ++ drop 6 xs) ≡ 11
+pub six_replaced : {A : Type 0} (front xs : List A) → length front ≡ 6 → length xs ≡ 11 → length (front ++ drop 6 xs) ≡ 11
 six_replaced front xs six long = omega (arith, length-append front (drop 6 xs), length-drop 6 xs, six, long)
 
 -- after a call R0 is the answer, R1 to R5 are unwritten, and the others are as they were

@@ -4,9 +4,14 @@ pub mod Kept
 pub mod Checked
 pub mod Unstuck
 pub mod Followed
+pub mod NeverFails
+pub mod PlainFits
+pub mod PlainPass
+pub mod PlainInsns
+pub mod PlainGoes
+pub mod PlainShape
 pub mod Tables
 pub mod Merges
 pub mod Passed
-pub mod Plains
 pub mod Fails
 pub mod Told

@@ -1,92 +1,115 @@
 -- A pass that ends well leaves a sound table.
-use Rattle.std.proofs.Common.{◌≡◌, ℕ, zero, suc, ◌+◌, ◌-◌, ◌<◌, ◌≤◌, List, length, Option, Some, None, Result, Ok, Err, refl, ap, sym, subst, ◌∙◌, arith, inl, inr}
+use Rattle.std.proofs.Common.{◌≡◌, true, ℕ, zero, suc, ◌+◌, ◌-◌, ◌<◌, ◌≤◌, List, length, Option, Some, None, Result, Ok, Err, refl, ap, sym, subst, ◌∙◌, arith, inl, inr}
 use Rattle.std.proofs.lemmas.Bool.{cases_eq}
 use Rattle.std.proofs.lemmas.List.{length-replicate}
 use Rattle.bpf_insn.specs.declared.insn.Insn.{Insn}
-use Rattle.bpf_insn.specs.declared.insn.Insn.TheVariants.{Alu, InPlace, SignExtend, JumpIf, Call, Exit}
-use Rattle.bpf_insn.specs.declared.insn.Callee.TheVariants.{Helper}
+use Rattle.bpf_insn.specs.declared.insn.Insn.TheVariants.{Alu, InPlace, SignExtend, JumpIf, Jump, LoadImmediate, Load, Store, Call, Exit}
+use Rattle.bpf_insn.specs.declared.insn.Callee.TheVariants.{Helper, Local}
 use Rattle.bpf_insn.specs.declared.program.Slot.{Slot}
 use Rattle.bpf_insn.specs.declared.reg.Reg.TheVariants.{R1}
 use Rattle.bpf_insn.specs.Program.{IsProgram, insn_at}
-use Rattle.bpf_insn.specs.Target.{target}
+use Rattle.bpf_insn.specs.Target.{target, distance_of}
 use Rattle.call_shape.specs.Shape.{IsLawful}
-use Rattle.call_shape.proofs.Places.{insn_there}
-use Rattle.budget_path.proofs.Ways.{lawful_target, slot_behind}
+use Rattle.call_shape.specs.Calls.{begins}
+use Rattle.call_shape.specs.Shape.{behind}
+use Rattle.call_shape.proofs.Lawful.{goes_on_lawfully, jumps_lawfully}
+use Rattle.call_shape.proofs.Places.{begins_inside, begins_there, begins_first}
 use Rattle.verifier.specs.declared.description.Description.{Description}
 use Rattle.verifier.specs.declared.check.Flow.{Flow}
 use Rattle.verifier.specs.declared.refusal.Cause.{Cause}
 use Rattle.verifier.specs.declared.refusal.Refusal.{Refusal}
 use Rattle.verifier.specs.Knowledge.{entry_description, kind_at, source_kind}
-use Rattle.verifier.specs.InsnCheck.{goes_on, goes_both, check, first_kind, tests_zero}
+use Rattle.verifier.specs.InsnCheck.{goes_on, goes_both, goes_to, check, first_kind, tests_zero}
 use Rattle.verifier.specs.SlotPass.{Table, LeadsInside, described, merge_next, merge_jump, and_then, flow_into, visit_at, visit, visits, first_table, pass}
 use Rattle.verifier.proofs.Checked.{alu_leads, alu_passes, compute_passes, jump_passes, call_passes, exit_passes}
-use Rattle.verifier.proofs.Tables.{IsCovered, IsChecked, IsSound, inside}
-use Rattle.verifier.proofs.Merges.{Grows, itself, still_covered, merged}
+use Rattle.verifier.proofs.Tables.{none_described, OnlyBeginnings, IsCovered, IsChecked, IsSound, inside}
+use Rattle.verifier.proofs.Merges.{Grows, Merged, itself, still_covered, merged}
 
--- all that flows on from a place flows to places behind it
-pub record FlowsOn (program : List Slot) (place : ℕ) (flow : Flow) : Type 0 where
-  pub next : (on : Description) → flow.next ≡ Some on → place + 1 < length program
-  pub jump : (to : ℕ) (on : Description) → flow.jump ≡ Some (to, on) → (place < to) × (to < length program)
+-- all that flows on from a place flows to places behind it where an instruction begins
+pub record FlowsOn (program : List Slot) (place : ℕ) (insn : Insn) (flow : Flow) : Type 0 where
+  pub next : (on : Description) → flow.next ≡ Some on → begins program (behind place insn) ≡ true
+  pub jump : (to : ℕ) (on : Description) → flow.jump ≡ Some (to, on) → (place < to) × (begins program to ≡ true)
 
-no_jump : (program : List Slot) (place : ℕ) (d : Description) (flow : Flow) → flow ≡ goes_on d → place + 1 < length program → FlowsOn program place flow
-no_jump program place d flow is lt = record {
-  next = λ on e. lt;
+no_jump : (program : List Slot) (place : ℕ) (insn : Insn) (d : Description) (flow : Flow) → flow ≡ goes_on d → begins program (behind place insn) ≡ true → FlowsOn program place insn flow
+no_jump program place insn d flow is there = record {
+  next = λ on e. there;
   jump = λ to on e. absurd (let bad : None ≡ Some (to, on) = sym (ap (λ (f : Flow). f.jump) is) ∙ e in cc);
 }
 
 same_arrival : (p q : ℕ × Description) → Some p ≡ Some q → p ≡ q
 same_arrival p q e = cc
 
-both_ways : (program : List Slot) (place : ℕ) (next : Description) (to : ℕ) (d : Description) (flow : Flow) → flow ≡ goes_both next to d → place + 1 < length program → (place < to) × (to < length program) → FlowsOn program place flow
-both_ways program place next to d flow is lt target_is = record {
-  next = λ on e. lt;
-  jump = λ there on e.
-      let at : to ≡ there = ap (λ (p : ℕ × Description). p.0) (same_arrival (to, d) (there, on) (sym (ap (λ (f : Flow). f.jump) is) ∙ e)) in
-      (omega (arith, at, target_is.0), omega (arith, at, target_is.1));
+arrives : (program : List Slot) (place : ℕ) (p q : ℕ × Description) → Some p ≡ Some q → (place < p.0) × (begins program p.0 ≡ true) → (place < q.0) × (begins program q.0 ≡ true)
+arrives program place p q e target_is = subst (λ (r : ℕ × Description). (place < r.0) × (begins program r.0 ≡ true)) (same_arrival p q e) target_is
+
+both_ways : (program : List Slot) (place : ℕ) (insn : Insn) (next : Description) (to : ℕ) (d : Description) (flow : Flow) → flow ≡ goes_both next to d → begins program (behind place insn) ≡ true → (place < to) × (begins program to ≡ true) → FlowsOn program place insn flow
+both_ways program place insn next to d flow is there target_is = record {
+  next = λ on e. there;
+  jump = λ at on e. arrives program place (to, d) (at, on) (sym (ap (λ (f : Flow). f.jump) is) ∙ e) target_is;
 }
 
--- only the exit has no slot behind it
-pub flows_on : (program : List Slot) (place : ℕ) (insn : Insn) (d : Description) (flow : Flow) → IsProgram program → IsLawful program → place < length program → insn_at program place ≡ Some insn → check place insn d ≡ Ok flow → FlowsOn program place flow
-flows_on program place (Alu width op dst src) d flow is lawful lt at e =
+jump_alone : (program : List Slot) (place : ℕ) (insn : Insn) (to : ℕ) (d : Description) (flow : Flow) → flow ≡ goes_to to d → (place < to) × (begins program to ≡ true) → FlowsOn program place insn flow
+jump_alone program place insn to d flow is target_is = record {
+  next = λ on e. absurd (let bad : None ≡ Some on = sym (ap (λ (f : Flow). f.next) is) ∙ e in cc);
+  jump = λ at on e. arrives program place (to, d) (at, on) (sym (ap (λ (f : Flow). f.jump) is) ∙ e) target_is;
+}
+
+ok_flow : (a b : Flow) (r : Result Flow Cause) → r ≡ Ok a → r ≡ Ok b → b ≡ a
+ok_flow a b r e f = let same : a ≡ b = cc in sym same
+
+-- only behind an exit and an unconditional jump nothing goes on
+pub flows_on : (program : List Slot) (place : ℕ) (insn : Insn) (d : Description) (flow : Flow) → IsProgram program → IsLawful program → insn_at program place ≡ Some insn → check place insn d ≡ Ok flow → FlowsOn program place insn flow
+flows_on program place (Alu width op dst src) d flow is lawful at e =
     let new = alu_leads d width op dst (first_kind d op dst) (source_kind d src) flow (alu_passes d width op dst (first_kind d op dst) (source_kind d src) flow e) in
-    no_jump program place _ flow new.1 (slot_behind program place _ is lawful lt at (λ same. cc))
-flows_on program place (InPlace op dst) d flow is lawful lt at e =
-    no_jump program place _ flow (compute_passes d dst (kind_at d dst) flow e).1 (slot_behind program place _ is lawful lt at (λ same. cc))
-flows_on program place (SignExtend extension dst src) d flow is lawful lt at e =
-    no_jump program place _ flow (compute_passes d dst (kind_at d src) flow e).1 (slot_behind program place _ is lawful lt at (λ same. cc))
-flows_on program place (JumpIf width condition dst src offset) d flow is lawful lt at e =
-    let behind = slot_behind program place _ is lawful lt at (λ same. cc) in
-    let there = lawful_target program place width condition dst src offset lawful at in
+    no_jump program place (Alu width op dst src) _ flow new.1 (goes_on_lawfully program place (Alu width op dst src) is lawful at refl)
+flows_on program place (InPlace op dst) d flow is lawful at e =
+    no_jump program place (InPlace op dst) _ flow (compute_passes d dst (kind_at d dst) flow e).1 (goes_on_lawfully program place (InPlace op dst) is lawful at refl)
+flows_on program place (SignExtend extension dst src) d flow is lawful at e =
+    no_jump program place (SignExtend extension dst src) _ flow (compute_passes d dst (kind_at d src) flow e).1 (goes_on_lawfully program place (SignExtend extension dst src) is lawful at refl)
+flows_on program place (JumpIf width condition dst src offset) d flow is lawful at e =
+    let insn = JumpIf width condition dst src offset in
+    let on = goes_on_lawfully program place insn is lawful at refl in
+    let there = jumps_lawfully program place (target place offset) insn is lawful at refl in
     elim (jump_passes d (target place offset) (tests_zero width condition src) (kind_at d dst) (source_kind d src) flow e).leads [
-      | inl leads ↦ both_ways program place d (target place offset) d flow leads behind there
-      | inr (inl split) ↦ both_ways program place _ (target place offset) _ flow split.leads behind there
-      | inr (inr on) ↦ no_jump program place d flow on.leads behind
+      | inl leads ↦ both_ways program place insn d (target place offset) d flow leads on there
+      | inr (inl split) ↦ both_ways program place insn _ (target place offset) _ flow split.leads on there
+      | inr (inr straight) ↦ no_jump program place insn d flow straight.leads on
     ]
-flows_on program place (Call (Helper number)) d flow is lawful lt at e =
-    let behind = slot_behind program place _ is lawful lt at (λ same. cc) in
+flows_on program place (Jump distance) d flow is lawful at e =
+    let to : ℕ = target place (distance_of distance) in
+    jump_alone program place (Jump distance) to d flow (ok_flow _ flow _ refl e) (jumps_lawfully program place to (Jump distance) is lawful at refl)
+flows_on program place (LoadImmediate dst value) d flow is lawful at e =
+    no_jump program place (LoadImmediate dst value) _ flow (ok_flow _ flow _ refl e) (goes_on_lawfully program place (LoadImmediate dst value) is lawful at refl)
+flows_on program place (Load form dst src offset) d flow is lawful at e = absurd cc
+flows_on program place (Store size dst src offset) d flow is lawful at e = absurd cc
+flows_on program place (Call (Local distance)) d flow is lawful at e = absurd cc
+flows_on program place (Call (Helper number)) d flow is lawful at e =
+    let insn = Call (Helper number) in
+    let on = goes_on_lawfully program place insn is lawful at refl in
     elim (call_passes d number (kind_at d R1) flow e) [
-      | inl release ↦ no_jump program place _ flow release.passes.leads behind
-      | inr requeue ↦ no_jump program place _ flow requeue.passes.leads behind
+      | inl release ↦ no_jump program place insn _ flow release.passes.leads on
+      | inr requeue ↦ no_jump program place insn _ flow requeue.passes.leads on
     ]
-flows_on program place Exit d flow is lawful lt at e =
+flows_on program place Exit d flow is lawful at e =
     let leads = (exit_passes d flow e).leads in
     record {
       next = λ on same. absurd (let bad : None ≡ Some on = sym (ap (λ (f : Flow). f.next) leads) ∙ same in cc);
       jump = λ to on same. absurd (let bad : None ≡ Some (to, on) = sym (ap (λ (f : Flow). f.jump) leads) ∙ same in cc);
     }
 
-pub leads_inside : (program : List Slot) (table : Table) (place : ℕ) (insn : Insn) (d : Description) (flow : Flow) → IsProgram program → IsLawful program → length table ≡ length program → place < length program → insn_at program place ≡ Some insn → check place insn d ≡ Ok flow → LeadsInside (length table) place flow
-leads_inside program table place insn d flow is lawful long lt at passes =
-    let on = flows_on program place insn d flow is lawful lt at passes in
+pub leads_inside : (program : List Slot) (table : Table) (place : ℕ) (insn : Insn) (d : Description) (flow : Flow) → IsProgram program → IsLawful program → length table ≡ length program → insn_at program place ≡ Some insn → check place insn d ≡ Ok flow → LeadsInside (length table) (behind place insn) flow
+leads_inside program table place insn d flow is lawful long at passes =
+    let on = flows_on program place insn d flow is lawful at passes in
     record {
-      next = λ d same. omega (arith, long, on.next d same);
-      jump = λ to d same. let fit = on.jump to d same in omega (arith, long, fit.1);
+      next = λ d same. omega (arith, long, begins_inside program (behind place insn) (on.next d same));
+      jump = λ to d same. omega (arith, long, begins_inside program to (on.jump to d same).1);
     }
 
 -- what a visit has done
-pub record Visited (before : Table) (place : ℕ) (flow : Flow) (after : Table) : Type 0 where
+pub record Visited (program : List Slot) (before : Table) (place : ℕ) (insn : Insn) (flow : Flow) (after : Table) : Type 0 where
   pub whole : length after ≡ length before
-  pub next : (on : Description) → flow.next ≡ Some on → IsCovered after (place + 1) on
+  pub begun : OnlyBeginnings program after
+  pub next : (on : Description) → flow.next ≡ Some on → IsCovered after (behind place insn) on
   pub jump : (to : ℕ) (on : Description) → flow.jump ≡ Some (to, on) → IsCovered after to on
   pub kept : (k : ℕ) → k ≤ place → described after k ≡ described before k
   pub grows : Grows before after
@@ -95,33 +118,44 @@ same_description : (x y : Description) → Some x ≡ Some y → x ≡ y
 same_description x y e = cc
 
 -- a table that a merge, or none, leaves
-pub record Reaches (before : Table) (place : ℕ) (after : Table) : Type 0 where
+pub record Reaches (program : List Slot) (before : Table) (place : ℕ) (after : Table) : Type 0 where
   pub whole : length after ≡ length before
+  pub begun : OnlyBeginnings program after
   pub kept : (k : ℕ) → k ≤ place → described after k ≡ described before k
   pub grows : Grows before after
 
-next_reaches : (before after : Table) (place : ℕ) (next : Option Description) → ((on : Description) → next ≡ Some on → place + 1 < length before) → merge_next before (place + 1) next ≡ Ok after → Reaches before place after × ((on : Description) → next ≡ Some on → IsCovered after (place + 1) on)
-next_reaches before after place None fits e =
-    let same : before ≡ after = cc in (
-      rw (← same) (record { whole = refl; kept = λ k le. refl; grows = itself before }),
-      λ on none. absurd (let bad : None ≡ Some on = none in cc),
-    )
-next_reaches before after place (Some d) fits e =
-    let it = merged before after (place + 1) d (fits d refl) e in (
-      record { whole = it.whole; kept = λ k le. it.others k (λ same. omega (arith, same, le)); grows = it.grows },
-      λ on same. subst (IsCovered after (place + 1)) (same_description d on same) it.here,
+unmoved : (program : List Slot) (before after : Table) (place : ℕ) → OnlyBeginnings program before → before ≡ after → Reaches program before place after
+unmoved program before after place begun same = subst (Reaches program before place) same (record { whole = refl; begun = begun; kept = λ k le. refl; grows = itself before })
+
+-- something is merged into a place behind this one where an instruction begins
+moved_on : (program : List Slot) (before after : Table) (place to : ℕ) (d : Description) → OnlyBeginnings program before → place < to → begins program to ≡ true → Merged before to d after → Reaches program before place after
+moved_on program before after place to d begun lt there it = record {
+  whole = it.whole;
+  begun = λ k e here. elim (cases_eq k to) [
+    | inl same ↦ ap (begins program) same ∙ there
+    | inr other ↦ begun k e (sym (it.others k other) ∙ here)
+  ];
+  kept = λ k le. it.others k (λ same. omega (arith, same, le, lt));
+  grows = it.grows;
+}
+
+next_reaches : (program : List Slot) (before after : Table) (place next_slot : ℕ) (next : Option Description) → length before ≡ length program → OnlyBeginnings program before → place < next_slot → ((on : Description) → next ≡ Some on → begins program next_slot ≡ true) → merge_next before next_slot next ≡ Ok after → Reaches program before place after × ((on : Description) → next ≡ Some on → IsCovered after next_slot on)
+next_reaches program before after place next_slot None long begun lt fits e =
+    (unmoved program before after place begun cc, λ on none. absurd (let bad : None ≡ Some on = none in cc))
+next_reaches program before after place next_slot (Some d) long begun lt fits e =
+    let there = fits d refl in
+    let it = merged before after next_slot d (omega (arith, long, begins_inside program next_slot there)) e in (
+      moved_on program before after place next_slot d begun lt there it,
+      λ on same. subst (IsCovered after next_slot) (same_description d on same) it.here,
     )
 
-jump_reaches : (before after : Table) (place : ℕ) (jump : Option (ℕ × Description)) → ((to : ℕ) (on : Description) → jump ≡ Some (to, on) → (place < to) × (to < length before)) → merge_jump jump before ≡ Ok after → Reaches before place after × ((to : ℕ) (on : Description) → jump ≡ Some (to, on) → IsCovered after to on)
-jump_reaches before after place None fits e =
-    let same : before ≡ after = cc in (
-      rw (← same) (record { whole = refl; kept = λ k le. refl; grows = itself before }),
-      λ to on none. absurd (let bad : None ≡ Some (to, on) = none in cc),
-    )
-jump_reaches before after place (Some (to, d)) fits e =
+jump_reaches : (program : List Slot) (before after : Table) (place : ℕ) (jump : Option (ℕ × Description)) → length before ≡ length program → OnlyBeginnings program before → ((to : ℕ) (on : Description) → jump ≡ Some (to, on) → (place < to) × (begins program to ≡ true)) → merge_jump jump before ≡ Ok after → Reaches program before place after × ((to : ℕ) (on : Description) → jump ≡ Some (to, on) → IsCovered after to on)
+jump_reaches program before after place None long begun fits e =
+    (unmoved program before after place begun cc, λ to on none. absurd (let bad : None ≡ Some (to, on) = none in cc))
+jump_reaches program before after place (Some (to, d)) long begun fits e =
     let fit = fits to d refl in
-    let it = merged before after to d fit.1 e in (
-      record { whole = it.whole; kept = λ k le. it.others k (λ same. omega (arith, same, le, fit.0)); grows = it.grows },
+    let it = merged before after to d (omega (arith, long, begins_inside program to fit.1)) e in (
+      moved_on program before after place to d begun fit.0 fit.1 it,
       λ there on same.
           let pair = same_arrival (to, d) (there, on) same in
           subst (λ (p : ℕ × Description). IsCovered after p.0 p.1) pair it.here,
@@ -132,15 +166,20 @@ then_ok : (r : Result Table Refusal) (next : Table → Result Table Refusal) (af
 then_ok (Ok table) next after e = (table, refl, e)
 then_ok (Err refusal) next after e = absurd cc
 
-pub flowed : (program : List Slot) (before after : Table) (place : ℕ) (flow : Flow) → length before ≡ length program → FlowsOn program place flow → flow_into before place (Ok flow) ≡ Ok after → Visited before place flow after
-flowed program before after place flow long on e =
-    let parts = then_ok (merge_next before (place + 1) flow.next) (merge_jump flow.jump) after e in
+-- the slot behind an instruction is behind its place
+behind_place : (place : ℕ) (insn : Insn) → place < behind place insn
+behind_place place insn = omega arith
+
+pub flowed : (program : List Slot) (before after : Table) (place : ℕ) (insn : Insn) (flow : Flow) → length before ≡ length program → OnlyBeginnings program before → FlowsOn program place insn flow → flow_into before place (behind place insn) (Ok flow) ≡ Ok after → Visited program before place insn flow after
+flowed program before after place insn flow long begun on e =
+    let parts = then_ok (merge_next before (behind place insn) flow.next) (merge_jump flow.jump) after e in
     let between : Table = parts.0 in
-    let first = next_reaches before between place flow.next (λ d same. omega (arith, long, on.next d same)) parts.1 in
-    let second = jump_reaches between after place flow.jump (λ to d same. let fit = on.jump to d same in (fit.0, omega (arith, long, first.0.whole, fit.1))) parts.2 in
+    let first = next_reaches program before between place (behind place insn) flow.next long begun (behind_place place insn) on.next parts.1 in
+    let second = jump_reaches program between after place flow.jump (first.0.whole ∙ long) first.0.begun on.jump parts.2 in
     record {
       whole = second.0.whole ∙ first.0.whole;
-      next = λ d same. still_covered between after (place + 1) d second.0.grows (first.1 d same);
+      begun = second.0.begun;
+      next = λ d same. still_covered between after (behind place insn) d second.0.grows (first.1 d same);
       jump = second.1;
       kept = λ k le. second.0.kept k le ∙ first.0.kept k le;
       grows = λ k d here. still_covered between after k d second.0.grows (first.0.grows k d here);
@@ -149,6 +188,7 @@ flowed program before after place flow long on e =
 -- the places before this one are done with
 pub record Done (program : List Slot) (table : Table) (place : ℕ) : Type 0 where
   pub whole : length table ≡ length program
+  pub begun : OnlyBeginnings program table
   pub entry : IsCovered table 0 entry_description
   pub checked : (k : ℕ) (insn : Insn) (d : Description) → k < place → described table k ≡ Some d → insn_at program k ≡ Some insn → IsChecked table k insn d
 
@@ -156,7 +196,7 @@ still_checked : (before after : Table) (place : ℕ) (insn : Insn) (d : Descript
 still_checked before after place insn d grows it = record {
   flow = it.flow;
   passes = it.passes;
-  next = λ on same. still_covered before after (place + 1) on grows (it.next on same);
+  next = λ on same. still_covered before after (behind place insn) on grows (it.next on same);
   jump = λ to on same. still_covered before after to on grows (it.jump to on same);
 }
 
@@ -164,6 +204,7 @@ still_checked before after place insn d grows it = record {
 skipped : (program : List Slot) (table : Table) (place : ℕ) → described table place ≡ None → Done program table place → Done program table (place + 1)
 skipped program table place none before = record {
   whole = before.whole;
+  begun = before.begun;
   entry = before.entry;
   checked = λ k insn d lt here at. elim (cases_eq k place) [
     | inl same ↦ absurd (let bad : None ≡ Some d = sym none ∙ (sym (ap (described table) same) ∙ here) in cc)
@@ -178,9 +219,10 @@ same_at : (x y : Description) (o : Option Description) → o ≡ Some x → o �
 same_at x y o e f = cc
 
 -- the visit of a place that something leads to
-checked_on : (program : List Slot) (before after : Table) (place : ℕ) (insn : Insn) (d : Description) (flow : Flow) → described before place ≡ Some d → insn_at program place ≡ Some insn → check place insn d ≡ Ok flow → Visited before place flow after → Done program before place → Done program after (place + 1)
+checked_on : (program : List Slot) (before after : Table) (place : ℕ) (insn : Insn) (d : Description) (flow : Flow) → described before place ≡ Some d → insn_at program place ≡ Some insn → check place insn d ≡ Ok flow → Visited program before place insn flow after → Done program before place → Done program after (place + 1)
 checked_on program before after place insn d flow here at passes did done = record {
   whole = did.whole ∙ done.whole;
+  begun = did.begun;
   entry = still_covered before after 0 entry_description did.grows done.entry;
   checked = λ k other e lt there is. elim (cases_eq k place) [
     | inl same ↦
@@ -194,15 +236,18 @@ checked_on program before after place insn d flow here at passes did done = reco
   ];
 }
 
-flow_ok : (program : List Slot) (before after : Table) (place : ℕ) (insn : Insn) (d : Description) (checked : Result Flow Cause) → IsProgram program → IsLawful program → place < length program → insn_at program place ≡ Some insn → described before place ≡ Some d → check place insn d ≡ checked → flow_into before place checked ≡ Ok after → Done program before place → Done program after (place + 1)
-flow_ok program before after place insn d (Ok flow) is lawful lt at here passes e done =
-    checked_on program before after place insn d flow here at passes (flowed program before after place flow done.whole (flows_on program place insn d flow is lawful lt at passes) e) done
-flow_ok program before after place insn d (Err cause) is lawful lt at here passes e done = absurd cc
+flow_ok : (program : List Slot) (before after : Table) (place : ℕ) (insn : Insn) (d : Description) (checked : Result Flow Cause) → IsProgram program → IsLawful program → insn_at program place ≡ Some insn → described before place ≡ Some d → check place insn d ≡ checked → flow_into before place (behind place insn) checked ≡ Ok after → Done program before place → Done program after (place + 1)
+flow_ok program before after place insn d (Ok flow) is lawful at here passes e done =
+    checked_on program before after place insn d flow here at passes (flowed program before after place insn flow done.whole done.begun (flows_on program place insn d flow is lawful at passes) e) done
+flow_ok program before after place insn d (Err cause) is lawful at here passes e done = absurd cc
 
-visited : (program : List Slot) (before after : Table) (place : ℕ) (insn : Insn) (o : Option Description) → IsProgram program → IsLawful program → place < length program → insn_at program place ≡ Some insn → described before place ≡ o → visit_at before place (Some insn) o ≡ Ok after → Done program before place → Done program after (place + 1)
-visited program before after place insn None is lawful lt at here e done =
+visited : (program : List Slot) (before after : Table) (place : ℕ) (at : Option Insn) (o : Option Description) → IsProgram program → IsLawful program → insn_at program place ≡ at → described before place ≡ o → visit_at before place at o ≡ Ok after → Done program before place → Done program after (place + 1)
+visited program before after place at None is lawful at_is here e done =
     let same : before ≡ after = cc in subst (λ (t : Table). Done program t (place + 1)) same (skipped program before place here done)
-visited program before after place insn (Some d) is lawful lt at here e done = flow_ok program before after place insn d (check place insn d) is lawful lt at here refl e done
+visited program before after place None (Some d) is lawful at_is here e done =
+    let there = begins_there program place (done.begun place d here) in
+    absurd (let bad : None ≡ Some there.0 = sym at_is ∙ there.1 in cc)
+visited program before after place (Some insn) (Some d) is lawful at_is here e done = flow_ok program before after place insn d (check place insn d) is lawful at_is here refl e done
 
 pub all_visited : (program : List Slot) → IsProgram program → IsLawful program → (left : ℕ) (before after : Table) (place : ℕ) → place + left ≡ length program → visits program before place left ≡ Ok after → Done program before place → Done program after (place + left)
 all_visited program is lawful zero before after place fits e done =
@@ -211,17 +256,20 @@ all_visited program is lawful zero before after place fits e done =
     subst (λ (t : Table). Done program t (place + 0)) same (subst (Done program before) end done)
 all_visited program is lawful (suc left) before after place fits e done =
     let parts = then_ok (visit program before place) (λ t. visits program t (place + 1) left) after e in
-    let lt : place < length program = omega (arith, fits) in
-    let insn = insn_there program place is.laid_out lt in
-    let visit_is : visit_at before place (Some insn.0) (described before place) ≡ Ok parts.0 = sym (ap (λ (o : Option Insn). visit_at before place o (described before place)) insn.1) ∙ parts.1 in
-    let on = visited program before parts.0 place insn.0 (described before place) is lawful lt insn.1 refl visit_is done in
+    let on = visited program before parts.0 place (insn_at program place) (described before place) is lawful refl refl parts.1 done in
     let rest = all_visited program is lawful left parts.0 after (place + 1) (omega (arith, fits)) parts.2 on in
     let end : (place + 1) + left ≡ place + suc left = omega arith in
     subst (Done program after) end rest
 
+-- at first only slot 0 is described
+first_begun : (program : List Slot) → IsProgram program → OnlyBeginnings program (first_table (length program))
+first_begun program is zero d here = begins_first program is
+first_begun program is (suc k) d here = absurd (let bad : None ≡ Some d = sym (none_described k (length program - 1)) ∙ here in cc)
+
 opening : (program : List Slot) → IsProgram program → Done program (first_table (length program)) 0
 opening program is = record {
   whole = omega (arith, length-replicate {A = Option Description} (length program - 1) None, is.in_range.0);
+  begun = first_begun program is;
   entry = (entry_description, refl, λ freeze m it. it);
   checked = λ k insn d lt here at. absurd (omega (arith, lt));
 }
@@ -231,6 +279,7 @@ pass_sound program table is lawful e =
     let done = all_visited program is lawful (length program) (first_table (length program)) table 0 (omega arith) e (opening program is) in
     record {
       whole = done.whole;
+      begun = done.begun;
       entry = done.entry;
       checked = λ place insn d here at. done.checked place insn d (omega (arith, done.whole, inside table place d here)) here at;
     }

@@ -1,6 +1,7 @@
 -- A table of descriptions is sound where the entry is described, each place that is described passes its check, and
 -- what the check lets on is described where it leads. Nothing here speaks of the order in which a pass works.
-use Rattle.std.proofs.Common.{◌≡◌, ℕ, zero, suc, ◌+◌, ◌<◌, ◌≤◌, List, length, Some, None, Ok, refl, ap, sym, subst, ◌∙◌, arith, inl, inr}
+use Rattle.std.proofs.Common.{◌≡◌, true, ℕ, zero, suc, ◌+◌, ◌<◌, ◌≤◌, List, length, Some, None, Ok, refl, ap, sym, subst, ◌∙◌, arith, inl, inr}
+use Rattle.std.specs.Prelude.{replicate}
 use Rattle.std.proofs.lemmas.Bool.{cases_lt}
 use Rattle.std.proofs.lemmas.List.{get_or_past}
 use Rattle.bpf_insn.specs.declared.insn.Insn.{Insn}
@@ -11,8 +12,9 @@ use Rattle.bpf_machine.specs.MachineState.{MachineState}
 use Rattle.bpf_machine.specs.Stuck.{is_stuck_at}
 use Rattle.bpf_machine.specs.Reached.{Steps, Reached, Safe, Within}
 use Rattle.call_shape.specs.StaticPath.{outermost, LeadsTo, StaticPath}
-use Rattle.call_shape.specs.Shape.{IsLawful}
-use Rattle.call_shape.proofs.Places.{insn_there}
+use Rattle.call_shape.specs.Shape.{IsLawful, behind}
+use Rattle.call_shape.specs.Calls.{begins}
+use Rattle.call_shape.proofs.Places.{begins_there}
 use Rattle.call_shape.proofs.WaysOut.{ways_out_lem}
 use Rattle.verifier.specs.declared.description.Description.{Description}
 use Rattle.verifier.specs.declared.check.Flow.{Flow}
@@ -32,15 +34,20 @@ Covers d wider = (freeze : ℕ) (m : MachineState) → Describes d freeze m → 
 abbrev pub IsCovered : Table → ℕ → Description → Type 0
 IsCovered table place d = (wider : Description) × (described table place ≡ Some wider) × Covers d wider
 
+-- only places where an instruction begins are described
+abbrev pub OnlyBeginnings : List Slot → Table → Type 0
+OnlyBeginnings program table = (k : ℕ) (d : Description) → described table k ≡ Some d → begins program k ≡ true
+
 -- an instruction passes, and the table covers what it lets on
 pub record IsChecked (table : Table) (place : ℕ) (insn : Insn) (d : Description) : Type 0 where
   pub flow : Flow
   pub passes : check place insn d ≡ Ok flow
-  pub next : (on : Description) → flow.next ≡ Some on → IsCovered table (place + 1) on
+  pub next : (on : Description) → flow.next ≡ Some on → IsCovered table (behind place insn) on
   pub jump : (to : ℕ) (on : Description) → flow.jump ≡ Some (to, on) → IsCovered table to on
 
 pub record IsSound (program : List Slot) (table : Table) : Type 0 where
   pub whole : length table ≡ length program
+  pub begun : OnlyBeginnings program table
   pub entry : IsCovered table 0 entry_description
   pub checked : (place : ℕ) (insn : Insn) (d : Description) → described table place ≡ Some d → insn_at program place ≡ Some insn → IsChecked table place insn d
 
@@ -51,6 +58,12 @@ inside table place d e =
       | inl lt ↦ lt
       | inr past ↦ absurd (let bad : None ≡ Some d = sym (get_or_past table place None past) ∙ e in cc)
     ]
+
+-- a table of nothing describes nothing
+pub none_described : (k n : ℕ) → described (replicate n None) k ≡ None
+none_described k zero = refl
+none_described zero (suc n) = refl
+none_described (suc k) (suc n) = none_described k n
 
 -- a machine that stands at a place and is described there
 pub record IsDescribed (table : Table) (m : MachineState) : Type 0 where
@@ -68,8 +81,8 @@ covered table place d freeze m wider at is = record {
 }
 
 -- the instruction at which a described machine stands
-pub at_insn : (program : List Slot) (table : Table) (m : MachineState) → IsProgram program → IsSound program table → IsDescribed table m → (insn : Insn) × (insn_at program m.place ≡ Some insn)
-at_insn program table m is sound known = insn_there program m.place is.laid_out (omega (arith, sound.whole, inside table m.place known.description known.here))
+pub at_insn : (program : List Slot) (table : Table) (m : MachineState) → IsSound program table → IsDescribed table m → (insn : Insn) × (insn_at program m.place ≡ Some insn)
+at_insn program table m sound known = begins_there program m.place (sound.begun m.place known.description known.here)
 
 -- one instruction on, a machine is described again
 pub step_described : (program : List Slot) (table : Table) (m m' : MachineState) (insn : Insn) → IsSound program table → (known : IsDescribed table m) → insn_at program m.place ≡ Some insn → Steps program m m' → IsDescribed table m' × LeadsTo (outermost m.place) insn (outermost m'.place)
@@ -77,7 +90,7 @@ step_described program table m m' insn sound known at step =
     let checked = sound.checked m.place insn known.description known.here at in
     let led = step_led program known.description known.freeze m m' insn checked.flow at known.is checked.passes step in (
       elim led.0 [
-        | inl next ↦ covered table (m.place + 1) next.0 known.freeze m' (checked.next next.0 next.1) next.2 next.3
+        | inl next ↦ covered table (behind m.place insn) next.0 known.freeze m' (checked.next next.0 next.1) next.2 next.3
         | inr jump ↦ covered table jump.0 jump.1 known.freeze m' (checked.jump jump.0 jump.1 jump.2) jump.3 jump.4
       ],
       led.1,
@@ -88,13 +101,13 @@ reached_described program table is sound zero m entry =
     rw entry.is (covered table 0 entry_description entry.freeze _ sound.entry refl (entry_described entry.context entry.freeze entry.number))
 reached_described program table is sound (suc n) m (before, reached, step) =
     let known = reached_described program table is sound n before reached in
-    let insn = at_insn program table before is sound known in
+    let insn = at_insn program table before sound known in
     (step_described program table before m insn.0 sound known insn.1 step).0
 
 pub sound_safe : (program : List Slot) (limits : HelperLimits) (table : Table) → IsProgram program → IsSound program table → Safe program limits
 sound_safe program limits table is sound n m reached =
     let known = reached_described program table is sound n m reached in
-    let insn = at_insn program table m is sound known in
+    let insn = at_insn program table m sound known in
     let checked = sound.checked m.place insn.0 known.description known.here insn.1 in
     ap (is_stuck_at limits m) insn.1 ∙ unstuck limits known.description known.freeze m m.place insn.0 checked.flow known.is checked.passes
 
@@ -105,7 +118,7 @@ path_through program table is sound zero m entry k path =
     subst (StaticPath program (outermost 0)) same (subst (λ (place : ℕ). StaticPath program (outermost place) k) (ap (λ (x : MachineState). x.place) entry.is) path)
 path_through program table is sound (suc n) m (before, reached, step) k path =
     let known = reached_described program table is sound n before reached in
-    let insn = at_insn program table before is sound known in
+    let insn = at_insn program table before sound known in
     let on = step_described program table before m insn.0 sound known insn.1 step in
     let longer : StaticPath program (outermost before.place) (suc k) = (insn.0, insn.1, inr (outermost m.place, on.1, path)) in
     let all = path_through program table is sound n before reached (suc k) longer in
@@ -116,8 +129,7 @@ path_through program table is sound (suc n) m (before, reached, step) k path =
 pub sound_within : (program : List Slot) (table : Table) (budget : ℕ) → IsProgram program → IsLawful program → IsSound program table → ((n : ℕ) → StaticPath program (outermost 0) n → n ≤ budget) → Within program budget
 sound_within program table budget is lawful sound longest n m reached =
     let known = reached_described program table is sound n m reached in
-    let inside_is : m.place < length program = omega (arith, sound.whole, inside table m.place known.description known.here) in
-    let out = ways_out_lem program is lawful m.place inside_is in
+    let out = ways_out_lem program is lawful.frames.calls m.place (sound.begun m.place known.description known.here) in
     let all : n + out.0 ≤ budget = longest (n + out.0) (path_through program table is sound n m reached out.0 out.1) in
     let some : 1 ≤ out.0 = at_least_one program m.place out.0 out.1 in
     (omega (arith, all), λ at_exit. omega (arith, all, some))

@@ -10,7 +10,7 @@ use Rattle.verifier.specs.SlotPass.{PassFails}
 use Rattle.verifier.specs.Plain.{IsPlain}
 use Rattle.verifier.specs.Verdict.{ToldOfShape}
 use Rattle.verifier.proofs.Fails.{no_shape_fault}
-use Rattle.verifier.proofs.Plains.{plain_passes}
+use Rattle.verifier.proofs.PlainGoes.{plain_passes}
 
 pub told_of_shape : (program : List Slot) (error : OrMemory Refusal) → IsLawful program → PassFails program error → ToldOfShape program error
 told_of_shape program OutOfMemory lawful fails = lawful

@@ -4,8 +4,8 @@ use Rattle.std.specs.Prelude.{is_none, pos}
 use Rattle.std.specs.Ordering.{int_eq}
 use Rattle.std.proofs.lemmas.Bool.{cases_Bool, cond-true, cond-false, le-leb, eq-eqb, not-true}
 use Rattle.bpf_insn.specs.declared.insn.Insn.{Insn}
-use Rattle.bpf_insn.specs.declared.insn.Insn.TheVariants.{Alu, InPlace, SignExtend, JumpIf, Call, Exit}
-use Rattle.bpf_insn.specs.declared.insn.Callee.TheVariants.{Helper}
+use Rattle.bpf_insn.specs.declared.insn.Insn.TheVariants.{Alu, InPlace, SignExtend, JumpIf, Jump, LoadImmediate, Load, Store, Call, Exit}
+use Rattle.bpf_insn.specs.declared.insn.Callee.TheVariants.{Helper, Local}
 use Rattle.bpf_insn.specs.declared.insn.Operand.{Operand}
 use Rattle.bpf_insn.specs.declared.insn.Width.{Width}
 use Rattle.bpf_insn.specs.declared.insn.Width.TheVariants.{Bits32, Bits64}
@@ -143,5 +143,10 @@ unstuck limits d freeze m place (JumpIf width condition dst src offset) flow is 
     let left = value_of freeze (kind_at d dst) (register m dst) passes.left_written (register_held d freeze m is dst) in
     let right = value_of freeze (source_kind d src) (operand m src) passes.right_written (operand_held d freeze m is src) in
     ap (λ o. is_none {T = ℕ} o || is_none (operand m src)) left.1 ∙ ap is_none right.1
+unstuck limits d freeze m place (Jump distance) flow is e = refl
+unstuck limits d freeze m place (LoadImmediate dst value) flow is e = refl
+unstuck limits d freeze m place (Load form dst src offset) flow is e = absurd cc
+unstuck limits d freeze m place (Store size dst src offset) flow is e = absurd cc
+unstuck limits d freeze m place (Call (Local distance)) flow is e = absurd cc
 unstuck limits d freeze m place (Call (Helper number)) flow is e = helper_unstuck limits d freeze m number flow is (call_passes d number (kind_at d R1) flow e)
 unstuck limits d freeze m place Exit flow is e = exit_unstuck d freeze m flow is (exit_passes d flow e)

@@ -2,10 +2,10 @@
 use Rattle.std.specs.Prelude.{ℕ, ℤ, pos, Bool, true, false, not, ◌&&◌, nat_le, Some, None, Result, Ok, Err, if◌then◌else◌}
 use Rattle.std.specs.Ordering.{int_eq}
 use Rattle.bpf_insn.specs.declared.insn.Insn.{Insn}
-use Rattle.bpf_insn.specs.declared.insn.Insn.TheVariants.{Alu, InPlace, SignExtend, JumpIf, Call, Exit}
+use Rattle.bpf_insn.specs.declared.insn.Insn.TheVariants.{Alu, InPlace, SignExtend, JumpIf, Jump, LoadImmediate, Load, Store, Call, Exit}
 use Rattle.bpf_insn.specs.declared.insn.Operand.{Operand}
 use Rattle.bpf_insn.specs.declared.insn.Operand.TheVariants.{Immediate, Register}
-use Rattle.bpf_insn.specs.declared.insn.Callee.TheVariants.{Helper}
+use Rattle.bpf_insn.specs.declared.insn.Callee.TheVariants.{Helper, Local}
 use Rattle.bpf_insn.specs.declared.insn.Width.{Width}
 use Rattle.bpf_insn.specs.declared.insn.Width.TheVariants.{Bits32, Bits64}
 use Rattle.bpf_insn.specs.declared.insn.AluOp.{AluOp}
@@ -13,7 +13,7 @@ use Rattle.bpf_insn.specs.declared.insn.Condition.{Condition}
 use Rattle.bpf_insn.specs.declared.insn.Condition.TheVariants.{Equal, NotEqual, Greater, GreaterOrEqual, Less, LessOrEqual, AnyBit, SignedGreater, SignedGreaterOrEqual, SignedLess, SignedLessOrEqual}
 use Rattle.bpf_insn.specs.declared.reg.Reg.{Reg}
 use Rattle.bpf_insn.specs.declared.reg.Reg.TheVariants.{R0, R1}
-use Rattle.bpf_insn.specs.Target.{target}
+use Rattle.bpf_insn.specs.Target.{target, distance_of}
 use Rattle.bpf_machine.specs.Words.{reads_dst}
 use Rattle.verifier.specs.declared.kind.Kind.{Kind}
 use Rattle.verifier.specs.declared.kind.Kind.TheVariants.{Unwritten, Number, Context, Frame, OpenFreeze, SureFreeze}
@@ -22,7 +22,7 @@ use Rattle.verifier.specs.declared.description.Held.TheVariants.{Nothing, Sure}
 use Rattle.verifier.specs.declared.description.Description.{Description}
 use Rattle.verifier.specs.declared.check.Flow.{Flow}
 use Rattle.verifier.specs.declared.refusal.Cause.{Cause}
-use Rattle.verifier.specs.declared.refusal.Cause.TheVariants.{UnwrittenRegister, AddressAsNumber, UnknownHelper, ArgumentAgainstRule, FreezeHeld, NotDisposed, DisposedTwice, NoResult}
+use Rattle.verifier.specs.declared.refusal.Cause.TheVariants.{UnwrittenRegister, AccessOutside, AddressAsNumber, UnknownHelper, ArgumentAgainstRule, FreezeHeld, NotDisposed, DisposedTwice, NoResult}
 use Rattle.verifier.specs.RegisterKind.{any_number, exactly}
 use Rattle.verifier.specs.Knowledge.{kind_at, source_kind, with_kind, sure_freeze, zero_freeze, released_freeze, requeued}
 
@@ -32,6 +32,10 @@ goes_on d = record { next = Some d; jump = None }
 -- both ways of a jump
 abbrev pub goes_both : Description → ℕ → Description → Flow
 goes_both next to d = record { next = Some next; jump = Some (to, d) }
+
+-- by a jump alone
+abbrev pub goes_to : ℕ → Description → Flow
+goes_to to d = record { next = None; jump = Some (to, d) }
 
 abbrev pub ends : Flow
 ends = record { next = None; jump = None }
@@ -146,11 +150,17 @@ exit_held d held = Err FreezeHeld
 abbrev pub check_exit : Description → Result Flow Cause
 check_exit d = exit_held d d.held
 
+-- loads, stores and local calls are not followed yet
 abbrev pub check : ℕ → Insn → Description → Result Flow Cause
 check place (Alu width op dst src) d = check_alu d width op dst (first_kind d op dst) (source_kind d src)
 check place (InPlace op dst) d = compute_with d dst (kind_at d dst)
 check place (SignExtend extension dst src) d = compute_with d dst (kind_at d src)
 check place (JumpIf width condition dst src offset) d =
     check_jump d (target place offset) (tests_zero width condition src) (kind_at d dst) (source_kind d src)
+check place (Jump distance) d = Ok (goes_to (target place (distance_of distance)) d)
+check place (LoadImmediate dst value) d = Ok (goes_on (with_kind d dst (exactly value)))
+check place (Load form dst src offset) d = Err AccessOutside
+check place (Store size dst src offset) d = Err AccessOutside
+check place (Call (Local distance)) d = Err UnknownHelper
 check place (Call (Helper number)) d = check_call d number (kind_at d R1)
 check place Exit d = check_exit d

@@ -2,12 +2,13 @@
 use Rattle.std.specs.Prelude.{ℕ, List, ◌++◌, codes, decimal}
 use Rattle.call_shape.specs.FaultText.{fault_text}
 use Rattle.verifier.specs.declared.refusal.Cause.{Cause}
-use Rattle.verifier.specs.declared.refusal.Cause.TheVariants.{UnwrittenRegister, AddressAsNumber, UnknownHelper, ArgumentAgainstRule, FreezeHeld, NotDisposed, DisposedTwice, PathsDisagree, NoResult}
+use Rattle.verifier.specs.declared.refusal.Cause.TheVariants.{UnwrittenRegister, AccessOutside, AddressAsNumber, UnknownHelper, ArgumentAgainstRule, FreezeHeld, NotDisposed, DisposedTwice, PathsDisagree, NoResult}
 use Rattle.verifier.specs.declared.refusal.Refusal.{Refusal}
 use Rattle.verifier.specs.declared.refusal.Refusal.TheVariants.{Shape, Check}
 
 abbrev pub cause_text : Cause → List ℕ
 cause_text UnwrittenRegister = codes "V1"
+cause_text AccessOutside = codes "V3"
 cause_text AddressAsNumber = codes "V5"
 cause_text UnknownHelper = codes "V6"
 cause_text ArgumentAgainstRule = codes "V7"

@@ -12,6 +12,7 @@ use Rattle.verifier.specs.declared.refusal.Refusal.TheVariants.{Check}
 use Rattle.or_memory.specs.declared.OrMemory.{OrMemory}
 use Rattle.or_memory.specs.declared.OrMemory.TheVariants.{OutOfMemory, Fault as refused}
 use Rattle.verifier.specs.Knowledge.{entry_description, join_descriptions}
+use Rattle.call_shape.specs.Shape.{behind}
 use Rattle.verifier.specs.InsnCheck.{check}
 
 -- the descriptions of all places, `None` where nothing has led yet
@@ -21,9 +22,9 @@ Table = List (Option Description)
 abbrev pub described : Table → ℕ → Option Description
 described table place = slice_index_or table place None
 
--- all that flows on from a place flows to places of a table that is so long
-pub record LeadsInside (len place : ℕ) (flow : Flow) : Type 0 where
-  pub next : (on : Description) → flow.next ≡ Some on → place + 1 < len
+-- all that flows on, to the next slot or by a jump, flows to places of a table that is so long
+pub record LeadsInside (len next_slot : ℕ) (flow : Flow) : Type 0 where
+  pub next : (on : Description) → flow.next ≡ Some on → next_slot < len
   pub jump : (to : ℕ) (on : Description) → flow.jump ≡ Some (to, on) → to < len
 
 -- at this place now holds what is joined
@@ -52,16 +53,16 @@ abbrev pub and_then : Result Table Refusal → (Table → Result Table Refusal) 
 and_then (Ok table) next = next table
 and_then (Err refusal) next = Err refusal
 
--- where the instruction at a place leads
-abbrev pub flow_into : Table → ℕ → Result Flow Cause → Result Table Refusal
-flow_into table place (Err cause) = Err (Check cause place)
-flow_into table place (Ok flow) = and_then (merge_next table (place + 1) flow.next) (merge_jump flow.jump)
+-- where the instruction at a place leads, to the slot behind it or by a jump
+abbrev pub flow_into : Table → ℕ → ℕ → Result Flow Cause → Result Table Refusal
+flow_into table place next_slot (Err cause) = Err (Check cause place)
+flow_into table place next_slot (Ok flow) = and_then (merge_next table next_slot flow.next) (merge_jump flow.jump)
 
 -- one place, where something leads to it
 abbrev pub visit_at : Table → ℕ → Option Insn → Option Description → Result Table Refusal
 visit_at table place insn None = Ok table
 visit_at table place None (Some d) = Ok table
-visit_at table place (Some insn) (Some d) = flow_into table place (check place insn d)
+visit_at table place (Some insn) (Some d) = flow_into table place (behind place insn) (check place insn d)
 
 abbrev pub visit : List Slot → Table → ℕ → Result Table Refusal
 visit program table place = visit_at table place (insn_at program place) (described table place)

@@ -1,26 +1,25 @@
 // The check of one instruction, and what holds where it leads. It relies on `description`.
 
-ghost use Rattle.std.specs.Prelude.{◌≡◌, ◌<◌, length, IfSome};
-ghost use Rattle.bpf_insn.specs.Program.{IsProgram, insn_at};
+ghost use Rattle.std.specs.Prelude.{◌≡◌, ◌<◌};
 ghost use Rattle.bpf_insn.specs.declared.program.TheConstants.{MAX_SLOTS};
 ghost use Rattle.verifier.specs.InsnCheck.{check, check_alu, check_move, check_numbers, compute_with, check_jump, check_call, check_release, check_requeue, check_exit, first_kind, is_zero, tests_zero};
 
 use crate::description::{Description, Held};
 use crate::kind::Kind;
 use crate::refusal::Cause;
-use bpf_insn::{AluOp, Callee, Condition, Insn, Operand, Program, Reg, Width, jump_target};
+use bpf_insn::{AluOp, Callee, Condition, Insn, Operand, Reg, Width, jump_target};
 
 /// Where an instruction leads, and what holds there.
 #[derive(Clone, Copy, Debug)]
 pub struct Flow {
-    /// At the next slot.
+    /// At the slot behind the instruction.
     pub next: Option<Description>,
     /// At a jump's target.
     pub jump: Option<(usize, Description)>,
 }
 
 impl Flow {
-    ghost use Rattle.verifier.specs.InsnCheck.{goes_on};
+    ghost use Rattle.verifier.specs.InsnCheck.{goes_on, goes_to};
 
     fn goes_on(next: Description) -> Self
         ensures { result ≡ goes_on next }
@@ -30,17 +29,22 @@ impl Flow {
             jump: None,
         }
     }
+
+    fn goes_to(target: usize, description: Description) -> Self
+        ensures { result ≡ goes_to target description }
+    {
+        Flow {
+            next: None,
+            jump: Some((target, description)),
+        }
+    }
 }
 
 /// Checks the instruction at a place whose machines are described so.
-pub fn check(program: &Program, place: usize, description: &Description) -> Result<Flow, Cause>
-    requires program { IsProgram program.now }
-    requires place { place < length program.now }
-    ensures { IfSome (insn_at program.now place) (λ insn. result ≡ check place insn description.now) }
+pub fn check(place: usize, insn: Insn, description: &Description) -> Result<Flow, Cause>
+    requires { place < MAX_SLOTS }
+    ensures { result ≡ check place insn description.now }
 {
-    let Some(insn) = program.fetch(place) else {
-        unreachable!()
-    };
     match insn {
         Insn::Alu {
             width,
@@ -61,7 +65,7 @@ pub fn check(program: &Program, place: usize, description: &Description) -> Resu
             src,
             offset,
         } => {
-            let target = jump_target(place, offset);
+            let target = jump_target(place, i32::from(offset));
             let is_zero = tests_zero(width, condition, src);
             check_jump(
                 description,
@@ -71,6 +75,16 @@ pub fn check(program: &Program, place: usize, description: &Description) -> Resu
                 description.source(src),
             )
         }
+        Insn::Jump(distance) => Ok(Flow::goes_to(
+            jump_target(place, distance.slots()),
+            *description,
+        )),
+        Insn::LoadImmediate { dst, value } => Ok(Flow::goes_on(description.with(
+            dst,
+            Kind::exactly(value),
+        ))),
+        Insn::Load { .. } | Insn::Store { .. } => Err(Cause::AccessOutside),
+        Insn::Call(Callee::Local(_)) => Err(Cause::UnknownHelper),
         Insn::Call(Callee::Helper(number)) => check_call(
             description,
             number,

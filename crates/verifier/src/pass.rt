@@ -1,6 +1,6 @@
 // The pass over a program's slots, from the first to the last. It relies on `check`.
 
-ghost use Rattle.std.specs.Prelude.{◌≡◌, ◌<◌, ◌+◌, length, Ok, Err, MatchResult, OnErr, OnOk, IfErr};
+ghost use Rattle.std.specs.Prelude.{◌≡◌, ℕ, ◌<◌, ◌+◌, length, Ok, Err, MatchResult, OnErr, OnOk, IfErr};
 ghost use Rattle.bpf_insn.specs.Program.{IsProgram};
 ghost use Rattle.call_shape.specs.Shape.{IsLawful};
 ghost use Rattle.verifier.specs.SlotPass.{LeadsInside, merge, flow_into, visit, visits, PassSucceeds, PassFails};
@@ -56,19 +56,23 @@ fn visit(program: &Program, table: &mut [Option<Description>], place: usize) -> 
     let Some(description) = table[place] else {
         return Ok(());
     };
-    match check(program, place, &description) {
-        Ok(flow) => follow(table, place, &flow),
+    // Nothing leads to the second slot of an instruction.
+    let Some(insn) = program.fetch(place) else {
+        return Ok(());
+    };
+    match check(place, insn, &description) {
+        Ok(flow) => follow(table, place + insn.slots(), &flow),
         Err(cause) => Err(Refusal::Check(cause, place)),
     }
 }
 
 // Joins what holds where an instruction leads into what is known there.
-fn follow(table: &mut [Option<Description>], place: usize, flow: &Flow) -> Result<(), Refusal>
-    requires { LeadsInside (length table.old) place flow.now }
-    ensures { MatchResult result (λ _. flow_into table.old place (Ok flow.now) ≡ Ok table.new) (λ refusal. flow_into table.old place (Ok flow.now) ≡ Err refusal) }
+fn follow(table: &mut [Option<Description>], next_slot: usize, flow: &Flow) -> Result<(), Refusal>
+    requires { LeadsInside (length table.old) next_slot flow.now }
+    ensures { (place : ℕ) → MatchResult result (λ _. flow_into table.old place next_slot (Ok flow.now) ≡ Ok table.new) (λ refusal. flow_into table.old place next_slot (Ok flow.now) ≡ Err refusal) }
 {
     if let Some(next) = &flow.next {
-        merge(table, place + 1, next)?;
+        merge(table, next_slot, next)?;
     }
     if let Some((target, taken)) = &flow.jump {
         merge(table, *target, taken)?;

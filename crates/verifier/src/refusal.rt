@@ -9,9 +9,12 @@ use std::fmt;
 pub enum Cause {
     /// V1: a register that is read is unwritten.
     UnwrittenRegister,
-    /// V5: an address or a freeze is compared, but for the test of a freeze for 0.
+    /// V3: an access outside the context and the live frames. This version follows no access, so each load and
+    /// each store is one.
+    AccessOutside,
+    /// V5: an address or a freeze is computed with or compared, but for the test of a freeze for 0.
     AddressAsNumber,
-    /// V6: there is no helper of the number.
+    /// V6: there is no helper of the number, or a local function is called, which this version does not follow.
     UnknownHelper,
     /// V7: a helper's argument is against its rule.
     ArgumentAgainstRule,
@@ -36,6 +39,7 @@ impl fmt::Display for Cause {
     fn fmt<W: fmt::Write>(&self, f: &mut fmt::Formatter<W>) -> fmt::Result {
         f.write_str(match self {
             Cause::UnwrittenRegister => "V1",
+            Cause::AccessOutside => "V3",
             Cause::AddressAsNumber => "V5",
             Cause::UnknownHelper => "V6",
             Cause::ArgumentAgainstRule => "V7",

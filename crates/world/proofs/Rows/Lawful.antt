@@ -130,6 +130,6 @@ is_lawful limits one =
       queue_number = (omega arith, omega arith);
       agreed = one;
       queues = All-cons (IsLawfulQueue limits) (queue_of 2) []
-          (record { openings = (omega arith, omega arith); program = record { laid_out = refl; in_range = (omega arith, omega arith) }; safe = is_safe limits; within = is_within })
+          (record { openings = (omega arith, omega arith); program = record { laid_out = refl; in_range = (omega arith, omega arith); spares = refl }; safe = is_safe limits; within = is_within })
           (All-nil (IsLawfulQueue limits));
     }

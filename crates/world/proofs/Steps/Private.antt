@@ -2,8 +2,7 @@
 use Rattle.std.proofs.Common.{◌≡◌, ℕ, ℤ, List, [], ◌∷◌, Option, Some, None, refl, ap, sym, ◌∙◌}
 use Rattle.std.specs.Option.{option_and_then}
 use Rattle.bpf_insn.specs.declared.insn.Insn.{Insn}
-use Rattle.bpf_insn.specs.declared.insn.Insn.TheVariants.{Alu, InPlace, SignExtend, JumpIf, Call, Exit}
-use Rattle.bpf_insn.specs.declared.insn.Callee.TheVariants.{Helper}
+use Rattle.bpf_insn.specs.declared.insn.Insn.TheVariants.{Alu, InPlace, SignExtend, JumpIf, Jump, LoadImmediate, Load, Store, Call, Exit}
 use Rattle.bpf_insn.specs.declared.insn.Width.{Width}
 use Rattle.bpf_insn.specs.declared.insn.AluOp.{AluOp}
 use Rattle.bpf_insn.specs.declared.insn.Condition.{Condition}
@@ -47,7 +46,11 @@ did m (Alu width op dst src) after e = computed m width op dst (first_operand m 
 did m (InPlace op dst) after e = computed_one m dst (in_place op) (register m dst) after e
 did m (SignExtend extension dst src) after e = computed_one m dst (sign_extended extension) (register m src) after e
 did m (JumpIf width condition dst src offset) after e = jumped m width condition offset (register m dst) (operand m src) after e
-did m (Call (Helper number)) after e = absurd cc
+did m (Jump distance) after e = some_same m _ after e (record { held = refl; disposed = refl })
+did m (LoadImmediate dst value) after e = some_same m _ after e (record { held = refl; disposed = refl })
+did m (Load form dst src offset) after e = absurd cc
+did m (Store size dst src offset) after e = absurd cc
+did m (Call callee) after e = absurd cc
 did m Exit after e = came_back m m.open_calls after e
 
 found : (m : MachineState) (o : Option Insn) (after : MachineState) → option_and_then (does m) o ≡ Some after → HasTheSame m after

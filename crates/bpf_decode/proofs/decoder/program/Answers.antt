@@ -1,15 +1,27 @@
-use Rattle.std.proofs.Common.{◌≤◌, length, arith, subst}
-use Rattle.bpf_decode.specs.declared.fields.Fields.{Fields}
-use Rattle.bpf_decode.specs.Spells.{SpellsInsn}
-use Rattle.bpf_decode.proofs.Texts.{SpellsThen-push, length-layout-push}
+use Rattle.std.proofs.Common.{arith, refl}
+use Rattle.bpf_decode.proofs.Texts.{SpellsThen-push, one_more_spares, length-layout-push}
 use Rattle.bpf_decode.proofs.decoder.program.Goals as goal
 
 pub loop-slot-preserved : goal.loop-slot-preserved
-loop-slot-preserved c =
-    let long : 8 ≤ length c.loop-slot.rest.now = omega arith in
-    let here = subst (λ (f : Fields). SpellsInsn f c.in-Ok.insn) c.from_bytes.ensures c.in-Ok.ensures.found in
-    record {
-      spelled = rw (c.in_ok-push-in-Ok.ensures.ok, c.split_at.ensures.back) (SpellsThen-push _ _ _ _ c.loop-slot.invariant.spelled long here);
-      slots = rw (c.in_ok-push-in-Ok.ensures.ok, length-layout-push c.loop-slot.builder c.in-Ok.insn) (omega arith);
-      left = omega (arith, c.split_at.ensures.back_len, long);
-    }
+loop-slot-preserved c = record {
+  spelled = rw (c.in_ok-push-in-Ok.ensures.ok, c.split_at.ensures.back, c.slots_of-taken.ensures)
+      (SpellsThen-push c.args.bytes.now c.loop-slot.builder c.loop-slot.rest.now c.in-Ok.insn c.loop-slot.invariant.spelled c.in-Ok.ensures.found);
+  spares = rw c.in_ok-push-in-Ok.ensures.ok (one_more_spares c.loop-slot.builder c.in-Ok.insn c.loop-slot.invariant.spares c.in-Ok.ensures.spares);
+  slots = rw (c.in_ok-push-in-Ok.ensures.ok, length-layout-push c.loop-slot.builder c.in-Ok.insn, c.loop-slot.invariant.slots, c.slots_of-taken.ensures) refl;
+  left = omega (arith, c.split_at.ensures.back_len, c.loop-slot.invariant.left);
+}
+
+pub returns-in-Err-clause-fault : goal.returns-in-Err-clause-fault
+returns-in-Err-clause-fault c =
+    let whole = c.in_ok-slots.ensures.slots in (
+      (omega (arith, whole), omega (arith, whole), omega (arith, whole)),
+      record {
+        insns = c.loop-slot.builder;
+        rest = c.loop-slot.rest.now;
+        before = c.loop-slot.invariant.spelled;
+        spares = c.loop-slot.invariant.spares;
+        slots = c.loop-slot.invariant.slots;
+        here = omega arith;
+        has = c.in-Err.ensures.fault;
+      },
+    )

@@ -6,7 +6,8 @@ use Rattle.call_shape.specs.StaticPath.{outermost, StaticPath}
 use Rattle.verifier.specs.SlotPass.{PassSucceeds, PassFails}
 use Rattle.verifier.proofs.Tables.{sound_safe, sound_within}
 use Rattle.verifier.proofs.Passed.{pass_sound}
-use Rattle.verifier.proofs.Told.{told_of_shape}
+use Rattle.verifier.proofs.Told.{told_of_shape, plain_out_of_memory}
+use Rattle.verifier.proofs.PlainShape.{plain_lawful}
 use Rattle.verifier.proofs.verification.verify.Goals as goal
 
 pub returns-in_err-pass-clause-shape : goal.returns-in_err-pass-clause-shape
@@ -14,6 +15,16 @@ returns-in_err-pass-clause-shape c =
     let shape_is : c.in-Ok.shape ≡ c.args.program.now = c.in-Ok.ensures.value in
     let fails = subst (λ (p : List Slot). PassFails p c.in_err-pass.field-0.0) shape_is c.in_err-pass.ensures.fails in
     let told = told_of_shape c.args.program.now c.in_err-pass.field-0.0 c.in-Ok.ensures.lawful fails in
+    search (rules, told)
+
+pub returns-in-Err-clause-plain : goal.returns-in-Err-clause-plain
+returns-in-Err-clause-plain c = λ plain. absurd (plain_lawful c.args.program.now c.in-Err.fault plain c.in-Err.ensures.fault)
+
+pub returns-in_err-pass-clause-plain : goal.returns-in_err-pass-clause-plain
+returns-in_err-pass-clause-plain c =
+    let shape_is : c.in-Ok.shape ≡ c.args.program.now = c.in-Ok.ensures.value in
+    let fails = subst (λ (p : List Slot). PassFails p c.in_err-pass.field-0.0) shape_is c.in_err-pass.ensures.fails in
+    let told = plain_out_of_memory c.args.program.now c.in_err-pass.field-0.0 fails in
     search (rules, told)
 
 pub new-requires : goal.new-requires

@@ -1,0 +1,18 @@
+use Rattle.std.proofs.Common.{◌≡◌, ℕ, List, Option, Some, None, length, ap, sym, ◌∙◌}
+use Rattle.std.specs.Prelude.{slice_set}
+use Rattle.bpf_machine.proofs.RegisterLists.{answered_is, count_registers}
+use Rattle.bpf_machine.proofs.registers.Registers.answered.Goals as goal
+
+pub returns : goal.returns
+returns c =
+    let count = c.self.invariant.count in
+    let long : length c.args.self.now ≡ 11 = ap (λ (rs : List (Option ℕ)). length rs) (sym c.self.view_is) ∙ (count_registers c.self.inside.words c.self.inside.written (count.0 ∙ sym count.1) ∙ count.0) in
+    let unwritten : (k : ℕ) → List (Option ℕ) → List (Option ℕ) = λ k rs. slice_set rs k None in
+    c.clear-5.ensures
+    ∙ (ap (unwritten 5) c.clear-4.ensures
+    ∙ (ap (λ rs. unwritten 5 (unwritten 4 rs)) c.clear-3.ensures
+    ∙ (ap (λ rs. unwritten 5 (unwritten 4 (unwritten 3 rs))) c.clear-2.ensures
+    ∙ (ap (λ rs. unwritten 5 (unwritten 4 (unwritten 3 (unwritten 2 rs)))) c.clear.ensures
+    ∙ (ap (λ rs. unwritten 5 (unwritten 4 (unwritten 3 (unwritten 2 (unwritten 1 rs))))) c.set.ensures
+    ∙ (ap (λ (rs : List (Option ℕ)). unwritten 5 (unwritten 4 (unwritten 3 (unwritten 2 (unwritten 1 (slice_set rs 0 (Some c.args.r0))))))) c.self.view_is
+    ∙ answered_is c.args.self.now c.args.r0 long))))))

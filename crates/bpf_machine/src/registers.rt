@@ -1,0 +1,113 @@
+// The registers of a machine, in a place of fixed size: a word for each, and beside the words which are written, so
+// that an instruction reads and writes words and tests nothing. It relies on `bpf_insn` for the registers' names.
+
+ghost use Rattle.std.specs.Prelude.{◌≡◌, ◌∷◌, ◌++◌, Some, None, drop, replicate, slice_index_or, slice_set, length};
+ghost use Rattle.bpf_insn.specs.Reg.{number_of};
+ghost use Rattle.bpf_machine.specs.Unchecked.{word_at, word_for, with_word};
+
+use bpf_insn::{Operand, Reg};
+use std::marker::Model;
+
+/// The registers R0 to R10. Contracts see the list, in which an unwritten register is `None`.
+#[derive(Clone, Copy, Debug, PartialEq, Eq)]
+pub struct Registers {
+    // 0 where nothing is written
+    words: [u64; 11],
+    written: [bool; 11],
+}
+
+impl Model for Registers {
+    ghost use Rattle.std.specs.Prelude.{ℕ, List, Option};
+    ghost use Rattle.bpf_machine.specs.RegisterWords.{registers_of, words_of, written_of, AreRegisters};
+
+    ghost Value = { List (Option ℕ) };
+
+    ghost view = { λ r. registers_of r.words r.written };
+
+    ghost invariant = { λ r. AreRegisters r.words r.written };
+
+    ghost inverse = { λ registers. record { words = words_of registers; written = written_of registers } };
+
+    ghost inverse_ok = { λ r is i. record { words = is.same_words i; written = is.same_written i } };
+}
+
+impl Registers {
+    /// Nothing is written.
+    pub fn unwritten() -> Self
+        ensures { result ≡ replicate 11 None }
+    {
+        Registers {
+            words: [0; 11],
+            written: [false; 11],
+        }
+    }
+
+    /// What a register holds, where it is written.
+    pub fn get(&self, reg: Reg) -> Option<u64>
+        ensures { result ≡ slice_index_or self.now (number_of reg) None }
+    {
+        let index = usize::from(reg.number());
+        if self.written[index] {
+            Some(self.words[index])
+        } else {
+            None
+        }
+    }
+
+    /// What a register holds, and 0 where it is unwritten.
+    #[inline(always)]
+    pub fn word(&self, reg: Reg) -> u64
+        ensures { result ≡ word_at self.now reg }
+    {
+        self.words[usize::from(reg.number())]
+    }
+
+    /// What an operand stands for, where an unwritten register counts as 0: a constant is sign-extended.
+    #[inline(always)]
+    pub fn word_for(&self, source: Operand) -> u64
+        ensures { result ≡ word_for self.now source }
+    {
+        // A register is read in any case, and counts 0 times or once: so there is no branch, which a processor would
+        // have to foresee.
+        let (reg, times, constant) = match source {
+            Operand::Immediate(value) => (Reg::R0, 0, i64::from(value).cast_unsigned()),
+            Operand::Register(reg) => (reg, 1, 0),
+        };
+        self.word(reg).wrapping_mul(times).wrapping_add(constant)
+    }
+
+    /// Writes a register.
+    #[inline(always)]
+    pub fn set(&mut self, reg: Reg, word: u64)
+        ensures { self.new ≡ with_word self.old reg word }
+    {
+        let index = usize::from(reg.number());
+        self.words[index] = word;
+        self.written[index] = true;
+    }
+
+    /// Makes a register an unwritten one.
+    fn clear(&mut self, reg: Reg)
+        ensures { self.new ≡ slice_set self.old (number_of reg) None }
+    {
+        let index = usize::from(reg.number());
+        self.words[index] = 0;
+        self.written[index] = false;
+    }
+
+    /// The registers behind a helper call: R0 is the answer and R1 to R5 are unwritten.
+    pub fn answered(&self, r0: u64) -> Self
+        ensures { result ≡ Some r0 ∷ replicate 5 None ++ drop 6 self.now }
+    {
+        // The proof knows how many registers there are once a field is read.
+        let _words = &self.words;
+        let mut after = *self;
+        after.set(Reg::R0, r0);
+        after.clear(Reg::R1);
+        after.clear(Reg::R2);
+        after.clear(Reg::R3);
+        after.clear(Reg::R4);
+        after.clear(Reg::R5);
+        after
+    }
+}

@@ -1,0 +1,16 @@
+-- The order in which places are settled: each place behind all that control may reach from it. Then what is asked of a
+-- place is known of all those on which it rests.
+use Rattle.std.specs.Prelude.{◌≡◌, ℕ, ◌<◌, true, List, length, Some, slice_get}
+use Rattle.bpf_insn.specs.declared.program.Slot.{Slot}
+use Rattle.call_shape.specs.Calls.{begins, callee_at, function_of, StandsBefore}
+
+-- of the first n places of a list each stands behind the later ones of its function, and behind the start of what it calls
+pub record IsPostorder (program : List Slot) (places : List ℕ) (n : ℕ) : Type 0 where
+  pub begun : (i place : ℕ) → i < n → slice_get places i ≡ Some place → begins program place ≡ true
+  pub later_first : (i place later : ℕ) → i < n → slice_get places i ≡ Some place → place < later → begins program later ≡ true → function_of program later ≡ function_of program place → StandsBefore places i later
+  pub callee_first : (i place callee : ℕ) → i < n → slice_get places i ≡ Some place → callee_at program place ≡ Some callee → StandsBefore places i callee
+
+-- all places where instructions begin, in such an order
+pub record IsWholePostorder (program : List Slot) (places : List ℕ) : Type 0 where
+  pub order : IsPostorder program places (length places)
+  pub all : (place : ℕ) → begins program place ≡ true → StandsBefore places (length places) place

@@ -39,5 +39,5 @@ fn encodes_what_was_decoded(rt: HostRuntime) {
         Ok(bytes) => bytes,
         Err(_) => encode(rt.alloc(), &program).expect(&rt, "memory"),
     };
-    assert_eq!(rt; bytes.as_slice(), &ROWS);
+    assert_eq!(rt; bytes.as_slice(), ROWS.as_slice());
 }

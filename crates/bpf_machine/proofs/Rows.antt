@@ -1,6 +1,6 @@
 -- Worked rows, computed by the definitions themselves. The program is that of the two paths: with a freeze it gives
 -- the freeze back first, and without one it jumps to the requeue.
-use Rattle.std.proofs.Common.{◌≡◌, ℕ, ℤ, pos, negsuc, true, false, List, [], ◌∷◌, Some, None, refl, replicate}
+use Rattle.std.proofs.Common.{◌≡◌, ℕ, ℤ, pos, negsuc, Bool, true, false, List, [], ◌∷◌, ◌++◌, Some, None, refl, replicate}
 use Rattle.bpf_insn.specs.declared.insn.Insn.{Insn}
 use Rattle.bpf_insn.specs.declared.insn.Insn.TheVariants.{Alu, InPlace, SignExtend, JumpIf, Call, Exit}
 use Rattle.bpf_insn.specs.declared.insn.Callee.TheVariants.{Helper}
@@ -17,9 +17,12 @@ use Rattle.bpf_insn.specs.declared.reg.Reg.TheVariants.{R0, R1, R2, R3, R10}
 use Rattle.bpf_insn.specs.declared.program.Slot.{Slot}
 use Rattle.bpf_insn.specs.Program.{layout}
 use Rattle.helpers.specs.declared.limits.HelperLimits.{HelperLimits}
-use Rattle.helpers.specs.declared.call.Request.TheVariants.{Release, Requeue}
+use Rattle.helpers.specs.declared.helper.Helper.{Helper as TheHelper}
+use Rattle.helpers.specs.declared.helper.Helper.TheVariants as helpers
+use Rattle.helpers.specs.declared.request.Request.TheVariants.{Release, Requeue}
 use Rattle.bpf_machine.specs.declared.stop.Stop.TheVariants.{Helper as AtHelper, Exit as AtExit}
 use Rattle.bpf_machine.specs.MachineState.{MachineState, entry, register, with_register, moved_to}
+use Rattle.bpf_machine.specs.Calls.{arguments_at, obeys}
 use Rattle.bpf_machine.specs.Step.{private_step, request_at, exit_at, answered}
 use Rattle.bpf_machine.specs.Stops.{stop_at}
 use Rattle.bpf_machine.specs.Stuck.{is_stuck}
@@ -170,7 +173,7 @@ release_is_no_step = refl
 requeue_request : request_at (one (call (pos 4))) (with_register with_freeze R1 1) ≡ Some (Requeue 1)
 requeue_request = refl
 
--- there is no helper 3
+-- helper 3 is not answered
 no_helper : request_at (one (call (pos 3))) (with_register with_freeze R1 7) ≡ None
 no_helper = refl
 
@@ -232,3 +235,54 @@ answered_release = refl
 -- a requeue disposes of the CCB and leaves the freezes
 answered_requeue : answered (Requeue 1) (record { r0 = 0 }) (with_register with_freeze R1 1) ≡ record with_freeze { place = 1; registers = Some 0 ∷ None ∷ None ∷ None ∷ None ∷ None ∷ None ∷ None ∷ None ∷ None ∷ Some 0x20000200 ∷ []; disposed = true }
 answered_requeue = refl
+
+-- a helper without arguments reads no register, and one with two reads R1 and R2
+nothing_read : arguments_at (record with_freeze { registers = replicate 11 None }) helpers.Now ≡ Some (record { first = 0; second = 0; third = 0 })
+nothing_read = refl
+
+two_read : arguments_at with_freeze helpers.ReleaseAfter ≡ Some (record { first = 0x10000000; second = 7; third = 0 })
+two_read = refl
+
+one_unwritten : arguments_at with_freeze helpers.TablePut ≡ None
+one_unwritten = refl
+
+-- by which rule a helper is called, under the limits of one queue and a table of ten words
+abbrev ten_words : HelperLimits
+ten_words = record { queues = 1; table_lengths = 10 ∷ [] }
+
+abbrev obeys_with : MachineState → TheHelper → ℕ → ℕ → Bool
+obeys_with m helper first second = obeys ten_words m helper (record { first = first; second = second; third = 5 })
+
+freezes : (obeys_with with_freeze helpers.Freeze 0 0 ≡ true) × (obeys_with with_freeze helpers.Freeze 1 0 ≡ false)
+freezes = (refl, refl)
+
+holds_eight : obeys_with (record with_freeze { held = replicate 8 7 }) helpers.Freeze 0 0 ≡ false
+holds_eight = refl
+
+releases_after : (obeys_with with_freeze helpers.ReleaseAfter 7 600000 ≡ true) × (obeys_with with_freeze helpers.ReleaseAfter 7 600001 ≡ false)
+    × (obeys_with with_freeze helpers.ReleaseAfter 7 0 ≡ false) × (obeys_with with_freeze helpers.ReleaseAfter 8 1 ≡ false)
+releases_after = (refl, refl, refl, refl)
+
+finishes : (obeys_with with_freeze helpers.Finish 63 0 ≡ true) × (obeys_with with_freeze helpers.Finish 64 0 ≡ false)
+    × (obeys_with (record with_freeze { disposed = true }) helpers.Finish 63 0 ≡ false)
+finishes = (refl, refl, refl)
+
+reads_table : (obeys_with with_freeze helpers.TableGet 0 9 ≡ true) × (obeys_with with_freeze helpers.TableGet 0 10 ≡ false)
+    × (obeys_with with_freeze helpers.TablePut 1 0 ≡ false)
+reads_table = (refl, refl, refl)
+
+writes_information : (obeys_with with_freeze helpers.QueueInfo 0x200001f0 0 ≡ true) × (obeys_with with_freeze helpers.QueueInfo 0x200001f1 0 ≡ false)
+    × (obeys_with with_freeze helpers.QueueInfo 0x1fffffff 0 ≡ false)
+writes_information = (refl, refl, refl)
+
+-- the last byte of the frame is written
+abbrev last_written : MachineState
+last_written = record with_freeze { frames = (replicate 511 None ++ Some 3 ∷ []) ∷ [] }
+
+traces : (obeys_with last_written helpers.Trace 0x200001ff 1 ≡ true) × (obeys_with last_written helpers.Trace 0x200001fe 2 ≡ false)
+    × (obeys_with last_written helpers.Trace 0x200001ff 0 ≡ false)
+traces = (refl, refl, refl)
+
+sets_openings : (obeys_with with_freeze helpers.SetOpenings 255 0 ≡ true) × (obeys_with with_freeze helpers.SetOpenings 0 0 ≡ false)
+    × (obeys_with with_freeze helpers.SetOpenings 256 0 ≡ false)
+sets_openings = (refl, refl, refl)

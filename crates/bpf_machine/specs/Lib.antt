@@ -1,7 +1,9 @@
-pub use Rattle.helpers.specs.Rules
+pub use Rattle.helpers.specs.Table
 pub use Rattle.bpf_insn.specs.Program
 pub mod HeldPlaces
+pub mod Frames
 pub mod MachineState
+pub mod Calls
 pub mod Words
 pub mod Step
 pub mod Stops

@@ -3,9 +3,9 @@
 use Rattle.std.specs.Prelude.{◌≡◌, ℕ, true, false, List, [], Some, None, ◌⊎◌}
 use Rattle.bpf_insn.specs.declared.program.Slot.{Slot}
 use Rattle.helpers.specs.declared.limits.HelperLimits.{HelperLimits}
-use Rattle.helpers.specs.declared.call.Request.{Request}
-use Rattle.helpers.specs.Rules.{meets_rule}
+use Rattle.helpers.specs.declared.request.Request.{Request}
 use Rattle.bpf_machine.specs.MachineState.{MachineState}
+use Rattle.bpf_machine.specs.Calls.{meets_rule}
 use Rattle.bpf_machine.specs.Step.{private_step, request_at, exit_at}
 use Rattle.bpf_machine.specs.Stuck.{is_stuck}
 
@@ -18,7 +18,7 @@ pub record HasStep (program : List Slot) (m : MachineState) : Type 0 where
 pub record AtLawfulCall (program : List Slot) (limits : HelperLimits) (m : MachineState) : Type 0 where
   pub request : Request
   pub call : request_at program m ≡ Some request
-  pub rule : meets_rule limits m.held m.disposed request ≡ true
+  pub rule : meets_rule limits m request ≡ true
   pub no_step : private_step program m ≡ None
   pub no_exit : exit_at program m ≡ None
 

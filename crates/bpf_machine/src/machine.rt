@@ -4,8 +4,8 @@
 
 ghost use Rattle.std.specs.Prelude.{◌≡◌, ◌+◌, ◌<◌, ◌↔◌, true, None, IsTrue};
 ghost use Rattle.bpf_insn.specs.declared.program.TheConstants.{MAX_SLOTS};
-ghost use Rattle.helpers.specs.Rules.{request_of};
 ghost use Rattle.bpf_machine.specs.MachineState.{entry, register};
+ghost use Rattle.bpf_machine.specs.Calls.{argument, request_by};
 ghost use Rattle.bpf_machine.specs.Step.{private_step, request_at, exit_at, after_call, answered};
 ghost use Rattle.bpf_machine.specs.Stops.{stop_at};
 ghost use Rattle.bpf_machine.specs.Reached.{IsEntry, PrivateSteps};
@@ -16,7 +16,7 @@ use crate::registers::Registers;
 use crate::stepping::advance;
 use crate::stop::Stop;
 use bpf_insn::{Callee, Insn, Program, Reg};
-use helpers::{Answer, Request};
+use helpers::{Answer, Arguments, Asked, Helper, Request};
 use std::marker::Model;
 
 /// Where the context lies.
@@ -110,13 +110,13 @@ impl Machine {
         steps
     }
 
-    /// The helper call at which the machine stands, where its argument is written and a helper has its
-    /// number.
+    /// The helper call at which the machine stands, where its arguments are written and a helper that is answered has
+    /// its number.
     pub fn request(&self, program: &Program) -> Option<Request>
         ensures { result ≡ request_at program.now self.now }
     {
         match program.fetch(self.place)? {
-            Insn::Call(Callee::Helper(number)) => request(number, self.register(Reg::R1)?),
+            Insn::Call(Callee::Helper(number)) => self.request_by(Helper::with_number(number)?),
             Insn::Alu { .. }
             | Insn::InPlace { .. }
             | Insn::SignExtend { .. }
@@ -127,6 +127,29 @@ impl Machine {
             | Insn::Store { .. }
             | Insn::Call(Callee::Local(_))
             | Insn::Exit => None,
+        }
+    }
+
+    // The call of a helper, with what stands in the registers that it reads.
+    fn request_by(&self, helper: Helper) -> Option<Request>
+        ensures { result ≡ request_by self.now helper }
+    {
+        let asks = helper.asks();
+        let arguments = Arguments {
+            first: self.argument(asks.first, Reg::R1)?,
+            second: self.argument(asks.second, Reg::R2)?,
+            third: self.argument(asks.third, Reg::R3)?,
+        };
+        Request::new(helper, &arguments)
+    }
+
+    // What an argument is; a register that the helper does not read counts as 0.
+    fn argument(&self, asked: Option<Asked>, reg: Reg) -> Option<u64>
+        ensures { result ≡ argument self.now asked reg }
+    {
+        match asked {
+            Some(_) => self.register(reg),
+            None => Some(0),
         }
     }
 
@@ -183,16 +206,5 @@ impl Machine {
         next.registers = self.registers.answered(r0);
         next.place = self.place + 1;
         next
-    }
-}
-
-// The call of a helper by its number, with the argument in R1.
-fn request(number: i32, argument: u64) -> Option<Request>
-    ensures { result ≡ request_of number argument }
-{
-    match number {
-        2 => Some(Request::Release { freeze: argument }),
-        4 => Some(Request::Requeue { retries: argument }),
-        _ => None,
     }
 }

@@ -1,5 +1,5 @@
 -- A segment that was taken over, and a run that goes on behind its stop.
-use Rattle.std.proofs.Common.{◌≡◌, ℕ, List, [], ◌∷◌, ◌++◌, true, Some, ◌⊎◌, inl, inr, refl, ap, sym, subst, ◌∙◌}
+use Rattle.std.proofs.Common.{◌≡◌, ℕ, List, [], ◌∷◌, ◌++◌, true, Some, refl, ap, sym, subst, ◌∙◌}
 use Rattle.bpf_insn.specs.declared.program.Slot.{Slot}
 use Rattle.bpf_machine.specs.MachineState.{MachineState}
 use Rattle.bpf_machine.specs.Reached.{Reached}
@@ -11,7 +11,8 @@ use Rattle.recoveries.specs.Admits.{IsOutAs}
 use Rattle.world.specs.declared.record.Record.{Record}
 use Rattle.world.specs.declared.record.Record.TheVariants.{Advance}
 use Rattle.world.specs.declared.record.StoppedAt.{StoppedAt}
-use Rattle.world.specs.declared.record.StoppedAt.TheVariants.{Release, Requeue}
+use Rattle.world.specs.declared.record.StoppedAt.TheVariants.{Helper}
+use Rattle.helpers.specs.declared.helper.Helper.{Helper as TheHelper}
 use Rattle.world.specs.World.{Setup, LiveRun, World, queue_setup}
 use Rattle.world.specs.Lookups.{run_of}
 use Rattle.engine_core.specs.RunState.{RunState, IsOut, IsOutUnder, IsReached}
@@ -47,12 +48,8 @@ taken_over setup history later ccbs more recoveries after number place program s
     (leads number (is_admitted setup history ccbs recoveries number place program segment kept out at) setup history kept)
 
 -- it goes on unless it exited
-went_on : (stop : StoppedAt) (r0 : ℕ) (recoveries after : RecoveryState) (place : ℕ) (segment : SegmentState) → (stop ≡ Release) ⊎ (stop ≡ Requeue) → GoesBy stop r0 recoveries after place segment → GoesOn recoveries after place
-went_on stop r0 recoveries after place segment is goes =
-    elim is [
-      | inl e ↦ subst (λ (s : StoppedAt). GoesBy s r0 recoveries after place segment) e goes
-      | inr e ↦ subst (λ (s : StoppedAt). GoesBy s r0 recoveries after place segment) e goes
-    ]
+went_on : (stop : StoppedAt) (r0 : ℕ) (recoveries after : RecoveryState) (place : ℕ) (segment : SegmentState) → (helper : TheHelper) → stop ≡ Helper helper → GoesBy stop r0 recoveries after place segment → GoesOn recoveries after place
+went_on stop r0 recoveries after place segment helper is goes = subst (λ (s : StoppedAt). GoesBy s r0 recoveries after place segment) is goes
 
 -- a run that goes on with this machine
 pub record GoesFurther (runs later : List LiveRun) (number : ℕ) (program : List Slot) (machine : MachineState) : Type 0 where
@@ -62,9 +59,9 @@ pub record GoesFurther (runs later : List LiveRun) (number : ℕ) (program : Lis
   pub program_is : it.program ≡ program
   pub moved : run_of number later ≡ Some (with_machine it machine)
 
-pub goes_further : (recoveries after : RecoveryState) (number place : ℕ) (program : List Slot) (segment : SegmentState) (stop : StoppedAt) (r0 : ℕ) (machine : MachineState) → IsOutAs recoveries.runs number program segment → IsPlaced recoveries.runs number place → (stop ≡ Release) ⊎ (stop ≡ Requeue) → GoesBy stop r0 recoveries after place segment → ((it : LiveRun) → HasRunAt after.runs place it → machine ≡ it.machine) → GoesFurther recoveries.runs after.runs number program machine
-goes_further recoveries after number place program segment stop r0 machine out at is goes read =
-    let on = went_on stop r0 recoveries after place segment is goes in
+pub goes_further : (recoveries after : RecoveryState) (number place : ℕ) (program : List Slot) (segment : SegmentState) (stop : StoppedAt) (r0 : ℕ) (machine : MachineState) → IsOutAs recoveries.runs number program segment → IsPlaced recoveries.runs number place → (helper : TheHelper) → stop ≡ Helper helper → GoesBy stop r0 recoveries after place segment → ((it : LiveRun) → HasRunAt after.runs place it → machine ≡ it.machine) → GoesFurther recoveries.runs after.runs number program machine
+goes_further recoveries after number place program segment stop r0 machine out at helper is goes read =
+    let on = went_on stop r0 recoveries after place segment helper is goes in
     let here = there recoveries.runs number place program segment out at in
     let same : machine ≡ on.machine = read (with_machine out.it on.machine) (on.stands out.it here) in
     record {

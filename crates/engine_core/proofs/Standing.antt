@@ -6,9 +6,10 @@ use Rattle.std.proofs.lemmas.Bool.{cond-true}
 use Rattle.freeze_ledger.specs.declared.freeze.Freeze.{Freeze}
 use Rattle.freeze_ledger.specs.Freezes.{entry_of, without}
 use Rattle.helpers.specs.declared.limits.HelperLimits.{HelperLimits}
-use Rattle.helpers.specs.declared.call.Request.{Request}
-use Rattle.helpers.specs.declared.call.Request.TheVariants.{Release, Requeue}
-use Rattle.helpers.specs.Rules.{is_held, meets_rule}
+use Rattle.helpers.specs.declared.request.Request.{Request}
+use Rattle.helpers.specs.declared.helper.Helper.TheVariants as helpers
+use Rattle.helpers.specs.declared.request.Request.TheVariants.{Release, Requeue}
+use Rattle.bpf_machine.specs.Calls.{is_held, meets_rule}
 use Rattle.ccb.specs.Ccb.{requeued}
 use Rattle.bpf_machine.specs.declared.stop.Stop.{Stop}
 use Rattle.bpf_machine.specs.declared.stop.Stop.TheVariants.{Helper, Exit}
@@ -19,7 +20,7 @@ use Rattle.world.specs.declared.ccb_state.CcbState.TheVariants.{Waiting}
 use Rattle.world.specs.World.{Setup, LiveCcb, LiveRun, World}
 use Rattle.world.specs.Lawful.{IsLawful}
 use Rattle.world.specs.Lookups.{ccb_of, with_ccb, run_of}
-use Rattle.world.specs.Event.{release, requeue, call, exit, executes, result}
+use Rattle.world.specs.Event.{call, exit, executes, result}
 use Rattle.world.specs.FreezeSteps.{frozen_with, thawed}
 use Rattle.world.specs.RunSteps.{is_run, answers, releases, requeues, ends, step_call, step_run, step_executes}
 use Rattle.world.specs.Step.{WorldStep}
@@ -31,7 +32,7 @@ use Rattle.world.proofs.Sound.{IsSound}
 
 -- the machine stands at this stop, and may go on there
 pub data StandsLawfully (run : LiveRun) (limits : HelperLimits) (stop : Stop) : Type 0 where
-  at_call : (request : Request) → stop ≡ Helper request → request_at run.program run.machine ≡ Some request → meets_rule limits run.machine.held run.machine.disposed request ≡ true → StandsLawfully run limits stop
+  at_call : (request : Request) → stop ≡ Helper request → request_at run.program run.machine ≡ Some request → meets_rule limits run.machine request ≡ true → StandsLawfully run limits stop
   at_exit : (r0 : ℕ) → stop ≡ Exit r0 → exit_at run.program run.machine ≡ Some r0 → run.machine.held ≡ [] → StandsLawfully run limits stop
 
 same_stop : (a b : Stop) → Some a ≡ Some b → b ≡ a
@@ -68,22 +69,22 @@ gives_back setup world run freeze sound found held =
     record { entry = among.0; found = among.1; number_is = bounds.0; bound = bounds.2; its = among.2 }
 
 -- its call of helper 2 is a step
-pub release_step : (setup : Setup) (world : World) (run : LiveRun) (freeze count : ℕ) → run_of run.number world.runs ≡ Some run → run.out ≡ true → request_at run.program run.machine ≡ Some (Release freeze) → (it : GivesBack world run freeze) → count ≡ frozen_with it.entry (without freeze world.freezes) → WorldStep setup world (executes run.number (call release)) (result count) (answers (thawed world freeze) run (Release freeze) count).1
+pub release_step : (setup : Setup) (world : World) (run : LiveRun) (freeze count : ℕ) → run_of run.number world.runs ≡ Some run → run.out ≡ true → request_at run.program run.machine ≡ Some (Release freeze) → (it : GivesBack world run freeze) → count ≡ frozen_with it.entry (without freeze world.freezes) → WorldStep setup world (executes run.number (call helpers.Release)) (result count) (answers (thawed world freeze) run (Release freeze) count).1
 release_step setup world run freeze count found out call_is it count_is =
     let given : releases world run (Some it.entry) ≡ Some (answers (thawed world it.entry.number) run (Release it.entry.number) (frozen_with it.entry (thawed world it.entry.number).freezes)) = cond-true (is_run run.number it.entry.holder) _ None it.its in
     let named : releases world run (Some it.entry) ≡ Some (answers (thawed world freeze) run (Release freeze) count) =
     given ∙ (ap (λ (n : ℕ). Some (answers (thawed world n) run (Release n) (frozen_with it.entry (thawed world n).freezes))) it.number_is
     ∙ ap (λ (k : ℕ). Some (answers (thawed world freeze) run (Release freeze) k)) (sym count_is)) in
-    ap (step_executes world (call release)) found
-    ∙ (cond-true run.out (step_run world run (call release)) None out
-    ∙ (ap (option_and_then (step_call world run release)) call_is ∙ (ap (releases world run) it.found ∙ named)))
+    ap (step_executes world (call helpers.Release)) found
+    ∙ (cond-true run.out (step_run world run (call helpers.Release)) None out
+    ∙ (ap (option_and_then (step_call world run helpers.Release)) call_is ∙ (ap (releases world run) it.found ∙ named)))
 
 -- its call of helper 4 is a step
-pub requeue_step : (setup : Setup) (world : World) (run : LiveRun) (retries : ℕ) (live : LiveCcb) → run_of run.number world.runs ≡ Some run → run.out ≡ true → request_at run.program run.machine ≡ Some (Requeue retries) → (leb retries 1 && not run.machine.disposed) ≡ true → ccb_of run.ccb world.live ≡ Some live → WorldStep setup world (executes run.number (call requeue)) (result 0) (answers (record world { live = with_ccb (record { ccb = requeued live.ccb retries; state = Waiting }) world.live }) run (Requeue retries) 0).1
+pub requeue_step : (setup : Setup) (world : World) (run : LiveRun) (retries : ℕ) (live : LiveCcb) → run_of run.number world.runs ≡ Some run → run.out ≡ true → request_at run.program run.machine ≡ Some (Requeue retries) → (leb retries 1 && not run.machine.disposed) ≡ true → ccb_of run.ccb world.live ≡ Some live → WorldStep setup world (executes run.number (call helpers.Requeue)) (result 0) (answers (record world { live = with_ccb (record { ccb = requeued live.ccb retries; state = Waiting }) world.live }) run (Requeue retries) 0).1
 requeue_step setup world run retries live found out call_is rule there =
-    ap (step_executes world (call requeue)) found
-    ∙ (cond-true run.out (step_run world run (call requeue)) None out
-    ∙ (ap (option_and_then (step_call world run requeue)) call_is
+    ap (step_executes world (call helpers.Requeue)) found
+    ∙ (cond-true run.out (step_run world run (call helpers.Requeue)) None out
+    ∙ (ap (option_and_then (step_call world run helpers.Requeue)) call_is
     ∙ (cond-true (leb retries 1 && not run.machine.disposed) (requeues world run retries (ccb_of run.ccb world.live)) None rule ∙ ap (requeues world run retries) there)))
 
 -- its exit is a step

@@ -7,7 +7,8 @@ use Rattle.ccb_table.specs.CcbsState.{CcbsState}
 use Rattle.recoveries.specs.RecoveryState.{RecoveryState}
 use Rattle.recoveries.specs.RunPlaces.{HasRunAt}
 use Rattle.recoveries.specs.Admits.{IsOutAs}
-use Rattle.helpers.specs.declared.call.Request.TheVariants.{Release, Requeue}
+use Rattle.helpers.specs.declared.helper.Helper.TheVariants as helpers
+use Rattle.helpers.specs.declared.request.Request.TheVariants.{Release, Requeue}
 use Rattle.bpf_insn.specs.declared.program.Slot.{Slot}
 use Rattle.bpf_machine.specs.declared.stop.Stop.TheVariants.{Helper, Exit}
 use Rattle.bpf_machine.specs.MachineState.{MachineState}
@@ -15,7 +16,7 @@ use Rattle.bpf_machine.specs.Step.{answered}
 use Rattle.interpreter.specs.Segments.{SegmentState, IsSegment}
 use Rattle.world.specs.declared.record.Record.{Record}
 use Rattle.world.specs.declared.record.Record.TheVariants.{Advance}
-use Rattle.world.specs.declared.record.StoppedAt.TheVariants.{Release as at_release, Requeue as at_requeue, Exit as at_exit_stop}
+use Rattle.world.specs.declared.record.StoppedAt.TheVariants.{Helper as at_helper_stop, Exit as at_exit_stop}
 use Rattle.world.specs.declared.ccb_state.CcbState.TheVariants.{Waiting, InRecovery}
 use Rattle.world.specs.World.{Setup, LiveCcb, LiveRun, World}
 use Rattle.world.specs.Lookups.{ccb_of, with_ccb, run_of, with_run}
@@ -111,7 +112,7 @@ releasing setup history ccbs recoveries number place segment freeze it stop =
       bound = omega (arith, asked.bound, here.sound.kept.freezes.numbers);
     }
 
-pub release_ends : (setup : Setup) (history : List Record) (ccbs : CcbsState) (old released after : RecoveryState) (number place : ℕ) (segment : SegmentState) (freeze count : ℕ) → Admitted setup history ccbs old number place segment → segment.stop ≡ Helper (Release freeze) → released ≡ record old { freezes = without freeze old.freezes } → ((entry : Freeze) → entry_of freeze old.freezes ≡ Some entry → count ≡ frozen_with entry released.freezes) → Goes released after place (answered (Release freeze) (record { r0 = count }) segment.to) → Leads setup (world_of setup history ccbs old) (events_of (Advance number segment.steps at_release count)) (world_of setup history ccbs after)
+pub release_ends : (setup : Setup) (history : List Record) (ccbs : CcbsState) (old released after : RecoveryState) (number place : ℕ) (segment : SegmentState) (freeze count : ℕ) → Admitted setup history ccbs old number place segment → segment.stop ≡ Helper (Release freeze) → released ≡ record old { freezes = without freeze old.freezes } → ((entry : Freeze) → entry_of freeze old.freezes ≡ Some entry → count ≡ frozen_with entry released.freezes) → Goes released after place (answered (Release freeze) (record { r0 = count }) segment.to) → Leads setup (world_of setup history ccbs old) (events_of (Advance number segment.steps (at_helper_stop helpers.Release) count)) (world_of setup history ccbs after)
 release_ends setup history ccbs old released after number place segment freeze count it stop given counted goes =
     let world : World = world_of setup history ccbs old in
     let machine : MachineState = answered (Release freeze) (record { r0 = count }) segment.to in
@@ -126,7 +127,7 @@ release_ends setup history ccbs old released after number place segment freeze c
     goes it.out.it (subst (λ (runs : List LiveRun). HasRunAt runs place it.out.it) same_runs it.there)
     ∙ (ap (λ (r : RecoveryState). record r { runs = with_run (with_machine it.out.it machine) r.runs }) given
     ∙ ap (λ (run : LiveRun). record old { freezes = without freeze old.freezes; runs = with_run (with_machine run machine) old.runs }) (sym same)) in
-    subst (λ (r : RecoveryState). Leads setup world (events_of (Advance number segment.steps at_release count)) (world_of setup history ccbs r)) (sym after_is)
+    subst (λ (r : RecoveryState). Leads setup world (events_of (Advance number segment.steps (at_helper_stop helpers.Release) count)) (world_of setup history ccbs r)) (sym after_is)
     (release_leads setup world number segment freeze count here stop count_is)
 
 -- helper 4
@@ -146,7 +147,7 @@ requeuing setup history ccbs recoveries number place segment retries it stop =
     let same = same_run setup history ccbs recoveries number place segment it in
     record { run = it.out.it; there = it.there; few = asked.few; live = asked.live; live_found = ap (λ (r : LiveRun). ccb_of r.ccb ccbs.live) (sym same) ∙ asked.found; state = asked.state }
 
-pub requeue_ends : (setup : Setup) (history : List Record) (ccbs more : CcbsState) (old after : RecoveryState) (number place : ℕ) (segment : SegmentState) (retries ccb : ℕ) → Admitted setup history ccbs old number place segment → segment.stop ≡ Helper (Requeue retries) → ((it : LiveRun) → HasRunAt old.runs place it → ccb ≡ it.ccb) → ((it : LiveCcb) → ccb_of ccb ccbs.live ≡ Some it → more ≡ record ccbs { live = with_ccb (record { ccb = requeued it.ccb retries; state = Waiting }) ccbs.live }) → Goes old after place (answered (Requeue retries) (record { r0 = 0 }) segment.to) → Leads setup (world_of setup history ccbs old) (events_of (Advance number segment.steps at_requeue 0)) (world_of setup history more after)
+pub requeue_ends : (setup : Setup) (history : List Record) (ccbs more : CcbsState) (old after : RecoveryState) (number place : ℕ) (segment : SegmentState) (retries ccb : ℕ) → Admitted setup history ccbs old number place segment → segment.stop ≡ Helper (Requeue retries) → ((it : LiveRun) → HasRunAt old.runs place it → ccb ≡ it.ccb) → ((it : LiveCcb) → ccb_of ccb ccbs.live ≡ Some it → more ≡ record ccbs { live = with_ccb (record { ccb = requeued it.ccb retries; state = Waiting }) ccbs.live }) → Goes old after place (answered (Requeue retries) (record { r0 = 0 }) segment.to) → Leads setup (world_of setup history ccbs old) (events_of (Advance number segment.steps (at_helper_stop helpers.Requeue) 0)) (world_of setup history more after)
 requeue_ends setup history ccbs more old after number place segment retries ccb it stop ccb_is waits_again goes =
     let world : World = world_of setup history ccbs old in
     let machine : MachineState = answered (Requeue retries) (record { r0 = 0 }) segment.to in
@@ -158,8 +159,8 @@ requeue_ends setup history ccbs more old after number place segment retries ccb 
     let more_is = waits_again asked.live there in
     let after_is : after ≡ record old { runs = with_run (with_machine here.run machine) old.runs } =
     goes it.out.it it.there ∙ ap (λ (run : LiveRun). record old { runs = with_run (with_machine run machine) old.runs }) (sym same) in
-    subst (λ (r : RecoveryState). Leads setup world (events_of (Advance number segment.steps at_requeue 0)) (world_of setup history more r)) (sym after_is)
-    (subst (λ (t : CcbsState). Leads setup world (events_of (Advance number segment.steps at_requeue 0)) (world_of setup history t (record old { runs = with_run (with_machine here.run machine) old.runs }))) (sym more_is)
+    subst (λ (r : RecoveryState). Leads setup world (events_of (Advance number segment.steps (at_helper_stop helpers.Requeue) 0)) (world_of setup history more r)) (sym after_is)
+    (subst (λ (t : CcbsState). Leads setup world (events_of (Advance number segment.steps (at_helper_stop helpers.Requeue) 0)) (world_of setup history t (record old { runs = with_run (with_machine here.run machine) old.runs }))) (sym more_is)
     (requeue_leads setup world number segment retries asked.live here stop asked.found))
 
 -- the exit

@@ -1,12 +1,13 @@
 -- What an admitted segment leads to: the world of its record, by the kind of its stop.
-use Rattle.std.proofs.Common.{◌≡◌, ℕ, ◌≤◌, List, [], true, not, leb, Some, refl, ap, sym, subst, ◌∙◌}
-use Rattle.std.proofs.lemmas.Bool.{and_parts, not-true, leb-true}
+use Rattle.std.proofs.Common.{◌≡◌, ◌&&◌, ℕ, ◌≤◌, List, [], true, not, leb, Some, refl, ap, sym, subst, ◌∙◌}
+use Rattle.std.proofs.lemmas.Bool.{and_from, and_parts, not-true, leb-true}
 use Rattle.freeze_ledger.specs.declared.freeze.Freeze.{Freeze}
 use Rattle.freeze_ledger.specs.Freezes.{frozen, without}
 use Rattle.helpers.specs.declared.limits.HelperLimits.{HelperLimits}
-use Rattle.helpers.specs.declared.call.Request.{Request}
-use Rattle.helpers.specs.declared.call.Request.TheVariants.{Release, Requeue}
-use Rattle.helpers.specs.Rules.{meets_rule}
+use Rattle.helpers.specs.declared.request.Request.{Request}
+use Rattle.helpers.specs.declared.helper.Helper.TheVariants as helpers
+use Rattle.helpers.specs.declared.request.Request.TheVariants.{Release, Requeue}
+use Rattle.bpf_machine.specs.Calls.{meets_rule}
 use Rattle.ccb.specs.Ccb.{requeued}
 use Rattle.bpf_machine.specs.declared.stop.Stop.{Stop}
 use Rattle.bpf_machine.specs.declared.stop.Stop.TheVariants.{Helper, Exit}
@@ -18,7 +19,7 @@ use Rattle.interpreter.specs.Segments.{SegmentState, IsSegment}
 use Rattle.recoveries.specs.Admits.{IsOutAs}
 use Rattle.bpf_insn.specs.declared.program.Slot.{Slot}
 use Rattle.world.specs.declared.record.StoppedAt.{StoppedAt}
-use Rattle.world.specs.declared.record.StoppedAt.TheVariants.{Release as at_release, Requeue as at_requeue, Exit as at_exit_stop}
+use Rattle.world.specs.declared.record.StoppedAt.TheVariants.{Helper as at_helper_stop, Exit as at_exit_stop}
 use Rattle.world.specs.declared.record.Record.TheVariants.{Advance}
 use Rattle.world.specs.declared.ccb_state.CcbState.TheVariants.{Waiting, InRecovery}
 use Rattle.world.specs.World.{Setup, LiveCcb, LiveRun, World}
@@ -80,11 +81,11 @@ arrives setup world number program segment lawful sound is admitted =
           (advance_leads setup is.private segment.steps world between after run.number stop r0 is.count leads step);
     }
 
-call_stop : (run : LiveRun) (limits : HelperLimits) (stop : Stop) (request : Request) → stop ≡ Helper request → StandsLawfully run limits stop → (request_at run.program run.machine ≡ Some request) × (meets_rule limits run.machine.held run.machine.disposed request ≡ true)
+call_stop : (run : LiveRun) (limits : HelperLimits) (stop : Stop) (request : Request) → stop ≡ Helper request → StandsLawfully run limits stop → (request_at run.program run.machine ≡ Some request) × (meets_rule limits run.machine request ≡ true)
 call_stop run limits stop request is (at_call other its call_is rule) =
     let both : Helper other ≡ Helper request = sym its ∙ is in
     let same : other ≡ request = cc in
-    (call_is ∙ ap (λ (r : Request). Some r) same, subst (λ (r : Request). meets_rule limits run.machine.held run.machine.disposed r ≡ true) same rule)
+    (call_is ∙ ap (λ (r : Request). Some r) same, subst (λ (r : Request). meets_rule limits run.machine r ≡ true) same rule)
 call_stop run limits stop request is (at_exit r0 its exit_is none) = absurd (let bad : Exit r0 ≡ Helper request = sym its ∙ is in cc)
 
 exit_stop : (run : LiveRun) (limits : HelperLimits) (stop : Stop) (r0 : ℕ) → stop ≡ Exit r0 → StandsLawfully run limits stop → (exit_at run.program run.machine ≡ Some r0) × (run.machine.held ≡ [])
@@ -98,9 +99,9 @@ exit_stop run limits stop r0 is (at_exit other its exit_is none) =
 pub asked_freeze : (setup : Setup) (world : World) (number : ℕ) (segment : SegmentState) (freeze : ℕ) → (it : Arrives setup world number segment) → segment.stop ≡ Helper (Release freeze) → GivesBack it.between (with_machine it.run segment.to) freeze
 asked_freeze setup world number segment freeze it stop =
     let stands = call_stop (with_machine it.run segment.to) setup.limits segment.stop (Release freeze) stop it.stands in
-    gives_back setup it.between (with_machine it.run segment.to) freeze it.sound it.there stands.1
+    gives_back setup it.between (with_machine it.run segment.to) freeze it.sound it.there (and_parts _ _ stands.1).0
 
-pub release_leads : (setup : Setup) (world : World) (number : ℕ) (segment : SegmentState) (freeze count : ℕ) → (it : Arrives setup world number segment) → (stop : segment.stop ≡ Helper (Release freeze)) → count ≡ frozen (asked_freeze setup world number segment freeze it stop).entry.queue.0 (without freeze world.freezes) → Leads setup world (events_of (Advance number segment.steps at_release count)) (record world { freezes = without freeze world.freezes; runs = with_run (with_machine it.run (answered (Release freeze) (record { r0 = count }) segment.to)) world.runs })
+pub release_leads : (setup : Setup) (world : World) (number : ℕ) (segment : SegmentState) (freeze count : ℕ) → (it : Arrives setup world number segment) → (stop : segment.stop ≡ Helper (Release freeze)) → count ≡ frozen (asked_freeze setup world number segment freeze it stop).entry.queue.0 (without freeze world.freezes) → Leads setup world (events_of (Advance number segment.steps (at_helper_stop helpers.Release) count)) (record world { freezes = without freeze world.freezes; runs = with_run (with_machine it.run (answered (Release freeze) (record { r0 = count }) segment.to)) world.runs })
 release_leads setup world number segment freeze count it stop count_is =
     let run : LiveRun = with_machine it.run segment.to in
     let made : LiveRun = with_machine it.run (answered (Release freeze) (record { r0 = count }) segment.to) in
@@ -112,7 +113,7 @@ release_leads setup world number segment freeze count it stop count_is =
     let end : (answers (thawed it.between freeze) run (Release freeze) count).1 ≡ record world { freezes = without freeze world.freezes; runs = with_run made world.runs } =
     ap (λ (w : World). (answers (thawed w freeze) run (Release freeze) count).1) it.between_is
     ∙ ap (λ (runs : List LiveRun). record world { freezes = without freeze world.freezes; runs = runs }) (put_put run_key run made world.runs refl) in
-    subst (Leads setup world (events_of (Advance number segment.steps at_release count))) end (it.further (answers (thawed it.between freeze) run (Release freeze) count).1 at_release count step)
+    subst (Leads setup world (events_of (Advance number segment.steps (at_helper_stop helpers.Release) count))) end (it.further (answers (thawed it.between freeze) run (Release freeze) count).1 (at_helper_stop helpers.Release) count step)
 
 -- helper 4: the run's CCB is in recovery
 pub record Requeuing (world : World) (run : LiveRun) (retries : ℕ) : Type 0 where
@@ -121,11 +122,17 @@ pub record Requeuing (world : World) (run : LiveRun) (retries : ℕ) : Type 0 wh
   pub found : ccb_of run.ccb world.live ≡ Some live
   pub state : live.state ≡ InRecovery
 
+-- its rule: 0 or 1, and a CCB that is not disposed of
+requeue_rule : (limits : HelperLimits) (m : MachineState) (retries : ℕ) → meets_rule limits m (Requeue retries) ≡ true → (leb retries 1 && not m.disposed) ≡ true
+requeue_rule limits m retries rule =
+    let parts = and_parts (not m.disposed) _ rule in
+    and_from _ _ (and_parts _ _ (and_parts _ _ parts.1).0).1 parts.0
+
 pub asked_requeue : (setup : Setup) (world : World) (number : ℕ) (segment : SegmentState) (retries : ℕ) → (it : Arrives setup world number segment) → segment.stop ≡ Helper (Requeue retries) → Requeuing world it.run retries
 asked_requeue setup world number segment retries it stop =
     let run : LiveRun = with_machine it.run segment.to in
     let stands = call_stop run setup.limits segment.stop (Requeue retries) stop it.stands in
-    let parts = and_parts (leb retries 1) (not run.machine.disposed) stands.1 in
+    let parts = and_parts _ _ (requeue_rule setup.limits run.machine retries stands.1) in
     let recovery = it.sound.recovering.ccbs run.number run it.there (not-true _ parts.1) in
     let same_live : it.between.live ≡ world.live = ap (λ (w : World). w.live) it.between_is in
     record {
@@ -135,18 +142,18 @@ asked_requeue setup world number segment retries it stop =
       state = recovery.state;
     }
 
-pub requeue_leads : (setup : Setup) (world : World) (number : ℕ) (segment : SegmentState) (retries : ℕ) (live : LiveCcb) → (it : Arrives setup world number segment) → segment.stop ≡ Helper (Requeue retries) → ccb_of it.run.ccb world.live ≡ Some live → Leads setup world (events_of (Advance number segment.steps at_requeue 0)) (record world { live = with_ccb (record { ccb = requeued live.ccb retries; state = Waiting }) world.live; runs = with_run (with_machine it.run (answered (Requeue retries) (record { r0 = 0 }) segment.to)) world.runs })
+pub requeue_leads : (setup : Setup) (world : World) (number : ℕ) (segment : SegmentState) (retries : ℕ) (live : LiveCcb) → (it : Arrives setup world number segment) → segment.stop ≡ Helper (Requeue retries) → ccb_of it.run.ccb world.live ≡ Some live → Leads setup world (events_of (Advance number segment.steps (at_helper_stop helpers.Requeue) 0)) (record world { live = with_ccb (record { ccb = requeued live.ccb retries; state = Waiting }) world.live; runs = with_run (with_machine it.run (answered (Requeue retries) (record { r0 = 0 }) segment.to)) world.runs })
 requeue_leads setup world number segment retries live it stop found =
     let run : LiveRun = with_machine it.run segment.to in
     let made : LiveRun = with_machine it.run (answered (Requeue retries) (record { r0 = 0 }) segment.to) in
     let again : LiveCcb = record { ccb = requeued live.ccb retries; state = Waiting } in
     let stands = call_stop run setup.limits segment.stop (Requeue retries) stop it.stands in
     let same_live : it.between.live ≡ world.live = ap (λ (w : World). w.live) it.between_is in
-    let step = requeue_step setup it.between run retries live it.there it.out stands.0 stands.1 (ap (ccb_of it.run.ccb) same_live ∙ found) in
+    let step = requeue_step setup it.between run retries live it.there it.out stands.0 (requeue_rule setup.limits run.machine retries stands.1) (ap (ccb_of it.run.ccb) same_live ∙ found) in
     let end : (answers (record it.between { live = with_ccb again it.between.live }) run (Requeue retries) 0).1 ≡ record world { live = with_ccb again world.live; runs = with_run made world.runs } =
     ap (λ (w : World). (answers (record w { live = with_ccb again w.live }) run (Requeue retries) 0).1) it.between_is
     ∙ ap (λ (runs : List LiveRun). record world { live = with_ccb again world.live; runs = runs }) (put_put run_key run made world.runs refl) in
-    subst (Leads setup world (events_of (Advance number segment.steps at_requeue 0))) end (it.further (answers (record it.between { live = with_ccb again it.between.live }) run (Requeue retries) 0).1 at_requeue 0 step)
+    subst (Leads setup world (events_of (Advance number segment.steps (at_helper_stop helpers.Requeue) 0))) end (it.further (answers (record it.between { live = with_ccb again it.between.live }) run (Requeue retries) 0).1 (at_helper_stop helpers.Requeue) 0 step)
 
 -- the exit: no entry names the run
 pub nothing_held : (setup : Setup) (world : World) (number : ℕ) (segment : SegmentState) (r0 : ℕ) → Arrives setup world number segment → segment.stop ≡ Exit r0 → entries_of number world.freezes ≡ []

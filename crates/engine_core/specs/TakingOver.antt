@@ -9,7 +9,7 @@ use Rattle.recoveries.specs.RecoveryState.{RecoveryState}
 use Rattle.recoveries.specs.RunPlaces.{HasRunAt}
 use Rattle.recoveries.specs.Admits.{IsOutAs}
 use Rattle.world.specs.declared.record.StoppedAt.{StoppedAt}
-use Rattle.world.specs.declared.record.StoppedAt.TheVariants.{Release, Requeue, Exit}
+use Rattle.world.specs.declared.record.StoppedAt.TheVariants.{Helper, Exit}
 use Rattle.world.specs.declared.record.Record.{Record}
 use Rattle.world.specs.declared.record.Record.TheVariants.{Advance}
 use Rattle.world.specs.World.{Setup, LiveRun}
@@ -44,6 +44,5 @@ pub record GoesOn (recoveries after : RecoveryState) (place : ℕ) : Type 0 wher
 
 -- what becomes of the run, by the kind of its stop
 abbrev pub GoesBy : StoppedAt → ℕ → RecoveryState → RecoveryState → ℕ → SegmentState → Type 0
-GoesBy Release r0 recoveries after place segment = GoesOn recoveries after place
-GoesBy Requeue r0 recoveries after place segment = GoesOn recoveries after place
+GoesBy (Helper helper) r0 recoveries after place segment = GoesOn recoveries after place
 GoesBy Exit r0 recoveries after place segment = segment.stop ≡ at_exit r0

@@ -218,7 +218,7 @@ impl Engine {
             r0,
         });
         match stop {
-            StoppedAt::Release | StoppedAt::Requeue => {
+            StoppedAt::Helper(_) => {
                 let machine = self.recoveries.machine(place);
                 Ok(AdvanceAnswer::Goes(run.moved(machine), r0))
             }

@@ -2,7 +2,7 @@
 // its CCB.
 
 ghost use Rattle.std.specs.Prelude.{◌≡◌, ℕ};
-ghost use Rattle.helpers.specs.declared.call.Request.TheVariants.{Release, Requeue};
+ghost use Rattle.helpers.specs.declared.request.Request.TheVariants.{Release, Requeue};
 ghost use Rattle.bpf_machine.specs.declared.stop.Stop.TheVariants.{Helper};
 ghost use Rattle.interpreter.specs.Segments.{IsSegment};
 ghost use Rattle.engine_core.specs.Answers.{stopped_at};
@@ -30,13 +30,9 @@ pub(crate) fn take_over(
     ensures queues { recoveries.new.queues ≡ recoveries.old.queues }
 {
     match segment.stop() {
-        Stop::Helper(Request::Release { freeze }) => {
-            let count = release(ccbs, recoveries, place, segment, freeze);
-            (StoppedAt::Release, count)
-        }
-        Stop::Helper(Request::Requeue { retries }) => {
-            requeue(ccbs, recoveries, place, segment, retries);
-            (StoppedAt::Requeue, 0)
+        Stop::Helper(request) => {
+            let r0 = answer(ccbs, recoveries, place, segment, &request);
+            (StoppedAt::Helper(request.helper()), r0)
         }
         Stop::Exit(r0) => {
             recoveries.end(place);
@@ -45,7 +41,31 @@ pub(crate) fn take_over(
     }
 }
 
-// Helper 2: the freeze is given back, and the answer is how many its queue has then.
+// Does what the call of a helper asks, and gives its answer.
+fn answer(
+    ccbs: &mut CcbTable,
+    recoveries: &mut Recoveries,
+    place: usize,
+    segment: &Segment,
+    request: &Request,
+) -> u64
+    requires stop { segment.now.stop ≡ Helper request.now }
+    requires segment { IsSegment segment.now }
+    requires admitted { (number : ℕ) × IsAdmitted ccbs.old recoveries.old number place segment.now }
+    ensures leads { LeadsBy (stopped_at (Helper request.now)) result place segment.now ccbs.old recoveries.old ccbs.new recoveries.new }
+    ensures goes { GoesOn recoveries.old recoveries.new place }
+    ensures queues { recoveries.new.queues ≡ recoveries.old.queues }
+{
+    match *request {
+        Request::Release { freeze } => release(ccbs, recoveries, place, segment, freeze),
+        Request::Requeue { retries } => {
+            requeue(ccbs, recoveries, place, segment, retries);
+            0
+        }
+    }
+}
+
+// The freeze is given back, and the answer is how many its queue has then.
 fn release(
     ccbs: &CcbTable,
     recoveries: &mut Recoveries,
@@ -70,7 +90,7 @@ fn release(
     count
 }
 
-// Helper 4: the run's CCB waits again, with so many retries fewer. The answer is 0.
+// The run's CCB waits again, with so many retries fewer. The answer is 0.
 fn requeue(
     ccbs: &mut CcbTable,
     recoveries: &mut Recoveries,

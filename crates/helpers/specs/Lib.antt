@@ -1,1 +1,1 @@
-pub mod Rules
+pub mod Table

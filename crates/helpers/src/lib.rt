@@ -1,9 +1,11 @@
-// The helper functions that a recovery program may call: what is asked, what is answered, and the limits
-// and rules of the calls. It relies on nothing.
+// The helper functions that a recovery program may call: their table, what is asked and answered, and the limits of
+// what a call may name. It relies on nothing.
 #![tactic(auto)]
 
-mod call;
+mod helper;
 mod limits;
+mod request;
 
-pub use call::{Answer, Request};
+pub use helper::{Asked, Asks, Helper};
 pub use limits::{HelperLimits, TableLengths};
+pub use request::{Answer, Arguments, Request};

@@ -1,5 +1,3 @@
-pub mod Ways
-pub mod Room
 pub mod One
 pub mod Stops
 pub mod Rows

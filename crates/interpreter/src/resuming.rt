@@ -13,7 +13,7 @@ use helpers::{Answer, Request};
 /// reached the call has then reached this machine, by one instruction more. It takes no memory.
 pub fn resume(machine: &Machine, request: &Request, answer: &Answer) -> Machine
     requires stands { StandsAt machine.now request.now }
-    requires allowed { IsAnswer request.now answer.now }
+    requires allowed { IsAnswer machine.now request.now answer.now }
     ensures machine { result ≡ answered request.now answer.now machine.now }
     ensures reached { (program : List Slot) (n : ℕ) → Reached program n machine.now → request_at program machine.now ≡ Some request.now → Reached program (n + 1) result }
 {

@@ -256,7 +256,7 @@ impl Recoveries {
     pub fn go_on(&mut self, place: usize, to: &Machine, request: &Request, answer: &Answer)
         requires run { (it : LiveRun) × HasRunAt self.old.runs place it }
         requires stands { StandsAt to.now request.now }
-        requires allowed { IsAnswer request.now answer.now }
+        requires allowed { IsAnswer to.now request.now answer.now }
         ensures goes { (it : LiveRun) → HasRunAt self.old.runs place it →
             self.new ≡ record self.old { runs = with_run (record it { machine = answered request.now answer.now to.now }) self.old.runs } }
         ensures place { (it : LiveRun) → HasRunAt self.old.runs place it →

@@ -44,12 +44,9 @@ fn print_record<W: Write>(record: &Record, out: &mut W) -> io::Result<()> {
             stop,
             r0,
         } => {
-            let stop = match stop {
-                StoppedAt::Release => "helper 2",
-                StoppedAt::Requeue => "helper 4",
-                StoppedAt::Exit => "exit",
-            };
-            writeln!(out, "advance {run} {instructions} {stop} = {r0}")
+            write!(out, "advance {run} {instructions} ")?;
+            print_stop(stop, out)?;
+            writeln!(out, " = {r0}")
         }
         Record::GuestFreeze {
             queue,
@@ -60,6 +57,13 @@ fn print_record<W: Write>(record: &Record, out: &mut W) -> io::Result<()> {
             print_freeze(answer, out)
         }
         Record::GuestRelease { freeze, count } => writeln!(out, "grelease {freeze} = {count}"),
+    }
+}
+
+fn print_stop<W: Write>(stop: StoppedAt, out: &mut W) -> io::Result<()> {
+    match stop {
+        StoppedAt::Helper(helper) => write!(out, "helper {}", helper.number()),
+        StoppedAt::Exit => write!(out, "exit"),
     }
 }
 

@@ -1,9 +1,7 @@
 -- An instruction that passes its check is not stuck on a machine that is described, and leads to machines that are
 -- described by what the check says of its ways on.
-use Rattle.std.proofs.Common.{◌≡◌, ℕ, ℤ, ◌≤◌, Bool, true, false, leb, Result, Ok, Err, refl, sym, ◌∙◌, ◌⊎◌, inl, inr}
-use Rattle.std.specs.Prelude.{pos}
-use Rattle.std.specs.Ordering.{int_eq}
-use Rattle.std.proofs.lemmas.Bool.{cases_Bool, cond-true, cond-false, leb-true}
+use Rattle.std.proofs.Common.{◌≡◌, ℕ, Bool, true, false, Result, Ok, Err, refl, sym, ◌∙◌, ◌⊎◌, inl, inr}
+use Rattle.std.proofs.lemmas.Bool.{cases_Bool, cond-true, cond-false}
 use Rattle.bpf_insn.specs.declared.insn.Width.{Width}
 use Rattle.bpf_insn.specs.declared.insn.AluOp.{AluOp}
 use Rattle.bpf_insn.specs.declared.reg.Reg.{Reg}
@@ -13,12 +11,13 @@ use Rattle.verifier.specs.declared.kind.Kind.TheVariants.{Unwritten, Number, Con
 use Rattle.verifier.specs.declared.description.Held.{Held}
 use Rattle.verifier.specs.declared.description.Held.TheVariants.{Nothing, Open, Sure}
 use Rattle.verifier.specs.declared.description.Description.{Description}
-use Rattle.verifier.specs.declared.check.Flow.{Flow}
+use Rattle.verifier.specs.declared.flow.Flow.{Flow}
 use Rattle.verifier.specs.declared.refusal.Cause.{Cause}
 use Rattle.verifier.specs.declared.refusal.Cause.TheVariants.{AddressAsNumber}
 use Rattle.verifier.specs.RegisterKind.{any_number}
-use Rattle.verifier.specs.Knowledge.{kind_at, with_kind, sure_freeze, zero_freeze, released_freeze, requeued}
-use Rattle.verifier.specs.InsnCheck.{goes_on, goes_both, ends, is_copy, check_move, check_alu, check_numbers, compute_with, compared, jump_on_number, jump_on_freeze, check_jump, release_held, check_release, check_requeue, check_call, exit_result, exit_held, check_exit}
+use Rattle.verifier.specs.Knowledge.{kind_at, with_kind, sure_freeze, zero_freeze}
+use Rattle.verifier.specs.Flows.{goes_on, goes_both, ends}
+use Rattle.verifier.specs.InsnCheck.{is_copy, check_move, check_alu, check_numbers, compute_with, compared, jump_on_number, jump_on_freeze, check_jump, exit_result, exit_held, check_exit}
 
 -- a kind of which something is written
 abbrev pub IsWritten : Kind → Type 0
@@ -155,70 +154,6 @@ jump_passes d to is_zero SureFreeze right flow e =
     record { left_written = tt; right_written = it.0; leads = inr (inr (record { with_zero = on.0; left_is = refl; leads = on.1 })) }
 jump_passes d to is_zero Context right flow e = not_ok _ _ (compared_passes right _ flow e).1
 jump_passes d to is_zero Frame right flow e = not_ok _ _ (compared_passes right _ flow e).1
-
-pub record ReleasePasses (d : Description) (argument : Kind) (flow : Flow) : Type 0 where
-  pub sure : argument ≡ SureFreeze
-  pub held : d.held ≡ Sure
-  pub leads : flow ≡ goes_on (released_freeze d)
-
-held_passes : (d : Description) (held : Held) (flow : Flow) → release_held d held ≡ Ok flow → (held ≡ Sure) × (flow ≡ goes_on (released_freeze d))
-held_passes d Nothing flow e = not_ok _ _ e
-held_passes d Open flow e = not_ok _ _ e
-held_passes d Sure flow e = (refl, ok_is _ _ e)
-
-release_passes : (d : Description) (argument : Kind) (flow : Flow) → check_release d argument ≡ Ok flow → ReleasePasses d argument flow
-release_passes d Unwritten flow e = not_ok _ _ e
-release_passes d (Number least most) flow e = not_ok _ _ e
-release_passes d Context flow e = not_ok _ _ e
-release_passes d Frame flow e = not_ok _ _ e
-release_passes d OpenFreeze flow e = not_ok _ _ e
-release_passes d SureFreeze flow e = let it = held_passes d d.held flow e in record { sure = refl; held = it.0; leads = it.1 }
-
-pub record RequeuePasses (d : Description) (argument : Kind) (flow : Flow) : Type 0 where
-  pub least : ℕ
-  pub most : ℕ
-  pub number : argument ≡ Number least most
-  pub few : most ≤ 1
-  pub once : d.disposed ≡ false
-  pub leads : flow ≡ goes_on (requeued d)
-
-requeue_passes : (d : Description) (argument : Kind) (flow : Flow) → check_requeue d argument ≡ Ok flow → RequeuePasses d argument flow
-requeue_passes d Unwritten flow e = not_ok _ _ e
-requeue_passes d (Number least most) flow e =
-    elim (cases_Bool (leb most 1)) [
-      | inl few ↦
-          let inner = sym (cond-true (leb most 1) _ _ few) ∙ e in
-          elim (cases_Bool d.disposed) [
-            | inl twice ↦ not_ok _ _ (sym (cond-true d.disposed _ _ twice) ∙ inner)
-            | inr once ↦ record { least = least; most = most; number = refl; few = leb-true most 1 few; once = once; leads = ok_is _ _ (sym (cond-false d.disposed _ _ once) ∙ inner) }
-          ]
-      | inr many ↦ not_ok _ _ (sym (cond-false (leb most 1) _ _ many) ∙ e)
-    ]
-requeue_passes d Context flow e = not_ok _ _ e
-requeue_passes d Frame flow e = not_ok _ _ e
-requeue_passes d OpenFreeze flow e = not_ok _ _ e
-requeue_passes d SureFreeze flow e = not_ok _ _ e
-
-pub record IsRelease (d : Description) (number : ℤ) (argument : Kind) (flow : Flow) : Type 0 where
-  pub helper : int_eq number (pos 2) ≡ true
-  pub passes : ReleasePasses d argument flow
-
-pub record IsRequeue (d : Description) (number : ℤ) (argument : Kind) (flow : Flow) : Type 0 where
-  pub other : int_eq number (pos 2) ≡ false
-  pub helper : int_eq number (pos 4) ≡ true
-  pub passes : RequeuePasses d argument flow
-
-pub call_passes : (d : Description) (number : ℤ) (argument : Kind) (flow : Flow) → check_call d number argument ≡ Ok flow → IsRelease d number argument flow ⊎ IsRequeue d number argument flow
-call_passes d number argument flow e =
-    elim (cases_Bool (int_eq number (pos 2))) [
-      | inl two ↦ inl (record { helper = two; passes = release_passes d argument flow (sym (cond-true (int_eq number (pos 2)) _ _ two) ∙ e) })
-      | inr other ↦
-          let inner = sym (cond-false (int_eq number (pos 2)) _ _ other) ∙ e in
-          elim (cases_Bool (int_eq number (pos 4))) [
-            | inl four ↦ inr (record { other = other; helper = four; passes = requeue_passes d argument flow (sym (cond-true (int_eq number (pos 4)) _ _ four) ∙ inner) })
-            | inr none ↦ not_ok _ _ (sym (cond-false (int_eq number (pos 4)) _ _ none) ∙ inner)
-          ]
-    ]
 
 pub record ExitPasses (held : Held) (disposed : Bool) (result : Kind) (flow : Flow) : Type 0 where
   pub nothing : held ≡ Nothing

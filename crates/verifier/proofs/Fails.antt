@@ -5,8 +5,9 @@ use Rattle.call_shape.specs.Shape.{behind}
 use Rattle.bpf_insn.specs.declared.insn.Insn.{Insn}
 use Rattle.bpf_insn.specs.declared.program.Slot.{Slot}
 use Rattle.bpf_insn.specs.Program.{insn_at}
+use Rattle.helpers.specs.declared.limits.HelperLimits.{HelperLimits}
 use Rattle.verifier.specs.declared.description.Description.{Description}
-use Rattle.verifier.specs.declared.check.Flow.{Flow}
+use Rattle.verifier.specs.declared.flow.Flow.{Flow}
 use Rattle.verifier.specs.declared.refusal.Cause.{Cause}
 use Rattle.verifier.specs.declared.refusal.Refusal.{Refusal}
 use Rattle.verifier.specs.declared.refusal.Refusal.TheVariants.{Shape, Check}
@@ -47,14 +48,14 @@ flow_by : (table : Table) (place next_slot : ℕ) (checked : Result Flow Cause) 
 flow_by table place next_slot (Err cause) = tt
 flow_by table place next_slot (Ok flow) = then_by (merge_next table next_slot flow.next) (merge_jump flow.jump) (next_by table next_slot flow.next) (λ t. jump_by t flow.jump)
 
-visit_by : (table : Table) (place : ℕ) (insn : Option Insn) (o : Option Description) → FailsByCheck (visit_at table place insn o)
-visit_by table place insn None = tt
-visit_by table place None (Some d) = tt
-visit_by table place (Some insn) (Some d) = flow_by table place (behind place insn) (check place insn d)
+visit_by : (limits : HelperLimits) (table : Table) (place : ℕ) (insn : Option Insn) (o : Option Description) → FailsByCheck (visit_at limits table place insn o)
+visit_by limits table place insn None = tt
+visit_by limits table place None (Some d) = tt
+visit_by limits table place (Some insn) (Some d) = flow_by table place (behind place insn) (check limits place insn d)
 
-visits_by : (program : List Slot) (left : ℕ) (table : Table) (place : ℕ) → FailsByCheck (visits program table place left)
-visits_by program zero table place = tt
-visits_by program (suc left) table place = then_by (visit program table place) (λ t. visits program t (place + 1) left) (visit_by table place (insn_at program place) (described table place)) (λ t. visits_by program left t (place + 1))
+visits_by : (limits : HelperLimits) (program : List Slot) (left : ℕ) (table : Table) (place : ℕ) → FailsByCheck (visits limits program table place left)
+visits_by limits program zero table place = tt
+visits_by limits program (suc left) table place = then_by (visit limits program table place) (λ t. visits limits program t (place + 1) left) (visit_by limits table place (insn_at program place) (described table place)) (λ t. visits_by limits program left t (place + 1))
 
-pub no_shape_fault : (program : List Slot) (fault : ShapeFault) → pass program ≡ Err (Shape fault) → ⊥
-no_shape_fault program fault e = subst FailsByCheck e (visits_by program _ (first_table _) 0)
+pub no_shape_fault : (limits : HelperLimits) (program : List Slot) (fault : ShapeFault) → pass limits program ≡ Err (Shape fault) → ⊥
+no_shape_fault limits program fault e = subst FailsByCheck e (visits_by limits program _ (first_table _) 0)

@@ -25,27 +25,35 @@ use Rattle.bpf_insn.specs.declared.reg.Reg.TheVariants.{R1}
 use Rattle.bpf_insn.specs.declared.program.Slot.{Slot}
 use Rattle.bpf_insn.specs.Program.{insn_at}
 use Rattle.bpf_insn.specs.Target.{target, distance_of}
-use Rattle.helpers.specs.declared.call.Request.{Request}
-use Rattle.helpers.specs.declared.call.Request.TheVariants.{Release, Requeue}
-use Rattle.helpers.specs.declared.call.Answer.{Answer}
-use Rattle.helpers.specs.Rules.{request_of}
+use Rattle.helpers.specs.declared.helper.Helper.{Helper as TheHelper}
+use Rattle.helpers.specs.declared.helper.Helper.TheVariants as helpers
+use Rattle.helpers.specs.declared.request.Request.{Request}
+use Rattle.helpers.specs.declared.request.Request.TheVariants.{Release, Requeue}
+use Rattle.helpers.specs.declared.request.Answer.{Answer}
+use Rattle.helpers.specs.Table.{asks, helper_of, request_of}
 use Rattle.bpf_machine.specs.MachineState.{MachineState, register, with_register, moved_to}
-use Rattle.bpf_machine.specs.Step.{compute, compute_one, first_operand, operand, jump_if, returned, does, request_in, Allowed, answered}
+use Rattle.bpf_machine.specs.Step.{compute, compute_one, operand, jump_if, returned, does, request_in, IsAnswer, Allowed, answered}
+use Rattle.bpf_machine.specs.Calls.{request_by}
 use Rattle.bpf_machine.specs.Words.{alu_of, computed, holds_of, in_place, low, reads_dst, sign_extended}
 use Rattle.bpf_machine.specs.Reached.{Steps}
 use Rattle.call_shape.specs.StaticPath.{outermost, LeadsTo}
 use Rattle.call_shape.specs.Shape.{behind}
+use Rattle.helpers.specs.declared.limits.HelperLimits.{HelperLimits}
 use Rattle.verifier.specs.declared.kind.Kind.{Kind}
 use Rattle.verifier.specs.declared.kind.Kind.TheVariants.{SureFreeze}
 use Rattle.verifier.specs.declared.description.Description.{Description}
-use Rattle.verifier.specs.declared.check.Flow.{Flow}
+use Rattle.verifier.specs.declared.flow.Flow.{Flow}
 use Rattle.verifier.specs.RegisterKind.{any_number, exactly}
-use Rattle.verifier.specs.Knowledge.{kind_at, source_kind, with_kind, sure_freeze, zero_freeze, released_freeze, requeued}
-use Rattle.verifier.specs.InsnCheck.{goes_on, goes_both, goes_to, check, compute_with, first_kind, is_copy, is_equality, is_zero, tests_equality, tests_zero}
+use Rattle.verifier.specs.Knowledge.{kind_at, source_kind, with_kind, sure_freeze, zero_freeze, released_freeze, requeued, after_helper}
+use Rattle.verifier.specs.Flows.{goes_on, goes_both, goes_to}
+use Rattle.verifier.specs.CallCheck.{known_at, all_fit}
+use Rattle.verifier.specs.InsnCheck.{check, compute_with, first_kind, is_copy, is_zero, tests_equality, tests_zero}
 use Rattle.verifier.proofs.Describes.{HoldsKind, Describes}
 use Rattle.verifier.proofs.Kept.{register_held, operand_held, moved_described, with_described, sure_described, zero_described, released_described, requeued_described}
-use Rattle.verifier.proofs.Checked.{Copies, Computes, alu_passes, compute_passes, JumpPasses, jump_passes, IsRelease, IsRequeue, call_passes}
-use Rattle.verifier.proofs.Unstuck.{alu_operands, value_of, has_freeze, has_retries, is_release, is_requeue}
+use Rattle.verifier.proofs.Checked.{Copies, Computes, alu_passes, compute_passes, JumpPasses, jump_passes}
+use Rattle.verifier.proofs.CallChecked.{CallPasses, call_passes}
+use Rattle.verifier.proofs.CallFits.{HasArguments, has_freeze, is_call}
+use Rattle.verifier.proofs.Unstuck.{alu_operands, value_of}
 
 -- the machine stands at the slot behind the instruction, or at the jump's target, and is described by what flows there
 abbrev pub Follows : Flow → ℕ → ℕ → MachineState → Type 0
@@ -189,8 +197,8 @@ one_led d freeze m m' dst src f fits flow is e step =
     (ap (λ (n : MachineState). n.place) is_next, subst (Follows flow freeze (m.place + 1)) (sym is_next) (to_next flow freeze (m.place + 1) next (with_kind d dst any_number) passes.1 refl (moved_described _ freeze _ (m.place + 1) kept)))
 
 -- a private instruction
-pub private_led : (d : Description) (freeze : ℕ) (m m' : MachineState) (insn : Insn) (flow : Flow) → Describes d freeze m → check m.place insn d ≡ Ok flow → does m insn ≡ Some m' → Led flow freeze m.place insn m'
-private_led d freeze m m' (Alu width op dst src) flow is e step =
+pub private_led : (limits : HelperLimits) (d : Description) (freeze : ℕ) (m m' : MachineState) (insn : Insn) (flow : Flow) → Describes d freeze m → check limits m.place insn d ≡ Ok flow → does m insn ≡ Some m' → Led flow freeze m.place insn m'
+private_led limits d freeze m m' (Alu width op dst src) flow is e step =
     let passes = alu_passes d width op dst (first_kind d op dst) (source_kind d src) flow e in
     let has = alu_operands d freeze m width op dst src flow is passes in
     let value : ℕ = alu_of width op has.first_value has.second_value in
@@ -202,13 +210,13 @@ private_led d freeze m m' (Alu width op dst src) flow is e step =
       to_next flow freeze (m.place + 1) next (with_kind d dst new.0) new.1 refl (moved_described _ freeze _ (m.place + 1) kept),
       refl,
     )
-private_led d freeze m m' (InPlace op dst) flow is e step =
+private_led limits d freeze m m' (InPlace op dst) flow is e step =
     let next = one_led d freeze m m' dst dst (in_place op) (in_place_fits op) flow is e step in
     (next.1, ap outermost next.0)
-private_led d freeze m m' (SignExtend extension dst src) flow is e step =
+private_led limits d freeze m m' (SignExtend extension dst src) flow is e step =
     let next = one_led d freeze m m' dst src (sign_extended extension) (extension_fits extension) flow is e step in
     (next.1, ap outermost next.0)
-private_led d freeze m m' (JumpIf width condition dst src offset) flow is e step =
+private_led limits d freeze m m' (JumpIf width condition dst src offset) flow is e step =
     let to : ℕ = target m.place offset in
     let passes = jump_passes d to (tests_zero width condition src) (kind_at d dst) (source_kind d src) flow e in
     let left = value_of freeze (kind_at d dst) (register m dst) passes.left_written (register_held d freeze m is dst) in
@@ -223,54 +231,74 @@ private_led d freeze m m' (JumpIf width condition dst src offset) flow is e step
           let here : m' ≡ moved_to m (m.place + 1) = is_next ∙ ap (moved_to m) (cond-false test _ _ apart) in
           subst (Led flow freeze m.place (JumpIf width condition dst src offset)) (sym here) (jump_next d freeze m width condition dst src to flow left.0 right.0 is left.1 right.1 passes apart, inl refl)
     ]
-private_led d freeze m m' (Jump distance) flow is e step =
+private_led limits d freeze m m' (Jump distance) flow is e step =
     let to : ℕ = target m.place (distance_of distance) in
     let leads : flow ≡ goes_to to d = let same : goes_to to d ≡ flow = cc in sym same in
     let is_next : m' ≡ moved_to m to = some_is (moved_to m to) m' step in
     subst (Led flow freeze m.place (Jump distance)) (sym is_next) (inr (to, d, ap (λ (f : Flow). f.jump) leads, refl, moved_described d freeze m to is), refl)
-private_led d freeze m m' (LoadImmediate dst value) flow is e step =
+private_led limits d freeze m m' (LoadImmediate dst value) flow is e step =
     let next : MachineState = moved_to (with_register m dst value) (m.place + 2) in
     let leads : flow ≡ goes_on (with_kind d dst (exactly value)) = let same : goes_on (with_kind d dst (exactly value)) ≡ flow = cc in sym same in
     let is_next : m' ≡ next = some_is next m' step in
     let kept = with_described d freeze m dst (exactly value) value (value, refl, omega arith, omega arith) is in
     subst (Led flow freeze m.place (LoadImmediate dst value)) (sym is_next) (to_next flow freeze (m.place + 2) next (with_kind d dst (exactly value)) leads refl (moved_described _ freeze _ (m.place + 2) kept), refl)
-private_led d freeze m m' (Load form dst src offset) flow is e step = absurd cc
-private_led d freeze m m' (Store size dst src offset) flow is e step = absurd cc
-private_led d freeze m m' (Call (Local distance)) flow is e step = absurd cc
-private_led d freeze m m' (Call (Helper number)) flow is e step = absurd (let bad : None ≡ Some m' = step in cc)
-private_led d freeze m m' Exit flow is e step = absurd (let bad : None ≡ Some m' = sym (ap (returned m) is.calls) ∙ step in cc)
+private_led limits d freeze m m' (Load form dst src offset) flow is e step = absurd cc
+private_led limits d freeze m m' (Store size dst src offset) flow is e step = absurd cc
+private_led limits d freeze m m' (Call (Local distance)) flow is e step = absurd cc
+private_led limits d freeze m m' (Call (Helper number)) flow is e step = absurd (let bad : None ≡ Some m' = step in cc)
+private_led limits d freeze m m' Exit flow is e step = absurd (let bad : None ≡ Some m' = sym (ap (returned m) is.calls) ∙ step in cc)
 
--- the helper call of a release or a requeue
-helper_led : (d : Description) (freeze : ℕ) (m m' : MachineState) (number : ℤ) (flow : Flow) (request : Request) (answer : Answer) → Describes d freeze m → IsRelease d number (kind_at d R1) flow ⊎ IsRequeue d number (kind_at d R1) flow → option_and_then (request_of number) (register m R1) ≡ Some request → Allowed request answer m m' → Led flow freeze m.place (Call (Helper number)) m'
-helper_led d freeze m m' number flow request answer is (inl release) made allowed =
-    let has = has_freeze d freeze m flow is release.passes in
-    let same : request ≡ Release freeze = some_is _ request (sym (ap (option_and_then (request_of number)) has.argument ∙ is_release number freeze release.helper) ∙ made) in
-    let told : Allowed (Release freeze) answer m m' = subst (λ (r : Request). Allowed r answer m m') same allowed in
-    let next : MachineState = answered (Release freeze) answer m in
-    let kept : Describes (released_freeze d) freeze next = released_described d freeze m answer.r0 told.0 (has.held, has.above) is in
-    subst (Led flow freeze m.place (Call (Helper number))) (sym told.1) (to_next flow freeze (m.place + 1) next (released_freeze d) release.passes.leads refl kept, refl)
-helper_led d freeze m m' number flow request answer is (inr requeue) made allowed =
-    let has = has_retries d freeze m flow is requeue.passes in
-    let same : request ≡ Requeue has.retries = some_is _ request (sym (ap (option_and_then (request_of number)) has.argument ∙ is_requeue number has.retries requeue.other requeue.helper) ∙ made) in
-    let told : Allowed (Requeue has.retries) answer m m' = subst (λ (r : Request). Allowed r answer m m') same allowed in
-    let next : MachineState = answered (Requeue has.retries) answer m in
-    let kept : Describes (requeued d) freeze next = requeued_described d freeze m answer.r0 told.0 is in
-    subst (Led flow freeze m.place (Call (Helper number))) (sym told.1) (to_next flow freeze (m.place + 1) next (requeued d) requeue.passes.leads refl kept, refl)
+-- a helper call that is answered leads to what is known then
+answer_described : (limits : HelperLimits) (d after : Description) (freeze : ℕ) (m : MachineState) (helper : TheHelper) (request : Request) (answer : Answer) → Describes d freeze m → (has : HasArguments d freeze m helper) → request_of helper has.arguments ≡ Some request → after_helper d helper ≡ Some after → all_fit limits d.held (asks helper) (known_at d (asks helper)) ≡ true → IsAnswer m request answer → Describes after freeze (answered request answer m)
+answer_described limits d after freeze m helpers.Release request answer is has called known fit allowed =
+    let freed = has_freeze d freeze has.arguments.first m (kind_at d R1) is has.first (and_parts _ _ fit).0 in
+    let asked : request ≡ Release freeze = some_is (Release has.arguments.first) request called ∙ ap Release freed.same in
+    let told : IsAnswer m (Release freeze) answer = subst (λ (r : Request). IsAnswer m r answer) asked allowed in
+    subst (λ (r : Request). Describes after freeze (answered r answer m)) (sym asked)
+    (subst (λ (x : Description). Describes x freeze (answered (Release freeze) answer m)) (sym (some_is (released_freeze d) after known)) (released_described d freeze m answer.r0 told (freed.held, freed.above) is))
+answer_described limits d after freeze m helpers.Requeue request answer is has called known fit allowed =
+    let asked : request ≡ Requeue has.arguments.first = some_is (Requeue has.arguments.first) request called in
+    let told : IsAnswer m (Requeue has.arguments.first) answer = subst (λ (r : Request). IsAnswer m r answer) asked allowed in
+    subst (λ (r : Request). Describes after freeze (answered r answer m)) (sym asked)
+    (subst (λ (x : Description). Describes x freeze (answered (Requeue has.arguments.first) answer m)) (sym (some_is (requeued d) after known)) (requeued_described d freeze m answer.r0 told is))
+answer_described limits d after freeze m helpers.Freeze request answer is has called known fit allowed = absurd (let bad : None ≡ Some after = known in cc)
+answer_described limits d after freeze m helpers.ReleaseAfter request answer is has called known fit allowed = absurd (let bad : None ≡ Some after = known in cc)
+answer_described limits d after freeze m helpers.Finish request answer is has called known fit allowed = absurd (let bad : None ≡ Some after = known in cc)
+answer_described limits d after freeze m helpers.TableGet request answer is has called known fit allowed = absurd (let bad : None ≡ Some after = known in cc)
+answer_described limits d after freeze m helpers.TablePut request answer is has called known fit allowed = absurd (let bad : None ≡ Some after = known in cc)
+answer_described limits d after freeze m helpers.TableAdd request answer is has called known fit allowed = absurd (let bad : None ≡ Some after = known in cc)
+answer_described limits d after freeze m helpers.QueueInfo request answer is has called known fit allowed = absurd (let bad : None ≡ Some after = known in cc)
+answer_described limits d after freeze m helpers.Trace request answer is has called known fit allowed = absurd (let bad : None ≡ Some after = known in cc)
+answer_described limits d after freeze m helpers.Now request answer is has called known fit allowed = absurd (let bad : None ≡ Some after = known in cc)
+answer_described limits d after freeze m helpers.SetOpenings request answer is has called known fit allowed = absurd (let bad : None ≡ Some after = known in cc)
 
-call_led : (d : Description) (freeze : ℕ) (m m' : MachineState) (insn : Insn) (flow : Flow) (request : Request) (answer : Answer) → Describes d freeze m → check m.place insn d ≡ Ok flow → request_in m insn ≡ Some request → Allowed request answer m m' → Led flow freeze m.place insn m'
-call_led d freeze m m' (Call (Helper number)) flow request answer is e made allowed = helper_led d freeze m m' number flow request answer is (call_passes d number (kind_at d R1) flow e) made allowed
-call_led d freeze m m' (Alu width op dst src) flow request answer is e made allowed = absurd (let bad : None ≡ Some request = made in cc)
-call_led d freeze m m' (InPlace op dst) flow request answer is e made allowed = absurd (let bad : None ≡ Some request = made in cc)
-call_led d freeze m m' (SignExtend extension dst src) flow request answer is e made allowed = absurd (let bad : None ≡ Some request = made in cc)
-call_led d freeze m m' (JumpIf width condition dst src offset) flow request answer is e made allowed = absurd (let bad : None ≡ Some request = made in cc)
-call_led d freeze m m' (Jump distance) flow request answer is e made allowed = absurd (let bad : None ≡ Some request = made in cc)
-call_led d freeze m m' (LoadImmediate dst value) flow request answer is e made allowed = absurd (let bad : None ≡ Some request = made in cc)
-call_led d freeze m m' (Load form dst src offset) flow request answer is e made allowed = absurd (let bad : None ≡ Some request = made in cc)
-call_led d freeze m m' (Store size dst src offset) flow request answer is e made allowed = absurd (let bad : None ≡ Some request = made in cc)
-call_led d freeze m m' (Call (Local distance)) flow request answer is e made allowed = absurd (let bad : None ≡ Some request = made in cc)
-call_led d freeze m m' Exit flow request answer is e made allowed = absurd (let bad : None ≡ Some request = made in cc)
+answered_at : (request : Request) (answer : Answer) (m : MachineState) → (answered request answer m).place ≡ m.place + 1
+answered_at (Release freeze) answer m = refl
+answered_at (Requeue retries) answer m = refl
+
+helper_led : (limits : HelperLimits) (d : Description) (freeze : ℕ) (m m' : MachineState) (number : ℤ) (flow : Flow) (request : Request) (answer : Answer) → Describes d freeze m → CallPasses limits d number flow → option_and_then (request_by m) (helper_of number) ≡ Some request → Allowed request answer m m' → Led flow freeze m.place (Call (Helper number)) m'
+helper_led limits d freeze m m' number flow request answer is passes made allowed =
+    let call = is_call limits d freeze m number flow is passes in
+    let same : request ≡ call.request = some_is call.request request (sym call.made ∙ made) in
+    let called : request_of passes.helper call.has.arguments ≡ Some request = call.called ∙ ap Some (sym same) in
+    let next : MachineState = answered request answer m in
+    let kept = answer_described limits d passes.after freeze m passes.helper request answer is call.has called passes.answered passes.fit allowed.0 in
+    subst (Led flow freeze m.place (Call (Helper number))) (sym allowed.1) (to_next flow freeze (m.place + 1) next passes.after passes.leads (answered_at request answer m) kept, ap outermost (answered_at request answer m))
+
+call_led : (limits : HelperLimits) (d : Description) (freeze : ℕ) (m m' : MachineState) (insn : Insn) (flow : Flow) (request : Request) (answer : Answer) → Describes d freeze m → check limits m.place insn d ≡ Ok flow → request_in m insn ≡ Some request → Allowed request answer m m' → Led flow freeze m.place insn m'
+call_led limits d freeze m m' (Call (Helper number)) flow request answer is e made allowed = helper_led limits d freeze m m' number flow request answer is (call_passes limits d number flow e) made allowed
+call_led limits d freeze m m' (Alu width op dst src) flow request answer is e made allowed = absurd (let bad : None ≡ Some request = made in cc)
+call_led limits d freeze m m' (InPlace op dst) flow request answer is e made allowed = absurd (let bad : None ≡ Some request = made in cc)
+call_led limits d freeze m m' (SignExtend extension dst src) flow request answer is e made allowed = absurd (let bad : None ≡ Some request = made in cc)
+call_led limits d freeze m m' (JumpIf width condition dst src offset) flow request answer is e made allowed = absurd (let bad : None ≡ Some request = made in cc)
+call_led limits d freeze m m' (Jump distance) flow request answer is e made allowed = absurd (let bad : None ≡ Some request = made in cc)
+call_led limits d freeze m m' (LoadImmediate dst value) flow request answer is e made allowed = absurd (let bad : None ≡ Some request = made in cc)
+call_led limits d freeze m m' (Load form dst src offset) flow request answer is e made allowed = absurd (let bad : None ≡ Some request = made in cc)
+call_led limits d freeze m m' (Store size dst src offset) flow request answer is e made allowed = absurd (let bad : None ≡ Some request = made in cc)
+call_led limits d freeze m m' (Call (Local distance)) flow request answer is e made allowed = absurd (let bad : None ≡ Some request = made in cc)
+call_led limits d freeze m m' Exit flow request answer is e made allowed = absurd (let bad : None ≡ Some request = made in cc)
 
 -- one instruction on
-pub step_led : (program : List Slot) (d : Description) (freeze : ℕ) (m m' : MachineState) (insn : Insn) (flow : Flow) → insn_at program m.place ≡ Some insn → Describes d freeze m → check m.place insn d ≡ Ok flow → Steps program m m' → Led flow freeze m.place insn m'
-step_led program d freeze m m' insn flow at is e (inl step) = private_led d freeze m m' insn flow is e (sym (ap (option_and_then (does m)) at) ∙ step)
-step_led program d freeze m m' insn flow at is e (inr (request, answer, made, allowed)) = call_led d freeze m m' insn flow request answer is e (sym (ap (option_and_then (request_in m)) at) ∙ made) allowed
+pub step_led : (limits : HelperLimits) (program : List Slot) (d : Description) (freeze : ℕ) (m m' : MachineState) (insn : Insn) (flow : Flow) → insn_at program m.place ≡ Some insn → Describes d freeze m → check limits m.place insn d ≡ Ok flow → Steps program m m' → Led flow freeze m.place insn m'
+step_led limits program d freeze m m' insn flow at is e (inl step) = private_led limits d freeze m m' insn flow is e (sym (ap (option_and_then (does m)) at) ∙ step)
+step_led limits program d freeze m m' insn flow at is e (inr (request, answer, made, allowed)) = call_led limits d freeze m m' insn flow request answer is e (sym (ap (option_and_then (request_in m)) at) ∙ made) allowed

@@ -2,6 +2,8 @@ pub mod Visits
 pub mod Describes
 pub mod Kept
 pub mod Checked
+pub mod CallChecked
+pub mod CallFits
 pub mod Unstuck
 pub mod Followed
 pub mod NeverFails

@@ -10,19 +10,19 @@ use Rattle.bpf_insn.specs.declared.insn.Insn.{Insn}
 use Rattle.bpf_insn.specs.declared.program.Slot.{Slot}
 use Rattle.bpf_insn.specs.Program.{insn_at}
 use Rattle.call_shape.specs.Shape.{behind}
+use Rattle.helpers.specs.declared.limits.HelperLimits.{HelperLimits}
 use Rattle.verifier.specs.declared.description.Description.{Description}
-use Rattle.verifier.specs.declared.check.Flow.{Flow}
-use Rattle.verifier.specs.declared.refusal.Cause.{Cause}
+use Rattle.verifier.specs.declared.flow.Flow.{Flow}
 use Rattle.verifier.specs.declared.refusal.Refusal.{Refusal}
 use Rattle.verifier.specs.Knowledge.{entry_description, join_descriptions}
 use Rattle.verifier.specs.InsnCheck.{check}
-use Rattle.verifier.specs.SlotPass.{Table, described, joined_at, merge_at, merge, merge_next, merge_jump, and_then, flow_into, visit_at, visit, visits, first_table, pass}
+use Rattle.verifier.specs.SlotPass.{Table, described, joined_at, merge_at, merge_next, merge_jump, and_then, flow_into, visit_at, visit, visits, first_table, pass}
 use Rattle.verifier.proofs.Tables.{none_described}
 
 -- the check of an instruction passes, and what flows on fits where it flows to
-pub record Goes (Fits : ℕ → Description → Type 0) (place : ℕ) (insn : Insn) (d : Description) : Type 0 where
+pub record Goes (limits : HelperLimits) (Fits : ℕ → Description → Type 0) (place : ℕ) (insn : Insn) (d : Description) : Type 0 where
   pub flow : Flow
-  pub passes : check place insn d ≡ Ok flow
+  pub passes : check limits place insn d ≡ Ok flow
   pub next : (on : Description) → flow.next ≡ Some on → Fits (behind place insn) on
   pub jump : (to : ℕ) (on : Description) → flow.jump ≡ Some (to, on) → Fits to on
 
@@ -31,9 +31,9 @@ pub record Joined (Fits : ℕ → Description → Type 0) (place : ℕ) (a b : D
   pub is : join_descriptions a b ≡ Some joined
   pub fits : Fits place joined
 
-pub record Fit (program : List Slot) (Fits : ℕ → Description → Type 0) : Type 0 where
+pub record Fit (limits : HelperLimits) (program : List Slot) (Fits : ℕ → Description → Type 0) : Type 0 where
   pub entry : Fits 0 entry_description
-  pub goes : (place : ℕ) (insn : Insn) (d : Description) → insn_at program place ≡ Some insn → Fits place d → Goes Fits place insn d
+  pub goes : (place : ℕ) (insn : Insn) (d : Description) → insn_at program place ≡ Some insn → Fits place d → Goes limits Fits place insn d
   pub joins : (place : ℕ) (a b : Description) → Fits place a → Fits place b → Joined Fits place a b
 
 abbrev AllFit : (ℕ → Description → Type 0) → Table → Type 0
@@ -69,42 +69,42 @@ joined_well Fits table place a b all it = record {
   fit = set_fits Fits table place it.joined all it.fits;
 }
 
-merge_well : (program : List Slot) (Fits : ℕ → Description → Type 0) → Fit program Fits → (table : Table) (place : ℕ) (new : Description) (o : Option Description) → described table place ≡ o → AllFit Fits table → Fits place new → GoesWell Fits (merge_at table place o new)
-merge_well program Fits fit table place new None here all fits = record { table = slice_set table place (Some new); is = refl; fit = set_fits Fits table place new all fits }
-merge_well program Fits fit table place new (Some old) here all fits = joined_well Fits table place old new all (fit.joins place old new (all place old here) fits)
+merge_well : (limits : HelperLimits) (program : List Slot) (Fits : ℕ → Description → Type 0) → Fit limits program Fits → (table : Table) (place : ℕ) (new : Description) (o : Option Description) → described table place ≡ o → AllFit Fits table → Fits place new → GoesWell Fits (merge_at table place o new)
+merge_well limits program Fits fit table place new None here all fits = record { table = slice_set table place (Some new); is = refl; fit = set_fits Fits table place new all fits }
+merge_well limits program Fits fit table place new (Some old) here all fits = joined_well Fits table place old new all (fit.joins place old new (all place old here) fits)
 
-next_well : (program : List Slot) (Fits : ℕ → Description → Type 0) → Fit program Fits → (table : Table) (next_slot : ℕ) (next : Option Description) → AllFit Fits table → ((on : Description) → next ≡ Some on → Fits next_slot on) → GoesWell Fits (merge_next table next_slot next)
-next_well program Fits fit table next_slot None all fits = record { table = table; is = refl; fit = all }
-next_well program Fits fit table next_slot (Some new) all fits = merge_well program Fits fit table next_slot new (described table next_slot) refl all (fits new refl)
+next_well : (limits : HelperLimits) (program : List Slot) (Fits : ℕ → Description → Type 0) → Fit limits program Fits → (table : Table) (next_slot : ℕ) (next : Option Description) → AllFit Fits table → ((on : Description) → next ≡ Some on → Fits next_slot on) → GoesWell Fits (merge_next table next_slot next)
+next_well limits program Fits fit table next_slot None all fits = record { table = table; is = refl; fit = all }
+next_well limits program Fits fit table next_slot (Some new) all fits = merge_well limits program Fits fit table next_slot new (described table next_slot) refl all (fits new refl)
 
-jump_well : (program : List Slot) (Fits : ℕ → Description → Type 0) → Fit program Fits → (table : Table) (jump : Option (ℕ × Description)) → AllFit Fits table → ((to : ℕ) (on : Description) → jump ≡ Some (to, on) → Fits to on) → GoesWell Fits (merge_jump jump table)
-jump_well program Fits fit table None all fits = record { table = table; is = refl; fit = all }
-jump_well program Fits fit table (Some (to, new)) all fits = merge_well program Fits fit table to new (described table to) refl all (fits to new refl)
+jump_well : (limits : HelperLimits) (program : List Slot) (Fits : ℕ → Description → Type 0) → Fit limits program Fits → (table : Table) (jump : Option (ℕ × Description)) → AllFit Fits table → ((to : ℕ) (on : Description) → jump ≡ Some (to, on) → Fits to on) → GoesWell Fits (merge_jump jump table)
+jump_well limits program Fits fit table None all fits = record { table = table; is = refl; fit = all }
+jump_well limits program Fits fit table (Some (to, new)) all fits = merge_well limits program Fits fit table to new (described table to) refl all (fits to new refl)
 
 then_well : (Fits : ℕ → Description → Type 0) (r : Result Table Refusal) (next : Table → Result Table Refusal) (first : GoesWell Fits r) → GoesWell Fits (next first.table) → GoesWell Fits (and_then r next)
 then_well Fits r next first second = record { table = second.table; is = ap (λ x. and_then x next) first.is ∙ second.is; fit = second.fit }
 
-visit_well : (program : List Slot) (Fits : ℕ → Description → Type 0) → Fit program Fits → (table : Table) (place : ℕ) (at : Option Insn) (o : Option Description) → insn_at program place ≡ at → described table place ≡ o → AllFit Fits table → GoesWell Fits (visit_at table place at o)
-visit_well program Fits fit table place at None at_is here all = record { table = table; is = refl; fit = all }
-visit_well program Fits fit table place None (Some d) at_is here all = record { table = table; is = refl; fit = all }
-visit_well program Fits fit table place (Some insn) (Some d) at_is here all =
+visit_well : (limits : HelperLimits) (program : List Slot) (Fits : ℕ → Description → Type 0) → Fit limits program Fits → (table : Table) (place : ℕ) (at : Option Insn) (o : Option Description) → insn_at program place ≡ at → described table place ≡ o → AllFit Fits table → GoesWell Fits (visit_at limits table place at o)
+visit_well limits program Fits fit table place at None at_is here all = record { table = table; is = refl; fit = all }
+visit_well limits program Fits fit table place None (Some d) at_is here all = record { table = table; is = refl; fit = all }
+visit_well limits program Fits fit table place (Some insn) (Some d) at_is here all =
     let goes = fit.goes place insn d at_is (all place d here) in
-    let first = next_well program Fits fit table (behind place insn) goes.flow.next all goes.next in
-    let second = jump_well program Fits fit first.table goes.flow.jump first.fit goes.jump in
+    let first = next_well limits program Fits fit table (behind place insn) goes.flow.next all goes.next in
+    let second = jump_well limits program Fits fit first.table goes.flow.jump first.fit goes.jump in
     let both = then_well Fits (merge_next table (behind place insn) goes.flow.next) (merge_jump goes.flow.jump) first second in
     record { table = both.table; is = ap (flow_into table place (behind place insn)) goes.passes ∙ both.is; fit = both.fit }
 
-visits_well : (program : List Slot) (Fits : ℕ → Description → Type 0) → Fit program Fits → (left : ℕ) (table : Table) (place : ℕ) → AllFit Fits table → GoesWell Fits (visits program table place left)
-visits_well program Fits fit zero table place all = record { table = table; is = refl; fit = all }
-visits_well program Fits fit (suc left) table place all =
-    let first = visit_well program Fits fit table place (insn_at program place) (described table place) refl refl all in
-    then_well Fits (visit program table place) (λ next. visits program next (place + 1) left) first (visits_well program Fits fit left first.table (place + 1) first.fit)
+visits_well : (limits : HelperLimits) (program : List Slot) (Fits : ℕ → Description → Type 0) → Fit limits program Fits → (left : ℕ) (table : Table) (place : ℕ) → AllFit Fits table → GoesWell Fits (visits limits program table place left)
+visits_well limits program Fits fit zero table place all = record { table = table; is = refl; fit = all }
+visits_well limits program Fits fit (suc left) table place all =
+    let first = visit_well limits program Fits fit table place (insn_at program place) (described table place) refl refl all in
+    then_well Fits (visit limits program table place) (λ next. visits limits program next (place + 1) left) first (visits_well limits program Fits fit left first.table (place + 1) first.fit)
 
 first_fits : (Fits : ℕ → Description → Type 0) (len : ℕ) → Fits 0 entry_description → AllFit Fits (first_table len)
 first_fits Fits len entry zero d here = subst (Fits 0) (some_description entry_description d here) entry
 first_fits Fits len entry (suc k) d here = absurd (let bad : None ≡ Some d = sym (none_described k (len - 1)) ∙ here in cc)
 
-pub never_fails : (program : List Slot) (Fits : ℕ → Description → Type 0) → Fit program Fits → (table : Table) × (pass program ≡ Ok table)
-never_fails program Fits fit =
-    let well = visits_well program Fits fit (length program) (first_table (length program)) 0 (first_fits Fits (length program) fit.entry) in
+pub never_fails : (limits : HelperLimits) (program : List Slot) (Fits : ℕ → Description → Type 0) → Fit limits program Fits → (table : Table) × (pass limits program ≡ Ok table)
+never_fails limits program Fits fit =
+    let well = visits_well limits program Fits fit (length program) (first_table (length program)) 0 (first_fits Fits (length program) fit.entry) in
     (well.table, well.is)

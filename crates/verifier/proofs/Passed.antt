@@ -6,7 +6,6 @@ use Rattle.bpf_insn.specs.declared.insn.Insn.{Insn}
 use Rattle.bpf_insn.specs.declared.insn.Insn.TheVariants.{Alu, InPlace, SignExtend, JumpIf, Jump, LoadImmediate, Load, Store, Call, Exit}
 use Rattle.bpf_insn.specs.declared.insn.Callee.TheVariants.{Helper, Local}
 use Rattle.bpf_insn.specs.declared.program.Slot.{Slot}
-use Rattle.bpf_insn.specs.declared.reg.Reg.TheVariants.{R1}
 use Rattle.bpf_insn.specs.Program.{IsProgram, insn_at}
 use Rattle.bpf_insn.specs.Target.{target, distance_of}
 use Rattle.call_shape.specs.Shape.{IsLawful}
@@ -14,14 +13,17 @@ use Rattle.call_shape.specs.Calls.{begins}
 use Rattle.call_shape.specs.Shape.{behind}
 use Rattle.call_shape.proofs.Lawful.{goes_on_lawfully, jumps_lawfully}
 use Rattle.call_shape.proofs.Places.{begins_inside, begins_there, begins_first}
+use Rattle.helpers.specs.declared.limits.HelperLimits.{HelperLimits}
 use Rattle.verifier.specs.declared.description.Description.{Description}
-use Rattle.verifier.specs.declared.check.Flow.{Flow}
+use Rattle.verifier.specs.declared.flow.Flow.{Flow}
 use Rattle.verifier.specs.declared.refusal.Cause.{Cause}
 use Rattle.verifier.specs.declared.refusal.Refusal.{Refusal}
 use Rattle.verifier.specs.Knowledge.{entry_description, kind_at, source_kind}
-use Rattle.verifier.specs.InsnCheck.{goes_on, goes_both, goes_to, check, first_kind, tests_zero}
+use Rattle.verifier.specs.Flows.{goes_on, goes_both, goes_to}
+use Rattle.verifier.specs.InsnCheck.{check, first_kind, tests_zero}
 use Rattle.verifier.specs.SlotPass.{Table, LeadsInside, described, merge_next, merge_jump, and_then, flow_into, visit_at, visit, visits, first_table, pass}
-use Rattle.verifier.proofs.Checked.{alu_leads, alu_passes, compute_passes, jump_passes, call_passes, exit_passes}
+use Rattle.verifier.proofs.CallChecked.{call_passes}
+use Rattle.verifier.proofs.Checked.{alu_leads, alu_passes, compute_passes, jump_passes, exit_passes}
 use Rattle.verifier.proofs.Tables.{none_described, OnlyBeginnings, IsCovered, IsChecked, IsSound, inside}
 use Rattle.verifier.proofs.Merges.{Grows, Merged, itself, still_covered, merged}
 
@@ -58,15 +60,15 @@ ok_flow : (a b : Flow) (r : Result Flow Cause) → r ≡ Ok a → r ≡ Ok b →
 ok_flow a b r e f = let same : a ≡ b = cc in sym same
 
 -- only behind an exit and an unconditional jump nothing goes on
-pub flows_on : (program : List Slot) (place : ℕ) (insn : Insn) (d : Description) (flow : Flow) → IsProgram program → IsLawful program → insn_at program place ≡ Some insn → check place insn d ≡ Ok flow → FlowsOn program place insn flow
-flows_on program place (Alu width op dst src) d flow is lawful at e =
+pub flows_on : (limits : HelperLimits) (program : List Slot) (place : ℕ) (insn : Insn) (d : Description) (flow : Flow) → IsProgram program → IsLawful program → insn_at program place ≡ Some insn → check limits place insn d ≡ Ok flow → FlowsOn program place insn flow
+flows_on limits program place (Alu width op dst src) d flow is lawful at e =
     let new = alu_leads d width op dst (first_kind d op dst) (source_kind d src) flow (alu_passes d width op dst (first_kind d op dst) (source_kind d src) flow e) in
     no_jump program place (Alu width op dst src) _ flow new.1 (goes_on_lawfully program place (Alu width op dst src) is lawful at refl)
-flows_on program place (InPlace op dst) d flow is lawful at e =
+flows_on limits program place (InPlace op dst) d flow is lawful at e =
     no_jump program place (InPlace op dst) _ flow (compute_passes d dst (kind_at d dst) flow e).1 (goes_on_lawfully program place (InPlace op dst) is lawful at refl)
-flows_on program place (SignExtend extension dst src) d flow is lawful at e =
+flows_on limits program place (SignExtend extension dst src) d flow is lawful at e =
     no_jump program place (SignExtend extension dst src) _ flow (compute_passes d dst (kind_at d src) flow e).1 (goes_on_lawfully program place (SignExtend extension dst src) is lawful at refl)
-flows_on program place (JumpIf width condition dst src offset) d flow is lawful at e =
+flows_on limits program place (JumpIf width condition dst src offset) d flow is lawful at e =
     let insn = JumpIf width condition dst src offset in
     let on = goes_on_lawfully program place insn is lawful at refl in
     let there = jumps_lawfully program place (target place offset) insn is lawful at refl in
@@ -75,31 +77,28 @@ flows_on program place (JumpIf width condition dst src offset) d flow is lawful 
       | inr (inl split) ↦ both_ways program place insn _ (target place offset) _ flow split.leads on there
       | inr (inr straight) ↦ no_jump program place insn d flow straight.leads on
     ]
-flows_on program place (Jump distance) d flow is lawful at e =
+flows_on limits program place (Jump distance) d flow is lawful at e =
     let to : ℕ = target place (distance_of distance) in
     jump_alone program place (Jump distance) to d flow (ok_flow _ flow _ refl e) (jumps_lawfully program place to (Jump distance) is lawful at refl)
-flows_on program place (LoadImmediate dst value) d flow is lawful at e =
+flows_on limits program place (LoadImmediate dst value) d flow is lawful at e =
     no_jump program place (LoadImmediate dst value) _ flow (ok_flow _ flow _ refl e) (goes_on_lawfully program place (LoadImmediate dst value) is lawful at refl)
-flows_on program place (Load form dst src offset) d flow is lawful at e = absurd cc
-flows_on program place (Store size dst src offset) d flow is lawful at e = absurd cc
-flows_on program place (Call (Local distance)) d flow is lawful at e = absurd cc
-flows_on program place (Call (Helper number)) d flow is lawful at e =
+flows_on limits program place (Load form dst src offset) d flow is lawful at e = absurd cc
+flows_on limits program place (Store size dst src offset) d flow is lawful at e = absurd cc
+flows_on limits program place (Call (Local distance)) d flow is lawful at e = absurd cc
+flows_on limits program place (Call (Helper number)) d flow is lawful at e =
     let insn = Call (Helper number) in
     let on = goes_on_lawfully program place insn is lawful at refl in
-    elim (call_passes d number (kind_at d R1) flow e) [
-      | inl release ↦ no_jump program place insn _ flow release.passes.leads on
-      | inr requeue ↦ no_jump program place insn _ flow requeue.passes.leads on
-    ]
-flows_on program place Exit d flow is lawful at e =
+    no_jump program place insn _ flow (call_passes limits d number flow e).leads on
+flows_on limits program place Exit d flow is lawful at e =
     let leads = (exit_passes d flow e).leads in
     record {
       next = λ on same. absurd (let bad : None ≡ Some on = sym (ap (λ (f : Flow). f.next) leads) ∙ same in cc);
       jump = λ to on same. absurd (let bad : None ≡ Some (to, on) = sym (ap (λ (f : Flow). f.jump) leads) ∙ same in cc);
     }
 
-pub leads_inside : (program : List Slot) (table : Table) (place : ℕ) (insn : Insn) (d : Description) (flow : Flow) → IsProgram program → IsLawful program → length table ≡ length program → insn_at program place ≡ Some insn → check place insn d ≡ Ok flow → LeadsInside (length table) (behind place insn) flow
-leads_inside program table place insn d flow is lawful long at passes =
-    let on = flows_on program place insn d flow is lawful at passes in
+pub leads_inside : (limits : HelperLimits) (program : List Slot) (table : Table) (place : ℕ) (insn : Insn) (d : Description) (flow : Flow) → IsProgram program → IsLawful program → length table ≡ length program → insn_at program place ≡ Some insn → check limits place insn d ≡ Ok flow → LeadsInside (length table) (behind place insn) flow
+leads_inside limits program table place insn d flow is lawful long at passes =
+    let on = flows_on limits program place insn d flow is lawful at passes in
     record {
       next = λ d same. omega (arith, long, begins_inside program (behind place insn) (on.next d same));
       jump = λ to d same. omega (arith, long, begins_inside program to (on.jump to d same).1);
@@ -186,14 +185,14 @@ flowed program before after place insn flow long begun on e =
     }
 
 -- the places before this one are done with
-pub record Done (program : List Slot) (table : Table) (place : ℕ) : Type 0 where
+pub record Done (limits : HelperLimits) (program : List Slot) (table : Table) (place : ℕ) : Type 0 where
   pub whole : length table ≡ length program
   pub begun : OnlyBeginnings program table
   pub entry : IsCovered table 0 entry_description
-  pub checked : (k : ℕ) (insn : Insn) (d : Description) → k < place → described table k ≡ Some d → insn_at program k ≡ Some insn → IsChecked table k insn d
+  pub checked : (k : ℕ) (insn : Insn) (d : Description) → k < place → described table k ≡ Some d → insn_at program k ≡ Some insn → IsChecked limits table k insn d
 
-still_checked : (before after : Table) (place : ℕ) (insn : Insn) (d : Description) → Grows before after → IsChecked before place insn d → IsChecked after place insn d
-still_checked before after place insn d grows it = record {
+still_checked : (limits : HelperLimits) (before after : Table) (place : ℕ) (insn : Insn) (d : Description) → Grows before after → IsChecked limits before place insn d → IsChecked limits after place insn d
+still_checked limits before after place insn d grows it = record {
   flow = it.flow;
   passes = it.passes;
   next = λ on same. still_covered before after (behind place insn) on grows (it.next on same);
@@ -201,8 +200,8 @@ still_checked before after place insn d grows it = record {
 }
 
 -- the visit of a place that nothing leads to
-skipped : (program : List Slot) (table : Table) (place : ℕ) → described table place ≡ None → Done program table place → Done program table (place + 1)
-skipped program table place none before = record {
+skipped : (limits : HelperLimits) (program : List Slot) (table : Table) (place : ℕ) → described table place ≡ None → Done limits program table place → Done limits program table (place + 1)
+skipped limits program table place none before = record {
   whole = before.whole;
   begun = before.begun;
   entry = before.entry;
@@ -219,8 +218,8 @@ same_at : (x y : Description) (o : Option Description) → o ≡ Some x → o �
 same_at x y o e f = cc
 
 -- the visit of a place that something leads to
-checked_on : (program : List Slot) (before after : Table) (place : ℕ) (insn : Insn) (d : Description) (flow : Flow) → described before place ≡ Some d → insn_at program place ≡ Some insn → check place insn d ≡ Ok flow → Visited program before place insn flow after → Done program before place → Done program after (place + 1)
-checked_on program before after place insn d flow here at passes did done = record {
+checked_on : (limits : HelperLimits) (program : List Slot) (before after : Table) (place : ℕ) (insn : Insn) (d : Description) (flow : Flow) → described before place ≡ Some d → insn_at program place ≡ Some insn → check limits place insn d ≡ Ok flow → Visited program before place insn flow after → Done limits program before place → Done limits program after (place + 1)
+checked_on limits program before after place insn d flow here at passes did done = record {
   whole = did.whole ∙ done.whole;
   begun = did.begun;
   entry = still_covered before after 0 entry_description did.grows done.entry;
@@ -228,55 +227,55 @@ checked_on program before after place insn d flow here at passes did done = reco
     | inl same ↦
         let is_insn : insn ≡ other = same_insn insn other (insn_at program place) at (sym (ap (insn_at program) same) ∙ is) in
         let is_d : d ≡ e = same_at d e (described before place) here (sym (did.kept place (omega arith)) ∙ (sym (ap (described after) same) ∙ there)) in
-        let it : IsChecked after place insn d = record { flow = flow; passes = passes; next = did.next; jump = did.jump } in
+        let it : IsChecked limits after place insn d = record { flow = flow; passes = passes; next = did.next; jump = did.jump } in
         rw (same, ← is_insn, ← is_d) it
     | inr apart ↦
         let below : k < place = omega (arith, lt, apart) in
-        still_checked before after k other e did.grows (done.checked k other e below (sym (did.kept k (omega (arith, below))) ∙ there) is)
+        still_checked limits before after k other e did.grows (done.checked k other e below (sym (did.kept k (omega (arith, below))) ∙ there) is)
   ];
 }
 
-flow_ok : (program : List Slot) (before after : Table) (place : ℕ) (insn : Insn) (d : Description) (checked : Result Flow Cause) → IsProgram program → IsLawful program → insn_at program place ≡ Some insn → described before place ≡ Some d → check place insn d ≡ checked → flow_into before place (behind place insn) checked ≡ Ok after → Done program before place → Done program after (place + 1)
-flow_ok program before after place insn d (Ok flow) is lawful at here passes e done =
-    checked_on program before after place insn d flow here at passes (flowed program before after place insn flow done.whole done.begun (flows_on program place insn d flow is lawful at passes) e) done
-flow_ok program before after place insn d (Err cause) is lawful at here passes e done = absurd cc
+flow_ok : (limits : HelperLimits) (program : List Slot) (before after : Table) (place : ℕ) (insn : Insn) (d : Description) (checked : Result Flow Cause) → IsProgram program → IsLawful program → insn_at program place ≡ Some insn → described before place ≡ Some d → check limits place insn d ≡ checked → flow_into before place (behind place insn) checked ≡ Ok after → Done limits program before place → Done limits program after (place + 1)
+flow_ok limits program before after place insn d (Ok flow) is lawful at here passes e done =
+    checked_on limits program before after place insn d flow here at passes (flowed program before after place insn flow done.whole done.begun (flows_on limits program place insn d flow is lawful at passes) e) done
+flow_ok limits program before after place insn d (Err cause) is lawful at here passes e done = absurd cc
 
-visited : (program : List Slot) (before after : Table) (place : ℕ) (at : Option Insn) (o : Option Description) → IsProgram program → IsLawful program → insn_at program place ≡ at → described before place ≡ o → visit_at before place at o ≡ Ok after → Done program before place → Done program after (place + 1)
-visited program before after place at None is lawful at_is here e done =
-    let same : before ≡ after = cc in subst (λ (t : Table). Done program t (place + 1)) same (skipped program before place here done)
-visited program before after place None (Some d) is lawful at_is here e done =
+visited : (limits : HelperLimits) (program : List Slot) (before after : Table) (place : ℕ) (at : Option Insn) (o : Option Description) → IsProgram program → IsLawful program → insn_at program place ≡ at → described before place ≡ o → visit_at limits before place at o ≡ Ok after → Done limits program before place → Done limits program after (place + 1)
+visited limits program before after place at None is lawful at_is here e done =
+    let same : before ≡ after = cc in subst (λ (t : Table). Done limits program t (place + 1)) same (skipped limits program before place here done)
+visited limits program before after place None (Some d) is lawful at_is here e done =
     let there = begins_there program place (done.begun place d here) in
     absurd (let bad : None ≡ Some there.0 = sym at_is ∙ there.1 in cc)
-visited program before after place (Some insn) (Some d) is lawful at_is here e done = flow_ok program before after place insn d (check place insn d) is lawful at_is here refl e done
+visited limits program before after place (Some insn) (Some d) is lawful at_is here e done = flow_ok limits program before after place insn d (check limits place insn d) is lawful at_is here refl e done
 
-pub all_visited : (program : List Slot) → IsProgram program → IsLawful program → (left : ℕ) (before after : Table) (place : ℕ) → place + left ≡ length program → visits program before place left ≡ Ok after → Done program before place → Done program after (place + left)
-all_visited program is lawful zero before after place fits e done =
+pub all_visited : (limits : HelperLimits) (program : List Slot) → IsProgram program → IsLawful program → (left : ℕ) (before after : Table) (place : ℕ) → place + left ≡ length program → visits limits program before place left ≡ Ok after → Done limits program before place → Done limits program after (place + left)
+all_visited limits program is lawful zero before after place fits e done =
     let same : before ≡ after = cc in
     let end : place ≡ place + 0 = omega arith in
-    subst (λ (t : Table). Done program t (place + 0)) same (subst (Done program before) end done)
-all_visited program is lawful (suc left) before after place fits e done =
-    let parts = then_ok (visit program before place) (λ t. visits program t (place + 1) left) after e in
-    let on = visited program before parts.0 place (insn_at program place) (described before place) is lawful refl refl parts.1 done in
-    let rest = all_visited program is lawful left parts.0 after (place + 1) (omega (arith, fits)) parts.2 on in
+    subst (λ (t : Table). Done limits program t (place + 0)) same (subst (Done limits program before) end done)
+all_visited limits program is lawful (suc left) before after place fits e done =
+    let parts = then_ok (visit limits program before place) (λ t. visits limits program t (place + 1) left) after e in
+    let on = visited limits program before parts.0 place (insn_at program place) (described before place) is lawful refl refl parts.1 done in
+    let rest = all_visited limits program is lawful left parts.0 after (place + 1) (omega (arith, fits)) parts.2 on in
     let end : (place + 1) + left ≡ place + suc left = omega arith in
-    subst (Done program after) end rest
+    subst (Done limits program after) end rest
 
 -- at first only slot 0 is described
 first_begun : (program : List Slot) → IsProgram program → OnlyBeginnings program (first_table (length program))
 first_begun program is zero d here = begins_first program is
 first_begun program is (suc k) d here = absurd (let bad : None ≡ Some d = sym (none_described k (length program - 1)) ∙ here in cc)
 
-opening : (program : List Slot) → IsProgram program → Done program (first_table (length program)) 0
-opening program is = record {
+opening : (limits : HelperLimits) (program : List Slot) → IsProgram program → Done limits program (first_table (length program)) 0
+opening limits program is = record {
   whole = omega (arith, length-replicate {A = Option Description} (length program - 1) None, is.in_range.0);
   begun = first_begun program is;
   entry = (entry_description, refl, λ freeze m it. it);
   checked = λ k insn d lt here at. absurd (omega (arith, lt));
 }
 
-pub pass_sound : (program : List Slot) (table : Table) → IsProgram program → IsLawful program → pass program ≡ Ok table → IsSound program table
-pass_sound program table is lawful e =
-    let done = all_visited program is lawful (length program) (first_table (length program)) table 0 (omega arith) e (opening program is) in
+pub pass_sound : (limits : HelperLimits) (program : List Slot) (table : Table) → IsProgram program → IsLawful program → pass limits program ≡ Ok table → IsSound limits program table
+pass_sound limits program table is lawful e =
+    let done = all_visited limits program is lawful (length program) (first_table (length program)) table 0 (omega arith) e (opening limits program is) in
     record {
       whole = done.whole;
       begun = done.begun;

@@ -1,20 +1,17 @@
 -- What holds of every place of a plain program: from the list on nothing is held, and what a register of the list holds
 -- is a number, or some path has come there without writing it.
-use Rattle.std.proofs.Common.{◌≡◌, ℕ, zero, suc, ℤ, pos, ◌+◌, ◌<◌, ◌≤◌, Bool, true, false, ◌||◌, ◌&&◌, eqb, leb, min, max, List, [], ◌∷◌, ◌++◌, length, Option, Some, None, Ok, refl, ap, sym, subst, ◌∙◌, arith, ◌⊎◌, inl, inr, get_or, get_or-set_other, get_or-set_same}
-use Rattle.std.specs.Prelude.{slice_get}
+use Rattle.std.proofs.Common.{◌≡◌, ℕ, suc, ◌+◌, ◌<◌, ◌≤◌, Bool, true, false, ◌&&◌, eqb, min, max, List, length, Some, Ok, refl, ap, sym, subst, ◌∙◌, arith, ◌⊎◌, inl, inr, get_or, get_or-set_other, get_or-set_same}
 use Rattle.std.specs.Int.{w64, cast_unsigned}
 use Rattle.std.proofs.Math.ListN.{length-set}
-use Rattle.std.proofs.lemmas.Bool.{cases_eq, cases_lt, cases_Bool, cond-true, cond-false, eqb-true, ne_eqb, eq-eqb, not-false, not-true}
+use Rattle.std.proofs.lemmas.Bool.{cases_eq, cases_Bool, cond-true, cond-false, ne_eqb}
 use Rattle.std.proofs.lemmas.List.FromFn.{get_or-map-range_with_len, length-map-range_with_len}
 use Rattle.bpf_insn.specs.declared.insn.Insn.{Insn}
 use Rattle.bpf_insn.specs.declared.insn.Insn.TheVariants.{Alu, InPlace, SignExtend, JumpIf, Jump, LoadImmediate, Load, Store, Call, Exit}
 use Rattle.bpf_insn.specs.declared.insn.Operand.{Operand}
 use Rattle.bpf_insn.specs.declared.insn.Operand.TheVariants.{Immediate, Register}
 use Rattle.bpf_insn.specs.declared.insn.Width.{Width}
-use Rattle.bpf_insn.specs.declared.insn.Width.TheVariants.{Bits32, Bits64}
 use Rattle.bpf_insn.specs.declared.insn.AluOp.{AluOp}
 use Rattle.bpf_insn.specs.declared.reg.Reg.{Reg}
-use Rattle.bpf_insn.specs.declared.reg.Reg.TheVariants.{R0, R1}
 use Rattle.bpf_insn.specs.declared.program.Slot.{Slot}
 use Rattle.bpf_insn.specs.Reg.{number_of}
 use Rattle.bpf_insn.specs.Program.{insn_at}
@@ -22,15 +19,17 @@ use Rattle.bpf_insn.specs.Target.{target}
 use Rattle.bpf_machine.specs.Words.{reads_dst}
 use Rattle.call_shape.specs.Shape.{behind}
 use Rattle.call_shape.specs.StaticPath.{outermost, LeadsTo}
+use Rattle.helpers.specs.declared.limits.HelperLimits.{HelperLimits}
 use Rattle.verifier.specs.declared.kind.Kind.{Kind}
 use Rattle.verifier.specs.declared.kind.Kind.TheVariants.{Unwritten, Number}
 use Rattle.verifier.specs.declared.description.Held.{Held}
 use Rattle.verifier.specs.declared.description.Held.TheVariants.{Nothing}
 use Rattle.verifier.specs.declared.description.Description.{Description}
-use Rattle.verifier.specs.declared.check.Flow.{Flow}
+use Rattle.verifier.specs.declared.flow.Flow.{Flow}
 use Rattle.verifier.specs.RegisterKind.{exactly, any_number, join_kind}
 use Rattle.verifier.specs.Knowledge.{same_held, same_disposal, kind_at, source_kind, with_kind, join_registers, join_descriptions}
-use Rattle.verifier.specs.InsnCheck.{goes_on, goes_both, is_copy, check_move, check_numbers, compute_with, check_alu, check_jump, first_kind, tests_zero, check}
+use Rattle.verifier.specs.Flows.{goes_on, goes_both}
+use Rattle.verifier.specs.InsnCheck.{is_copy, check_move, check_numbers, compute_with, check_alu, check_jump, first_kind, tests_zero, check}
 use Rattle.verifier.specs.Plain.{IsListed, IsFreeOperand, ReadsRegister, writes_register, ComesUnwritten, is_free}
 use Rattle.verifier.proofs.Kept.{number_below}
 use Rattle.verifier.proofs.NeverFails.{Goes, Joined}
@@ -169,8 +168,8 @@ pub record Within (program : List Slot) (place end to : ℕ) (d : Description) :
   pub is : IsListDescription program to d
 
 -- a check that leads to the next slot alone
-one_way_on : (program : List Slot) (place end : ℕ) (insn : Insn) (d next : Description) → behind place insn ≡ place + 1 → place < end → check place insn d ≡ Ok (goes_on next) → IsListDescription program (place + 1) next → Goes (Within program place end) place insn d
-one_way_on program place end insn d next at lt passes is = record {
+one_way_on : (limits : HelperLimits) (program : List Slot) (place end : ℕ) (insn : Insn) (d next : Description) → behind place insn ≡ place + 1 → place < end → check limits place insn d ≡ Ok (goes_on next) → IsListDescription program (place + 1) next → Goes limits (Within program place end) place insn d
+one_way_on limits program place end insn d next at lt passes is = record {
   flow = goes_on next;
   passes = passes;
   next = λ on e.
@@ -194,20 +193,20 @@ abbrev pub ReadsWritten : List Slot → ℕ → Insn → Type 0
 ReadsWritten program place insn = (reg : Reg) → ReadsRegister insn reg → (n : ℕ) → ComesUnwritten program reg n place → ⊥
 
 -- an instruction of the list that reads what is written passes, and goes on within the list or behind it
-pub list_goes : (program : List Slot) (place end : ℕ) (insn : Insn) (d : Description) → place < end → insn_at program place ≡ Some insn → IsListed place end insn → ReadsWritten program place insn
-    → IsListDescription program place d → Goes (Within program place end) place insn d
-list_goes program place end (Alu width op dst src) d lt at listed written is =
+pub list_goes : (limits : HelperLimits) (program : List Slot) (place end : ℕ) (insn : Insn) (d : Description) → place < end → insn_at program place ≡ Some insn → IsListed place end insn → ReadsWritten program place insn
+    → IsListDescription program place d → Goes limits (Within program place end) place insn d
+list_goes limits program place end (Alu width op dst src) d lt at listed written is =
     let left = first_number d op dst (λ reads. is_number program place d dst is listed.0 (written dst (inl (reads, refl)))) in
     let right = operand_number d src (λ reg same. is_number program place d reg is (free_operand src reg same listed.1) (written reg (inr same))) in
     let passes = alu_number d width op dst (first_kind d op dst) (source_kind d src) left right in
-    one_way_on program place end (Alu width op dst src) d (with_kind d dst passes.0) refl lt passes.2 (written_on program place (Alu width op dst src) d dst passes.0 passes.1 at refl (λ reg other. other) is)
-list_goes program place end (InPlace op dst) d lt at listed written is =
+    one_way_on limits program place end (Alu width op dst src) d (with_kind d dst passes.0) refl lt passes.2 (written_on program place (Alu width op dst src) d dst passes.0 passes.1 at refl (λ reg other. other) is)
+list_goes limits program place end (InPlace op dst) d lt at listed written is =
     let number = is_number program place d dst is listed (written dst refl) in
-    one_way_on program place end (InPlace op dst) d (with_kind d dst any_number) refl lt (compute_number d dst (kind_at d dst) number) (written_on program place (InPlace op dst) d dst any_number (0, _, refl) at refl (λ reg other. other) is)
-list_goes program place end (SignExtend extension dst src) d lt at listed written is =
+    one_way_on limits program place end (InPlace op dst) d (with_kind d dst any_number) refl lt (compute_number d dst (kind_at d dst) number) (written_on program place (InPlace op dst) d dst any_number (0, _, refl) at refl (λ reg other. other) is)
+list_goes limits program place end (SignExtend extension dst src) d lt at listed written is =
     let number = is_number program place d src is listed.1 (written src refl) in
-    one_way_on program place end (SignExtend extension dst src) d (with_kind d dst any_number) refl lt (compute_number d dst (kind_at d src) number) (written_on program place (SignExtend extension dst src) d dst any_number (0, _, refl) at refl (λ reg other. other) is)
-list_goes program place end (JumpIf width condition dst src offset) d lt at listed written is =
+    one_way_on limits program place end (SignExtend extension dst src) d (with_kind d dst any_number) refl lt (compute_number d dst (kind_at d src) number) (written_on program place (SignExtend extension dst src) d dst any_number (0, _, refl) at refl (λ reg other. other) is)
+list_goes limits program place end (JumpIf width condition dst src offset) d lt at listed written is =
     let to : ℕ = target place offset in
     let left = is_number program place d dst is listed.0 (written dst (inl refl)) in
     let right = operand_number d src (λ reg same. is_number program place d reg is (free_operand src reg same listed.1) (written reg (inr same))) in
@@ -223,9 +222,9 @@ list_goes program place end (JumpIf width condition dst src offset) d lt at list
   where
     same_pair : (a b : ℕ × Description) → Some a ≡ Some b → a ≡ b
     same_pair a b e = cc
-list_goes program place end (Jump distance) d lt at listed written is = absurd listed
-list_goes program place end (LoadImmediate dst value) d lt at listed written is = absurd listed
-list_goes program place end (Load form dst src offset) d lt at listed written is = absurd listed
-list_goes program place end (Store size dst src offset) d lt at listed written is = absurd listed
-list_goes program place end (Call callee) d lt at listed written is = absurd listed
-list_goes program place end Exit d lt at listed written is = absurd listed
+list_goes limits program place end (Jump distance) d lt at listed written is = absurd listed
+list_goes limits program place end (LoadImmediate dst value) d lt at listed written is = absurd listed
+list_goes limits program place end (Load form dst src offset) d lt at listed written is = absurd listed
+list_goes limits program place end (Store size dst src offset) d lt at listed written is = absurd listed
+list_goes limits program place end (Call callee) d lt at listed written is = absurd listed
+list_goes limits program place end Exit d lt at listed written is = absurd listed

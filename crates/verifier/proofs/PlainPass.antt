@@ -1,34 +1,17 @@
 -- The pass of a plain program ends well: what holds of each of its places.
-use Rattle.std.proofs.Common.{◌≡◌, ℕ, zero, suc, ℤ, pos, ◌+◌, ◌<◌, ◌≤◌, true, false, leb, min, max, List, [], ◌∷◌, ◌++◌, length, get_or, Option, Some, None, Ok, refl, ap, sym, subst, ◌∙◌, arith, ◌⊎◌, inl, inr, get_or-set_same}
-use Rattle.std.specs.Prelude.{slice_get, replicate}
-use Rattle.std.specs.Int.{w64, cast_unsigned}
-use Rattle.std.proofs.Math.ListN.{length-set}
-use Rattle.std.proofs.lemmas.Bool.{cases_lt, cond-true, le-leb}
+use Rattle.std.proofs.Common.{◌≡◌, ℕ, zero, suc, ◌+◌, ◌<◌, ◌≤◌, true, false, min, max, List, length, get_or, Some, refl, ap, sym, subst, ◌∙◌, arith, ◌⊎◌, inl, inr}
+use Rattle.std.proofs.lemmas.Bool.{cases_lt}
 use Rattle.std.proofs.lemmas.List.FromFn.{length-map-range_with_len}
-use Rattle.bpf_insn.specs.declared.insn.Insn.{Insn}
-use Rattle.bpf_insn.specs.declared.insn.Insn.TheVariants.{Alu, InPlace, SignExtend, JumpIf, Jump, LoadImmediate, Load, Store, Call, Exit}
-use Rattle.bpf_insn.specs.declared.insn.Operand.TheVariants.{Immediate, Register}
-use Rattle.bpf_insn.specs.declared.insn.Callee.TheVariants.{Helper}
-use Rattle.bpf_insn.specs.declared.insn.Width.TheVariants.{Bits64}
-use Rattle.bpf_insn.specs.declared.insn.AluOp.TheVariants.{Mov}
-use Rattle.bpf_insn.specs.declared.insn.Condition.TheVariants.{Equal}
-use Rattle.bpf_insn.specs.declared.reg.Reg.{Reg}
-use Rattle.bpf_insn.specs.declared.reg.Reg.TheVariants.{R0, R1, R2}
+use Rattle.bpf_insn.specs.declared.reg.Reg.TheVariants.{R0, R1}
 use Rattle.bpf_insn.specs.declared.program.Slot.{Slot}
-use Rattle.bpf_insn.specs.Program.{insn_at, layout}
-use Rattle.call_shape.specs.Shape.{behind}
 use Rattle.verifier.specs.declared.kind.Kind.{Kind}
 use Rattle.verifier.specs.declared.kind.Kind.TheVariants.{Unwritten, Number, SureFreeze}
 use Rattle.verifier.specs.declared.description.Held.TheVariants.{Nothing}
 use Rattle.verifier.specs.declared.description.Description.{Description}
-use Rattle.verifier.specs.declared.check.Flow.{Flow}
-use Rattle.verifier.specs.RegisterKind.{exactly, join_kind}
-use Rattle.verifier.specs.Knowledge.{entry_description, kind_at, with_kind, sure_freeze, zero_freeze, released_freeze, requeued, join_registers, join_descriptions}
-use Rattle.verifier.specs.InsnCheck.{goes_on, goes_both, ends, check_requeue, exit_held, exit_result, check}
-use Rattle.verifier.specs.Plain.{ComesUnwritten, IsListed, plain, is_free}
-use Rattle.verifier.proofs.Kept.{six_replaced}
-use Rattle.verifier.proofs.NeverFails.{Goes, Joined, Fit}
-use Rattle.verifier.proofs.PlainFits.{IsNumber, IsListDescription, Within, ReadsWritten, join_lists, joined_is, joined_kind, list_goes}
+use Rattle.verifier.specs.RegisterKind.{join_kind}
+use Rattle.verifier.specs.Knowledge.{entry_description, kind_at, with_kind, sure_freeze, join_registers, join_descriptions}
+use Rattle.verifier.proofs.NeverFails.{Joined}
+use Rattle.verifier.proofs.PlainFits.{IsNumber, IsListDescription, join_lists, joined_is, joined_kind}
 
 -- behind the list: nothing is held, and the CCB is disposed of once it waits again
 pub record IsEnding (d : Description) : Type 0 where

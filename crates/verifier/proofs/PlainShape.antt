@@ -1,5 +1,5 @@
 -- A plain program has no shape fault: it is one function whose jumps lead forward within it.
-use Rattle.std.proofs.Common.{◌≡◌, ℕ, zero, suc, ℤ, pos, ◌+◌, ◌-◌, ◌<◌, ◌≤◌, Bool, true, false, not, ◌&&◌, ◌||◌, eqb, leb, ltb, max, List, [], ◌∷◌, length, Option, Some, None, is_some, refl, ap, sym, subst, ◌∙◌, arith, ◌⊎◌, inl, inr}
+use Rattle.std.proofs.Common.{◌≡◌, ℕ, zero, suc, ◌+◌, ◌-◌, ◌<◌, ◌≤◌, Bool, true, false, not, ◌&&◌, ◌||◌, eqb, leb, ltb, List, [], ◌∷◌, length, Option, Some, None, is_some, refl, ap, sym, subst, ◌∙◌, arith, inl, inr}
 use Rattle.std.specs.Prelude.{slice_get, if◌then◌else◌}
 use Rattle.std.specs.Option.{option_and_then, option_map_or}
 use Rattle.std.proofs.lemmas.Bool.{cases_lt, and_parts, false≢true, ne_eqb, not-true, leb-true, cond-false}
@@ -7,17 +7,17 @@ use Rattle.bpf_insn.specs.declared.insn.Insn.{Insn}
 use Rattle.bpf_insn.specs.declared.insn.Insn.TheVariants.{Alu, InPlace, SignExtend, JumpIf, Jump, LoadImmediate, Load, Store, Call, Exit}
 use Rattle.bpf_insn.specs.declared.insn.Callee.TheVariants.{Helper, Local}
 use Rattle.bpf_insn.specs.declared.program.Slot.{Slot}
-use Rattle.bpf_insn.specs.Program.{is_wide, further_slots, slots_of, insn_at, layout}
+use Rattle.bpf_insn.specs.Program.{is_wide, further_slots, insn_at}
 use Rattle.call_shape.specs.Calls.{callee_in, callee_at, begins, is_called_in, is_start, function_of}
 use Rattle.call_shape.specs.WrittenOut.{total, count_at, written_out}
-use Rattle.call_shape.specs.StaticPath.{Standing, outermost, frames_at, ReturnsTo, LeadsTo, StaticPath, depth}
-use Rattle.call_shape.specs.Shape.{behind, goes_on_behind, target_in, target_at, is_function_end, is_open_end, is_outside, is_split, is_backward, is_lost_call, is_leaving, FaultIs}
+use Rattle.call_shape.specs.StaticPath.{Standing, outermost, ReturnsTo, LeadsTo, StaticPath, depth}
+use Rattle.call_shape.specs.Shape.{behind, goes_on_behind, target_in, target_at, is_function_end, FaultIs}
 use Rattle.call_shape.specs.declared.fault.ShapeFault.{ShapeFault}
 use Rattle.call_shape.specs.declared.fault.ShapeFault.TheVariants.{OpenEnd, TargetOutside, TargetSecondSlot, TargetBackward, NoSuchFunction, LeavesFunction, CallCycle, TooManyFrames, TooLong}
 use Rattle.verifier.specs.Plain.{IsListed, IsPlain, plain, requeues}
 use Rattle.verifier.proofs.PlainPass.{part_of}
 use Rattle.verifier.proofs.PlainInsns.{AreNarrow, list_narrow, plain_narrow, narrow_length, narrow_begins, at_list, at_end}
-use Rattle.verifier.proofs.PlainGoes.{test, copy, release, Starts, starts_of}
+use Rattle.verifier.proofs.PlainGoes.{test, copy, release, starts_of}
 
 -- what the shape asks of each instruction of a plain program whose list has so many
 record PlainInsn (size place : ℕ) (insn : Insn) : Type 0 where

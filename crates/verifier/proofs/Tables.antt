@@ -17,7 +17,7 @@ use Rattle.call_shape.specs.Calls.{begins}
 use Rattle.call_shape.proofs.Places.{begins_there}
 use Rattle.call_shape.proofs.WaysOut.{ways_out_lem}
 use Rattle.verifier.specs.declared.description.Description.{Description}
-use Rattle.verifier.specs.declared.check.Flow.{Flow}
+use Rattle.verifier.specs.declared.flow.Flow.{Flow}
 use Rattle.verifier.specs.Knowledge.{entry_description}
 use Rattle.verifier.specs.InsnCheck.{check}
 use Rattle.verifier.specs.SlotPass.{Table, described}
@@ -39,17 +39,17 @@ abbrev pub OnlyBeginnings : List Slot → Table → Type 0
 OnlyBeginnings program table = (k : ℕ) (d : Description) → described table k ≡ Some d → begins program k ≡ true
 
 -- an instruction passes, and the table covers what it lets on
-pub record IsChecked (table : Table) (place : ℕ) (insn : Insn) (d : Description) : Type 0 where
+pub record IsChecked (limits : HelperLimits) (table : Table) (place : ℕ) (insn : Insn) (d : Description) : Type 0 where
   pub flow : Flow
-  pub passes : check place insn d ≡ Ok flow
+  pub passes : check limits place insn d ≡ Ok flow
   pub next : (on : Description) → flow.next ≡ Some on → IsCovered table (behind place insn) on
   pub jump : (to : ℕ) (on : Description) → flow.jump ≡ Some (to, on) → IsCovered table to on
 
-pub record IsSound (program : List Slot) (table : Table) : Type 0 where
+pub record IsSound (limits : HelperLimits) (program : List Slot) (table : Table) : Type 0 where
   pub whole : length table ≡ length program
   pub begun : OnlyBeginnings program table
   pub entry : IsCovered table 0 entry_description
-  pub checked : (place : ℕ) (insn : Insn) (d : Description) → described table place ≡ Some d → insn_at program place ≡ Some insn → IsChecked table place insn d
+  pub checked : (place : ℕ) (insn : Insn) (d : Description) → described table place ≡ Some d → insn_at program place ≡ Some insn → IsChecked limits table place insn d
 
 -- beyond its end a table describes nothing
 pub inside : (table : Table) (place : ℕ) (d : Description) → described table place ≡ Some d → place < length table
@@ -81,14 +81,14 @@ covered table place d freeze m wider at is = record {
 }
 
 -- the instruction at which a described machine stands
-pub at_insn : (program : List Slot) (table : Table) (m : MachineState) → IsSound program table → IsDescribed table m → (insn : Insn) × (insn_at program m.place ≡ Some insn)
-at_insn program table m sound known = begins_there program m.place (sound.begun m.place known.description known.here)
+pub at_insn : (limits : HelperLimits) (program : List Slot) (table : Table) (m : MachineState) → IsSound limits program table → IsDescribed table m → (insn : Insn) × (insn_at program m.place ≡ Some insn)
+at_insn limits program table m sound known = begins_there program m.place (sound.begun m.place known.description known.here)
 
 -- one instruction on, a machine is described again
-pub step_described : (program : List Slot) (table : Table) (m m' : MachineState) (insn : Insn) → IsSound program table → (known : IsDescribed table m) → insn_at program m.place ≡ Some insn → Steps program m m' → IsDescribed table m' × LeadsTo (outermost m.place) insn (outermost m'.place)
-step_described program table m m' insn sound known at step =
+pub step_described : (limits : HelperLimits) (program : List Slot) (table : Table) (m m' : MachineState) (insn : Insn) → IsSound limits program table → (known : IsDescribed table m) → insn_at program m.place ≡ Some insn → Steps program m m' → IsDescribed table m' × LeadsTo (outermost m.place) insn (outermost m'.place)
+step_described limits program table m m' insn sound known at step =
     let checked = sound.checked m.place insn known.description known.here at in
-    let led = step_led program known.description known.freeze m m' insn checked.flow at known.is checked.passes step in (
+    let led = step_led limits program known.description known.freeze m m' insn checked.flow at known.is checked.passes step in (
       elim led.0 [
         | inl next ↦ covered table (behind m.place insn) next.0 known.freeze m' (checked.next next.0 next.1) next.2 next.3
         | inr jump ↦ covered table jump.0 jump.1 known.freeze m' (checked.jump jump.0 jump.1 jump.2) jump.3 jump.4
@@ -96,41 +96,41 @@ step_described program table m m' insn sound known at step =
       led.1,
     )
 
-pub reached_described : (program : List Slot) (table : Table) → IsProgram program → IsSound program table → (n : ℕ) (m : MachineState) → Reached program n m → IsDescribed table m
-reached_described program table is sound zero m entry =
+pub reached_described : (limits : HelperLimits) (program : List Slot) (table : Table) → IsProgram program → IsSound limits program table → (n : ℕ) (m : MachineState) → Reached program n m → IsDescribed table m
+reached_described limits program table is sound zero m entry =
     rw entry.is (covered table 0 entry_description entry.freeze _ sound.entry refl (entry_described entry.context entry.freeze entry.number))
-reached_described program table is sound (suc n) m (before, reached, step) =
-    let known = reached_described program table is sound n before reached in
-    let insn = at_insn program table before sound known in
-    (step_described program table before m insn.0 sound known insn.1 step).0
+reached_described limits program table is sound (suc n) m (before, reached, step) =
+    let known = reached_described limits program table is sound n before reached in
+    let insn = at_insn limits program table before sound known in
+    (step_described limits program table before m insn.0 sound known insn.1 step).0
 
-pub sound_safe : (program : List Slot) (limits : HelperLimits) (table : Table) → IsProgram program → IsSound program table → Safe program limits
-sound_safe program limits table is sound n m reached =
-    let known = reached_described program table is sound n m reached in
-    let insn = at_insn program table m sound known in
+pub sound_safe : (limits : HelperLimits) (program : List Slot) (table : Table) → IsProgram program → IsSound limits program table → Safe program limits
+sound_safe limits program table is sound n m reached =
+    let known = reached_described limits program table is sound n m reached in
+    let insn = at_insn limits program table m sound known in
     let checked = sound.checked m.place insn.0 known.description known.here insn.1 in
     ap (is_stuck_at limits m) insn.1 ∙ unstuck limits known.description known.freeze m m.place insn.0 checked.flow known.is checked.passes
 
 -- the instructions behind a run are the first of a static path
-pub path_through : (program : List Slot) (table : Table) → IsProgram program → IsSound program table → (n : ℕ) (m : MachineState) → Reached program n m → (k : ℕ) → StaticPath program (outermost m.place) k → StaticPath program (outermost 0) (n + k)
-path_through program table is sound zero m entry k path =
+pub path_through : (limits : HelperLimits) (program : List Slot) (table : Table) → IsProgram program → IsSound limits program table → (n : ℕ) (m : MachineState) → Reached program n m → (k : ℕ) → StaticPath program (outermost m.place) k → StaticPath program (outermost 0) (n + k)
+path_through limits program table is sound zero m entry k path =
     let same : k ≡ 0 + k = omega arith in
     subst (StaticPath program (outermost 0)) same (subst (λ (place : ℕ). StaticPath program (outermost place) k) (ap (λ (x : MachineState). x.place) entry.is) path)
-path_through program table is sound (suc n) m (before, reached, step) k path =
-    let known = reached_described program table is sound n before reached in
-    let insn = at_insn program table before sound known in
-    let on = step_described program table before m insn.0 sound known insn.1 step in
+path_through limits program table is sound (suc n) m (before, reached, step) k path =
+    let known = reached_described limits program table is sound n before reached in
+    let insn = at_insn limits program table before sound known in
+    let on = step_described limits program table before m insn.0 sound known insn.1 step in
     let longer : StaticPath program (outermost before.place) (suc k) = (insn.0, insn.1, inr (outermost m.place, on.1, path)) in
-    let all = path_through program table is sound n before reached (suc k) longer in
+    let all = path_through limits program table is sound n before reached (suc k) longer in
     let same : n + suc k ≡ suc n + k = omega arith in
     subst (StaticPath program (outermost 0)) same all
 
 -- and no run is longer than the longest static path
-pub sound_within : (program : List Slot) (table : Table) (budget : ℕ) → IsProgram program → IsLawful program → IsSound program table → ((n : ℕ) → StaticPath program (outermost 0) n → n ≤ budget) → Within program budget
-sound_within program table budget is lawful sound longest n m reached =
-    let known = reached_described program table is sound n m reached in
+pub sound_within : (limits : HelperLimits) (program : List Slot) (table : Table) (budget : ℕ) → IsProgram program → IsLawful program → IsSound limits program table → ((n : ℕ) → StaticPath program (outermost 0) n → n ≤ budget) → Within program budget
+sound_within limits program table budget is lawful sound longest n m reached =
+    let known = reached_described limits program table is sound n m reached in
     let out = ways_out_lem program is lawful.frames.calls m.place (sound.begun m.place known.description known.here) in
-    let all : n + out.0 ≤ budget = longest (n + out.0) (path_through program table is sound n m reached out.0 out.1) in
+    let all : n + out.0 ≤ budget = longest (n + out.0) (path_through limits program table is sound n m reached out.0 out.1) in
     let some : 1 ≤ out.0 = at_least_one program m.place out.0 out.1 in
     (omega (arith, all), λ at_exit. omega (arith, all, some))
   where

@@ -2,6 +2,7 @@
 use Rattle.std.proofs.Common.{◌≡◌, List, Ok, Err, refl, sym, ◌∙◌}
 use Rattle.bpf_insn.specs.declared.program.Slot.{Slot}
 use Rattle.call_shape.specs.Shape.{IsLawful}
+use Rattle.helpers.specs.declared.limits.HelperLimits.{HelperLimits}
 use Rattle.verifier.specs.declared.refusal.Refusal.TheVariants.{Shape, Check}
 use Rattle.or_memory.specs.declared.OrMemory.{OrMemory}
 use Rattle.verifier.specs.declared.refusal.Refusal.{Refusal}
@@ -12,12 +13,12 @@ use Rattle.verifier.specs.Verdict.{ToldOfShape}
 use Rattle.verifier.proofs.Fails.{no_shape_fault}
 use Rattle.verifier.proofs.PlainGoes.{plain_passes}
 
-pub told_of_shape : (program : List Slot) (error : OrMemory Refusal) → IsLawful program → PassFails program error → ToldOfShape program error
-told_of_shape program OutOfMemory lawful fails = lawful
-told_of_shape program (refused (Shape fault)) lawful fails = absurd (no_shape_fault program fault fails)
-told_of_shape program (refused (Check cause slot)) lawful fails = lawful
+pub told_of_shape : (limits : HelperLimits) (program : List Slot) (error : OrMemory Refusal) → IsLawful program → PassFails limits program error → ToldOfShape program error
+told_of_shape limits program OutOfMemory lawful fails = lawful
+told_of_shape limits program (refused (Shape fault)) lawful fails = absurd (no_shape_fault limits program fault fails)
+told_of_shape limits program (refused (Check cause slot)) lawful fails = lawful
 
 -- a plain program is refused for no cause but memory
-pub plain_out_of_memory : (program : List Slot) (error : OrMemory Refusal) → PassFails program error → IsPlain program → error ≡ OutOfMemory
-plain_out_of_memory program OutOfMemory fails is = refl
-plain_out_of_memory program (refused refusal) fails is = absurd (let ok = plain_passes program is in let bad : Ok ok.0 ≡ Err refusal = sym ok.1 ∙ fails in cc)
+pub plain_out_of_memory : (limits : HelperLimits) (program : List Slot) (error : OrMemory Refusal) → PassFails limits program error → IsPlain program → error ≡ OutOfMemory
+plain_out_of_memory limits program OutOfMemory fails is = refl
+plain_out_of_memory limits program (refused refusal) fails is = absurd (let ok = plain_passes limits program is in let bad : Ok ok.0 ≡ Err refusal = sym ok.1 ∙ fails in cc)

@@ -1,8 +1,8 @@
 -- A machine that is described is not stuck at an instruction that passes its check.
-use Rattle.std.proofs.Common.{◌≡◌, ℕ, ℤ, ◌<◌, ◌≤◌, true, false, not, ◌||◌, ◌&&◌, List, [], ◌∷◌, Option, Some, Ok, refl, ap, subst, ◌∙◌, arith, ◌⊎◌, inl, inr}
-use Rattle.std.specs.Prelude.{is_none, pos}
-use Rattle.std.specs.Ordering.{int_eq}
-use Rattle.std.proofs.lemmas.Bool.{cases_Bool, cond-true, cond-false, le-leb, eq-eqb, not-true}
+use Rattle.std.proofs.Common.{◌≡◌, ℕ, ℤ, true, false, not, ◌||◌, [], Option, Some, Ok, refl, ap, subst, ◌∙◌, arith, ◌⊎◌, inl, inr}
+use Rattle.std.specs.Prelude.{is_none}
+use Rattle.std.specs.Option.{option_and_then}
+use Rattle.std.proofs.lemmas.Bool.{cases_Bool, cond-true, cond-false, not-true}
 use Rattle.bpf_insn.specs.declared.insn.Insn.{Insn}
 use Rattle.bpf_insn.specs.declared.insn.Insn.TheVariants.{Alu, InPlace, SignExtend, JumpIf, Jump, LoadImmediate, Load, Store, Call, Exit}
 use Rattle.bpf_insn.specs.declared.insn.Callee.TheVariants.{Helper, Local}
@@ -11,28 +11,29 @@ use Rattle.bpf_insn.specs.declared.insn.Width.{Width}
 use Rattle.bpf_insn.specs.declared.insn.Width.TheVariants.{Bits32, Bits64}
 use Rattle.bpf_insn.specs.declared.insn.AluOp.{AluOp}
 use Rattle.bpf_insn.specs.declared.reg.Reg.{Reg}
-use Rattle.bpf_insn.specs.declared.reg.Reg.TheVariants.{R0, R1}
+use Rattle.bpf_insn.specs.declared.reg.Reg.TheVariants.{R0}
 use Rattle.bpf_insn.specs.Target.{target}
 use Rattle.helpers.specs.declared.limits.HelperLimits.{HelperLimits}
-use Rattle.helpers.specs.declared.call.Request.{Request}
-use Rattle.helpers.specs.declared.call.Request.TheVariants.{Release, Requeue}
-use Rattle.helpers.specs.Rules.{is_held, meets_rule, request_of}
+use Rattle.helpers.specs.Table.{helper_of}
 use Rattle.bpf_machine.specs.MachineState.{MachineState, context_address, frame_pointer, register}
 use Rattle.bpf_machine.specs.Words.{reads_dst}
+use Rattle.bpf_machine.specs.Calls.{request_by}
 use Rattle.bpf_machine.specs.Step.{first_operand, operand}
-use Rattle.bpf_machine.specs.Stuck.{breaks_rule, call_is_stuck, holds_none, exit_is_stuck, insn_is_stuck}
+use Rattle.bpf_machine.specs.Stuck.{call_is_stuck, holds_none, exit_is_stuck, insn_is_stuck}
 use Rattle.verifier.specs.declared.kind.Kind.{Kind}
 use Rattle.verifier.specs.declared.kind.Kind.TheVariants.{Unwritten, Number, Context, Frame, OpenFreeze, SureFreeze}
 use Rattle.verifier.specs.declared.description.Held.{Held}
-use Rattle.verifier.specs.declared.description.Held.TheVariants.{Nothing, Sure}
+use Rattle.verifier.specs.declared.description.Held.TheVariants.{Nothing}
 use Rattle.verifier.specs.declared.description.Description.{Description}
-use Rattle.verifier.specs.declared.check.Flow.{Flow}
+use Rattle.verifier.specs.declared.flow.Flow.{Flow}
 use Rattle.verifier.specs.RegisterKind.{exactly}
 use Rattle.verifier.specs.Knowledge.{kind_at, source_kind}
 use Rattle.verifier.specs.InsnCheck.{check, first_kind, is_copy, tests_zero}
 use Rattle.verifier.proofs.Describes.{HoldsKind, HoldsFreeze, Describes}
 use Rattle.verifier.proofs.Kept.{register_held, operand_held}
-use Rattle.verifier.proofs.Checked.{IsWritten, Copies, Computes, alu_passes, compute_passes, jump_passes, ReleasePasses, RequeuePasses, IsRelease, IsRequeue, call_passes, ExitPasses, exit_passes}
+use Rattle.verifier.proofs.Checked.{IsWritten, Copies, Computes, alu_passes, compute_passes, jump_passes, ExitPasses, exit_passes}
+use Rattle.verifier.proofs.CallChecked.{CallPasses, call_passes}
+use Rattle.verifier.proofs.CallFits.{is_call}
 
 -- what is written is some number
 pub value_of : (freeze : ℕ) (kind : Kind) (o : Option ℕ) → IsWritten kind → HoldsKind freeze kind o → (value : ℕ) × (o ≡ Some value)
@@ -43,51 +44,11 @@ value_of freeze Frame o written h = (frame_pointer 0, h)
 value_of freeze OpenFreeze o written h = (freeze, h)
 value_of freeze SureFreeze o written h = (freeze, h.0)
 
--- a freeze that is sure to be held, where its number is the argument
-pub record HasFreeze (freeze : ℕ) (m : MachineState) : Type 0 where
-  pub argument : register m R1 ≡ Some freeze
-  pub held : m.held ≡ freeze ∷ []
-  pub above : 0 < freeze
-
-pub has_freeze : (d : Description) (freeze : ℕ) (m : MachineState) (flow : Flow) → Describes d freeze m → ReleasePasses d (kind_at d R1) flow → HasFreeze freeze m
-has_freeze d freeze m flow is passes =
-    let kind : HoldsKind freeze SureFreeze (register m R1) = subst (λ (k : Kind). HoldsKind freeze k (register m R1)) passes.sure (register_held d freeze m is R1) in
-    let held : HoldsFreeze freeze Sure m.held = subst (λ (h : Held). HoldsFreeze freeze h m.held) passes.held is.freeze_is in
-    record { argument = kind.0; held = held.0; above = held.1 }
-
--- the argument of a requeue
-pub record HasRetries (m : MachineState) : Type 0 where
-  pub retries : ℕ
-  pub argument : register m R1 ≡ Some retries
-  pub few : retries ≤ 1
-  pub once : m.disposed ≡ false
-
-pub has_retries : (d : Description) (freeze : ℕ) (m : MachineState) (flow : Flow) → Describes d freeze m → RequeuePasses d (kind_at d R1) flow → HasRetries m
-has_retries d freeze m flow is passes =
-    let kind : HoldsKind freeze (Number passes.least passes.most) (register m R1) = subst (λ (k : Kind). HoldsKind freeze k (register m R1)) passes.number (register_held d freeze m is R1) in
-    record { retries = kind.0; argument = kind.1; few = omega (arith, kind.3, passes.few); once = is.disposal ∙ passes.once }
-
-pub is_release : (number : ℤ) (argument : ℕ) → int_eq number (pos 2) ≡ true → request_of number argument ≡ Some (Release argument)
-is_release number argument two = cond-true (int_eq number (pos 2)) _ _ two
-
-pub is_requeue : (number : ℤ) (argument : ℕ) → int_eq number (pos 2) ≡ false → int_eq number (pos 4) ≡ true → request_of number argument ≡ Some (Requeue argument)
-is_requeue number argument other four = cond-false (int_eq number (pos 2)) _ _ other ∙ cond-true (int_eq number (pos 4)) _ _ four
-
--- the call of a helper, with the request that it is and the rule that is met
-call_unstuck : (limits : HelperLimits) (m : MachineState) (number : ℤ) (argument : ℕ) (request : Request) → register m R1 ≡ Some argument → request_of number argument ≡ Some request → meets_rule limits m.held m.disposed request ≡ true → call_is_stuck limits m number (register m R1) ≡ false
-call_unstuck limits m number argument request has is meets =
-    ap (call_is_stuck limits m number) has ∙ (ap (breaks_rule limits m) is ∙ ap not meets)
-
-held_alone : (freeze : ℕ) (held : List ℕ) → held ≡ freeze ∷ [] → is_held held freeze ≡ true
-held_alone freeze held is = ap (λ h. is_held h freeze) is ∙ ap (λ b. b || false) (eq-eqb freeze freeze refl)
-
-pub helper_unstuck : (limits : HelperLimits) (d : Description) (freeze : ℕ) (m : MachineState) (number : ℤ) (flow : Flow) → Describes d freeze m → IsRelease d number (kind_at d R1) flow ⊎ IsRequeue d number (kind_at d R1) flow → call_is_stuck limits m number (register m R1) ≡ false
-helper_unstuck limits d freeze m number flow is (inl release) =
-    let has = has_freeze d freeze m flow is release.passes in
-    call_unstuck limits m number freeze (Release freeze) has.argument (is_release number freeze release.helper) (held_alone freeze m.held has.held)
-helper_unstuck limits d freeze m number flow is (inr requeue) =
-    let has = has_retries d freeze m flow is requeue.passes in
-    call_unstuck limits m number has.retries (Requeue has.retries) has.argument (is_requeue number has.retries requeue.other requeue.helper) (ap (λ b. b && not m.disposed) (le-leb has.retries 1 has.few) ∙ ap not has.once)
+-- the call of a helper meets its rule
+call_unstuck : (limits : HelperLimits) (d : Description) (freeze : ℕ) (m : MachineState) (number : ℤ) (flow : Flow) → Describes d freeze m → CallPasses limits d number flow → call_is_stuck limits m (option_and_then (request_by m) (helper_of number)) ≡ false
+call_unstuck limits d freeze m number flow is passes =
+    let call = is_call limits d freeze m number flow is passes in
+    ap (call_is_stuck limits m) call.made ∙ ap not call.rule
 
 none_held : (freeze : ℕ) (d : Description) (m : MachineState) → Describes d freeze m → d.held ≡ Nothing → m.held ≡ []
 none_held freeze d m is nothing = subst (λ (h : Held). HoldsFreeze freeze h m.held) nothing is.freeze_is
@@ -128,7 +89,7 @@ alu_operands d freeze m width op dst src flow is (inr computes) =
     let value = value_of freeze (source_kind d src) (operand m src) computes.passes.second_written (operand_held d freeze m is src) in
     record { first_value = first.0; second_value = value.0; first_is = first.1; second_is = value.1 }
 
-pub unstuck : (limits : HelperLimits) (d : Description) (freeze : ℕ) (m : MachineState) (place : ℕ) (insn : Insn) (flow : Flow) → Describes d freeze m → check place insn d ≡ Ok flow → insn_is_stuck limits m insn ≡ false
+pub unstuck : (limits : HelperLimits) (d : Description) (freeze : ℕ) (m : MachineState) (place : ℕ) (insn : Insn) (flow : Flow) → Describes d freeze m → check limits place insn d ≡ Ok flow → insn_is_stuck limits m insn ≡ false
 unstuck limits d freeze m place (Alu width op dst src) flow is e =
     let has = alu_operands d freeze m width op dst src flow is (alu_passes d width op dst (first_kind d op dst) (source_kind d src) flow e) in
     ap (λ o. is_none {T = ℕ} o || is_none (operand m src)) has.first_is ∙ ap is_none has.second_is
@@ -148,5 +109,5 @@ unstuck limits d freeze m place (LoadImmediate dst value) flow is e = refl
 unstuck limits d freeze m place (Load form dst src offset) flow is e = absurd cc
 unstuck limits d freeze m place (Store size dst src offset) flow is e = absurd cc
 unstuck limits d freeze m place (Call (Local distance)) flow is e = absurd cc
-unstuck limits d freeze m place (Call (Helper number)) flow is e = helper_unstuck limits d freeze m number flow is (call_passes d number (kind_at d R1) flow e)
+unstuck limits d freeze m place (Call (Helper number)) flow is e = call_unstuck limits d freeze m number flow is (call_passes limits d number flow e)
 unstuck limits d freeze m place Exit flow is e = exit_unstuck d freeze m flow is (exit_passes d flow e)

@@ -1,5 +1,5 @@
 -- The check of one instruction on a description, and what holds where the instruction leads.
-use Rattle.std.specs.Prelude.{ℕ, ℤ, pos, Bool, true, false, not, ◌&&◌, nat_le, Some, None, Result, Ok, Err, if◌then◌else◌}
+use Rattle.std.specs.Prelude.{ℕ, pos, Bool, true, false, not, ◌&&◌, Result, Ok, Err, if◌then◌else◌}
 use Rattle.std.specs.Ordering.{int_eq}
 use Rattle.bpf_insn.specs.declared.insn.Insn.{Insn}
 use Rattle.bpf_insn.specs.declared.insn.Insn.TheVariants.{Alu, InPlace, SignExtend, JumpIf, Jump, LoadImmediate, Load, Store, Call, Exit}
@@ -12,33 +12,22 @@ use Rattle.bpf_insn.specs.declared.insn.AluOp.{AluOp}
 use Rattle.bpf_insn.specs.declared.insn.Condition.{Condition}
 use Rattle.bpf_insn.specs.declared.insn.Condition.TheVariants.{Equal, NotEqual, Greater, GreaterOrEqual, Less, LessOrEqual, AnyBit, SignedGreater, SignedGreaterOrEqual, SignedLess, SignedLessOrEqual}
 use Rattle.bpf_insn.specs.declared.reg.Reg.{Reg}
-use Rattle.bpf_insn.specs.declared.reg.Reg.TheVariants.{R0, R1}
+use Rattle.bpf_insn.specs.declared.reg.Reg.TheVariants.{R0}
 use Rattle.bpf_insn.specs.Target.{target, distance_of}
 use Rattle.bpf_machine.specs.Words.{reads_dst}
+use Rattle.helpers.specs.declared.limits.HelperLimits.{HelperLimits}
 use Rattle.verifier.specs.declared.kind.Kind.{Kind}
 use Rattle.verifier.specs.declared.kind.Kind.TheVariants.{Unwritten, Number, Context, Frame, OpenFreeze, SureFreeze}
 use Rattle.verifier.specs.declared.description.Held.{Held}
-use Rattle.verifier.specs.declared.description.Held.TheVariants.{Nothing, Sure}
+use Rattle.verifier.specs.declared.description.Held.TheVariants.{Nothing}
 use Rattle.verifier.specs.declared.description.Description.{Description}
-use Rattle.verifier.specs.declared.check.Flow.{Flow}
+use Rattle.verifier.specs.declared.flow.Flow.{Flow}
 use Rattle.verifier.specs.declared.refusal.Cause.{Cause}
-use Rattle.verifier.specs.declared.refusal.Cause.TheVariants.{UnwrittenRegister, AccessOutside, AddressAsNumber, UnknownHelper, ArgumentAgainstRule, FreezeHeld, NotDisposed, DisposedTwice, NoResult}
+use Rattle.verifier.specs.declared.refusal.Cause.TheVariants.{UnwrittenRegister, AccessOutside, AddressAsNumber, UnknownHelper, FreezeHeld, NotDisposed, NoResult}
 use Rattle.verifier.specs.RegisterKind.{any_number, exactly}
-use Rattle.verifier.specs.Knowledge.{kind_at, source_kind, with_kind, sure_freeze, zero_freeze, released_freeze, requeued}
-
-abbrev pub goes_on : Description → Flow
-goes_on d = record { next = Some d; jump = None }
-
--- both ways of a jump
-abbrev pub goes_both : Description → ℕ → Description → Flow
-goes_both next to d = record { next = Some next; jump = Some (to, d) }
-
--- by a jump alone
-abbrev pub goes_to : ℕ → Description → Flow
-goes_to to d = record { next = None; jump = Some (to, d) }
-
-abbrev pub ends : Flow
-ends = record { next = None; jump = None }
+use Rattle.verifier.specs.Knowledge.{kind_at, source_kind, with_kind, sure_freeze, zero_freeze}
+use Rattle.verifier.specs.Flows.{goes_on, goes_both, goes_to, ends}
+use Rattle.verifier.specs.CallCheck.{check_call}
 
 abbrev pub check_move : Description → Reg → Kind → Result Flow Cause
 check_move d dst Unwritten = Err UnwrittenRegister
@@ -116,29 +105,6 @@ check_jump d to zero SureFreeze right = compared right (jump_on_freeze zero (goe
 check_jump d to zero Context right = compared right (Err AddressAsNumber)
 check_jump d to zero Frame right = compared right (Err AddressAsNumber)
 
--- a sure freeze that is held
-abbrev pub release_held : Description → Held → Result Flow Cause
-release_held d Sure = Ok (goes_on (released_freeze d))
-release_held d held = Err ArgumentAgainstRule
-
-abbrev pub check_release : Description → Kind → Result Flow Cause
-check_release d Unwritten = Err UnwrittenRegister
-check_release d SureFreeze = release_held d d.held
-check_release d kind = Err ArgumentAgainstRule
-
--- 0 or 1, and a CCB that is not disposed of
-abbrev pub check_requeue : Description → Kind → Result Flow Cause
-check_requeue d Unwritten = Err UnwrittenRegister
-check_requeue d (Number least most) =
-    if nat_le most 1 then (if d.disposed then Err DisposedTwice else Ok (goes_on (requeued d))) else Err ArgumentAgainstRule
-check_requeue d kind = Err ArgumentAgainstRule
-
-abbrev pub check_call : Description → ℤ → Kind → Result Flow Cause
-check_call d number argument =
-    if int_eq number (pos 2) then check_release d argument
-    else if int_eq number (pos 4) then check_requeue d argument
-    else Err UnknownHelper
-
 abbrev pub exit_result : Kind → Result Flow Cause
 exit_result (Number least most) = Ok ends
 exit_result kind = Err NoResult
@@ -151,16 +117,16 @@ abbrev pub check_exit : Description → Result Flow Cause
 check_exit d = exit_held d d.held
 
 -- loads, stores and local calls are not followed yet
-abbrev pub check : ℕ → Insn → Description → Result Flow Cause
-check place (Alu width op dst src) d = check_alu d width op dst (first_kind d op dst) (source_kind d src)
-check place (InPlace op dst) d = compute_with d dst (kind_at d dst)
-check place (SignExtend extension dst src) d = compute_with d dst (kind_at d src)
-check place (JumpIf width condition dst src offset) d =
+abbrev pub check : HelperLimits → ℕ → Insn → Description → Result Flow Cause
+check limits place (Alu width op dst src) d = check_alu d width op dst (first_kind d op dst) (source_kind d src)
+check limits place (InPlace op dst) d = compute_with d dst (kind_at d dst)
+check limits place (SignExtend extension dst src) d = compute_with d dst (kind_at d src)
+check limits place (JumpIf width condition dst src offset) d =
     check_jump d (target place offset) (tests_zero width condition src) (kind_at d dst) (source_kind d src)
-check place (Jump distance) d = Ok (goes_to (target place (distance_of distance)) d)
-check place (LoadImmediate dst value) d = Ok (goes_on (with_kind d dst (exactly value)))
-check place (Load form dst src offset) d = Err AccessOutside
-check place (Store size dst src offset) d = Err AccessOutside
-check place (Call (Local distance)) d = Err UnknownHelper
-check place (Call (Helper number)) d = check_call d number (kind_at d R1)
-check place Exit d = check_exit d
+check limits place (Jump distance) d = Ok (goes_to (target place (distance_of distance)) d)
+check limits place (LoadImmediate dst value) d = Ok (goes_on (with_kind d dst (exactly value)))
+check limits place (Load form dst src offset) d = Err AccessOutside
+check limits place (Store size dst src offset) d = Err AccessOutside
+check limits place (Call (Local distance)) d = Err UnknownHelper
+check limits place (Call (Helper number)) d = check_call limits d number
+check limits place Exit d = check_exit d

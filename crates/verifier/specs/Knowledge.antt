@@ -6,6 +6,8 @@ use Rattle.bpf_insn.specs.declared.reg.Reg.{Reg}
 use Rattle.bpf_insn.specs.declared.insn.Operand.{Operand}
 use Rattle.bpf_insn.specs.declared.insn.Operand.TheVariants.{Immediate, Register}
 use Rattle.bpf_insn.specs.Reg.{number_of}
+use Rattle.helpers.specs.declared.helper.Helper.{Helper}
+use Rattle.helpers.specs.declared.helper.Helper.TheVariants as helpers
 use Rattle.verifier.specs.declared.kind.Kind.{Kind}
 use Rattle.verifier.specs.declared.kind.Kind.TheVariants.{Unwritten, Number, Context, Frame, OpenFreeze}
 use Rattle.verifier.specs.declared.description.Held.{Held}
@@ -70,6 +72,12 @@ released_freeze d = record { registers = after_call_kinds (each_register release
 
 abbrev pub requeued : Description → Description
 requeued d = record { registers = after_call_kinds d.registers (exactly 0); held = d.held; disposed = true }
+
+-- what is known after the call of a helper, where it is answered
+abbrev pub after_helper : Description → Helper → Option Description
+after_helper d helpers.Release = Some (released_freeze d)
+after_helper d helpers.Requeue = Some (requeued d)
+after_helper d helper = None
 
 abbrev pub join_registers : List Kind → List Kind → List Kind
 join_registers a b = map (λ reg. join_kind (slice_index_or a reg Unwritten) (slice_index_or b reg Unwritten)) (range_with_len 0 11)

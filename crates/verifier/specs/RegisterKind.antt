@@ -1,5 +1,5 @@
 -- What becomes of a register's kind.
-use Rattle.std.specs.Prelude.{ℕ, min, max}
+use Rattle.std.specs.Prelude.{ℕ, Bool, true, false, ◌&&◌, nat_le, nat_lt, min, max}
 use Rattle.verifier.specs.declared.kind.Kind.{Kind}
 use Rattle.verifier.specs.declared.kind.Kind.TheVariants.{Unwritten, Number, Context, Frame, OpenFreeze, SureFreeze}
 
@@ -34,3 +34,20 @@ abbrev pub zero_kind : Kind → Kind
 zero_kind OpenFreeze = exactly 0
 zero_kind SureFreeze = exactly 0
 zero_kind kind = kind
+
+abbrev pub is_unwritten : Kind → Bool
+is_unwritten Unwritten = true
+is_unwritten kind = false
+
+-- a number in this range
+abbrev pub lies_within : ℕ → ℕ → Kind → Bool
+lies_within least most (Number low high) = nat_le least low && nat_le high most
+lies_within least most kind = false
+
+abbrev pub lies_below : ℕ → Kind → Bool
+lies_below bound (Number low high) = nat_lt high bound
+lies_below bound kind = false
+
+abbrev pub is_number : Kind → Bool
+is_number (Number low high) = true
+is_number kind = false

@@ -3,8 +3,9 @@ use Rattle.std.specs.Prelude.{◌≡◌, ℕ, zero, suc, ◌+◌, ◌-◌, ◌<�
 use Rattle.bpf_insn.specs.declared.insn.Insn.{Insn}
 use Rattle.bpf_insn.specs.declared.program.Slot.{Slot}
 use Rattle.bpf_insn.specs.Program.{insn_at}
+use Rattle.helpers.specs.declared.limits.HelperLimits.{HelperLimits}
 use Rattle.verifier.specs.declared.description.Description.{Description}
-use Rattle.verifier.specs.declared.check.Flow.{Flow}
+use Rattle.verifier.specs.declared.flow.Flow.{Flow}
 use Rattle.verifier.specs.declared.refusal.Cause.{Cause}
 use Rattle.verifier.specs.declared.refusal.Cause.TheVariants.{PathsDisagree}
 use Rattle.verifier.specs.declared.refusal.Refusal.{Refusal}
@@ -59,31 +60,31 @@ flow_into table place next_slot (Err cause) = Err (Check cause place)
 flow_into table place next_slot (Ok flow) = and_then (merge_next table next_slot flow.next) (merge_jump flow.jump)
 
 -- one place, where something leads to it
-abbrev pub visit_at : Table → ℕ → Option Insn → Option Description → Result Table Refusal
-visit_at table place insn None = Ok table
-visit_at table place None (Some d) = Ok table
-visit_at table place (Some insn) (Some d) = flow_into table place (behind place insn) (check place insn d)
+abbrev pub visit_at : HelperLimits → Table → ℕ → Option Insn → Option Description → Result Table Refusal
+visit_at limits table place insn None = Ok table
+visit_at limits table place None (Some d) = Ok table
+visit_at limits table place (Some insn) (Some d) = flow_into table place (behind place insn) (check limits place insn d)
 
-abbrev pub visit : List Slot → Table → ℕ → Result Table Refusal
-visit program table place = visit_at table place (insn_at program place) (described table place)
+abbrev pub visit : HelperLimits → List Slot → Table → ℕ → Result Table Refusal
+visit limits program table place = visit_at limits table place (insn_at program place) (described table place)
 
 -- so many places from this one on
-abbrev pub visits : List Slot → Table → ℕ → ℕ → Result Table Refusal
-visits program table place zero = Ok table
-visits program table place (suc left) = and_then (visit program table place) (λ next. visits program next (place + 1) left)
+abbrev pub visits : HelperLimits → List Slot → Table → ℕ → ℕ → Result Table Refusal
+visits limits program table place zero = Ok table
+visits limits program table place (suc left) = and_then (visit limits program table place) (λ next. visits limits program next (place + 1) left)
 
 abbrev pub first_table : ℕ → Table
 first_table len = Some entry_description ∷ replicate (len - 1) None
 
 -- all places
-abbrev pub pass : List Slot → Result Table Refusal
-pass program = visits program (first_table (length program)) 0 (length program)
+abbrev pub pass : HelperLimits → List Slot → Result Table Refusal
+pass limits program = visits limits program (first_table (length program)) 0 (length program)
 
 -- the pass ends without a fault
-abbrev pub PassSucceeds : List Slot → Type 0
-PassSucceeds program = (table : Table) × (pass program ≡ Ok table)
+abbrev pub PassSucceeds : HelperLimits → List Slot → Type 0
+PassSucceeds limits program = (table : Table) × (pass limits program ≡ Ok table)
 
 -- memory was refused, or the pass ends with this fault
-abbrev pub PassFails : List Slot → OrMemory Refusal → Type 0
-PassFails program OutOfMemory = Unit {0}
-PassFails program (refused refusal) = pass program ≡ Err refusal
+abbrev pub PassFails : HelperLimits → List Slot → OrMemory Refusal → Type 0
+PassFails limits program OutOfMemory = Unit {0}
+PassFails limits program (refused refusal) = pass limits program ≡ Err refusal

@@ -1,49 +1,27 @@
-// The check of one instruction, and what holds where it leads. It relies on `description`.
+// The check of one instruction under the limits of helper calls. It relies on `description` for what is known, on
+// `calls` for helper calls, and on `flow` for where an instruction leads.
 
 ghost use Rattle.std.specs.Prelude.{◌≡◌, ◌<◌};
 ghost use Rattle.bpf_insn.specs.declared.program.TheConstants.{MAX_SLOTS};
-ghost use Rattle.verifier.specs.InsnCheck.{check, check_alu, check_move, check_numbers, compute_with, check_jump, check_call, check_release, check_requeue, check_exit, first_kind, is_zero, tests_zero};
+ghost use Rattle.verifier.specs.InsnCheck.{check, check_alu, check_move, check_numbers, compute_with, check_jump, check_exit, first_kind, is_zero, tests_zero};
 
+use crate::calls::check_call;
 use crate::description::{Description, Held};
+use crate::flow::Flow;
 use crate::kind::Kind;
 use crate::refusal::Cause;
 use bpf_insn::{AluOp, Callee, Condition, Insn, Operand, Reg, Width, jump_target};
-
-/// Where an instruction leads, and what holds there.
-#[derive(Clone, Copy, Debug)]
-pub struct Flow {
-    /// At the slot behind the instruction.
-    pub next: Option<Description>,
-    /// At a jump's target.
-    pub jump: Option<(usize, Description)>,
-}
-
-impl Flow {
-    ghost use Rattle.verifier.specs.InsnCheck.{goes_on, goes_to};
-
-    fn goes_on(next: Description) -> Self
-        ensures { result ≡ goes_on next }
-    {
-        Flow {
-            next: Some(next),
-            jump: None,
-        }
-    }
-
-    fn goes_to(target: usize, description: Description) -> Self
-        ensures { result ≡ goes_to target description }
-    {
-        Flow {
-            next: None,
-            jump: Some((target, description)),
-        }
-    }
-}
+use helpers::HelperLimits;
 
 /// Checks the instruction at a place whose machines are described so.
-pub fn check(place: usize, insn: Insn, description: &Description) -> Result<Flow, Cause>
+pub fn check(
+    limits: &HelperLimits,
+    place: usize,
+    insn: Insn,
+    description: &Description,
+) -> Result<Flow, Cause>
     requires { place < MAX_SLOTS }
-    ensures { result ≡ check place insn description.now }
+    ensures { result ≡ check limits.now place insn description.now }
 {
     match insn {
         Insn::Alu {
@@ -85,11 +63,7 @@ pub fn check(place: usize, insn: Insn, description: &Description) -> Result<Flow
         ))),
         Insn::Load { .. } | Insn::Store { .. } => Err(Cause::AccessOutside),
         Insn::Call(Callee::Local(_)) => Err(Cause::UnknownHelper),
-        Insn::Call(Callee::Helper(number)) => check_call(
-            description,
-            number,
-            description.kind(Reg::R1),
-        ),
+        Insn::Call(Callee::Helper(number)) => check_call(limits, description, number),
         Insn::Exit => check_exit(description),
     }
 }
@@ -188,44 +162,6 @@ fn is_zero(operand: Operand) -> bool
     match operand {
         Operand::Immediate(value) => value == 0,
         Operand::Register(_) => false,
-    }
-}
-
-fn check_call(description: &Description, number: i32, argument: Kind) -> Result<Flow, Cause>
-    ensures { result ≡ check_call description.now number argument }
-{
-    match number {
-        2 => check_release(description, argument),
-        4 => check_requeue(description, argument),
-        _ => Err(Cause::UnknownHelper),
-    }
-}
-
-// A release needs a sure freeze that is held.
-fn check_release(description: &Description, argument: Kind) -> Result<Flow, Cause>
-    ensures { result ≡ check_release description.now argument }
-{
-    match (argument, description.held) {
-        (Kind::Unwritten, _) => Err(Cause::UnwrittenRegister),
-        (Kind::SureFreeze, Held::Sure) => Ok(Flow::goes_on(description.released())),
-        _ => Err(Cause::ArgumentAgainstRule),
-    }
-}
-
-// A requeue needs 0 or 1, and a CCB that is not disposed of.
-fn check_requeue(description: &Description, argument: Kind) -> Result<Flow, Cause>
-    ensures { result ≡ check_requeue description.now argument }
-{
-    match argument {
-        Kind::Unwritten => Err(Cause::UnwrittenRegister),
-        Kind::Number { least: _, most } if most <= 1 => {
-            if description.disposed {
-                Err(Cause::DisposedTwice)
-            } else {
-                Ok(Flow::goes_on(description.requeued()))
-            }
-        }
-        _ => Err(Cause::ArgumentAgainstRule),
     }
 }
 

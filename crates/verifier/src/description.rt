@@ -2,10 +2,11 @@
 
 ghost use Rattle.std.specs.Prelude.{◌≡◌};
 ghost use Rattle.verifier.specs.RegisterKind.{sure_kind, zero_kind, released_kind};
-ghost use Rattle.verifier.specs.Knowledge.{entry_description, kind_at, source_kind, with_kind, sure_freeze, zero_freeze, released_freeze, requeued, join_descriptions, join_registers, after_call_kinds, each_register};
+ghost use Rattle.verifier.specs.Knowledge.{entry_description, kind_at, source_kind, with_kind, sure_freeze, zero_freeze, released_freeze, requeued, after_helper, join_descriptions, join_registers, after_call_kinds, each_register};
 
 use crate::kind::Kind;
 use bpf_insn::{Operand, Reg};
+use helpers::Helper;
 
 /// Whether the run holds the freeze of its start.
 #[derive(Clone, Copy, Debug, PartialEq, Eq)]
@@ -112,8 +113,8 @@ impl Description {
         }
     }
 
-    /// After the freeze was given back: R0 is a count, R1 to R5 are unwritten, and no copy is a freeze.
-    pub fn released(&self) -> Self
+    // After the freeze was given back: R0 is a count, R1 to R5 are unwritten, and no copy is a freeze.
+    fn released(&self) -> Self
         ensures { result ≡ released_freeze self.now }
     {
         let copies = released_registers(self.registers);
@@ -130,14 +131,34 @@ impl Description {
         }
     }
 
-    /// After the CCB was made to wait again.
-    pub fn requeued(&self) -> Self
+    // After the CCB was made to wait again.
+    fn requeued(&self) -> Self
         ensures { result ≡ requeued self.now }
     {
         Description {
             registers: after_call(self.registers, Kind::exactly(0)),
             held: self.held,
             disposed: true,
+        }
+    }
+
+    /// After a call of a helper, where it is answered.
+    pub fn after(&self, helper: Helper) -> Option<Self>
+        ensures { result ≡ after_helper self.now helper }
+    {
+        match helper {
+            Helper::Release => Some(self.released()),
+            Helper::Requeue => Some(self.requeued()),
+            Helper::Freeze
+            | Helper::ReleaseAfter
+            | Helper::Finish
+            | Helper::TableGet
+            | Helper::TablePut
+            | Helper::TableAdd
+            | Helper::QueueInfo
+            | Helper::Trace
+            | Helper::Now
+            | Helper::SetOpenings => None,
         }
     }
 

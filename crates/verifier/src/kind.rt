@@ -1,7 +1,7 @@
 // What is known of one register.
 
 ghost use Rattle.std.specs.Prelude.{◌≡◌};
-ghost use Rattle.verifier.specs.RegisterKind.{any_number, exactly, join_kind, released_kind, sure_kind, zero_kind};
+ghost use Rattle.verifier.specs.RegisterKind.{any_number, exactly, is_number, is_unwritten, lies_below, lies_within, join_kind, released_kind, sure_kind, zero_kind};
 
 /// What a register holds, as far as it is known.
 #[derive(Clone, Copy, Debug, PartialEq, Eq)]
@@ -38,6 +38,43 @@ impl Kind {
         Kind::Number {
             least: 0,
             most: u64::MAX,
+        }
+    }
+
+    /// Whether perhaps nothing is there.
+    pub fn is_unwritten(self) -> bool
+        ensures { result ≡ is_unwritten self }
+    {
+        matches!(self, Kind::Unwritten)
+    }
+
+    /// Whether it is a number.
+    pub fn is_number(self) -> bool
+        ensures { result ≡ is_number self }
+    {
+        matches!(self, Kind::Number { .. })
+    }
+
+    /// Whether it is a number in this range, both ends included.
+    pub fn lies_within(self, least: u64, most: u64) -> bool
+        ensures { result ≡ lies_within least most self }
+    {
+        match self {
+            Kind::Number {
+                least: low,
+                most: high,
+            } => least <= low && high <= most,
+            _ => false,
+        }
+    }
+
+    /// Whether it is a number below this one.
+    pub fn lies_below(self, bound: u64) -> bool
+        ensures { result ≡ lies_below bound self }
+    {
+        match self {
+            Kind::Number { least: _, most } => most < bound,
+            _ => false,
         }
     }
 

@@ -5,8 +5,11 @@
 #![tactic(auto)]
 
 mod accepted;
+mod arguments;
+mod calls;
 mod check;
 mod description;
+mod flow;
 mod kind;
 mod pass;
 mod refusal;

@@ -5,19 +5,22 @@ ghost use Rattle.bpf_insn.specs.Program.{IsProgram};
 ghost use Rattle.call_shape.specs.Shape.{IsLawful};
 ghost use Rattle.verifier.specs.SlotPass.{LeadsInside, merge, flow_into, visit, visits, PassSucceeds, PassFails};
 
-use crate::check::{Flow, check};
+use crate::check::check;
 use crate::description::Description;
+use crate::flow::Flow;
 use crate::refusal::{Cause, Refusal, VerifyError};
 use bpf_insn::Program;
 use call_shape::Shape;
+use helpers::HelperLimits;
 use or_memory::OrMemory;
 use std::alloc::Global;
 
-/// Describes each place of a program of lawful shape, and checks each instruction that something leads to.
+/// Describes each place of a program of lawful shape, and checks each instruction that something leads to, under these
+/// limits.
 /// It takes memory for one description a slot.
-pub fn pass(alloc: Global, shape: &Shape<'_>) -> Result<(), VerifyError>
-    ensures passes { OnOk result (PassSucceeds shape.now) }
-    ensures fails { IfErr result (PassFails shape.now) }
+pub fn pass(alloc: Global, limits: &HelperLimits, shape: &Shape<'_>) -> Result<(), VerifyError>
+    ensures passes { OnOk result (PassSucceeds limits.now shape.now) }
+    ensures fails { IfErr result (PassFails limits.now shape.now) }
 {
     let program = shape.program();
     let len = program.len();
@@ -26,32 +29,41 @@ pub fn pass(alloc: Global, shape: &Shape<'_>) -> Result<(), VerifyError>
     for _ in 1..len {
         table.push_reserved(None);
     }
-    match visit_all(program, &mut table) {
+    match visit_all(limits, program, &mut table) {
         Ok(()) => Ok(()),
         Err(refusal) => Err(OrMemory::Fault(refusal)),
     }
 }
 
 // Checks all places in their order.
-fn visit_all(program: &Program, table: &mut [Option<Description>]) -> Result<(), Refusal>
+fn visit_all(
+    limits: &HelperLimits,
+    program: &Program,
+    table: &mut [Option<Description>],
+) -> Result<(), Refusal>
     requires program { IsProgram program.now }
     requires lawful { IsLawful program.now }
     requires whole { length table.old ≡ length program.now }
-    ensures { MatchResult result (λ _. visits program.now table.old 0 (length program.now) ≡ Ok table.new) (λ refusal. visits program.now table.old 0 (length program.now) ≡ Err refusal) }
+    ensures { MatchResult result (λ _. visits limits.now program.now table.old 0 (length program.now) ≡ Ok table.new) (λ refusal. visits limits.now program.now table.old 0 (length program.now) ≡ Err refusal) }
 {
     for place in 0..program.len() {
-        visit(program, table, place)?;
+        visit(limits, program, table, place)?;
     }
     Ok(())
 }
 
 // Checks one place, where something leads to it.
-fn visit(program: &Program, table: &mut [Option<Description>], place: usize) -> Result<(), Refusal>
+fn visit(
+    limits: &HelperLimits,
+    program: &Program,
+    table: &mut [Option<Description>],
+    place: usize,
+) -> Result<(), Refusal>
     requires program { IsProgram program.now }
     requires lawful { IsLawful program.now }
     requires place { place < length program.now }
     requires whole { length table.old ≡ length program.now }
-    ensures { MatchResult result (λ _. visit program.now table.old place ≡ Ok table.new) (λ refusal. visit program.now table.old place ≡ Err refusal) }
+    ensures { MatchResult result (λ _. visit limits.now program.now table.old place ≡ Ok table.new) (λ refusal. visit limits.now program.now table.old place ≡ Err refusal) }
 {
     let Some(description) = table[place] else {
         return Ok(());
@@ -60,7 +72,7 @@ fn visit(program: &Program, table: &mut [Option<Description>], place: usize) -> 
     let Some(insn) = program.fetch(place) else {
         return Ok(());
     };
-    match check(place, insn, &description) {
+    match check(limits, place, insn, &description) {
         Ok(flow) => follow(table, place + insn.slots(), &flow),
         Err(cause) => Err(Refusal::Check(cause, place)),
     }

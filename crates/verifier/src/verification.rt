@@ -32,7 +32,7 @@ pub fn verify(
         Ok(shape) => shape,
         Err(fault) => return Err(OrMemory::Fault(Refusal::Shape(fault))),
     };
-    pass(alloc, &shape)?;
+    pass(alloc, limits, &shape)?;
     let budget = budget(alloc, &shape)?;
     let program = program.try_clone()?;
     let limits = limits.try_clone()?;

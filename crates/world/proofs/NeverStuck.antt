@@ -2,10 +2,12 @@
 use Rattle.std.proofs.Common.{◌≡◌, ℕ, List, true, false, not, leb, Option, Some, None, inl, inr, refl, ap, sym, subst, ◌∙◌}
 use Rattle.std.specs.Prelude.{◌&&◌}
 use Rattle.std.specs.Option.{option_map, option_and_then}
-use Rattle.std.proofs.lemmas.Bool.{cond-true, and_parts, not-true}
-use Rattle.helpers.specs.declared.call.Request.{Request}
-use Rattle.helpers.specs.declared.call.Request.TheVariants.{Release, Requeue}
-use Rattle.helpers.specs.Rules.{is_held, meets_rule}
+use Rattle.std.proofs.lemmas.Bool.{cond-true, and_from, and_parts, not-true}
+use Rattle.helpers.specs.declared.helper.Helper.TheVariants as helpers
+use Rattle.helpers.specs.Table.{helper_in}
+use Rattle.helpers.specs.declared.request.Request.{Request}
+use Rattle.helpers.specs.declared.request.Request.TheVariants.{Release, Requeue}
+use Rattle.bpf_machine.specs.Calls.{is_held, meets_rule}
 use Rattle.bpf_machine.specs.MachineState.{MachineState}
 use Rattle.bpf_machine.specs.Step.{private_step, request_at, exit_at}
 use Rattle.bpf_machine.specs.Stuck.{is_stuck}
@@ -13,12 +15,12 @@ use Rattle.bpf_machine.specs.Progress.{HasStep, AtLawfulExit}
 use Rattle.bpf_machine.proofs.Progress.{progress_lem}
 use Rattle.world.specs.World.{Setup, LiveRun, World}
 use Rattle.world.specs.Lookups.{ccb_of, run_of}
-use Rattle.world.specs.Event.{release, requeue, Instruction, private, call, exit, executes, Reply}
+use Rattle.world.specs.Event.{Instruction, private, call, exit, executes, Reply}
 use Rattle.world.specs.RunSteps.{is_run, step_call, step_run, step_executes, releases, requeues}
 use Rattle.world.specs.Step.{WorldStep}
 use Rattle.world.specs.Headline.{HasOneStep, NeverStuck}
 use Rattle.world.proofs.Lists.Found.{found_key}
-use Rattle.world.proofs.Steps.Cases.{some_is, Executes, private_parts, release_parts, requeue_parts, exit_parts}
+use Rattle.world.proofs.Steps.Cases.{some_is, Executes, private_parts, call_parts, exit_parts}
 use Rattle.world.proofs.Steps.Moves.{run_key}
 use Rattle.world.proofs.Steps.Fates.{same_run}
 use Rattle.world.proofs.Reaching.{reached_goes}
@@ -28,8 +30,7 @@ use Rattle.world.proofs.Sound.{IsSound, run_sound}
 -- the machine of the run stands at such an instruction
 abbrev StandsAt : LiveRun → Instruction → Type 0
 StandsAt run private = (m : MachineState) × (private_step run.program run.machine ≡ Some m)
-StandsAt run (call release) = (f : ℕ) × (request_at run.program run.machine ≡ Some (Release f))
-StandsAt run (call requeue) = (n : ℕ) × (request_at run.program run.machine ≡ Some (Requeue n))
+StandsAt run (call helper) = (request : Request) × (request_at run.program run.machine ≡ Some request) × (helper ≡ helper_in request)
 StandsAt run exit = (r0 : ℕ) × (exit_at run.program run.machine ≡ Some r0)
 
 its_run : (world : World) (number : ℕ) (run : LiveRun) (instruction : Instruction) → run_of number world.runs ≡ Some run → (it : Executes world (executes number instruction) instruction) → it.run ≡ run
@@ -43,12 +44,9 @@ stands_at : (setup : Setup) (world : World) (number : ℕ) (run : LiveRun) (inst
 stands_at setup world number run private reply after found e =
     let it = private_parts setup world number reply after e in
     (it.machine, subst (λ (r : LiveRun). private_step r.program r.machine ≡ Some it.machine) (its_run world number run private found it.it) it.step)
-stands_at setup world number run (call release) reply after found e =
-    let it = release_parts setup world number reply after e in
-    (it.number, subst (λ (r : LiveRun). request_at r.program r.machine ≡ Some (Release it.number)) (its_run world number run (call release) found it.it) it.call_is)
-stands_at setup world number run (call requeue) reply after found e =
-    let it = requeue_parts setup world number reply after e in
-    (it.retries, subst (λ (r : LiveRun). request_at r.program r.machine ≡ Some (Requeue it.retries)) (its_run world number run (call requeue) found it.it) it.call_is)
+stands_at setup world number run (call helper) reply after found e =
+    let it = call_parts setup world number helper reply after e in
+    (it.request, subst (λ (r : LiveRun). request_at r.program r.machine ≡ Some it.request) (its_run world number run (call helper) found it.it) it.call_is, it.named)
 stands_at setup world number run exit reply after found e =
     let it = exit_parts setup world number reply after e in
     (it.r0, subst (λ (r : LiveRun). exit_at r.program r.machine ≡ Some it.r0) (its_run world number run exit found it.it) it.exit_is)
@@ -79,9 +77,11 @@ at_private setup world number run found out it =
   where
     only : (other : Instruction) → StandsAt run other → other ≡ private
     only private at = refl
-    only (call release) at = absurd (absent _ _ it.no_call at.1)
-    only (call requeue) at = absurd (absent _ _ it.no_call at.1)
+    only (call helper) at = absurd (absent _ _ it.no_call at.1)
     only exit at = absurd (absent _ _ it.no_exit at.1)
+
+same_call : (a b : Request) → Some a ≡ Some b → a ≡ b
+same_call a b e = cc
 
 -- a release whose freeze the run holds is the one
 at_release : (setup : Setup) (world : World) (number : ℕ) (run : LiveRun) → IsSound setup world → run_of number world.runs ≡ Some run → run.out ≡ true → (f : ℕ) → request_at run.program run.machine ≡ Some (Release f) → is_held run.machine.held f ≡ true → private_step run.program run.machine ≡ None → exit_at run.program run.machine ≡ None → HasOneStep setup world number
@@ -90,36 +90,35 @@ at_release setup world number run sound found out f call_is rule no_step no_exit
     (sym (ap (λ (ns : List ℕ). is_held ns f) (sound.held.machines number run found)) ∙ rule) in
     let named : run.number ≡ number = found_key run_key number world.runs run found in
     let its : is_run run.number among.0.holder ≡ true = subst (λ (n : ℕ). is_run n among.0.holder ≡ true) (sym named) among.2 in
-    one_step setup world number run found out (call release) _
-    (ap (option_and_then (step_call world run release)) call_is ∙ (ap (releases world run) among.1 ∙ cond-true (is_run run.number among.0.holder) _ None its))
+    one_step setup world number run found out (call helpers.Release) _
+    (ap (option_and_then (step_call world run helpers.Release)) call_is ∙ (ap (releases world run) among.1 ∙ cond-true (is_run run.number among.0.holder) _ None its))
     only
   where
-    only : (other : Instruction) → StandsAt run other → other ≡ call release
+    only : (other : Instruction) → StandsAt run other → other ≡ call helpers.Release
     only private at = absurd (absent _ _ no_step at.1)
-    only (call release) at = refl
-    only (call requeue) at = absurd (let bad : Some (Release f) ≡ Some (Requeue at.0) = sym call_is ∙ at.1 in cc)
+    only (call helper) at = ap call (at.2 ∙ ap helper_in (same_call _ _ (sym at.1 ∙ call_is)))
     only exit at = absurd (absent _ _ no_exit at.1)
 
 -- a requeue of a CCB that is not disposed of is the one
 at_requeue : (setup : Setup) (world : World) (number : ℕ) (run : LiveRun) → IsSound setup world → run_of number world.runs ≡ Some run → run.out ≡ true → (n : ℕ) → request_at run.program run.machine ≡ Some (Requeue n) → (leb n 1 && not run.machine.disposed) ≡ true → run.machine.disposed ≡ false → private_step run.program run.machine ≡ None → exit_at run.program run.machine ≡ None → HasOneStep setup world number
 at_requeue setup world number run sound found out n call_is rule fresh no_step no_exit =
     let recovery = sound.recovering.ccbs number run found fresh in
-    one_step setup world number run found out (call requeue) _
-    (ap (option_and_then (step_call world run requeue)) call_is
+    one_step setup world number run found out (call helpers.Requeue) _
+    (ap (option_and_then (step_call world run helpers.Requeue)) call_is
     ∙ (cond-true (leb n 1 && not run.machine.disposed) (requeues world run n (ccb_of run.ccb world.live)) None rule ∙ ap (requeues world run n) recovery.found))
     only
   where
-    only : (other : Instruction) → StandsAt run other → other ≡ call requeue
+    only : (other : Instruction) → StandsAt run other → other ≡ call helpers.Requeue
     only private at = absurd (absent _ _ no_step at.1)
-    only (call release) at = absurd (let bad : Some (Requeue n) ≡ Some (Release at.0) = sym call_is ∙ at.1 in cc)
-    only (call requeue) at = refl
+    only (call helper) at = ap call (at.2 ∙ ap helper_in (same_call _ _ (sym at.1 ∙ call_is)))
     only exit at = absurd (absent _ _ no_exit at.1)
 
-at_call : (setup : Setup) (world : World) (number : ℕ) (run : LiveRun) → IsSound setup world → run_of number world.runs ≡ Some run → run.out ≡ true → (request : Request) → request_at run.program run.machine ≡ Some request → meets_rule setup.limits run.machine.held run.machine.disposed request ≡ true → private_step run.program run.machine ≡ None → exit_at run.program run.machine ≡ None → HasOneStep setup world number
-at_call setup world number run sound found out (Release f) call_is rule no_step no_exit = at_release setup world number run sound found out f call_is rule no_step no_exit
+at_call : (setup : Setup) (world : World) (number : ℕ) (run : LiveRun) → IsSound setup world → run_of number world.runs ≡ Some run → run.out ≡ true → (request : Request) → request_at run.program run.machine ≡ Some request → meets_rule setup.limits run.machine request ≡ true → private_step run.program run.machine ≡ None → exit_at run.program run.machine ≡ None → HasOneStep setup world number
+at_call setup world number run sound found out (Release f) call_is rule no_step no_exit = at_release setup world number run sound found out f call_is (and_parts _ _ rule).0 no_step no_exit
 at_call setup world number run sound found out (Requeue n) call_is rule no_step no_exit =
-    let parts = and_parts (leb n 1) (not run.machine.disposed) rule in
-    at_requeue setup world number run sound found out n call_is rule (not-true _ parts.1) no_step no_exit
+    let parts = and_parts (not run.machine.disposed) _ rule in
+    let few = (and_parts _ _ (and_parts _ _ parts.1).0).1 in
+    at_requeue setup world number run sound found out n call_is (and_from _ _ few parts.0) (not-true _ parts.0) no_step no_exit
 
 -- the lawful exit is the one
 at_exit : (setup : Setup) (world : World) (number : ℕ) (run : LiveRun) → run_of number world.runs ≡ Some run → run.out ≡ true → AtLawfulExit run.program run.machine → HasOneStep setup world number
@@ -128,8 +127,7 @@ at_exit setup world number run found out it =
   where
     only : (other : Instruction) → StandsAt run other → other ≡ exit
     only private at = absurd (absent _ _ it.no_step at.1)
-    only (call release) at = absurd (absent _ _ it.no_call at.1)
-    only (call requeue) at = absurd (absent _ _ it.no_call at.1)
+    only (call helper) at = absurd (absent _ _ it.no_call at.1)
     only exit at = refl
 
 has_one_step : (setup : Setup) (world : World) (number : ℕ) (run : LiveRun) → IsSound setup world → run_of number world.runs ≡ Some run → is_stuck run.program setup.limits run.machine ≡ false → run.out ≡ true → HasOneStep setup world number

@@ -1,14 +1,8 @@
 -- What may happen in the world, and what is answered. One instruction of one run is one event.
 use Rattle.std.specs.Prelude.{ℕ, ◌==◌, Option, Some, None, if◌then◌else◌}
 use Rattle.ccb.specs.Completion.{Outcome}
+use Rattle.helpers.specs.declared.helper.Helper.{Helper}
 use Rattle.world.specs.declared.refusal.Refusal.{Refusal}
-
--- a helper of recovery programs, by what it does
-pub data Helper : Type 0 where
-  -- helper 2
-  release : Helper
-  -- helper 4
-  requeue : Helper
 
 -- what one instruction of a run is: private to the run, a call of a helper, or the outermost exit
 pub data Instruction : Type 0 where

@@ -6,11 +6,11 @@ use Rattle.world.specs.declared.refusal.Refusal.{Refusal}
 use Rattle.world.specs.declared.record.Completed.{Completed}
 use Rattle.world.specs.declared.record.Completed.TheVariants.{Done, Started}
 use Rattle.world.specs.declared.record.StoppedAt.{StoppedAt}
-use Rattle.world.specs.declared.record.StoppedAt.TheVariants.{Release, Requeue, Exit}
+use Rattle.world.specs.declared.record.StoppedAt.TheVariants.{Helper, Exit}
 use Rattle.world.specs.declared.record.Record.{Record}
 use Rattle.world.specs.declared.record.Record.TheVariants.{Submit, Dispatch, Complete, Advance, GuestFreeze, GuestRelease}
 use Rattle.world.specs.World.{Setup, World}
-use Rattle.world.specs.Event.{release, requeue, Instruction, private, call, exit, Event, submit, dispatch, complete, guest_freeze, guest_release, executes, Reply, ccb_given, done, run_started, freeze_given, count_left, went_on, result, refused}
+use Rattle.world.specs.Event.{Instruction, private, call, exit, Event, submit, dispatch, complete, guest_freeze, guest_release, executes, Reply, ccb_given, done, run_started, freeze_given, count_left, went_on, result, refused}
 use Rattle.world.specs.WorldRun.{Leads}
 
 -- what is answered to a call that gives the number of a CCB
@@ -31,8 +31,7 @@ freeze_reply (Err refusal) = refused refusal
 
 -- the instruction at which a run stopped
 abbrev pub stop_of : StoppedAt → Instruction
-stop_of Release = call release
-stop_of Requeue = call requeue
+stop_of (Helper helper) = call helper
 stop_of Exit = exit
 
 -- An advance by so many instructions: all but the last are private. One by no instruction is none: it claims a helper

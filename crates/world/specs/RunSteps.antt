@@ -6,14 +6,16 @@ use Rattle.freeze_ledger.specs.declared.freeze.Holder.{Holder}
 use Rattle.freeze_ledger.specs.declared.freeze.Holder.TheVariants.{Run, Timer, Guest}
 use Rattle.freeze_ledger.specs.declared.freeze.Freeze.{Freeze}
 use Rattle.freeze_ledger.specs.Freezes.{entry_of}
-use Rattle.helpers.specs.declared.call.Request.{Request}
-use Rattle.helpers.specs.declared.call.Request.TheVariants.{Release, Requeue}
+use Rattle.helpers.specs.declared.helper.Helper.{Helper}
+use Rattle.helpers.specs.declared.request.Request.{Request}
+use Rattle.helpers.specs.declared.request.Request.TheVariants.{Release, Requeue}
+use Rattle.helpers.specs.Table.{helper_in, is_helper}
 use Rattle.bpf_machine.specs.MachineState.{MachineState}
 use Rattle.bpf_machine.specs.Step.{private_step, request_at, exit_at, answered}
 use Rattle.world.specs.declared.ccb_state.CcbState.TheVariants.{Waiting}
 use Rattle.world.specs.World.{LiveCcb, LiveRun, World}
 use Rattle.world.specs.Lookups.{ccb_of, with_ccb, with_run}
-use Rattle.world.specs.Event.{Helper, release, requeue, Instruction, private, call, exit, Reply, went_on, result}
+use Rattle.world.specs.Event.{Instruction, private, call, exit, Reply, went_on, result}
 use Rattle.world.specs.FreezeSteps.{frozen_with, thawed}
 
 -- the holder is the run of this number
@@ -46,13 +48,15 @@ requeues world run retries (Some live) =
     let after = record world { live = with_ccb (record { ccb = requeued live.ccb retries; state = Waiting }) world.live } in
     Some (answers after run (Requeue retries) 0)
 
--- no event unless the machine stands at a call of this very helper, and the helper's rule holds
-abbrev pub step_call : World → LiveRun → Helper → Request → Option (Reply × World)
-step_call world run release (Release freeze) = releases world run (entry_of freeze world.freezes)
-step_call world run requeue (Requeue retries) =
+-- no event unless the helper's rule holds
+abbrev pub step_request : World → LiveRun → Request → Option (Reply × World)
+step_request world run (Release freeze) = releases world run (entry_of freeze world.freezes)
+step_request world run (Requeue retries) =
     if nat_le retries 1 && not run.machine.disposed then requeues world run retries (ccb_of run.ccb world.live) else None
-step_call world run release (Requeue retries) = None
-step_call world run requeue (Release freeze) = None
+
+-- no event unless the machine stands at a call of this very helper
+abbrev pub step_call : World → LiveRun → Helper → Request → Option (Reply × World)
+step_call world run helper request = if is_helper helper (helper_in request) then step_request world run request else None
 
 -- the run is gone
 abbrev pub ends : World → LiveRun → World

@@ -1,11 +1,11 @@
 -- The freezes that a run got and gave up, read along a run of the world.
 use Rattle.std.specs.Prelude.{ℕ, ◌==◌, ◌&&◌, not, if◌then◌else◌, List, [], ◌∷◌, ◌++◌, Option, Some, None}
-use Rattle.helpers.specs.declared.call.Request.{Request}
-use Rattle.helpers.specs.declared.call.Request.TheVariants.{Release, Requeue}
+use Rattle.helpers.specs.declared.request.Request.{Request}
+use Rattle.helpers.specs.declared.request.Request.TheVariants.{Release, Requeue}
 use Rattle.bpf_machine.specs.Step.{request_at}
 use Rattle.world.specs.World.{Setup, LiveRun, World}
 use Rattle.world.specs.Lookups.{run_of}
-use Rattle.world.specs.Event.{release, requeue, Instruction, private, call, exit, Event, instruction_of, Reply, run_started}
+use Rattle.world.specs.Event.{Instruction, private, call, exit, Event, instruction_of, Reply, run_started}
 use Rattle.world.specs.WorldRun.{Leads}
 
 -- the freeze that an event gives to this run by its reply: that of its start, if it got one
@@ -24,12 +24,11 @@ abbrev pub request_of_run : Option LiveRun → Option Request
 request_of_run None = None
 request_of_run (Some run) = request_at run.program run.machine
 
--- the freeze that an instruction gives up by this request: that which helper 2 is asked to give back
+-- the freeze that an instruction gives up by this request: that which a helper is asked to give back
 abbrev pub given_up : Option Instruction → Option Request → List ℕ
 given_up None request = []
 given_up (Some private) request = []
-given_up (Some (call release)) request = asked request
-given_up (Some (call requeue)) request = []
+given_up (Some (call helper)) request = asked request
 given_up (Some exit) request = []
 
 -- the freeze that an event takes from this run

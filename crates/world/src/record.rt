@@ -1,8 +1,9 @@
 // What an engine's history is made of: one record for each answered call. It relies on `ccb` for names and
-// completions, and on `refusal` for what a refused call answers.
+// completions, on `helpers` for where a run stops, and on `refusal` for what a refused call answers.
 
 use crate::refusal::Refusal;
 use ccb::{CcbId, Completion, QueueId};
+use helpers::Helper;
 
 /// What a completion led to.
 #[derive(Clone, Copy, Debug, PartialEq, Eq)]
@@ -13,13 +14,11 @@ pub enum Completed {
     Started { run: u32, freeze: u32 },
 }
 
-/// Where a run stopped: at a call of a helper, or at its exit.
+/// Where a run stopped.
 #[derive(Clone, Copy, Debug, PartialEq, Eq)]
 pub enum StoppedAt {
-    /// A call of helper 2.
-    Release,
-    /// A call of helper 4.
-    Requeue,
+    /// A call of this helper.
+    Helper(Helper),
     /// The outermost exit.
     Exit,
 }

@@ -7,6 +7,7 @@ use engine_core::{
     AdvanceAnswer, AdvanceFault, CallFault, CompleteAnswer, Completed, Engine, Record, Run,
     StoppedAt,
 };
+use helpers::Helper;
 use interpreter::{Segment, to_stop};
 use std::alloc::Global;
 use std::process::Abort;
@@ -227,8 +228,8 @@ fn failed_once_and_memory_refused_once(rt: HostRuntime) -> Result<(), Fail> {
             completion: completion(1, CamStatus::CommandTimeout)?,
             answer: Ok(Completed::Started { run: 1, freeze: 1 }),
         },
-        advanced(3, StoppedAt::Release),
-        advanced(2, StoppedAt::Requeue),
+        advanced(3, StoppedAt::Helper(Helper::Release)),
+        advanced(2, StoppedAt::Helper(Helper::Requeue)),
         advanced(2, StoppedAt::Exit),
     ];
     assert_eq!(rt; trace.records.as_slice(), records.as_slice());

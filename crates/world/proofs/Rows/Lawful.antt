@@ -1,13 +1,13 @@
 -- The worked setup of one queue is lawful: its program is never stuck, and no run of it executes more than 7
 -- instructions. So the laws speak of the worked run.
 use Rattle.std.proofs.Common.{◌≡◌, ℕ, zero, suc, ◌≤◌, List, [], ◌∷◌, Bool, true, false, not, cond, eqb, Option, Some, None, inl, inr, refl, ap, sym, subst, ◌∙◌, arith}
-use Rattle.std.specs.Prelude.{◌||◌}
+use Rattle.std.specs.Prelude.{◌&&◌, ◌||◌}
 use Rattle.std.proofs.lemmas.List.Elements.{All-nil, All-cons}
 use Rattle.std.proofs.lemmas.Bool.{cases_Bool, cond-false, eq-eqb, not_from_true}
 use Rattle.helpers.specs.declared.limits.HelperLimits.{HelperLimits}
-use Rattle.helpers.specs.declared.call.Request.{Request}
-use Rattle.helpers.specs.declared.call.Request.TheVariants.{Release, Requeue}
-use Rattle.helpers.specs.declared.call.Answer.{Answer}
+use Rattle.helpers.specs.declared.request.Request.{Request}
+use Rattle.helpers.specs.declared.request.Request.TheVariants.{Release, Requeue}
+use Rattle.helpers.specs.declared.request.Answer.{Answer}
 use Rattle.bpf_machine.specs.MachineState.{MachineState, entry, unwritten_frame, context_address, frame_pointer}
 use Rattle.bpf_machine.specs.Step.{private_step, request_at, Allowed}
 use Rattle.bpf_machine.specs.Stuck.{is_stuck}
@@ -101,7 +101,7 @@ goes : (limits : HelperLimits) (n : ℕ) (m : MachineState) → Known n m → is
 goes limits n m (at_jump context freeze first is) = ap (is_stuck program limits) is
 goes limits n m (at_copy context freeze second is) = ap (is_stuck program limits) is
 goes limits n m (at_release context freeze third is) =
-    ap (is_stuck program limits) is ∙ ap (λ (b : Bool). not (b || false)) (eq-eqb freeze freeze refl)
+    ap (is_stuck program limits) is ∙ ap (λ (b : Bool). not ((b || false) && true)) (eq-eqb freeze freeze refl)
 goes limits n m (at_constant context r0 r1 rest few is) = ap (is_stuck program limits) is
 goes limits n m (at_requeue context r0 rest few is) = ap (is_stuck program limits) is
 goes limits n m (at_result context r0 rest few is) = ap (is_stuck program limits) is

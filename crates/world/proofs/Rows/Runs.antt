@@ -2,16 +2,17 @@
 -- wait again.
 use Rattle.std.proofs.Common.{◌≡◌, false, List, [], ◌∷◌, map, Some, None, Ok, refl}
 use Rattle.ccb.specs.declared.cam_status.CamStatus.TheVariants.{CommandTimeout, RequestInProgress, RequestCompleted}
+use Rattle.helpers.specs.declared.helper.Helper.TheVariants as helpers
 use Rattle.freeze_ledger.specs.declared.freeze.Holder.TheVariants.{Run}
 use Rattle.helpers.specs.declared.limits.HelperLimits.{HelperLimits}
 use Rattle.world.specs.declared.record.Completed.TheVariants.{Started}
-use Rattle.world.specs.declared.record.StoppedAt.TheVariants.{Release, Requeue, Exit}
+use Rattle.world.specs.declared.record.StoppedAt.TheVariants.{Helper, Exit}
 use Rattle.world.specs.declared.record.Record.{Record}
 use Rattle.world.specs.declared.record.Record.TheVariants.{Submit, Dispatch, Complete, Advance}
 use Rattle.world.specs.declared.refusal.Refusal.TheVariants.{NotActive, Frozen}
 use Rattle.world.specs.declared.ccb_state.CcbState.TheVariants.{Waiting}
 use Rattle.world.specs.World.{LiveRun, World, opening}
-use Rattle.world.specs.Event.{release, requeue, private, call, exit, Event, submit, dispatch, complete, executes, Reply, ccb_given, run_started, went_on, result, refused}
+use Rattle.world.specs.Event.{private, call, exit, Event, submit, dispatch, complete, executes, Reply, ccb_given, run_started, went_on, result, refused}
 use Rattle.world.specs.Step.{step}
 use Rattle.world.specs.WorldRun.{WorldRun, world_after}
 use Rattle.world.specs.TookGave.{took, gave}
@@ -34,13 +35,13 @@ abbrev at_release : HelperLimits → World
 at_release l = next (one_queue l) (next (one_queue l) (failed l) (executes 1 private)) (executes 1 private)
 
 abbrev released : HelperLimits → World
-released l = next (one_queue l) (at_release l) (executes 1 (call release))
+released l = next (one_queue l) (at_release l) (executes 1 (call helpers.Release))
 
 abbrev at_requeue : HelperLimits → World
 at_requeue l = next (one_queue l) (released l) (executes 1 private)
 
 abbrev requeued_one : HelperLimits → World
-requeued_one l = next (one_queue l) (at_requeue l) (executes 1 (call requeue))
+requeued_one l = next (one_queue l) (at_requeue l) (executes 1 (call helpers.Requeue))
 
 abbrev at_exit : HelperLimits → World
 at_exit l = next (one_queue l) (requeued_one l) (executes 1 private)
@@ -77,8 +78,8 @@ records =
     Submit (record { 0 = 0 }) 10 3 (Ok (record { 0 = 1 }))
     ∷ Dispatch (record { 0 = 0 }) (Ok (record { 0 = 1 }))
     ∷ Complete (outcome_of 1 CommandTimeout) (Ok (Started 1 1))
-    ∷ Advance 1 3 Release 0
-    ∷ Advance 1 2 Requeue 0
+    ∷ Advance 1 3 (Helper helpers.Release) 0
+    ∷ Advance 1 2 (Helper helpers.Requeue) 0
     ∷ Advance 1 2 Exit 0 ∷ []
 
 abbrev events : List (Event × Reply)
@@ -86,8 +87,8 @@ events =
     (submit 0 10 3, ccb_given 1)
     ∷ (dispatch 0, ccb_given 1)
     ∷ (complete (outcome_of 1 CommandTimeout), run_started 1 1)
-    ∷ (executes 1 private, went_on) ∷ (executes 1 private, went_on) ∷ (executes 1 (call release), result 0)
-    ∷ (executes 1 private, went_on) ∷ (executes 1 (call requeue), result 0)
+    ∷ (executes 1 private, went_on) ∷ (executes 1 private, went_on) ∷ (executes 1 (call helpers.Release), result 0)
+    ∷ (executes 1 private, went_on) ∷ (executes 1 (call helpers.Requeue), result 0)
     ∷ (executes 1 private, went_on) ∷ (executes 1 exit, result 0) ∷ []
 
 what_they_stand_for : flat records ≡ events
@@ -182,13 +183,13 @@ completed_again l = refl
 no_private : (l : HelperLimits) → step (one_queue l) (at_release l) (executes 1 private) ≡ None
 no_private l = refl
 
-no_requeue : (l : HelperLimits) → step (one_queue l) (at_release l) (executes 1 (call requeue)) ≡ None
+no_requeue : (l : HelperLimits) → step (one_queue l) (at_release l) (executes 1 (call helpers.Requeue)) ≡ None
 no_requeue l = refl
 
 no_exit : (l : HelperLimits) → step (one_queue l) (at_release l) (executes 1 exit) ≡ None
 no_exit l = refl
 
-no_other_run : (l : HelperLimits) → step (one_queue l) (at_release l) (executes 2 (call release)) ≡ None
+no_other_run : (l : HelperLimits) → step (one_queue l) (at_release l) (executes 2 (call helpers.Release)) ≡ None
 no_other_run l = refl
 
 -- a run that is not out executes nothing

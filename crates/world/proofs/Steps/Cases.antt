@@ -1,15 +1,19 @@
 -- The cases of a step: what holds before it, what is answered, and what is after it. A proof about steps goes by these.
-use Rattle.std.proofs.Common.{◌≡◌, ℕ, ◌+◌, ◌<◌, ◌≤◌, [], ◌∷◌, ◌++◌, Bool, true, false, not, leb, ltb, Option, Some, None, inl, inr, refl, ap, sym, ◌∙◌, arith}
+use Rattle.std.proofs.Common.{◌≡◌, ℕ, ◌+◌, ◌<◌, ◌≤◌, [], ◌∷◌, ◌++◌, Bool, true, false, not, leb, ltb, Option, Some, None, inl, inr, refl, ap, sym, subst, ◌∙◌, arith}
 use Rattle.std.specs.Prelude.{◌&&◌, slice_index}
 use Rattle.std.specs.Option.{option_map, option_and_then}
 use Rattle.std.proofs.lemmas.Bool.{cases_Bool, cond-true, cond-false, leb-true, leb-false, ltb-false, and_parts, not-true, not-false}
 use Rattle.ccb.specs.Completion.{Outcome}
 use Rattle.ccb.specs.Ccb.{submitted, started, completed, requeued}
+use Rattle.helpers.specs.declared.helper.Helper.{Helper}
+use Rattle.helpers.specs.declared.helper.Helper.TheVariants as helpers
+use Rattle.helpers.specs.Table.{helper_in, is_helper}
+use Rattle.helpers.proofs.Numbers.{same_helper}
 use Rattle.freeze_ledger.specs.declared.freeze.Holder.TheVariants.{Run, Guest}
 use Rattle.freeze_ledger.specs.declared.freeze.Freeze.{Freeze}
 use Rattle.freeze_ledger.specs.Freezes.{frozen, meets_limit, entry_of, without}
-use Rattle.helpers.specs.declared.call.Request.{Request}
-use Rattle.helpers.specs.declared.call.Request.TheVariants.{Release, Requeue}
+use Rattle.helpers.specs.declared.request.Request.{Request}
+use Rattle.helpers.specs.declared.request.Request.TheVariants.{Release, Requeue}
 use Rattle.bpf_machine.specs.MachineState.{MachineState}
 use Rattle.bpf_machine.specs.Step.{private_step, request_at, exit_at}
 use Rattle.world.specs.declared.refusal.Refusal.{Refusal}
@@ -17,7 +21,7 @@ use Rattle.world.specs.declared.refusal.Refusal.TheVariants.{Unknown, Limit, Not
 use Rattle.world.specs.declared.ccb_state.CcbState.TheVariants.{Waiting, Active}
 use Rattle.world.specs.World.{Setup, queue_count, LiveCcb, LiveRun, World}
 use Rattle.world.specs.Lookups.{is_active, active_count, ccb_of, with_ccb, next_waiting, run_of}
-use Rattle.world.specs.Event.{release, requeue, Instruction, private, call, exit, Event, instruction_of, submit, dispatch, complete, guest_freeze, guest_release, executes, Reply, ccb_given, done, freeze_given, count_left, went_on, result, refused}
+use Rattle.world.specs.Event.{Instruction, private, call, exit, Event, instruction_of, submit, dispatch, complete, guest_freeze, guest_release, executes, Reply, ccb_given, done, freeze_given, count_left, went_on, result, refused}
 use Rattle.world.specs.FreezeSteps.{frozen_with, is_guest, froze, thawed, step_guest_release}
 use Rattle.world.specs.CcbSteps.{ccb_meets_limit, starts, is_success, run_meets_limit, finishes, run_starts, completes, is_completion}
 use Rattle.world.specs.RunSteps.{is_run, goes_on, answers, releases, requeues, step_call, ends, step_run, step_executes}
@@ -132,7 +136,7 @@ pub record GoesOn (before : World) (event : Event) (reply : Reply) (after : Worl
 
 -- a call of helper 2
 pub record GivesBack (before : World) (event : Event) (reply : Reply) (after : World) : Type 0 where
-  pub it : Executes before event (call release)
+  pub it : Executes before event (call helpers.Release)
   pub number : ℕ
   pub call_is : request_at it.run.program it.run.machine ≡ Some (Release number)
   pub freeze : Freeze
@@ -142,7 +146,7 @@ pub record GivesBack (before : World) (event : Event) (reply : Reply) (after : W
 
 -- a call of helper 4
 pub record Requeues (before : World) (event : Event) (reply : Reply) (after : World) : Type 0 where
-  pub it : Executes before event (call requeue)
+  pub it : Executes before event (call helpers.Requeue)
   pub retries : ℕ
   pub call_is : request_at it.run.program it.run.machine ≡ Some (Requeue retries)
   pub few : retries ≤ 1
@@ -341,7 +345,7 @@ private_found before event reply after it (Some machine) step e =
     let last = some_is _ _ e in
     record { it = it; machine = machine; step = step; reply_is = ap (λ (x : Reply × World). x.0) last; after_is = ap (λ (x : Reply × World). x.1) last }
 
-release_found : (before : World) (event : Event) (reply : Reply) (after : World) (it : Executes before event (call release)) (number : ℕ) → request_at it.run.program it.run.machine ≡ Some (Release number) → (o : Option Freeze) → entry_of number before.freezes ≡ o → releases before it.run o ≡ Some (reply, after) → GivesBack before event reply after
+release_found : (before : World) (event : Event) (reply : Reply) (after : World) (it : Executes before event (call helpers.Release)) (number : ℕ) → request_at it.run.program it.run.machine ≡ Some (Release number) → (o : Option Freeze) → entry_of number before.freezes ≡ o → releases before it.run o ≡ Some (reply, after) → GivesBack before event reply after
 release_found before event reply after it number call_is None entry e = absurd cc
 release_found before event reply after it number call_is (Some f) entry e =
     elim (cases_Bool (is_run it.run.number f.holder)) [
@@ -357,18 +361,18 @@ release_found before event reply after it number call_is (Some f) entry e =
       | inr other ↦ let none = sym (cond-false (is_run it.run.number f.holder) _ _ other) ∙ e in absurd cc
     ]
 
-requeue_found : (before : World) (event : Event) (reply : Reply) (after : World) (it : Executes before event (call requeue)) (retries : ℕ) → request_at it.run.program it.run.machine ≡ Some (Requeue retries) → retries ≤ 1 → it.run.machine.disposed ≡ false → (o : Option LiveCcb) → ccb_of it.run.ccb before.live ≡ o → requeues before it.run retries o ≡ Some (reply, after) → Requeues before event reply after
+requeue_found : (before : World) (event : Event) (reply : Reply) (after : World) (it : Executes before event (call helpers.Requeue)) (retries : ℕ) → request_at it.run.program it.run.machine ≡ Some (Requeue retries) → retries ≤ 1 → it.run.machine.disposed ≡ false → (o : Option LiveCcb) → ccb_of it.run.ccb before.live ≡ o → requeues before it.run retries o ≡ Some (reply, after) → Requeues before event reply after
 requeue_found before event reply after it retries call_is few fresh None found e = absurd cc
 requeue_found before event reply after it retries call_is few fresh (Some live) found e =
     record { it = it; retries = retries; call_is = call_is; few = few; fresh = fresh; live = live; found = found; answer = some_is _ _ e }
 
-call_release_found : (before : World) (event : Event) (reply : Reply) (after : World) (it : Executes before event (call release)) (o : Option Request) → request_at it.run.program it.run.machine ≡ o → option_and_then (step_call before it.run release) o ≡ Some (reply, after) → GivesBack before event reply after
+call_release_found : (before : World) (event : Event) (reply : Reply) (after : World) (it : Executes before event (call helpers.Release)) (o : Option Request) → request_at it.run.program it.run.machine ≡ o → option_and_then (step_call before it.run helpers.Release) o ≡ Some (reply, after) → GivesBack before event reply after
 call_release_found before event reply after it None call_is e = absurd cc
 call_release_found before event reply after it (Some (Release number)) call_is e =
     release_found before event reply after it number call_is (entry_of number before.freezes) refl e
 call_release_found before event reply after it (Some (Requeue retries)) call_is e = absurd cc
 
-call_requeue_found : (before : World) (event : Event) (reply : Reply) (after : World) (it : Executes before event (call requeue)) (o : Option Request) → request_at it.run.program it.run.machine ≡ o → option_and_then (step_call before it.run requeue) o ≡ Some (reply, after) → Requeues before event reply after
+call_requeue_found : (before : World) (event : Event) (reply : Reply) (after : World) (it : Executes before event (call helpers.Requeue)) (o : Option Request) → request_at it.run.program it.run.machine ≡ o → option_and_then (step_call before it.run helpers.Requeue) o ≡ Some (reply, after) → Requeues before event reply after
 call_requeue_found before event reply after it None call_is e = absurd cc
 call_requeue_found before event reply after it (Some (Release number)) call_is e = absurd cc
 call_requeue_found before event reply after it (Some (Requeue retries)) call_is e =
@@ -410,20 +414,50 @@ private_parts setup before number reply after e =
     let i = executes_parts setup before number private reply after e in
     private_found before (executes number private) reply after i.it (private_step i.it.run.program i.it.run.machine) refl i.step
 
-pub release_parts : (setup : Setup) (before : World) (number : ℕ) (reply : Reply) (after : World) → WorldStep setup before (executes number (call release)) reply after → GivesBack before (executes number (call release)) reply after
+pub release_parts : (setup : Setup) (before : World) (number : ℕ) (reply : Reply) (after : World) → WorldStep setup before (executes number (call helpers.Release)) reply after → GivesBack before (executes number (call helpers.Release)) reply after
 release_parts setup before number reply after e =
-    let i = executes_parts setup before number (call release) reply after e in
-    call_release_found before (executes number (call release)) reply after i.it (request_at i.it.run.program i.it.run.machine) refl i.step
+    let i = executes_parts setup before number (call helpers.Release) reply after e in
+    call_release_found before (executes number (call helpers.Release)) reply after i.it (request_at i.it.run.program i.it.run.machine) refl i.step
 
-pub requeue_parts : (setup : Setup) (before : World) (number : ℕ) (reply : Reply) (after : World) → WorldStep setup before (executes number (call requeue)) reply after → Requeues before (executes number (call requeue)) reply after
+pub requeue_parts : (setup : Setup) (before : World) (number : ℕ) (reply : Reply) (after : World) → WorldStep setup before (executes number (call helpers.Requeue)) reply after → Requeues before (executes number (call helpers.Requeue)) reply after
 requeue_parts setup before number reply after e =
-    let i = executes_parts setup before number (call requeue) reply after e in
-    call_requeue_found before (executes number (call requeue)) reply after i.it (request_at i.it.run.program i.it.run.machine) refl i.step
+    let i = executes_parts setup before number (call helpers.Requeue) reply after e in
+    call_requeue_found before (executes number (call helpers.Requeue)) reply after i.it (request_at i.it.run.program i.it.run.machine) refl i.step
 
 pub exit_parts : (setup : Setup) (before : World) (number : ℕ) (reply : Reply) (after : World) → WorldStep setup before (executes number exit) reply after → Exits before (executes number exit) reply after
 exit_parts setup before number reply after e =
     let i = executes_parts setup before number exit reply after e in
     exit_found before (executes number exit) reply after i.it (exit_at i.it.run.program i.it.run.machine) refl i.step
+
+-- a call is that of the helper which its request names
+pub record IsCall (before : World) (number : ℕ) (helper : Helper) : Type 0 where
+  pub it : Executes before (executes number (call helper)) (call helper)
+  pub request : Request
+  pub call_is : request_at it.run.program it.run.machine ≡ Some request
+  pub named : helper ≡ helper_in request
+
+call_found : (before : World) (number : ℕ) (helper : Helper) (reply : Reply) (after : World) (it : Executes before (executes number (call helper)) (call helper)) (o : Option Request) → request_at it.run.program it.run.machine ≡ o → option_and_then (step_call before it.run helper) o ≡ Some (reply, after) → IsCall before number helper
+call_found before number helper reply after it None call_is e = absurd cc
+call_found before number helper reply after it (Some request) call_is e =
+    elim (cases_Bool (is_helper helper (helper_in request))) [
+      | inl same ↦ record { it = it; request = request; call_is = call_is; named = same_helper helper (helper_in request) same }
+      | inr other ↦ let none = sym (cond-false (is_helper helper (helper_in request)) _ _ other) ∙ e in absurd cc
+    ]
+
+pub call_parts : (setup : Setup) (before : World) (number : ℕ) (helper : Helper) (reply : Reply) (after : World) → WorldStep setup before (executes number (call helper)) reply after → IsCall before number helper
+call_parts setup before number helper reply after e =
+    let i = executes_parts setup before number (call helper) reply after e in
+    call_found before number helper reply after i.it (request_at i.it.run.program i.it.run.machine) refl i.step
+
+by_request : (setup : Setup) (before : World) (number : ℕ) (reply : Reply) (after : World) (request : Request) → WorldStep setup before (executes number (call (helper_in request))) reply after → Case setup before (executes number (call (helper_in request))) reply after
+by_request setup before number reply after (Release freeze) e = gives_back (release_parts setup before number reply after e)
+by_request setup before number reply after (Requeue retries) e = requeues_one (requeue_parts setup before number reply after e)
+
+called_case : (setup : Setup) (before : World) (number : ℕ) (helper : Helper) (reply : Reply) (after : World) → WorldStep setup before (executes number (call helper)) reply after → Case setup before (executes number (call helper)) reply after
+called_case setup before number helper reply after e =
+    let i = call_parts setup before number helper reply after e in
+    subst (λ (h : Helper). Case setup before (executes number (call h)) reply after) (sym i.named)
+    (by_request setup before number reply after i.request (subst (λ (h : Helper). WorldStep setup before (executes number (call h)) reply after) i.named e))
 
 pub case_of : (setup : Setup) (before : World) (event : Event) (reply : Reply) (after : World) → WorldStep setup before event reply after → Case setup before event reply after
 case_of setup before (submit queue priority retries) reply after e = submit_case setup before queue priority retries reply after e
@@ -438,6 +472,5 @@ case_of setup before (complete outcome) reply after e =
 case_of setup before (guest_freeze queue guest) reply after e = guest_freeze_case setup before queue guest reply after e
 case_of setup before (guest_release number) reply after e = releases_one (guest_release_parts setup before number reply after e)
 case_of setup before (executes number private) reply after e = goes_on_one (private_parts setup before number reply after e)
-case_of setup before (executes number (call release)) reply after e = gives_back (release_parts setup before number reply after e)
-case_of setup before (executes number (call requeue)) reply after e = requeues_one (requeue_parts setup before number reply after e)
+case_of setup before (executes number (call helper)) reply after e = called_case setup before number helper reply after e
 case_of setup before (executes number exit) reply after e = exits (exit_parts setup before number reply after e)

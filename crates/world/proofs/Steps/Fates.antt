@@ -2,16 +2,17 @@
 use Rattle.std.proofs.Common.{◌≡◌, ℕ, ◌+◌, ◌≤◌, List, [], ◌∷◌, Bool, true, false, not, cond, eqb, Some, None, inl, inr, refl, ap, sym, subst, ◌∙◌, arith}
 use Rattle.std.specs.List.{filter}
 use Rattle.std.proofs.lemmas.Bool.{cases_eq, eq-eqb}
+use Rattle.helpers.specs.declared.helper.Helper.TheVariants as helpers
 use Rattle.freeze_ledger.specs.declared.freeze.Freeze.{Freeze}
 use Rattle.freeze_ledger.specs.Freezes.{entry_of, without}
-use Rattle.helpers.specs.declared.call.Request.TheVariants.{Release, Requeue}
+use Rattle.helpers.specs.declared.request.Request.TheVariants.{Release, Requeue}
 use Rattle.bpf_machine.specs.MachineState.{MachineState}
 use Rattle.bpf_machine.specs.Step.{request_at, exit_at, answered}
 use Rattle.bpf_machine.specs.Reached.{Steps}
 use Rattle.world.specs.FreezeSteps.{frozen_with}
 use Rattle.world.specs.World.{Setup, LiveRun, World}
 use Rattle.world.specs.Lookups.{run_of, with_run}
-use Rattle.world.specs.Event.{release, requeue, Instruction, private, call, exit, Event, instruction_of, Reply}
+use Rattle.world.specs.Event.{Instruction, private, call, exit, Event, instruction_of, Reply}
 use Rattle.world.specs.RunSteps.{is_run}
 use Rattle.world.specs.TookGave.{asked, given_up}
 use Rattle.world.specs.Headline.{is_disposal, is_exit}
@@ -114,13 +115,13 @@ fate_of setup before event reply after number run kept found (goes_on_one it) =
 fate_of setup before event reply after number run kept found (gives_back it) =
     let parts = pair_parts _ _ it.answer in
     let named : it.it.run.number ≡ it.it.number = found_key run_key it.it.number before.runs it.it.run it.it.found in
-    one_goes before event after (call release) it.it _ (ap (λ (w : World). w.runs) parts.1) refl (release_steps setup before it.it.run it.number it.freeze kept it.call_is it.entry)
+    one_goes before event after (call helpers.Release) it.it _ (ap (λ (w : World). w.runs) parts.1) refl (release_steps setup before it.it.run it.number it.freeze kept it.call_is it.entry)
     (gives_one_back it.number it.freeze it.entry (subst (λ (n : ℕ). is_run n it.freeze.holder ≡ true) named it.held) refl refl (ap (λ (w : World). w.freezes) parts.1) (ap (λ (w : World). w.live) parts.1) (ap asked it.call_is) refl)
     number run found
 fate_of setup before event reply after number run kept found (requeues_one it) =
     let parts = pair_parts _ _ it.answer in
-    one_goes before event after (call requeue) it.it _ (ap (λ (w : World). w.runs) parts.1) refl (requeue_steps it.it.run it.retries it.call_is)
-    (disposes_of_it refl it.fresh refl (ap (λ (w : World). w.freezes) parts.1) refl refl)
+    one_goes before event after (call helpers.Requeue) it.it _ (ap (λ (w : World). w.runs) parts.1) refl (requeue_steps it.it.run it.retries it.call_is)
+    (disposes_of_it refl it.fresh refl (ap (λ (w : World). w.freezes) parts.1) (ap asked it.call_is) refl)
     number run found
 fate_of setup before event reply after number run kept found (exits it) =
     let named : it.it.run.number ≡ it.it.number = found_key run_key it.it.number before.runs it.it.run it.it.found in

@@ -16,22 +16,22 @@ moved-requires c =
     let out : IsOutAs c.self.inside.recoveries.runs c.number-number.result c.args.run.program.program c.args.segment = search rules in
     let it = taken_over c.self.inside.config c.self.inside.history.items c.push_reserved.new.self.items c.self.inside.ccbs c.take_over-stop.new.ccbs c.self.inside.recoveries c.take_over-stop.new.recoveries
     c.number-number.result c.in-Some.place c.args.run.program.program c.args.segment c.take_over-stop.result.0 c.take_over-stop.result.1 c.self.invariant (search rules) c.take_over-stop.ensures.queues out c.in-Some.ensures.place c.take_over-stop.ensures.leads in
-    let on = goes_further c.self.inside.recoveries c.take_over-stop.new.recoveries c.number-number.result c.in-Some.place c.args.run.program.program c.args.segment c.take_over-stop.result.0 c.take_over-stop.result.1 c.machine-machine.result.now out c.in-Some.ensures.place c.in-Release.is c.take_over-stop.ensures.goes c.machine-machine.ensures in
+    let on = goes_further c.self.inside.recoveries c.take_over-stop.new.recoveries c.number-number.result c.in-Some.place c.args.run.program.program c.args.segment c.take_over-stop.result.0 c.take_over-stop.result.1 c.machine-machine.result.now out c.in-Some.ensures.place c.in-Helper.field-0 c.in-Helper.is c.take_over-stop.ensures.goes c.machine-machine.ensures in
     reaches_further c.self.inside.config c.push_reserved.new.self.items c.take_over-stop.new.ccbs c.self.inside.recoveries c.take_over-stop.new.recoveries c.number-number.result c.args.run c.machine-machine.result.now it.kept on
 
-pub invariant_of-self-in-Release : goal.invariant_of-self-in-Release
-invariant_of-self-in-Release c =
+pub invariant_of-self-in-Helper : goal.invariant_of-self-in-Helper
+invariant_of-self-in-Helper c =
     let out : IsOutAs c.self.inside.recoveries.runs c.number-number.result c.args.run.program.program c.args.segment = search rules in
     let it = taken_over c.self.inside.config c.self.inside.history.items c.push_reserved.new.self.items c.self.inside.ccbs c.take_over-stop.new.ccbs c.self.inside.recoveries c.take_over-stop.new.recoveries
     c.number-number.result c.in-Some.place c.args.run.program.program c.args.segment c.take_over-stop.result.0 c.take_over-stop.result.1 c.self.invariant (search rules) c.take_over-stop.ensures.queues out c.in-Some.ensures.place c.take_over-stop.ensures.leads in
     it.kept
 
-pub returns-in-Release : goal.returns-in-Release
-returns-in-Release c =
+pub returns-in-Helper : goal.returns-in-Helper
+returns-in-Helper c =
     let out : IsOutAs c.self.inside.recoveries.runs c.number-number.result c.args.run.program.program c.args.segment = search rules in
     let it = taken_over c.self.inside.config c.self.inside.history.items c.push_reserved.new.self.items c.self.inside.ccbs c.take_over-stop.new.ccbs c.self.inside.recoveries c.take_over-stop.new.recoveries
     c.number-number.result c.in-Some.place c.args.run.program.program c.args.segment c.take_over-stop.result.0 c.take_over-stop.result.1 c.self.invariant (search rules) c.take_over-stop.ensures.queues out c.in-Some.ensures.place c.take_over-stop.ensures.leads in
-    let on = goes_further c.self.inside.recoveries c.take_over-stop.new.recoveries c.number-number.result c.in-Some.place c.args.run.program.program c.args.segment c.take_over-stop.result.0 c.take_over-stop.result.1 c.machine-machine.result.now out c.in-Some.ensures.place c.in-Release.is c.take_over-stop.ensures.goes c.machine-machine.ensures in
+    let on = goes_further c.self.inside.recoveries c.take_over-stop.new.recoveries c.number-number.result c.in-Some.place c.args.run.program.program c.args.segment c.take_over-stop.result.0 c.take_over-stop.result.1 c.machine-machine.result.now out c.in-Some.ensures.place c.in-Helper.field-0 c.in-Helper.is c.take_over-stop.ensures.goes c.machine-machine.ensures in
     record {
       answered = rw (← c.self.view_is, ← c.number-number.ensures, ← c.take_over-stop.ensures.stop) (record { history = search rules; setup = refl; step = it.leads });
       goes = rw (← c.self.view_is)

@@ -1,0 +1,96 @@
+-- The table of the helper functions: the number of each, and what it asks of its arguments, which stand in R1, R2 and R3.
+use Rattle.std.specs.Prelude.{ℕ, ℤ, pos, ◌+◌, ◌==◌, Bool, Option, Some, None, if◌then◌else◌}
+use Rattle.std.specs.Ordering.{int_eq}
+use Rattle.helpers.specs.declared.helper.Helper.{Helper}
+use Rattle.helpers.specs.declared.helper.Helper.TheVariants as helpers
+use Rattle.helpers.specs.declared.helper.Asked.{Asked}
+use Rattle.helpers.specs.declared.helper.Asked.TheVariants.{Queue, HeldFreeze, Within, Table, Index, Word, Room, Bytes}
+use Rattle.helpers.specs.declared.helper.Asks.{Asks}
+use Rattle.helpers.specs.declared.request.Arguments.{Arguments}
+use Rattle.helpers.specs.declared.request.Request.{Request}
+use Rattle.helpers.specs.declared.request.Request.TheVariants.{Release, Requeue}
+
+abbrev pub nothing : Asks
+nothing = record { first = None; second = None; third = None }
+
+abbrev pub one : Asked → Asks
+one first = record { first = Some first; second = None; third = None }
+
+abbrev pub two : Asked → Asked → Asks
+two first second = record { first = Some first; second = Some second; third = None }
+
+abbrev pub three : Asked → Asked → Asked → Asks
+three first second third = record { first = Some first; second = Some second; third = Some third }
+
+abbrev pub asks : Helper → Asks
+asks helpers.Freeze = one Queue
+asks helpers.Release = one HeldFreeze
+asks helpers.ReleaseAfter = two HeldFreeze (Within 1 600000)
+asks helpers.Requeue = one (Within 0 1)
+asks helpers.Finish = one (Within 0 63)
+asks helpers.TableGet = two Table Index
+asks helpers.TablePut = three Table Index Word
+asks helpers.TableAdd = three Table Index Word
+asks helpers.QueueInfo = one (Room 16)
+asks helpers.Trace = two Bytes (Within 1 64)
+asks helpers.Now = nothing
+asks helpers.SetOpenings = one (Within 1 255)
+
+abbrev pub counted : Option Asked → ℕ
+counted (Some asked) = 1
+counted None = 0
+
+-- how many arguments a helper takes
+abbrev pub arity : Helper → ℕ
+arity helper = counted (asks helper).first + counted (asks helper).second + counted (asks helper).third
+
+abbrev pub number_of : Helper → ℕ
+number_of helpers.Freeze = 1
+number_of helpers.Release = 2
+number_of helpers.ReleaseAfter = 3
+number_of helpers.Requeue = 4
+number_of helpers.Finish = 5
+number_of helpers.TableGet = 6
+number_of helpers.TablePut = 7
+number_of helpers.TableAdd = 8
+number_of helpers.QueueInfo = 9
+number_of helpers.Trace = 10
+number_of helpers.Now = 11
+number_of helpers.SetOpenings = 12
+
+-- the helper of a number, if there is one
+abbrev pub helper_of : ℤ → Option Helper
+helper_of number =
+    if int_eq number (pos 1) then Some helpers.Freeze
+    else if int_eq number (pos 2) then Some helpers.Release
+    else if int_eq number (pos 3) then Some helpers.ReleaseAfter
+    else if int_eq number (pos 4) then Some helpers.Requeue
+    else if int_eq number (pos 5) then Some helpers.Finish
+    else if int_eq number (pos 6) then Some helpers.TableGet
+    else if int_eq number (pos 7) then Some helpers.TablePut
+    else if int_eq number (pos 8) then Some helpers.TableAdd
+    else if int_eq number (pos 9) then Some helpers.QueueInfo
+    else if int_eq number (pos 10) then Some helpers.Trace
+    else if int_eq number (pos 11) then Some helpers.Now
+    else if int_eq number (pos 12) then Some helpers.SetOpenings
+    else None
+
+-- both are one helper
+abbrev pub is_helper : Helper → Helper → Bool
+is_helper a b = number_of a == number_of b
+
+-- the call of a helper with these arguments, if it is answered
+abbrev pub request_of : Helper → Arguments → Option Request
+request_of helpers.Release arguments = Some (Release arguments.first)
+request_of helpers.Requeue arguments = Some (Requeue arguments.first)
+request_of helper arguments = None
+
+-- the helper that is called
+abbrev pub helper_in : Request → Helper
+helper_in (Release freeze) = helpers.Release
+helper_in (Requeue retries) = helpers.Requeue
+
+-- the arguments with which it is called
+abbrev pub arguments_in : Request → Arguments
+arguments_in (Release freeze) = record { first = freeze; second = 0; third = 0 }
+arguments_in (Requeue retries) = record { first = retries; second = 0; third = 0 }

@@ -1,3 +1,4 @@
 pub mod Reg
 pub mod Program
 pub mod Target
+pub mod Words

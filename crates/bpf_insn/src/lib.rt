@@ -6,6 +6,7 @@ mod insn;
 mod program;
 mod reg;
 mod target;
+mod words;
 
 pub use insn::{
     AluOp, ByteOrder, Callee, Condition, Distance, InPlaceOp, Insn, LoadForm, Operand,

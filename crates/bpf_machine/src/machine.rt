@@ -182,29 +182,26 @@ impl Machine {
         }
     }
 
-    /// The machine behind a helper call that was answered, where it stands at a slot of a program: R0 is the
-    /// answer and R1 to R5 are unwritten. A freeze that was released is held no more, and a CCB that waits
-    /// again is disposed of.
-    pub fn answered(&self, request: &Request, answer: &Answer) -> Self
-        requires { self.now.place < MAX_SLOTS }
-        ensures { result ≡ answered request.now answer.now self.now }
+    /// Passes a helper call that was answered, where the machine stands at a slot of a program: R0 is the answer
+    /// and R1 to R5 are unwritten. A freeze that was released is held no more, and a CCB that waits again is
+    /// disposed of.
+    pub fn pass(&mut self, request: &Request, answer: &Answer)
+        requires { self.old.place < MAX_SLOTS }
+        ensures { self.new ≡ answered request.now answer.now self.old }
     {
-        let mut next = self.after_call(answer.r0);
+        self.pass_call(answer.r0);
         match *request {
-            Request::Release { freeze } => next.held = self.held.without(freeze),
-            Request::Requeue { retries: _ } => next.disposed = true,
+            Request::Release { freeze } => self.held = self.held.without(freeze),
+            Request::Requeue { retries: _ } => self.disposed = true,
         }
-        next
     }
 
-    // At the next slot, with an answer in R0 and nothing in R1 to R5.
-    fn after_call(&self, r0: u64) -> Self
-        requires { self.now.place < MAX_SLOTS }
-        ensures { result ≡ after_call self.now r0 }
+    // To the next slot, with an answer in R0 and nothing in R1 to R5.
+    fn pass_call(&mut self, r0: u64)
+        requires { self.old.place < MAX_SLOTS }
+        ensures { self.new ≡ after_call self.old r0 }
     {
-        let mut next = *self;
-        next.registers = self.registers.answered(r0);
-        next.place = self.place + 1;
-        next
+        self.registers.answer(r0);
+        self.place += 1;
     }
 }

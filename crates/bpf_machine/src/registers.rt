@@ -95,19 +95,17 @@ impl Registers {
         self.written[index] = false;
     }
 
-    /// The registers behind a helper call: R0 is the answer and R1 to R5 are unwritten.
-    pub fn answered(&self, r0: u64) -> Self
-        ensures { result ≡ Some r0 ∷ replicate 5 None ++ drop 6 self.now }
+    /// What a helper call leaves: R0 is the answer and R1 to R5 are unwritten.
+    pub fn answer(&mut self, r0: u64)
+        ensures { self.new ≡ Some r0 ∷ replicate 5 None ++ drop 6 self.old }
     {
         // The proof knows how many registers there are once a field is read.
         let _words = &self.words;
-        let mut after = *self;
-        after.set(Reg::R0, r0);
-        after.clear(Reg::R1);
-        after.clear(Reg::R2);
-        after.clear(Reg::R3);
-        after.clear(Reg::R4);
-        after.clear(Reg::R5);
-        after
+        self.set(Reg::R0, r0);
+        self.clear(Reg::R1);
+        self.clear(Reg::R2);
+        self.clear(Reg::R3);
+        self.clear(Reg::R4);
+        self.clear(Reg::R5);
     }
 }

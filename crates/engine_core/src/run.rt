@@ -16,7 +16,8 @@ use verifier::Accepted;
 pub struct Run {
     number: u32,
     program: Arc<Accepted>,
-    machine: Machine,
+    // apart, so that a run is moved as a few words
+    machine: Box<Machine>,
 }
 
 impl Model for Run {
@@ -25,16 +26,16 @@ impl Model for Run {
 
     ghost Value = { RunState };
 
-    ghost view = { λ r. record { number = r.number; program = arc_value r.program; machine = r.machine } };
+    ghost view = { λ r. record { number = r.number; program = arc_value r.program; machine = r.machine.value } };
 
-    ghost invariant = { λ r. IsReached (record { number = r.number; program = arc_value r.program; machine = r.machine }) };
+    ghost invariant = { λ r. IsReached (record { number = r.number; program = arc_value r.program; machine = r.machine.value }) };
 }
 
 impl Run {
     /// Only an engine makes one, for a run that it has just started.
-    pub(crate) fn new(number: u32, program: Arc<Accepted>, machine: Machine) -> Self
-        requires { IsReached (record { number = number; program = arc_value program; machine = machine }) }
-        ensures { result ≡ record { number = number; program = arc_value program; machine = machine } }
+    pub(crate) fn new(number: u32, program: Arc<Accepted>, machine: Box<Machine>) -> Self
+        requires { IsReached (record { number = number; program = arc_value program; machine = machine.value }) }
+        ensures { result ≡ record { number = number; program = arc_value program; machine = machine.value } }
     {
         Run {
             number,
@@ -82,12 +83,13 @@ impl Run {
         let Run {
             number,
             program,
-            machine: _,
+            machine: mut held,
         } = self;
+        *held = *machine;
         Run {
             number,
             program,
-            machine: *machine,
+            machine: held,
         }
     }
 }

@@ -9,6 +9,6 @@ mod resuming;
 mod running;
 mod segment;
 
-pub use resuming::resume;
+pub use resuming::{pass, resume};
 pub use running::to_stop;
 pub use segment::Segment;

@@ -17,5 +17,17 @@ pub fn resume(machine: &Machine, request: &Request, answer: &Answer) -> Machine
     ensures machine { result ≡ answered request.now answer.now machine.now }
     ensures reached { (program : List Slot) (n : ℕ) → Reached program n machine.now → request_at program machine.now ≡ Some request.now → Reached program (n + 1) result }
 {
-    machine.answered(request, answer)
+    let mut next = *machine;
+    pass(&mut next, request, answer);
+    next
+}
+
+/// The same of a machine in its place.
+pub fn pass(machine: &mut Machine, request: &Request, answer: &Answer)
+    requires stands { StandsAt machine.old request.now }
+    requires allowed { IsAnswer machine.old request.now answer.now }
+    ensures machine { machine.new ≡ answered request.now answer.now machine.old }
+    ensures reached { (program : List Slot) (n : ℕ) → Reached program n machine.old → request_at program machine.old ≡ Some request.now → Reached program (n + 1) machine.new }
+{
+    machine.pass(request, answer);
 }

@@ -14,11 +14,11 @@ use verifier::Accepted;
 /// outermost exit at which the other stands.
 #[derive(Debug, Drop)]
 pub struct Segment {
-    program: Arc<Accepted>,
-    from: Machine,
-    to: Machine,
-    steps: u32,
-    stop: Stop,
+    pub(crate) program: Arc<Accepted>,
+    pub(crate) from: Machine,
+    pub(crate) to: Machine,
+    pub(crate) steps: u32,
+    pub(crate) stop: Stop,
 }
 
 impl Model for Segment {
@@ -45,26 +45,6 @@ impl Model for Segment {
 }
 
 impl Segment {
-    pub(crate) fn new(
-        program: Arc<Accepted>,
-        from: Machine,
-        to: Machine,
-        steps: u32,
-        stop: Stop,
-    ) -> Self
-        requires { IsSegment (record { program = arc_value program; from = from; to = to; steps = steps; stop = stop }) }
-        ensures value { result ≡ record { program = arc_value program; from = from; to = to; steps = steps; stop = stop } }
-        ensures budget { IsWithinBudget result }
-    {
-        Segment {
-            program,
-            from,
-            to,
-            steps,
-            stop,
-        }
-    }
-
     /// The program that was run.
     pub fn program(&self) -> &Arc<Accepted>
         ensures value { arc_value result.now ≡ self.now.program }

@@ -32,7 +32,7 @@ use bpf_machine::Machine;
 use ccb::{Ccb, CcbId, Completion, QueueId, context};
 use freeze_ledger::{FreezeToken, Holder, Ledger};
 use helpers::{Answer, Request};
-use interpreter::{Segment, resume};
+use interpreter::{Segment, pass};
 use std::alloc::{AllocError, Global};
 use std::marker::Model;
 use std::sync::Arc;
@@ -93,6 +93,11 @@ impl Recoveries {
             runs: Vec::with_capacity(alloc, MAX_RUNS)?,
             greatest_run: 0,
         })
+    }
+
+    /// The allocator of its lists.
+    pub fn allocator(&self) -> Global {
+        *self.runs.allocator()
     }
 
     /// The ledger of the freezes.
@@ -160,21 +165,22 @@ impl Recoveries {
 
     /// Starts a run of a program for a CCB whose completion failed, under the number after the greatest given. A freeze
     /// of the CCB's queue is taken for it, or none where that meets a limit, which the run is told as number 0. The CCB
-    /// takes over what the completion brought, and the run begins at the program's entry over the CCB's context. It asks
-    /// for a queue that exists, and for room.
+    /// takes over what the completion brought, and the run begins at the program's entry over the CCB's context, which is
+    /// written to `machine`. It asks for a queue that exists, and for room.
     pub fn start(
         &mut self,
         ccb: &mut Ccb,
         completion: &Completion,
         program: Arc<Accepted>,
+        machine: &mut Machine,
     ) -> Started
         requires known { ccb.old.queue.0 < self.old.queues }
         requires room { (world : World) → run_meets_limit (with_recoveries self.old world) ≡ false }
         ensures step { (setup : Setup) (world : World) → (queue_setup setup ccb.old.queue.0).program ≡ (arc_value program).program →
             recovers setup (with_recoveries self.old world) ccb.old completion.now
             ≡ (run_started result.run result.freeze, with_recoveries self.new (record world { live = with_ccb (record { ccb = ccb.new; state = InRecovery }) world.live })) }
-        ensures entry { IsEntry result.machine }
-        ensures machine { run_of result.run self.new.runs ≡ Some (run_for result.run ccb.old (arc_value program).program result.machine) }
+        ensures entry { IsEntry machine.new }
+        ensures machine { run_of result.run self.new.runs ≡ Some (run_for result.run ccb.old (arc_value program).program machine.new) }
         ensures ccb { (taken : Bool) × (ccb.new ≡ completed ccb.old completion.now taken) }
         ensures queues { self.new.queues ≡ self.old.queues }
     {
@@ -182,13 +188,13 @@ impl Recoveries {
         let token = self.ledger.take(ccb.queue, Holder::Run(number));
         ccb.complete(completion, token.is_some());
         let (freeze, tokens) = taken_at_start(token);
-        let machine = Machine::entry(&context(ccb), freeze);
+        *machine = Machine::entry(&context(ccb), freeze);
         self.runs.push_reserved(RunRecord {
             number,
             ccb: ccb.number,
             queue: ccb.queue,
             program,
-            machine,
+            machine: *machine,
             out: true,
             tokens,
         });
@@ -196,7 +202,6 @@ impl Recoveries {
         Started {
             run: number,
             freeze,
-            machine,
         }
     }
 
@@ -262,7 +267,9 @@ impl Recoveries {
         ensures place { (it : LiveRun) → HasRunAt self.old.runs place it →
             HasRunAt self.new.runs place (record it { machine = answered request.now answer.now to.now }) }
     {
-        self.runs[place].machine = resume(to, request, answer);
+        let machine = &mut self.runs[place].machine;
+        *machine = *to;
+        pass(machine, request, answer);
     }
 
     /// The run at this place is gone. It asks for one that holds no freeze.

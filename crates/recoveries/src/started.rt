@@ -1,6 +1,4 @@
-// What is told of a run that was started. It relies on `bpf_machine` for its machine.
-
-use bpf_machine::Machine;
+// What is told of a run that was started. It relies on nothing.
 
 /// A run that was started.
 #[derive(Clone, Copy, Debug, PartialEq, Eq)]
@@ -9,6 +7,4 @@ pub struct Started {
     pub run: u32,
     /// The number of the freeze that it holds, or 0 where it got none.
     pub freeze: u32,
-    /// The machine in which it begins.
-    pub machine: Machine,
 }

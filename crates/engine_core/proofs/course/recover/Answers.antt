@@ -25,13 +25,13 @@ returns-clause-step c world =
     sym (ap (λ (v : Verdict). v.program) c.in_ok-recorded.ensures ∙ c.program-program.ensures.program) in
     c.start-started.ensures.step c.args.config.now (with_ccbs c.args.ccbs.now world) same
     ∙ (ap (λ (ccbs : CcbsState). (run_started c.start-started.result.run c.start-started.result.freeze, with_ccbs ccbs (with_recoveries c.start-started.new.self world))) (sym c.recover.ensures)
-    ∙ ap (λ (run : RunState). (run_started run.number c.start-started.result.freeze, with_ccbs c.recover.new.self (with_recoveries c.start-started.new.self world))) (sym c.new.ensures))
+    ∙ ap (λ (run : RunState). (run_started run.number c.start-started.result.freeze, with_ccbs c.recover.new.self (with_recoveries c.start-started.new.self world))) (sym c.new-2.ensures))
 
 pub returns-clause-out : goal.returns-clause-out
 returns-clause-out c world =
     let program : (arc_value c.in_ok-recorded.recorded).program ≡ (arc_value c.in_ok-handed.handed).program =
     ap (λ (v : Verdict). v.program) (c.in_ok-recorded.ensures ∙ sym c.in_ok-handed.ensures) in
-    rw (c.new.ensures) (record {
+    rw (c.new-2.ensures) (record {
       out = record { it = _; found = c.start-started.ensures.machine; out = refl; program_is = program; machine_is = refl };
       budget = ap (λ (v : Verdict). v.budget) c.in_ok-handed.ensures ∙ c.program-program.ensures.budget;
       limits = ap (λ (v : Verdict). v.limits) c.in_ok-handed.ensures ∙ c.program-program.ensures.limits;

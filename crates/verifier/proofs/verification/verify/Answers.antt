@@ -32,7 +32,7 @@ pub new-requires : goal.new-requires
 new-requires c =
     let shape_is : c.in-Ok.shape ≡ c.args.program.now = c.in-Ok.ensures.value in
     let same : c.in_ok-program.program ≡ c.args.program.now = c.in_ok-program.ensures in
-    let is : IsProgram c.args.program.now = subst IsProgram same (rw (← c.program.view_is) c.program.invariant) in
+    let is : IsProgram c.args.program.now = subst IsProgram same (rw (← c.program.view_is) c.program.invariant.0) in
     let lawful : IsLawful c.args.program.now = c.in-Ok.ensures.lawful in
     let passes : PassSucceeds c.args.limits.now c.args.program.now = subst (PassSucceeds c.args.limits.now) shape_is c.in_ok-pass.ensures.passes in
     let sound = pass_sound c.args.limits.now c.args.program.now passes.0 is lawful passes.1 in

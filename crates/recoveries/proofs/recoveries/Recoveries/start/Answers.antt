@@ -27,7 +27,7 @@ overflow_add-number c =
     let room = has_room (state_of c.self.inside.ledger (lives_of c.self.inside.runs.items) c.self.inside.greatest_run) (subst HasRoom (sym c.self.view_is) c.requires.room) in
     omega (arith, room.1)
 
-few : (c : goal.After-push_reserved-arg-3-1) → length c.self.inside.runs.items < 256
+few : (c : goal.After-push_reserved-arg-4-1) → length c.self.inside.runs.items < 256
 few c =
     let room = has_room (state_of c.self.inside.ledger (lives_of c.self.inside.runs.items) c.self.inside.greatest_run) (subst HasRoom (sym c.self.view_is) c.requires.room) in
     omega (arith, room.0, length-map c.self.inside.runs.items live_of)
@@ -42,7 +42,7 @@ pushed c = record {
   ccb = c.complete.new.self.number;
   queue = c.complete.new.self.queue;
   program = c.args.program;
-  machine = c.entry-machine.result;
+  machine = c.entry.result;
   out = true;
   tokens = c.taken_at_start-freeze.result.1;
 }
@@ -62,14 +62,14 @@ invariant_of-self c =
 ccb_is : (c : goal.After-self-1) → c.complete.new.self ≡ completed c.args.ccb.now c.args.completion.now (is_some c.take-token.result)
 ccb_is c = c.complete.ensures ∙ ap (completed c.args.ccb.now c.args.completion.now) c.is_some.ensures
 
-machine_is : (c : goal.After-self-1) → c.entry-machine.result ≡ entry (context_of (completed c.args.ccb.now c.args.completion.now (is_some c.take-token.result))) (told c.take-token.result)
+machine_is : (c : goal.After-self-1) → c.entry.result ≡ entry (context_of (completed c.args.ccb.now c.args.completion.now (is_some c.take-token.result))) (told c.take-token.result)
 machine_is c =
-    c.entry-machine.ensures.value
+    c.entry.ensures.value
     ∙ (ap (λ (bytes : List ℕ). entry bytes c.taken_at_start-freeze.result.0) (c.context.ensures ∙ ap context_of (ccb_is c))
     ∙ ap (entry (context_of (completed c.args.ccb.now c.args.completion.now (is_some c.take-token.result)))) c.taken_at_start-freeze.ensures.number)
 
-run_is : (c : goal.After-self-1) → live_of (pushed c) ≡ run_for (c.self.inside.greatest_run + 1) c.args.ccb.now (arc_value c.args.program).program c.entry-machine.result
-run_is c = ap (λ (x : Ccb). run_for (c.self.inside.greatest_run + 1) x (arc_value c.args.program).program c.entry-machine.result) (ccb_is c)
+run_is : (c : goal.After-self-1) → live_of (pushed c) ≡ run_for (c.self.inside.greatest_run + 1) c.args.ccb.now (arc_value c.args.program).program c.entry.result
+run_is c = ap (λ (x : Ccb). run_for (c.self.inside.greatest_run + 1) x (arc_value c.args.program).program c.entry.result) (ccb_is c)
 
 runs_are : (c : goal.After-self-1) → lives_of c.push_reserved.new.self.items ≡ with_started (lives_of c.self.inside.runs.items) (c.self.inside.greatest_run + 1) c.args.ccb.now (arc_value c.args.program).program (entry (context_of (completed c.args.ccb.now c.args.completion.now (is_some c.take-token.result))) (told c.take-token.result))
 runs_are c =

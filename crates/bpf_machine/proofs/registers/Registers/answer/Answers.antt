@@ -1,7 +1,7 @@
 use Rattle.std.proofs.Common.{◌≡◌, ℕ, List, Option, Some, None, length, ap, sym, ◌∙◌}
 use Rattle.std.specs.Prelude.{slice_set}
 use Rattle.bpf_machine.proofs.RegisterLists.{answered_is, count_registers}
-use Rattle.bpf_machine.proofs.registers.Registers.answered.Goals as goal
+use Rattle.bpf_machine.proofs.registers.Registers.answer.Goals as goal
 
 pub returns : goal.returns
 returns c =
@@ -14,5 +14,4 @@ returns c =
     ∙ (ap (λ rs. unwritten 5 (unwritten 4 (unwritten 3 rs))) c.clear-2.ensures
     ∙ (ap (λ rs. unwritten 5 (unwritten 4 (unwritten 3 (unwritten 2 rs)))) c.clear.ensures
     ∙ (ap (λ rs. unwritten 5 (unwritten 4 (unwritten 3 (unwritten 2 (unwritten 1 rs))))) c.set.ensures
-    ∙ (ap (λ (rs : List (Option ℕ)). unwritten 5 (unwritten 4 (unwritten 3 (unwritten 2 (unwritten 1 (slice_set rs 0 (Some c.args.r0))))))) c.self.view_is
-    ∙ answered_is c.args.self.now c.args.r0 long))))))
+    ∙ answered_is c.args.self.now c.args.r0 long)))))

@@ -1,3 +1,4 @@
 pub mod Slots
 pub mod Same
 pub mod SameWords
+pub mod WordRows

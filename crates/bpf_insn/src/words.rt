@@ -5,9 +5,13 @@ ghost use Rattle.std.specs.Prelude.{◌≡◌, ◌+◌, ◌^◌, ◌<◌, ◌≤
 ghost use Rattle.std.specs.Option.{option_to_list};
 ghost use Rattle.bpf_insn.specs.declared.words.TheConstants.{MAX_WORDS_OF_INSN};
 ghost use Rattle.std.specs.Int.{w16, w32, cast_unsigned};
+ghost use Rattle.bpf_insn.specs.declared.insn.Insn.TheVariants.{Alu, JumpIf, Jump, LoadImmediate, Load, Store, Call};
+ghost use Rattle.bpf_insn.specs.Reg.{number_of};
 ghost use Rattle.bpf_insn.specs.Words.{packed, in_width, in_place_number, source_number, constant_word, words_of, IsOfWidth, HasConstant, HasNumbers};
 
-use crate::insn::{Callee, Distance, InPlaceOp, Insn, Operand, Width};
+use crate::insn::{
+    AluOp, Callee, Condition, Distance, InPlaceOp, Insn, LoadForm, Operand, StoreSize, Width,
+};
 use crate::reg::Reg;
 
 /// The most words of one instruction.
@@ -21,7 +25,7 @@ fn packed(kind: u32, operation: u32, dst: Reg, src: u32, offset: u32) -> u32
     requires offset { offset < 2 ^ 16 }
     ensures { result ≡ packed kind operation dst src offset }
 {
-    kind + 10 * (operation + 28 * (u32::from(dst.number()) + 11 * (src + 12 * offset)))
+    kind + 10 * (operation + 28 * (register_number(dst) + 11 * (src + 12 * offset)))
 }
 
 // The bits of an offset.
@@ -60,13 +64,20 @@ fn in_place_number(op: InPlaceOp) -> u32
     }
 }
 
+fn register_number(reg: Reg) -> u32
+    ensures value { result ≡ number_of reg }
+    ensures few { result ≤ 10 }
+{
+    u32::from(reg.number())
+}
+
 // A register's number, or 11 for a constant.
 fn source_number(src: Operand) -> u32
     ensures value { result ≡ source_number src }
     ensures few { result < 12 }
 {
     match src {
-        Operand::Register(reg) => u32::from(reg.number()),
+        Operand::Register(reg) => register_number(reg),
         Operand::Immediate(_) => 11,
     }
 }
@@ -81,8 +92,10 @@ fn constant_word(src: Operand) -> u32
     }
 }
 
-// The same of an instruction that is of the kind with this number.
-fn words_of(insn: Insn) -> (u32, u32, Option<u32>)
+// The words of an instruction: the third is there for a constant of 64 bits alone.
+type Words = (u32, u32, Option<u32>);
+
+fn words_of(insn: Insn) -> Words
     ensures words { result.0 ∷ result.1 ∷ option_to_list result.2 ≡ words_of insn }
     ensures numbers { HasNumbers insn }
 {
@@ -92,94 +105,106 @@ fn words_of(insn: Insn) -> (u32, u32, Option<u32>)
             op,
             dst,
             src,
-        } => {
-            let operation = in_width(op as u32, width);
-            (
-                packed(0, operation, dst, source_number(src), 0),
-                constant_word(src),
-                None,
-            )
-        }
+        } => alu_words(width, op, dst, src),
         Insn::InPlace { op, dst } => (packed(1, in_place_number(op), dst, 0, 0), 0, None),
         Insn::SignExtend {
             extension,
             dst,
             src,
-        } => {
-            (
-                packed(2, extension as u32, dst, u32::from(src.number()), 0),
-                0,
-                None,
-            )
-        }
+        } => (
+            packed(2, extension as u32, dst, register_number(src), 0),
+            0,
+            None,
+        ),
         Insn::JumpIf {
             width,
             condition,
             dst,
             src,
             offset,
-        } => {
-            let operation = in_width(condition as u32, width);
-            (
-                packed(3, operation, dst, source_number(src), offset_bits(offset)),
-                constant_word(src),
-                None,
-            )
-        }
-        Insn::Jump(Distance::Near(offset)) => (
-            packed(4, 0, Reg::R0, 0, offset_bits(offset)),
-            0,
-            None,
-        ),
-        Insn::Jump(Distance::Far(imm)) => (packed(4, 1, Reg::R0, 0, 0), constant_bits(imm), None),
-        Insn::LoadImmediate { dst, value } => {
-            (
-                packed(5, 0, dst, 0, 0),
-                (value % (1 << 32)) as u32,
-                Some((value >> 32) as u32),
-            )
-        }
+        } => jump_if_words(width, condition, dst, src, offset),
+        Insn::Jump(distance) => jump_words(distance),
+        Insn::LoadImmediate { dst, value } => constant_words(dst, value),
         Insn::Load {
             form,
             dst,
             src,
             offset,
-        } => {
-            (
-                packed(
-                    6,
-                    form as u32,
-                    dst,
-                    u32::from(src.number()),
-                    offset_bits(offset),
-                ),
-                0,
-                None,
-            )
-        }
+        } => load_words(form, dst, src, offset),
         Insn::Store {
             size,
             dst,
             src,
             offset,
-        } => {
-            (
-                packed(7, size as u32, dst, source_number(src), offset_bits(offset)),
-                constant_word(src),
-                None,
-            )
-        }
-        Insn::Call(Callee::Helper(number)) => (
-            packed(8, 0, Reg::R0, 0, 0),
-            constant_bits(number),
-            None,
-        ),
-        Insn::Call(Callee::Local(distance)) => (
-            packed(8, 1, Reg::R0, 0, 0),
-            constant_bits(distance),
-            None,
-        ),
+        } => store_words(size, dst, src, offset),
+        Insn::Call(callee) => call_words(callee),
         Insn::Exit => (packed(9, 0, Reg::R0, 0, 0), 0, None),
+    }
+}
+
+fn alu_words(width: Width, op: AluOp, dst: Reg, src: Operand) -> Words
+    ensures words { result.0 ∷ result.1 ∷ option_to_list result.2 ≡ words_of (Alu width op dst src) }
+    ensures numbers { HasConstant src }
+{
+    let operation = in_width(op as u32, width);
+    let first = packed(0, operation, dst, source_number(src), 0);
+    (first, constant_word(src), None)
+}
+
+fn jump_if_words(width: Width, condition: Condition, dst: Reg, src: Operand, offset: i16) -> Words
+    ensures words { result.0 ∷ result.1 ∷ option_to_list result.2 ≡ words_of (JumpIf width condition dst src offset) }
+    ensures constant { HasConstant src }
+    ensures offset { IsOfWidth w16 offset }
+{
+    let operation = in_width(condition as u32, width);
+    let first = packed(3, operation, dst, source_number(src), offset_bits(offset));
+    (first, constant_word(src), None)
+}
+
+fn jump_words(distance: Distance) -> Words
+    ensures words { result.0 ∷ result.1 ∷ option_to_list result.2 ≡ words_of (Jump distance) }
+    ensures numbers { HasNumbers (Jump distance) }
+{
+    match distance {
+        Distance::Near(offset) => (packed(4, 0, Reg::R0, 0, offset_bits(offset)), 0, None),
+        Distance::Far(imm) => (packed(4, 1, Reg::R0, 0, 0), constant_bits(imm), None),
+    }
+}
+
+fn constant_words(dst: Reg, value: u64) -> Words
+    ensures { result.0 ∷ result.1 ∷ option_to_list result.2 ≡ words_of (LoadImmediate dst value) }
+{
+    let low = (value % (1 << 32)) as u32;
+    let high = (value >> 32) as u32;
+    (packed(5, 0, dst, 0, 0), low, Some(high))
+}
+
+fn load_words(form: LoadForm, dst: Reg, src: Reg, offset: i16) -> Words
+    ensures words { result.0 ∷ result.1 ∷ option_to_list result.2 ≡ words_of (Load form dst src offset) }
+    ensures offset { IsOfWidth w16 offset }
+{
+    let bits = offset_bits(offset);
+    let first = packed(6, form as u32, dst, register_number(src), bits);
+    (first, 0, None)
+}
+
+fn store_words(size: StoreSize, dst: Reg, src: Operand, offset: i16) -> Words
+    ensures words { result.0 ∷ result.1 ∷ option_to_list result.2 ≡ words_of (Store size dst src offset) }
+    ensures constant { HasConstant src }
+    ensures offset { IsOfWidth w16 offset }
+{
+    let bits = offset_bits(offset);
+    let first = packed(7, size as u32, dst, source_number(src), bits);
+    (first, constant_word(src), None)
+}
+
+fn call_words(callee: Callee) -> Words
+    ensures words { result.0 ∷ result.1 ∷ option_to_list result.2 ≡ words_of (Call callee) }
+    ensures numbers { HasNumbers (Call callee) }
+{
+    match callee {
+        Callee::Helper(number) => (packed(8, 0, Reg::R0, 0, 0), constant_bits(number), None),
+        Callee::Local(distance) => (packed(8, 1, Reg::R0, 0, 0), constant_bits(distance), None),
     }
 }
 

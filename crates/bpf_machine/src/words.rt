@@ -12,34 +12,52 @@ use crate::words32::{alu_of_32, holds32};
 use crate::words64::{alu64, holds64};
 use bpf_insn::{AluOp, Condition, InPlaceOp, Width};
 
-/// What an operation of that width makes of two words.
+/// What an operation of that width makes of two words. Each operation stands for itself, so that a processor has to
+/// foresee one jump alone.
 #[inline(always)]
 pub fn alu(width: Width, op: AluOp, dst: u64, src: u64) -> u64
     ensures { result ≡ alu_of width op dst src }
 {
-    if divides(op) {
-        match width {
-            Width::Bits32 => alu32(op, dst, src),
-            Width::Bits64 => alu64(op, dst, src),
-        }
-    } else {
-        // Both are computed and one is taken, so that a processor has to foresee the operation alone.
-        let narrow = alu32(op, dst, src);
-        let wide = alu64(op, dst, src);
-        match width {
-            Width::Bits32 => narrow,
-            Width::Bits64 => wide,
-        }
+    match op {
+        AluOp::Add => both(width, AluOp::Add, dst, src),
+        AluOp::Sub => both(width, AluOp::Sub, dst, src),
+        AluOp::Mul => both(width, AluOp::Mul, dst, src),
+        AluOp::Div => divided(width, AluOp::Div, dst, src),
+        AluOp::SignedDiv => divided(width, AluOp::SignedDiv, dst, src),
+        AluOp::Mod => divided(width, AluOp::Mod, dst, src),
+        AluOp::SignedMod => divided(width, AluOp::SignedMod, dst, src),
+        AluOp::Or => both(width, AluOp::Or, dst, src),
+        AluOp::And => both(width, AluOp::And, dst, src),
+        AluOp::Xor => both(width, AluOp::Xor, dst, src),
+        AluOp::Lsh => both(width, AluOp::Lsh, dst, src),
+        AluOp::Rsh => both(width, AluOp::Rsh, dst, src),
+        AluOp::Arsh => both(width, AluOp::Arsh, dst, src),
+        AluOp::Mov => both(width, AluOp::Mov, dst, src),
     }
 }
 
-// Whether an operation takes so long that it is computed only where it is wanted.
+// Computed in both widths, of which one is taken: that is quick, and there is nothing to foresee.
 #[inline(always)]
-fn divides(op: AluOp) -> bool {
-    matches!(
-        op,
-        AluOp::Div | AluOp::SignedDiv | AluOp::Mod | AluOp::SignedMod
-    )
+fn both(width: Width, op: AluOp, dst: u64, src: u64) -> u64
+    ensures { result ≡ alu_of width op dst src }
+{
+    let narrow = alu32(op, dst, src);
+    let wide = alu64(op, dst, src);
+    match width {
+        Width::Bits32 => narrow,
+        Width::Bits64 => wide,
+    }
+}
+
+// Computed in the width that is asked for, as a division takes long.
+#[inline(always)]
+fn divided(width: Width, op: AluOp, dst: u64, src: u64) -> u64
+    ensures { result ≡ alu_of width op dst src }
+{
+    match width {
+        Width::Bits32 => alu32(op, dst, src),
+        Width::Bits64 => alu64(op, dst, src),
+    }
 }
 
 /// What an operation makes of the low 32 bits of two words. The upper half of the result is 0.

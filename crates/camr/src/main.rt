@@ -2,9 +2,12 @@
 // on `command_line` for the words and on `commands` for all the rest.
 #![tactic(auto)]
 
-ghost use Rattle.std.specs.Prelude.{◌≡◌, length, IfOk};
-ghost use Rattle.command_line.specs.Inputs.{input_paths};
+mod replacing;
 
+ghost use Rattle.std.specs.Prelude.{◌≡◌, length, IfOk};
+ghost use Rattle.command_line.specs.Files.{input_paths};
+
+use crate::replacing::replace;
 use command_line::{Plan, not_utf8, plan};
 use commands::{Fault, carry, report_usage};
 use std::io::{BufWriter, Write};
@@ -39,10 +42,34 @@ fn status<R: Env + Files + AllocGlobal, W: Write, E: Write>(
     };
     match plan(rt.alloc(), words.as_slice()) {
         Ok(plan) => match read_inputs(rt, &plan) {
-            Ok(inputs) => carry(rt.alloc(), &plan, &inputs, out, err),
+            Ok(inputs) => carry_out(rt, &plan, &inputs, out, err),
             Err(fault) => fault.report(err),
         },
         Err(fault) => report_usage(&fault, out, err),
+    }
+}
+
+// Carries the plan out. What goes out goes into the plan's file, if it has one, where all went well.
+fn carry_out<R: Files + AllocGlobal, W: Write, E: Write>(
+    rt: &R,
+    plan: &Plan,
+    inputs: &[Vec<u8>],
+    out: &mut W,
+    err: &mut E,
+) -> u8
+    requires { length inputs.now ≡ length (input_paths plan.now) }
+{
+    let Some(path) = plan.output() else {
+        return carry(rt.alloc(), plan, inputs, out, err);
+    };
+    let mut bytes = Vec::new(rt.alloc());
+    let status = carry(rt.alloc(), plan, inputs, &mut bytes, err);
+    if status != 0 {
+        return status;
+    }
+    match replace(rt, path, &bytes) {
+        Ok(()) => 0,
+        Err(error) => unread(&error, path).report(err),
     }
 }
 
@@ -69,7 +96,7 @@ fn read_inputs<'a, R: Files + AllocGlobal>(
     Ok(inputs)
 }
 
-// Why that file could not be read.
+// Why that file could not be read or written.
 fn unread<'a>(error: &io::Error, path: &'a str) -> Fault<'a> {
     if error.kind() == io::ErrorKind::OutOfMemory {
         Fault::OutOfMemory

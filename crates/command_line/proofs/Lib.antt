@@ -6,4 +6,4 @@ pub mod Numbers
 pub mod Given
 pub mod Planned
 pub mod PlanLines
-pub mod CheckWords
+pub mod FileWords

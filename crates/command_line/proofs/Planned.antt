@@ -6,9 +6,9 @@ use Rattle.clap.specs.Words.{Row, Text, rows_of, subcommand_name_of, subcommand_
 use Rattle.clap.specs.declared.parser.matches.ArgMatches.{ArgMatches}
 use Rattle.clap.specs.declared.parser.matches.ArgMatches.TheViews.{out-ArgMatches, out-SubCommand}
 use Rattle.clap.specs.declared.parser.matches.SubCommand.{SubCommand}
-use Rattle.command_line.specs.FoundPlan.{HasFound, PlansCheck, PlansFound, PlansRows}
+use Rattle.command_line.specs.FoundPlan.{HasFound, PlansBehind, PlansFound, PlansRows}
 use Rattle.command_line.specs.declared.plans.Plan.{Plan}
-use Rattle.command_line.specs.declared.plans.Plan.TheVariants.{Check, Run}
+use Rattle.command_line.specs.declared.plans.Plan.TheVariants.{Asm, Dis, Check, Run}
 
 abbrev pub rows_in : Option (Text × List Row) → Option (List Row)
 rows_in = option_map (λ (p : Text × List Row). p.1)
@@ -31,20 +31,39 @@ pub entered_is : (m : ArgMatches) (name : Text) (rows : List Row) → Some name 
 entered_is m name rows named found = both_in (out-ArgMatches m).subcommand name rows named found
 
 -- the words that name a subcommand differ
+first_apart : (a b : Text) → (get_or a 0 0 ≡ get_or b 0 0 → ⊥) → a ≡ b → ⊥
+first_apart a b apart e = apart (ap (λ (t : Text). get_or t 0 0) e)
+
+pub asm_not_run : codes "asm" ≡ codes "run" → ⊥
+asm_not_run = first_apart (codes "asm") (codes "run") (λ bad. omega (arith, bad))
+
+pub dis_not_run : codes "dis" ≡ codes "run" → ⊥
+dis_not_run = first_apart (codes "dis") (codes "run") (λ bad. omega (arith, bad))
+
 pub check_not_run : codes "check" ≡ codes "run" → ⊥
-check_not_run e = let bad : 99 ≡ 114 = ap (λ (t : Text). get_or t 0 0) e in omega (arith, bad)
+check_not_run = first_apart (codes "check") (codes "run") (λ bad. omega (arith, bad))
+
+pub asm_not_dis : codes "asm" ≡ codes "dis" → ⊥
+asm_not_dis = first_apart (codes "asm") (codes "dis") (λ bad. omega (arith, bad))
+
+pub asm_not_check : codes "asm" ≡ codes "check" → ⊥
+asm_not_check = first_apart (codes "asm") (codes "check") (λ bad. omega (arith, bad))
+
+pub dis_not_check : codes "dis" ≡ codes "check" → ⊥
+dis_not_check = first_apart (codes "dis") (codes "check") (λ bad. omega (arith, bad))
 
 pub plan_in : (found : Option (Text × List Row)) (rows : List Row) (planned : Option Plan) → found ≡ Some (codes "run", rows)
     → PlansRows rows planned → PlansFound found planned
 plan_in found rows (Some (Run workers a b)) is h = (subst (λ f. HasFound f (Run workers a b)) (sym is) (refl, h.0), h.1)
+plan_in found rows (Some (Asm text program)) is h = absurd h.0.same
+plan_in found rows (Some (Dis program)) is h = absurd h.0.same
 plan_in found rows (Some (Check path)) is h = absurd h.0.same
 plan_in found rows None is h = λ other is_other.
     let same : rows ≡ other = ap (λ f. unwrap_or (rows_in f) rows) (sym is ∙ is_other) in
     subst (λ r. PlansRows r None) same h
 
-pub check_in : (found : Option (Text × List Row)) (rows : List Row) (planned : Option Plan) → found ≡ Some (codes "check", rows)
-    → PlansCheck rows planned → PlansFound found planned
-check_in found rows (Some plan) is h = (subst (λ f. HasFound f plan) (sym is) h.0, h.1)
-check_in found rows None is h = λ other is_other.
-    let same : codes "check" ≡ codes "run" = ap (λ f. unwrap_or (option_map (λ (p : Text × List Row). p.0) f) []) (sym is ∙ is_other) in
-    absurd (check_not_run same)
+pub other_in : (found : Option (Text × List Row)) (name : Text) (rows : List Row) (planned : Option Plan) → (name ≡ codes "run" → ⊥)
+    → found ≡ Some (name, rows) → PlansBehind name rows planned → PlansFound found planned
+other_in found name rows (Some plan) apart is h = (subst (λ f. HasFound f plan) (sym is) h.0, h.1)
+other_in found name rows None apart is h = λ other is_other.
+    absurd (apart (ap (λ f. unwrap_or (option_map (λ (p : Text × List Row). p.0) f) []) (sym is ∙ is_other)))

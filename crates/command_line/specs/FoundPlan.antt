@@ -4,7 +4,7 @@ use Rattle.clap.specs.Words.{Row, Text, first_of}
 use Rattle.command_line.specs.RunLine.{HasLawfulNumber, IsLawfulNumber, IsRun, Spells}
 use Rattle.command_line.specs.RunLine.{SpellsNoLawfulNumber}
 use Rattle.command_line.specs.declared.plans.Plan.{Plan}
-use Rattle.command_line.specs.declared.plans.Plan.TheVariants.{Check, Run}
+use Rattle.command_line.specs.declared.plans.Plan.TheVariants.{Asm, Dis, Check, Run}
 
 -- the plan has what `clap` found behind `run` under the arguments' names
 pub record HasFoundIn (rows : List Row) (plan : Plan) : Type 0 where
@@ -19,6 +19,10 @@ pub record HasFoundIn (rows : List Row) (plan : Plan) : Type 0 where
 -- the plan is what was asked for by that word, with what `clap` found behind it
 abbrev pub HasFoundBehind : Text → List Row → Plan → Type 0
 HasFoundBehind name rows (Run workers a b) = (name ≡ codes "run") × HasFoundIn rows (Run workers a b)
+HasFoundBehind name rows (Asm text program) =
+    (name ≡ codes "asm") × (first_of (codes "IN") rows ≡ Some (string_bytes text)) × (first_of (codes "OUT") rows ≡ Some (string_bytes program))
+HasFoundBehind name rows (Dis program) =
+    (name ≡ codes "dis") × (first_of (codes "FILE") rows ≡ Some (string_bytes program))
 HasFoundBehind name rows (Check path) =
     (name ≡ codes "check") × (first_of (codes "MANIFEST") rows ≡ Some (string_bytes path))
 
@@ -43,10 +47,10 @@ PlansRows rows None = (number manifest scenario : Text)
     → first_of (codes "SCENARIO") rows ≡ Some scenario
     → SpellsNoLawfulNumber number
 
--- the check that those rows ask for
-abbrev pub PlansCheck : List Row → Option Plan → Type 0
-PlansCheck rows (Some plan) = HasFoundBehind (codes "check") rows plan × HasLawfulNumber plan
-PlansCheck rows None = Unit {0}
+-- what those rows ask for behind another word
+abbrev pub PlansBehind : Text → List Row → Option Plan → Type 0
+PlansBehind name rows (Some plan) = HasFoundBehind name rows plan × HasLawfulNumber plan
+PlansBehind name rows None = Unit {0}
 
 -- the same of the subcommand that `clap` found
 abbrev pub PlansFound : Option (Text × List Row) → Option Plan → Type 0

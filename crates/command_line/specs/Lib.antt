@@ -1,6 +1,6 @@
 pub mod RunCommand
 pub mod RunLine
-pub mod CheckLine
+pub mod FileLines
 pub mod FoundPlan
-pub mod Inputs
+pub mod Files
 pub mod UsageFault

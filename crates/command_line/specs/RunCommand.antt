@@ -25,6 +25,14 @@ abbrev pub run_command : App
 run_command = with_rule (with_rule (with_rule (new_app (codes "run")) workers_rule)
     (path_rule (codes "MANIFEST"))) (path_rule (codes "SCENARIO"))
 
+-- `asm` with the text that it reads and the program that it writes
+abbrev pub asm_command : App
+asm_command = with_rule (with_rule (new_app (codes "asm")) (path_rule (codes "IN"))) (path_rule (codes "OUT"))
+
+-- `dis` with its program
+abbrev pub dis_command : App
+dis_command = with_rule (new_app (codes "dis")) (path_rule (codes "FILE"))
+
 -- `check` with its manifest
 abbrev pub check_command : App
 check_command = with_rule (new_app (codes "check")) (path_rule (codes "MANIFEST"))
@@ -39,13 +47,17 @@ bare_command = let a = new_app (codes "camr") in record a {
   };
 }
 
--- with `check` alone
-abbrev pub checking_command : App
-checking_command = with_subcommand bare_command check_command.top
+-- with `asm` and `dis` alone
+abbrev pub texts_command : App
+texts_command = with_subcommand (with_subcommand bare_command asm_command.top) dis_command.top
+
+-- with `check` too
+abbrev pub programs_command : App
+programs_command = with_subcommand texts_command check_command.top
 
 -- the whole command line
 abbrev pub camr_command : App
-camr_command = with_subcommand checking_command run_command.top
+camr_command = with_subcommand programs_command run_command.top
 
 -- ---- what is made for `clap`
 

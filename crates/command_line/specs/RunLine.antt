@@ -6,7 +6,7 @@ use Rattle.clap.specs.Words.{Text, kind_of}
 use Rattle.clap.specs.declared.error.Error.{Error}
 use Rattle.clap.specs.declared.error.kind.ErrorKind.TheVariants as kind
 use Rattle.command_line.specs.declared.plans.Plan.{Plan}
-use Rattle.command_line.specs.declared.plans.Plan.TheVariants.{Check, Run}
+use Rattle.command_line.specs.declared.plans.Plan.TheVariants.{Run}
 use Rattle.command_line.specs.declared.plans.TheConstants.{MAX_WORKERS, MIN_WORKERS}
 
 -- a word that does not begin with a hyphen
@@ -45,12 +45,12 @@ IsLawfulNumber workers = (MIN_WORKERS ≤ workers) × (workers ≤ MAX_WORKERS)
 abbrev pub IsRun : Text → Text → Text → Plan → Type 0
 IsRun number manifest scenario (Run workers a b) = Spells number workers
     × (string_bytes a ≡ manifest) × (string_bytes b ≡ scenario)
-IsRun number manifest scenario (Check path) = ⊥
+IsRun number manifest scenario plan = ⊥
 
 -- a run has a number of workers that there can be
 abbrev pub HasLawfulNumber : Plan → Type 0
 HasLawfulNumber (Run workers a b) = IsLawfulNumber workers
-HasLawfulNumber (Check path) = Unit {0}
+HasLawfulNumber plan = Unit {0}
 
 -- no number of workers that there can be is spelled so
 abbrev pub SpellsNoLawfulNumber : Text → Type 0

@@ -1,7 +1,7 @@
 // What the program can be asked to do. It relies on nothing.
 
-ghost use Rattle.std.specs.Prelude.{◌≡◌, ◌<◌, [], length, slice_index_or};
-ghost use Rattle.command_line.specs.Inputs.{input_paths};
+ghost use Rattle.std.specs.Prelude.{◌≡◌, ◌<◌, [], Some, None, MatchOption, length, slice_index_or};
+ghost use Rattle.command_line.specs.Files.{input_paths, output_path};
 
 /// The least number of workers that serve completions, and the greatest.
 pub const MIN_WORKERS: u8 = 1;
@@ -11,6 +11,10 @@ pub const MAX_WORKERS: u8 = 16;
 /// What is to be done, with the paths of the files in the order of the line.
 #[derive(Debug, Drop)]
 pub enum Plan {
+    /// Assembles a text: the text's file, and the file that gets the bytes of its program.
+    Asm(String, String),
+    /// Prints the text of a program's bytes.
+    Dis(String),
     /// Verifies the programs of a manifest.
     Check(String),
     /// Runs a scenario over a manifest's queues: the number of workers, 1 to 16, the manifest, the scenario.
@@ -23,7 +27,7 @@ impl Plan {
         ensures { result ≡ length (input_paths self.now) }
     {
         match self {
-            Plan::Check(_) => 1,
+            Plan::Asm(..) | Plan::Dis(_) | Plan::Check(_) => 1,
             Plan::Run(..) => 2,
         }
     }
@@ -34,9 +38,25 @@ impl Plan {
         ensures { result.now ≡ slice_index_or (input_paths self.now) place [] }
     {
         match (self, place) {
-            (Plan::Check(manifest) | Plan::Run(_, manifest, _), 0) => manifest.as_str(),
+            (
+                Plan::Asm(first, _)
+                | Plan::Dis(first)
+                | Plan::Check(first)
+                | Plan::Run(_, first, _),
+                0,
+            ) => { first.as_str() }
             (Plan::Run(_, _, scenario), 1) => scenario.as_str(),
             _ => "",
+        }
+    }
+
+    /// The path of the file that is written, if one is.
+    pub fn output(&self) -> Option<&str>
+        ensures { MatchOption result (output_path self.now ≡ None) (λ path. output_path self.now ≡ Some path.now) }
+    {
+        match self {
+            Plan::Asm(_, output) => Some(output.as_str()),
+            Plan::Dis(_) | Plan::Check(_) | Plan::Run(..) => None,
         }
     }
 }

@@ -3,7 +3,7 @@
 
 ghost use Rattle.std.specs.Prelude.{◌≡◌, IfOk};
 ghost use Rattle.command_line.specs.RunCommand.{IsArgument, IsCommand, camr_command};
-ghost use Rattle.command_line.specs.RunCommand.{check_command, checking_command};
+ghost use Rattle.command_line.specs.RunCommand.{asm_command, check_command, dis_command, programs_command, texts_command};
 ghost use Rattle.command_line.specs.RunCommand.{path_rule, run_command, workers_rule};
 
 use clap::{Arg, Command, value_parser};
@@ -15,13 +15,28 @@ pub fn camr_command<'a>(alloc: Global) -> Result<Command<'a>, AllocError>
 {
     let run = run_command(alloc)?;
     let check = check_command(alloc)?;
-    checking_command(alloc, check)?.subcommand(run)
+    programs_command(alloc, check)?.subcommand(run)
 }
 
-// The command with `check` alone.
-fn checking_command<'a>(alloc: Global, check: Command<'a>) -> Result<Command<'a>, AllocError>
+// The command with all that is for programs alone.
+fn programs_command<'a>(alloc: Global, check: Command<'a>) -> Result<Command<'a>, AllocError>
     requires { IsCommand check_command check }
-    ensures { IfOk result (IsCommand checking_command) }
+    ensures { IfOk result (IsCommand programs_command) }
+{
+    let asm = asm_command(alloc)?;
+    let dis = dis_command(alloc)?;
+    texts_command(alloc, asm, dis)?.subcommand(check)
+}
+
+// The command with `asm` and `dis` alone.
+fn texts_command<'a>(
+    alloc: Global,
+    asm: Command<'a>,
+    dis: Command<'a>,
+) -> Result<Command<'a>, AllocError>
+    requires asm { IsCommand asm_command asm }
+    requires dis { IsCommand dis_command dis }
+    ensures { IfOk result (IsCommand texts_command) }
 {
     Command::new(alloc, "camr")
         .about("A CAM transport whose error recovery is written as BPF programs")
@@ -29,7 +44,28 @@ fn checking_command<'a>(alloc: Global, check: Command<'a>) -> Result<Command<'a>
         .subcommand_required(true)
         .arg_required_else_help(true)
         .bin_name("camr")?
-        .subcommand(check)
+        .subcommand(asm)?
+        .subcommand(dis)
+}
+
+fn asm_command<'a>(alloc: Global) -> Result<Command<'a>, AllocError>
+    ensures { IfOk result (IsCommand asm_command) }
+{
+    let text = path(alloc, "IN", "A program as text, an instruction a line");
+    let program = path(alloc, "OUT", "The file that gets the program's bytes");
+    Command::new(alloc, "asm")
+        .about("Assembles the text of a program")
+        .arg(text)?
+        .arg(program)
+}
+
+fn dis_command<'a>(alloc: Global) -> Result<Command<'a>, AllocError>
+    ensures { IfOk result (IsCommand dis_command) }
+{
+    let program = path(alloc, "FILE", "The bytes of a program");
+    Command::new(alloc, "dis")
+        .about("Prints the text of a program")
+        .arg(program)
 }
 
 fn check_command<'a>(alloc: Global) -> Result<Command<'a>, AllocError>

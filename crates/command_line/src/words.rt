@@ -1,12 +1,12 @@
 // The words after the program's name, read as a plan. It relies on `usage` for what `clap` is given of them, and
 // on `clap` for the rest but the form of a number.
 
-ghost use Rattle.std.specs.Prelude.{◌≡◌, IfOk, MatchOption, map, string_bytes};
+ghost use Rattle.std.specs.Prelude.{◌≡◌, IfOk, MatchOption, codes, map, string_bytes};
 ghost use Rattle.clap.specs.Words.{FailsBy, Text, fault_of, found_of, kind_of, rows_of};
 ghost use Rattle.clap.specs.Words.{subcommand_of, subcommand_rows_of};
-ghost use Rattle.command_line.specs.FoundPlan.{HasFound, PlansCheck, PlansFound, PlansRows};
+ghost use Rattle.command_line.specs.FoundPlan.{HasFound, PlansBehind, PlansFound, PlansRows};
 ghost use Rattle.command_line.specs.FoundPlan.{ReadsWorkers};
-ghost use Rattle.command_line.specs.CheckLine.{IsCheck, check_line};
+ghost use Rattle.command_line.specs.FileLines.{IsAsm, IsCheck, IsDis, asm_line, check_line, dis_line};
 ghost use Rattle.command_line.specs.RunCommand.{camr_command};
 ghost use Rattle.command_line.specs.RunLine.{GivesRun, HasLawfulNumber, IsLawfulNumber, IsPlain};
 ghost use Rattle.command_line.specs.RunLine.{RunLine, Spells, SpellsNoLawfulNumber};
@@ -22,8 +22,8 @@ use std::alloc::{AllocError, Global};
 /// `exit_code` is the status to end with.
 pub type UsageFault = Error;
 
-/// Reads the words after the program's name. A line that asks for a check gives that check or an error. A line
-/// that asks for a run gives that run, or an error where its number is none from 1 to 16 in decimal digits alone
+/// Reads the words after the program's name. A line that asks for an assembly, for a program's text or for a check gives
+/// that or an error. A line that asks for a run gives that run, or an error where its number is none from 1 to 16 in decimal digits alone
 /// or memory is refused. Whatever the words are, a run has 1 to 16 workers and the paths that `clap` found in
 /// their places.
 pub fn plan(alloc: Global, words: &[String]) -> Result<Plan, UsageFault>
@@ -33,6 +33,12 @@ pub fn plan(alloc: Global, words: &[String]) -> Result<Plan, UsageFault>
         → RunLine (map string_bytes words.now) number manifest scenario
         → IsPlain number → IsPlain manifest → IsPlain scenario
         → GivesRun number manifest scenario result }
+    ensures assembles { (text program : Text)
+        → map string_bytes words.now ≡ asm_line text program → IsPlain text → IsPlain program
+        → IfOk result (IsAsm text program) }
+    ensures disassembles { (program : Text)
+        → map string_bytes words.now ≡ dis_line program → IsPlain program
+        → IfOk result (IsDis program) }
     ensures checks { (manifest : Text)
         → map string_bytes words.now ≡ check_line manifest → IsPlain manifest
         → IfOk result (IsCheck manifest) }
@@ -77,15 +83,42 @@ fn planned(alloc: Global, matches: &ArgMatches) -> Result<Option<Plan>, AllocErr
     ensures { IfOk result (PlansFound (subcommand_rows_of matches.now)) }
 {
     match matches.subcommand() {
+        Some(("asm", asm)) => asm_plan(alloc, asm),
+        Some(("dis", dis)) => dis_plan(alloc, dis),
         Some(("check", check)) => check_plan(alloc, check),
         Some(("run", run)) => run_plan(alloc, run),
         _ => Ok(None),
     }
 }
 
+// The plan of what clap found behind `asm`.
+fn asm_plan(alloc: Global, asm: &ArgMatches) -> Result<Option<Plan>, AllocError>
+    ensures { IfOk result (PlansBehind (codes "asm") (rows_of (found_of asm.now))) }
+{
+    let Some(text) = asm.get_str("IN") else {
+        return Ok(None);
+    };
+    let Some(program) = asm.get_str("OUT") else {
+        return Ok(None);
+    };
+    let text = String::from_str(alloc, text)?;
+    let program = String::from_str(alloc, program)?;
+    Ok(Some(Plan::Asm(text, program)))
+}
+
+// The plan of what clap found behind `dis`.
+fn dis_plan(alloc: Global, dis: &ArgMatches) -> Result<Option<Plan>, AllocError>
+    ensures { IfOk result (PlansBehind (codes "dis") (rows_of (found_of dis.now))) }
+{
+    let Some(program) = dis.get_str("FILE") else {
+        return Ok(None);
+    };
+    Ok(Some(Plan::Dis(String::from_str(alloc, program)?)))
+}
+
 // The plan of what clap found behind `check`.
 fn check_plan(alloc: Global, check: &ArgMatches) -> Result<Option<Plan>, AllocError>
-    ensures { IfOk result (PlansCheck (rows_of (found_of check.now))) }
+    ensures { IfOk result (PlansBehind (codes "check") (rows_of (found_of check.now))) }
 {
     let Some(manifest) = check.get_str("MANIFEST") else {
         return Ok(None);

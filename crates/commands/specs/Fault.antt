@@ -2,12 +2,22 @@
 use Rattle.std.specs.Prelude.{ℕ}
 use Rattle.commands.specs.declared.fault.Fault.{Fault}
 use Rattle.commands.specs.declared.fault.Fault.TheVariants as fault
+use Rattle.bpf_asm.specs.declared.fault.AsmFault.{AsmFault}
+use Rattle.bpf_decode.specs.declared.fault.DecodeFault.{DecodeFault}
 use Rattle.scenario_host.specs.declared.host.RunFault.{RunFault}
 use Rattle.scenario_host.specs.declared.host.RunFault.TheVariants as run
 use Rattle.manifest.specs.declared.ManifestFault.{ManifestFault}
 use Rattle.or_memory.specs.declared.OrMemory.{OrMemory}
 use Rattle.or_memory.specs.declared.OrMemory.TheVariants as part
 use Rattle.scenario.specs.declared.reading.FaultyLine.{FaultyLine}
+
+abbrev pub fault_of_text : OrMemory AsmFault → Fault
+fault_of_text part.OutOfMemory = fault.OutOfMemory
+fault_of_text (part.Fault f) = fault.Text f
+
+abbrev pub fault_of_program : OrMemory DecodeFault → Fault
+fault_of_program part.OutOfMemory = fault.OutOfMemory
+fault_of_program (part.Fault f) = fault.Program f
 
 abbrev pub fault_of_manifest : OrMemory ManifestFault → Fault
 fault_of_manifest part.OutOfMemory = fault.OutOfMemory
@@ -26,6 +36,8 @@ fault_of_run (run.Unended number) = fault.Unended number
 abbrev pub status_of : Fault → ℕ
 status_of fault.OutOfMemory = 2
 status_of (fault.File path) = 2
+status_of (fault.Text f) = 1
+status_of (fault.Program f) = 1
 status_of (fault.Manifest f) = 1
 status_of (fault.Line line) = 1
 status_of (fault.NotHeld line) = 1

@@ -1,12 +1,14 @@
 // A plan, carried out over the bytes of its files. It relies on the crates that read a manifest and a scenario,
 // on `scenario_host`, and on `trace` and `verdicts` for what goes out.
 
-ghost use Rattle.std.specs.Prelude.{◌≡◌, ◌≤◌, Contains, IsErrAnd, IsUtf8, MatchResult, length};
-ghost use Rattle.command_line.specs.Inputs.{input_paths};
+ghost use Rattle.std.specs.Prelude.{◌≡◌, ◌≤◌, true, Contains, IsErrAnd, IsUtf8, MatchResult, length};
+ghost use Rattle.command_line.specs.Files.{input_paths, reads_text};
 ghost use Rattle.commands.specs.Fault.{status_of};
 
 use crate::fault::Fault;
 use crate::verdicts;
+use bpf_asm::{assemble, disassemble};
+use bpf_decode::{decode, encode};
 use command_line::Plan;
 use manifest::Manifest;
 use std::alloc::Global;
@@ -15,7 +17,7 @@ use std::io::Write;
 use world::Trace;
 
 /// Carries a plan out over the bytes of its input files, in the order of the line, and answers the status:
-/// 0 done; 1 refused; 2 for a file that is not UTF-8, for want of memory, or where a writer fails. What is to
+/// 0 done; 1 refused; 2 for a file that is to be text and is not UTF-8, for want of memory, or where a writer fails. What is to
 /// go out is written on `out`, and one line for a fault on `err`; where there is a fault, nothing goes out.
 pub fn carry<W: Write, E: Write>(
     alloc: Global,
@@ -26,9 +28,17 @@ pub fn carry<W: Write, E: Write>(
 ) -> u8
     requires { length inputs.now ≡ length (input_paths plan.now) }
     ensures status { result ≤ 2 }
-    ensures no_text { (input : _) → Contains inputs.now input → ¬ (IsUtf8 input.items) → result ≡ 2 }
+    ensures no_text { reads_text plan.now ≡ true → (input : _) → Contains inputs.now input → ¬ (IsUtf8 input.items) → result ≡ 2 }
 {
     match plan {
+        Plan::Asm(text, _) => match assembled(alloc, (text.as_str(), inputs[0].as_slice())) {
+            Ok(bytes) => status(out.write_all(&bytes)),
+            Err(fault) => fault.report(err),
+        },
+        Plan::Dis(_) => match disassembled(alloc, inputs[0].as_slice()) {
+            Ok(text) => status(out.write_all(text.as_bytes())),
+            Err(fault) => fault.report(err),
+        },
         Plan::Check(manifest) => {
             let manifest = (manifest.as_str(), inputs[0].as_slice());
             match check(alloc, manifest) {
@@ -39,10 +49,7 @@ pub fn carry<W: Write, E: Write>(
         Plan::Run(_, manifest, scenario) => {
             let manifest = (manifest.as_str(), inputs[0].as_slice());
             let scenario = (scenario.as_str(), inputs[1].as_slice());
-            match run(alloc, manifest, scenario) {
-                Ok(trace) => status(trace::print(&trace, out)),
-                Err(fault) => fault.report(err),
-            }
+            print_run(alloc, manifest, scenario, out, err)
         }
     }
 }
@@ -57,11 +64,43 @@ fn status(written: io::Result<()>) -> u8
     }
 }
 
+// The bytes of the program that a text says, a path and its bytes.
+fn assembled<'a>(alloc: Global, file: (&'a str, &[u8])) -> Result<Vec<u8>, Fault<'a>>
+    ensures { ¬ (IsUtf8 file.entry.1.now) → IsErrAnd result (λ e. status_of e ≡ 2) }
+{
+    let program = assemble(alloc, text(file)?)?;
+    encode(alloc, &program).map_err(|_| Fault::OutOfMemory)
+}
+
+// The text of the program of these bytes.
+fn disassembled(alloc: Global, bytes: &[u8]) -> Result<String, Fault<'static>> {
+    let program = decode(alloc, bytes)?;
+    disassemble(alloc, &program).map_err(|_| Fault::OutOfMemory)
+}
+
 // A manifest, a path and its bytes, with its programs verified.
 fn check<'a>(alloc: Global, file: (&'a str, &[u8])) -> Result<Manifest, Fault<'a>>
     ensures { ¬ (IsUtf8 file.entry.1.now) → IsErrAnd result (λ e. status_of e ≡ 2) }
 {
     Ok(manifest::read(alloc, text(file)?)?)
+}
+
+// Prints the trace of a manifest and a scenario, each a path and its bytes, and answers the status.
+fn print_run<W: Write, E: Write>(
+    alloc: Global,
+    manifest: (&str, &[u8]),
+    scenario: (&str, &[u8]),
+    out: &mut W,
+    err: &mut E,
+) -> u8
+    ensures status { result ≤ 2 }
+    ensures manifest { ¬ (IsUtf8 manifest.entry.1.now) → result ≡ 2 }
+    ensures scenario { ¬ (IsUtf8 scenario.entry.1.now) → result ≡ 2 }
+{
+    match run(alloc, manifest, scenario) {
+        Ok(trace) => status(trace::print(&trace, out)),
+        Err(fault) => fault.report(err),
+    }
 }
 
 // The trace of a manifest and a scenario, each a path and its bytes.

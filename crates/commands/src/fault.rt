@@ -1,8 +1,10 @@
 // Why a plan was not carried out, as a line for the user and as a status. It relies on the faults of the parts.
 
 ghost use Rattle.std.specs.Prelude.{◌≡◌, ◌≤◌, ◌⊎◌};
-ghost use Rattle.commands.specs.Fault.{fault_of_manifest, fault_of_run, fault_of_scenario, status_of};
+ghost use Rattle.commands.specs.Fault.{fault_of_manifest, fault_of_program, fault_of_run, fault_of_scenario, fault_of_text, status_of};
 
+use bpf_asm::{AsmError, AsmFault};
+use bpf_decode::{DecodeError, DecodeFault};
 use manifest::{ManifestError, ManifestFault};
 use or_memory::OrMemory;
 use scenario::{FaultyLine, ScenarioError};
@@ -18,6 +20,12 @@ pub enum Fault<'a> {
     /// The file of that path cannot be read or written, or is to be text and is not UTF-8.
     #[error("file {0}")]
     File(&'a str),
+    /// The text says no program.
+    #[error("{0}")]
+    Text(AsmFault),
+    /// The bytes are no program.
+    #[error("{0}")]
+    Program(DecodeFault),
     #[error("{0}")]
     Manifest(ManifestFault),
     /// That line of the scenario is not of the form.
@@ -38,7 +46,11 @@ impl Fault<'_> {
     {
         match self {
             Fault::OutOfMemory | Fault::File(_) | Fault::Unended(_) => 2,
-            Fault::Manifest(_) | Fault::Line(_) | Fault::NotHeld(_) => 1,
+            Fault::Text(_)
+            | Fault::Program(_)
+            | Fault::Manifest(_)
+            | Fault::Line(_)
+            | Fault::NotHeld(_) => 1,
         }
     }
 
@@ -50,6 +62,28 @@ impl Fault<'_> {
         match writeln!(err, "camr: {self}") {
             Ok(()) => self.status(),
             Err(_) => 2,
+        }
+    }
+}
+
+impl<'a> From<AsmError> for Fault<'a> {
+    ghost from_gives = { λ error fault. fault ≡ fault_of_text error };
+
+    fn from(error: AsmError) -> Self {
+        match error {
+            OrMemory::OutOfMemory => Fault::OutOfMemory,
+            OrMemory::Fault(fault) => Fault::Text(fault),
+        }
+    }
+}
+
+impl<'a> From<DecodeError> for Fault<'a> {
+    ghost from_gives = { λ error fault. fault ≡ fault_of_program error };
+
+    fn from(error: DecodeError) -> Self {
+        match error {
+            OrMemory::OutOfMemory => Fault::OutOfMemory,
+            OrMemory::Fault(fault) => Fault::Program(fault),
         }
     }
 }

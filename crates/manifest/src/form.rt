@@ -31,7 +31,7 @@ fn has_known_keys(manifest: &Table) -> bool {
     has_keys(manifest, &["version", "queue", "program"], &["table"])
         && all_have_keys(elements(manifest, "queue"), &["openings", "program"])
         && all_have_keys(elements(manifest, "table"), &["length"])
-        && all_have_keys(elements(manifest, "program"), &["name", "code"])
+        && elements(manifest, "program").iter().all(has_program_keys)
 }
 
 // All required keys are there, and beside them only optional ones.
@@ -47,6 +47,17 @@ fn all_have_keys(elements: &[Value], keys: &[&str]) -> bool {
         Value::Table(table) => has_keys(table, keys, &[]),
         _ => true,
     })
+}
+
+// A program has a name, and is written either as code or as text.
+fn has_program_keys(program: &Value) -> bool {
+    match program {
+        Value::Table(table) => {
+            has_keys(table, &["name"], &["code", "asm"])
+                && table.contains_key("code") != table.contains_key("asm")
+        }
+        _ => true,
+    }
 }
 
 fn has_known_types(manifest: &Table) -> bool {
@@ -68,7 +79,9 @@ fn is_table(table: &Value) -> bool {
 }
 
 fn is_program(program: &Value) -> bool {
-    text_of(program, "name").is_some() && text_of(program, "code").is_some_and(code::is_code)
+    text_of(program, "name").is_some()
+        && (text_of(program, "asm").is_some()
+            || text_of(program, "code").is_some_and(code::is_code))
 }
 
 fn is_in_range(manifest: &Table) -> bool {

@@ -7,6 +7,7 @@ mod form;
 mod names;
 mod programs;
 
+use bpf_asm::AsmFault;
 use bpf_decode::DecodeFault;
 use engine_config::Config;
 use helpers::{HelperLimits, TableLengths};
@@ -51,6 +52,9 @@ pub enum ManifestFault {
     /// The program of that name is not decoded.
     #[error("M7 {0} {1}")]
     Undecoded(String, DecodeFault),
+    /// The text of the program of that name says none.
+    #[error("M7 {0} {1}")]
+    Unassembled(String, AsmFault),
     /// The program of that name is not accepted.
     #[error("M8 {0} {1}")]
     Unaccepted(String, Refusal),

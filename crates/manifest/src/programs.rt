@@ -1,6 +1,8 @@
-// The programs of a manifest: decoded first, and then verified. It relies on `bpf_decode` and `verifier`.
+// The programs of a manifest: decoded or assembled first, and then verified. It relies on `bpf_decode`, `bpf_asm` and
+// `verifier`.
 
 use super::{ManifestError, ManifestFault, code, text_of};
+use bpf_asm::assemble;
 use bpf_decode::decode;
 use bpf_insn::Program;
 use helpers::HelperLimits;
@@ -17,27 +19,27 @@ pub struct NamedProgram {
     pub accepted: Arc<Accepted>,
 }
 
-// A program that was decoded, with its name.
+// A program that was decoded or assembled, with its name.
 #[derive(Drop)]
-struct Decoded<'a> {
+struct ReadProgram<'a> {
     name: &'a str,
     program: Program,
 }
 
-/// The programs of a manifest that is of the form. All are decoded before the first is verified.
+/// The programs of a manifest that is of the form. All are decoded or assembled before the first is
+/// verified.
 pub fn read(
     alloc: Global,
     programs: &[Value],
     limits: &HelperLimits,
 ) -> Result<Vec<NamedProgram>, ManifestError> {
-    let mut decoded = Vec::new(alloc);
+    let mut read = Vec::new(alloc);
     for program in programs {
-        decoded
-            .push(decoded_program(alloc, program)?)
+        read.push(read_program(alloc, program)?)
             .map_err(AllocError::from)?;
     }
     let mut accepted = Vec::new(alloc);
-    for program in &decoded {
+    for program in &read {
         accepted
             .push(accepted_program(alloc, program, limits)?)
             .map_err(AllocError::from)?;
@@ -45,11 +47,31 @@ pub fn read(
     Ok(accepted)
 }
 
-fn decoded_program(alloc: Global, program: &Value) -> Result<Decoded<'_>, ManifestError> {
+// A program is written as text or as code.
+fn read_program(alloc: Global, program: &Value) -> Result<ReadProgram<'_>, ManifestError> {
     let name = text_of(program, "name").unwrap_or("");
-    let bytes = code::bytes(alloc, text_of(program, "code").unwrap_or(""))?;
+    let program = match text_of(program, "asm") {
+        Some(text) => assembled(alloc, name, text)?,
+        None => decoded(alloc, name, text_of(program, "code").unwrap_or(""))?,
+    };
+    Ok(ReadProgram { name, program })
+}
+
+fn assembled(alloc: Global, name: &str, text: &str) -> Result<Program, ManifestError> {
+    match assemble(alloc, text) {
+        Ok(program) => Ok(program),
+        Err(OrMemory::OutOfMemory) => Err(OrMemory::OutOfMemory),
+        Err(OrMemory::Fault(fault)) => {
+            let name = String::from_str(alloc, name)?;
+            Err(OrMemory::Fault(ManifestFault::Unassembled(name, fault)))
+        }
+    }
+}
+
+fn decoded(alloc: Global, name: &str, code: &str) -> Result<Program, ManifestError> {
+    let bytes = code::bytes(alloc, code)?;
     match decode(alloc, &bytes) {
-        Ok(program) => Ok(Decoded { name, program }),
+        Ok(program) => Ok(program),
         Err(OrMemory::OutOfMemory) => Err(OrMemory::OutOfMemory),
         Err(OrMemory::Fault(fault)) => {
             let name = String::from_str(alloc, name)?;
@@ -60,11 +82,11 @@ fn decoded_program(alloc: Global, program: &Value) -> Result<Decoded<'_>, Manife
 
 fn accepted_program(
     alloc: Global,
-    decoded: &Decoded<'_>,
+    read: &ReadProgram<'_>,
     limits: &HelperLimits,
 ) -> Result<NamedProgram, ManifestError> {
-    let name = String::from_str(alloc, decoded.name)?;
-    match verify(alloc, &decoded.program, limits) {
+    let name = String::from_str(alloc, read.name)?;
+    match verify(alloc, &read.program, limits) {
         Ok(accepted) => Ok(NamedProgram {
             name,
             accepted: Arc::new(alloc, accepted).map_err(AllocError::from)?,

@@ -1,7 +1,7 @@
 // Carries a case out as `camr` does. It relies on `command_line` for the words and on `commands` for the rest.
 
 ghost use Rattle.std.specs.Prelude.{◌≡◌, IfOk, length};
-ghost use Rattle.command_line.specs.Inputs.{input_paths};
+ghost use Rattle.command_line.specs.Files.{input_paths};
 
 use command_line::{Plan, not_utf8, plan};
 use commands::{Fault, carry, report_usage};

@@ -8,7 +8,7 @@ use Rattle.command_line.specs.RunCommand.{camr_command}
 use Rattle.command_line.specs.RunLine.{GivesRun, SpellsNoLawfulNumber}
 use Rattle.command_line.specs.UsageFault.{IsValueFault}
 use Rattle.command_line.specs.declared.plans.Plan.{Plan}
-use Rattle.command_line.proofs.CheckWords.{check_plan}
+use Rattle.command_line.proofs.FileWords.{asm_plan, check_plan, dis_plan}
 use Rattle.command_line.proofs.PlanLines.{line_fault, line_plan, line_refuses}
 use Rattle.command_line.proofs.words.plan.Goals as goal
 
@@ -45,6 +45,22 @@ returns-clause-lines c n m s line pn pm ps =
     subst (λ o. PlansFound (subcommand_of camr_command words) o) c.in-None.is
     (subst (λ f. PlansFound f c.in_ok-plan.field-0) c.in_ok-matches.ensures.rows c.in_ok-plan.ensures) in
     refused n c.no_number.result c.no_number.ensures (line_refuses words n m s line pn pm ps found)
+
+pub returns-in-Some-clause-assembles : goal.returns-in-Some-clause-assembles
+returns-in-Some-clause-assembles c text program line plain_text plain_program =
+    let words = map string_bytes c.args.words.now in
+    let found : PlansFound (subcommand_of camr_command words) (Some c.in-Some.plan) =
+    subst (λ o. PlansFound (subcommand_of camr_command words) o) c.in-Some.is
+    (subst (λ f. PlansFound f c.in_ok-plan.field-0) c.in_ok-matches.ensures.rows c.in_ok-plan.ensures) in
+    asm_plan words text program c.in-Some.plan line plain_text plain_program found.0
+
+pub returns-in-Some-clause-disassembles : goal.returns-in-Some-clause-disassembles
+returns-in-Some-clause-disassembles c program line plain =
+    let words = map string_bytes c.args.words.now in
+    let found : PlansFound (subcommand_of camr_command words) (Some c.in-Some.plan) =
+    subst (λ o. PlansFound (subcommand_of camr_command words) o) c.in-Some.is
+    (subst (λ f. PlansFound f c.in_ok-plan.field-0) c.in_ok-matches.ensures.rows c.in_ok-plan.ensures) in
+    dis_plan words program c.in-Some.plan line plain found.0
 
 pub returns-in-Some-clause-checks : goal.returns-in-Some-clause-checks
 returns-in-Some-clause-checks c manifest line plain =

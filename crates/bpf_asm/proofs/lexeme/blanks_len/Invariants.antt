@@ -1,0 +1,11 @@
+-- what was counted, and what is still to count, make the whole
+use Rattle.std.proofs.Common.{◌≡◌, ◌+◌, ◌-◌, ◌≤◌, length, drop}
+use Rattle.std.specs.List.{prefix_len}
+use Rattle.bpf_asm.specs.Bytes.{is_blank}
+use Rattle.bpf_asm.proofs.lexeme.blanks_len.Given as goal
+
+abbrev pub invariant-loop-len : goal.invariant-loop-len
+invariant-loop-len l = record { within : l.len ≤ length l.line; counted : l.len + prefix_len is_blank (drop l.len l.line) ≡ prefix_len is_blank l.line }
+
+abbrev pub decreases-loop-len : goal.decreases-loop-len
+decreases-loop-len l = length l.line - l.len

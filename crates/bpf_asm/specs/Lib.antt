@@ -1,0 +1,13 @@
+pub mod Bytes
+pub mod Lexemes
+pub mod Scanner
+pub mod Numbers
+pub mod Mnemonics
+pub mod Reading
+pub mod Forms
+pub mod Given
+pub mod Labels
+pub mod Assembly
+pub mod Tokens
+pub mod Canon
+pub mod FaultText

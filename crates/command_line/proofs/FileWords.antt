@@ -1,0 +1,118 @@
+-- What `clap` makes of the lines that ask for an assembly, for a program's text and for a check, and what follows for their
+-- plans.
+use Rattle.std.proofs.Common.{◌≡◌, List, [], ◌∷◌, Option, Some, false, codes, sym, subst, ◌∙◌, ap}
+use Rattle.std.specs.Prelude.{find, string_bytes, unwrap_or}
+use Rattle.clap.specs.Words.{Row, Rule, Text, first_of, subcommand_of}
+use Rattle.clap.specs.Walk.{Walk, answers_to, arg_by_index, finished, idle, nothing_held, rows_after, to_positional, walked}
+use Rattle.clap.specs.Simple.{built, entered, label_of, new_shape}
+use Rattle.command_line.specs.FileLines.{IsAsm, IsCheck, IsDis, asm_line, check_line, dis_line}
+use Rattle.command_line.specs.FoundPlan.{HasFound, HasFoundBehind}
+use Rattle.command_line.specs.RunCommand.{camr_command}
+use Rattle.command_line.specs.RunLine.{IsPlain}
+use Rattle.command_line.specs.declared.plans.Plan.{Plan}
+use Rattle.command_line.specs.declared.plans.Plan.TheVariants.{Asm, Dis, Check, Run}
+use Rattle.command_line.proofs.PlainWords.{walk_at, walked_path}
+use Rattle.command_line.proofs.Planned.{asm_not_check, asm_not_dis, asm_not_run, check_not_run, dis_not_check, dis_not_run}
+use Rattle.command_line.proofs.RunWords.{stays_stopped, stopped_at, top, top_names, top_walk}
+
+-- the rules of a subcommand as it is built
+abbrev rules_of : Text → List Rule
+rules_of name = (unwrap_or (find (λ s. answers_to name (label_of s)) (built camr_command).subs) (new_shape [])).rules
+
+abbrev asm_rules : List Rule
+asm_rules = rules_of (codes "asm")
+
+abbrev dis_rules : List Rule
+dis_rules = rules_of (codes "dis")
+
+abbrev check_rules : List Rule
+check_rules = rules_of (codes "check")
+
+asm_walk : (rest : List Text) → top_walk (codes "asm" ∷ rest) ≡ stopped_at nothing_held idle 1 false (codes "asm") rest
+unfolding walked
+asm_walk rest = stays_stopped top.rules top_names nothing_held idle 1 false (codes "asm") [] rest
+
+dis_walk : (rest : List Text) → top_walk (codes "dis" ∷ rest) ≡ stopped_at nothing_held idle 1 false (codes "dis") rest
+unfolding walked
+dis_walk rest = stays_stopped top.rules top_names nothing_held idle 1 false (codes "dis") [] rest
+
+check_walk : (rest : List Text) → top_walk (codes "check" ∷ rest) ≡ stopped_at nothing_held idle 1 false (codes "check") rest
+unfolding walked
+check_walk rest = stays_stopped top.rules top_names nothing_held idle 1 false (codes "check") [] rest
+
+-- the words behind the first one are for the subcommand
+enters_asm : (rest : List Text) → subcommand_of camr_command (codes "asm" ∷ rest) ≡ Some (codes "asm", rows_after asm_rules [] rest)
+enters_asm rest = ap (λ (w : Walk). entered (built camr_command) w.stopped) (asm_walk rest)
+
+enters_dis : (rest : List Text) → subcommand_of camr_command (codes "dis" ∷ rest) ≡ Some (codes "dis", rows_after dis_rules [] rest)
+enters_dis rest = ap (λ (w : Walk). entered (built camr_command) w.stopped) (dis_walk rest)
+
+enters_check : (rest : List Text) → subcommand_of camr_command (codes "check" ∷ rest) ≡ Some (codes "check", rows_after check_rules [] rest)
+enters_check rest = ap (λ (w : Walk). entered (built camr_command) w.stopped) (check_walk rest)
+
+-- the walk behind a path
+abbrev path_walk : List Rule → Walk → Text → Walk
+path_walk rules w path = to_positional rules (arg_by_index rules w.position) path w w.held
+
+abbrev start : Walk
+start = walk_at nothing_held idle 1
+
+-- a path stands where it is looked for
+file_found : (program : Text) → IsPlain program → first_of (codes "FILE") (rows_after dis_rules [] (program ∷ [])) ≡ Some program
+file_found program plain = ap (λ (w : Walk). first_of (codes "FILE") (finished dis_rules w.held)) (walked_path dis_rules nothing_held 1 program plain)
+
+manifest_found : (manifest : Text) → IsPlain manifest → first_of (codes "MANIFEST") (rows_after check_rules [] (manifest ∷ [])) ≡ Some manifest
+manifest_found manifest plain = ap (λ (w : Walk). first_of (codes "MANIFEST") (finished check_rules w.held)) (walked_path check_rules nothing_held 1 manifest plain)
+
+-- two paths, one behind the other
+asm_rows : (text program : Text) → IsPlain text → IsPlain program → rows_after asm_rules [] (text ∷ program ∷ []) ≡ finished asm_rules (path_walk asm_rules (path_walk asm_rules start text) program).held
+asm_rows text program plain_text plain_program =
+    let first = path_walk asm_rules start text in
+    ap (λ (w : Walk). finished asm_rules (walked asm_rules [] w program).held) (walked_path asm_rules nothing_held 1 text plain_text)
+    ∙ ap (λ (w : Walk). finished asm_rules w.held) (walked_path asm_rules first.held 2 program plain_program)
+
+text_found : (text program : Text) → IsPlain text → IsPlain program → first_of (codes "IN") (rows_after asm_rules [] (text ∷ program ∷ [])) ≡ Some text
+text_found text program plain_text plain_program = ap (first_of (codes "IN")) (asm_rows text program plain_text plain_program)
+
+program_found : (text program : Text) → IsPlain text → IsPlain program → first_of (codes "OUT") (rows_after asm_rules [] (text ∷ program ∷ [])) ≡ Some program
+program_found text program plain_text plain_program = ap (first_of (codes "OUT")) (asm_rows text program plain_text plain_program)
+
+same_text : (a b : Text) (o : Option Text) → o ≡ Some a → o ≡ Some b → a ≡ b
+same_text a b o p q = ap (λ (x : Option Text). unwrap_or x a) (sym p ∙ q)
+
+behind_asm : (text program : Text) (rows : List Row) (plan : Plan) → first_of (codes "IN") rows ≡ Some text → first_of (codes "OUT") rows ≡ Some program → HasFoundBehind (codes "asm") rows plan → IsAsm text program plan
+behind_asm text program rows (Asm a b) is_text is_program found = (same_text (string_bytes a) text _ found.1 is_text, same_text (string_bytes b) program _ found.2 is_program)
+behind_asm text program rows (Dis path) is_text is_program found = absurd (asm_not_dis found.0)
+behind_asm text program rows (Check path) is_text is_program found = absurd (asm_not_check found.0)
+behind_asm text program rows (Run workers a b) is_text is_program found = absurd (asm_not_run found.0)
+
+behind_dis : (program : Text) (rows : List Row) (plan : Plan) → first_of (codes "FILE") rows ≡ Some program → HasFoundBehind (codes "dis") rows plan → IsDis program plan
+behind_dis program rows (Dis path) is found = same_text (string_bytes path) program _ found.1 is
+behind_dis program rows (Asm a b) is found = absurd (asm_not_dis (sym found.0))
+behind_dis program rows (Check path) is found = absurd (dis_not_check found.0)
+behind_dis program rows (Run workers a b) is found = absurd (dis_not_run found.0)
+
+behind_check : (manifest : Text) (rows : List Row) (plan : Plan) → first_of (codes "MANIFEST") rows ≡ Some manifest → HasFoundBehind (codes "check") rows plan → IsCheck manifest plan
+behind_check manifest rows (Check path) is found = same_text (string_bytes path) manifest _ found.1 is
+behind_check manifest rows (Asm a b) is found = absurd (asm_not_check (sym found.0))
+behind_check manifest rows (Dis path) is found = absurd (dis_not_check (sym found.0))
+behind_check manifest rows (Run workers a b) is found = absurd (check_not_run found.0)
+
+-- the plan of the line is what it asks for
+pub asm_plan : (words : List Text) (text program : Text) (plan : Plan) → words ≡ asm_line text program → IsPlain text → IsPlain program → HasFound (subcommand_of camr_command words) plan → IsAsm text program plan
+asm_plan words text program plan line plain_text plain_program found =
+    let rows = rows_after asm_rules [] (text ∷ program ∷ []) in
+    let here : HasFound (Some (codes "asm", rows)) plan = subst (λ f. HasFound f plan) (ap (subcommand_of camr_command) line ∙ enters_asm (text ∷ program ∷ [])) found in
+    behind_asm text program rows plan (text_found text program plain_text plain_program) (program_found text program plain_text plain_program) here
+
+pub dis_plan : (words : List Text) (program : Text) (plan : Plan) → words ≡ dis_line program → IsPlain program → HasFound (subcommand_of camr_command words) plan → IsDis program plan
+dis_plan words program plan line plain found =
+    let rows = rows_after dis_rules [] (program ∷ []) in
+    let here : HasFound (Some (codes "dis", rows)) plan = subst (λ f. HasFound f plan) (ap (subcommand_of camr_command) line ∙ enters_dis (program ∷ [])) found in
+    behind_dis program rows plan (file_found program plain) here
+
+pub check_plan : (words : List Text) (manifest : Text) (plan : Plan) → words ≡ check_line manifest → IsPlain manifest → HasFound (subcommand_of camr_command words) plan → IsCheck manifest plan
+check_plan words manifest plan line plain found =
+    let rows = rows_after check_rules [] (manifest ∷ []) in
+    let here : HasFound (Some (codes "check", rows)) plan = subst (λ f. HasFound f plan) (ap (subcommand_of camr_command) line ∙ enters_check (manifest ∷ [])) found in
+    behind_check manifest rows plan (manifest_found manifest plain) here

@@ -1,0 +1,14 @@
+use Rattle.std.proofs.Common.{Some, ap, codes, refl, sym, ◌∙◌}
+use Rattle.clap.specs.Words.{Text, found_of}
+use Rattle.command_line.proofs.Given.{text_given}
+use Rattle.command_line.proofs.words.dis_plan.Goals as goal
+
+pub returns : goal.returns
+returns c = (
+  (
+    refl,
+    text_given (found_of c.args.dis.now) (codes "FILE") c.get_str.result _ c.get_str.ensures c.in-Some.is
+        ∙ ap (λ (t : Text). Some t) (sym c.in_ok-from_str.ensures.ok),
+  ),
+  tt,
+)

@@ -3,7 +3,6 @@
 ghost use Rattle.std.specs.Prelude.{◌≡◌, ◌≤◌, ◌*◌, List, length, IfOk, IfErr, MatchResult};
 ghost use Rattle.bpf_insn.specs.declared.program.TheConstants.{MAX_SLOTS};
 ghost use Rattle.bpf_insn.specs.declared.program.Slot.{Slot};
-ghost use Rattle.bpf_insn.specs.Program.{slots_of};
 ghost use Rattle.bpf_decode.specs.Spells.{Spells};
 ghost use Rattle.bpf_decode.specs.FirstFault.{HasFault};
 ghost use Rattle.bpf_decode.specs.Decoded.{IfFault};
@@ -12,7 +11,7 @@ ghost use Rattle.or_memory.specs.declared.OrMemory.TheVariants.{OutOfMemory};
 use crate::fault::DecodeFault;
 use crate::fields::SLOT_BYTES;
 use crate::insn::insn;
-use bpf_insn::{Insn, MAX_SLOTS, Program, ProgramBuilder};
+use bpf_insn::{MAX_SLOTS, Program, ProgramBuilder};
 use or_memory::OrMemory;
 use std::alloc::Global;
 
@@ -37,13 +36,6 @@ fn slot_count(bytes: &[u8]) -> Result<usize, DecodeError>
     Ok(slots)
 }
 
-/// How many slots the instruction takes.
-fn slots_of(insn: Insn) -> usize
-    ensures { result ≡ length (slots_of insn) }
-{
-    if insn.is_wide() { 2 } else { 1 }
-}
-
 /// The program that the bytes spell, or the first fault of the bytes.
 fn program(alloc: Global, bytes: &[u8]) -> Result<Program, DecodeError>
     ensures found { IfOk result (Spells bytes.now) }
@@ -56,7 +48,7 @@ fn program(alloc: Global, bytes: &[u8]) -> Result<Program, DecodeError>
         match insn(rest) {
             Ok(insn) => {
                 builder.push(insn)?;
-                let taken = slots_of(insn);
+                let taken = insn.slots();
                 rest = rest.split_at(SLOT_BYTES * taken).1;
                 slot += taken;
             }

@@ -25,6 +25,7 @@ pub fn shape(program: &Program) -> Result<Shape<'_>, ShapeFault>
     ensures lawful { IfOk result (λ _. IsLawful program.now) }
     ensures fault { IfErr result (FaultIs program.now) }
 {
+    // The proof knows that it is a program once its length is read.
     let _slots = program.len();
     let functions = functions_of(program);
     if let Some(fault) = insn_fault(program, &functions) {

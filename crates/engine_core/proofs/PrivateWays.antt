@@ -33,7 +33,7 @@ private_leads setup (suc n) world high run to rising found out (next, first, res
     let between : World = goes_on world run next in
     let then_run : LiveRun = with_machine run next in
     let step : WorldStep setup world (executes run.number private) went_on between =
-    ap (step_executes world private) found ∙ (cond-true run.out (step_run world run private) None out ∙ ap (option_map (λ (m : MachineState). (went_on, goes_on world run m))) first) in
+    ap (step_executes setup.limits world private) found ∙ (cond-true run.out (step_run setup.limits world run private) None out ∙ ap (option_map (λ (m : MachineState). (went_on, goes_on world run m))) first) in
     let keys : map run_key between.runs ≡ map run_key world.runs = put_keys run_key then_run world.runs in
     let later = private_leads setup n between high then_run to (subst (λ (ns : List ℕ). AreRising 0 ns high) (sym keys) rising) (put_same run_key then_run world.runs run found) out rest in
     let end : goes_on between then_run to ≡ goes_on world run to =

@@ -69,28 +69,29 @@ gives_back setup world run freeze sound found held =
     record { entry = among.0; found = among.1; number_is = bounds.0; bound = bounds.2; its = among.2 }
 
 -- its call of helper 2 is a step
-pub release_step : (setup : Setup) (world : World) (run : LiveRun) (freeze count : ℕ) → run_of run.number world.runs ≡ Some run → run.out ≡ true → request_at run.program run.machine ≡ Some (Release freeze) → (it : GivesBack world run freeze) → count ≡ frozen_with it.entry (without freeze world.freezes) → WorldStep setup world (executes run.number (call helpers.Release)) (result count) (answers (thawed world freeze) run (Release freeze) count).1
-release_step setup world run freeze count found out call_is it count_is =
+pub release_step : (setup : Setup) (world : World) (run : LiveRun) (freeze count : ℕ) → run_of run.number world.runs ≡ Some run → run.out ≡ true → request_at run.program run.machine ≡ Some (Release freeze) → meets_rule setup.limits run.machine (Release freeze) ≡ true → (it : GivesBack world run freeze) → count ≡ frozen_with it.entry (without freeze world.freezes) → WorldStep setup world (executes run.number (call helpers.Release)) (result count) (answers (thawed world freeze) run (Release freeze) count).1
+release_step setup world run freeze count found out call_is rule it count_is =
     let given : releases world run (Some it.entry) ≡ Some (answers (thawed world it.entry.number) run (Release it.entry.number) (frozen_with it.entry (thawed world it.entry.number).freezes)) = cond-true (is_run run.number it.entry.holder) _ None it.its in
     let named : releases world run (Some it.entry) ≡ Some (answers (thawed world freeze) run (Release freeze) count) =
     given ∙ (ap (λ (n : ℕ). Some (answers (thawed world n) run (Release n) (frozen_with it.entry (thawed world n).freezes))) it.number_is
     ∙ ap (λ (k : ℕ). Some (answers (thawed world freeze) run (Release freeze) k)) (sym count_is)) in
-    ap (step_executes world (call helpers.Release)) found
-    ∙ (cond-true run.out (step_run world run (call helpers.Release)) None out
-    ∙ (ap (option_and_then (step_call world run helpers.Release)) call_is ∙ (ap (releases world run) it.found ∙ named)))
+    ap (step_executes setup.limits world (call helpers.Release)) found
+    ∙ (cond-true run.out (step_run setup.limits world run (call helpers.Release)) None out
+    ∙ (ap (option_and_then (step_call setup.limits world run helpers.Release)) call_is
+    ∙ (cond-true (meets_rule setup.limits run.machine (Release freeze)) _ None rule ∙ (ap (releases world run) it.found ∙ named))))
 
 -- its call of helper 4 is a step
-pub requeue_step : (setup : Setup) (world : World) (run : LiveRun) (retries : ℕ) (live : LiveCcb) → run_of run.number world.runs ≡ Some run → run.out ≡ true → request_at run.program run.machine ≡ Some (Requeue retries) → (leb retries 1 && not run.machine.disposed) ≡ true → ccb_of run.ccb world.live ≡ Some live → WorldStep setup world (executes run.number (call helpers.Requeue)) (result 0) (answers (record world { live = with_ccb (record { ccb = requeued live.ccb retries; state = Waiting }) world.live }) run (Requeue retries) 0).1
+pub requeue_step : (setup : Setup) (world : World) (run : LiveRun) (retries : ℕ) (live : LiveCcb) → run_of run.number world.runs ≡ Some run → run.out ≡ true → request_at run.program run.machine ≡ Some (Requeue retries) → meets_rule setup.limits run.machine (Requeue retries) ≡ true → ccb_of run.ccb world.live ≡ Some live → WorldStep setup world (executes run.number (call helpers.Requeue)) (result 0) (answers (record world { live = with_ccb (record { ccb = requeued live.ccb retries; state = Waiting }) world.live }) run (Requeue retries) 0).1
 requeue_step setup world run retries live found out call_is rule there =
-    ap (step_executes world (call helpers.Requeue)) found
-    ∙ (cond-true run.out (step_run world run (call helpers.Requeue)) None out
-    ∙ (ap (option_and_then (step_call world run helpers.Requeue)) call_is
-    ∙ (cond-true (leb retries 1 && not run.machine.disposed) (requeues world run retries (ccb_of run.ccb world.live)) None rule ∙ ap (requeues world run retries) there)))
+    ap (step_executes setup.limits world (call helpers.Requeue)) found
+    ∙ (cond-true run.out (step_run setup.limits world run (call helpers.Requeue)) None out
+    ∙ (ap (option_and_then (step_call setup.limits world run helpers.Requeue)) call_is
+    ∙ (cond-true (meets_rule setup.limits run.machine (Requeue retries)) (requeues world run retries (ccb_of run.ccb world.live)) None rule ∙ ap (requeues world run retries) there)))
 
 -- its exit is a step
 pub exit_step : (setup : Setup) (world : World) (run : LiveRun) (r0 : ℕ) → run_of run.number world.runs ≡ Some run → run.out ≡ true → exit_at run.program run.machine ≡ Some r0 → WorldStep setup world (executes run.number exit) (result r0) (ends world run)
 exit_step setup world run r0 found out exit_is =
-    ap (step_executes world exit) found ∙ (cond-true run.out (step_run world run exit) None out ∙ ap (option_map _) exit_is)
+    ap (step_executes setup.limits world exit) found ∙ (cond-true run.out (step_run setup.limits world run exit) None out ∙ ap (option_map _) exit_is)
 
 none_held : (freezes : List Freeze) → map (λ (freeze : Freeze). freeze.number) freezes ≡ [] → freezes ≡ []
 none_held [] e = refl

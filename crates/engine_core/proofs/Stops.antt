@@ -109,7 +109,7 @@ release_leads setup world number segment freeze count it stop count_is =
     let stands = call_stop run setup.limits segment.stop (Release freeze) stop it.stands in
     let same_freezes : it.between.freezes ≡ world.freezes = ap (λ (w : World). w.freezes) it.between_is in
     let counted : count ≡ frozen_with asked.entry (without freeze it.between.freezes) = count_is ∙ ap (λ (fs : List Freeze). frozen_with asked.entry (without freeze fs)) (sym same_freezes) in
-    let step = release_step setup it.between run freeze count it.there it.out stands.0 asked counted in
+    let step = release_step setup it.between run freeze count it.there it.out stands.0 stands.1 asked counted in
     let end : (answers (thawed it.between freeze) run (Release freeze) count).1 ≡ record world { freezes = without freeze world.freezes; runs = with_run made world.runs } =
     ap (λ (w : World). (answers (thawed w freeze) run (Release freeze) count).1) it.between_is
     ∙ ap (λ (runs : List LiveRun). record world { freezes = without freeze world.freezes; runs = runs }) (put_put run_key run made world.runs refl) in
@@ -122,21 +122,16 @@ pub record Requeuing (world : World) (run : LiveRun) (retries : ℕ) : Type 0 wh
   pub found : ccb_of run.ccb world.live ≡ Some live
   pub state : live.state ≡ InRecovery
 
--- its rule: 0 or 1, and a CCB that is not disposed of
-requeue_rule : (limits : HelperLimits) (m : MachineState) (retries : ℕ) → meets_rule limits m (Requeue retries) ≡ true → (leb retries 1 && not m.disposed) ≡ true
-requeue_rule limits m retries rule =
-    let parts = and_parts (not m.disposed) _ rule in
-    and_from _ _ (and_parts _ _ (and_parts _ _ parts.1).0).1 parts.0
-
 pub asked_requeue : (setup : Setup) (world : World) (number : ℕ) (segment : SegmentState) (retries : ℕ) → (it : Arrives setup world number segment) → segment.stop ≡ Helper (Requeue retries) → Requeuing world it.run retries
 asked_requeue setup world number segment retries it stop =
     let run : LiveRun = with_machine it.run segment.to in
     let stands = call_stop run setup.limits segment.stop (Requeue retries) stop it.stands in
-    let parts = and_parts _ _ (requeue_rule setup.limits run.machine retries stands.1) in
-    let recovery = it.sound.recovering.ccbs run.number run it.there (not-true _ parts.1) in
+    let parts = and_parts (not run.machine.disposed) _ stands.1 in
+    let few = (and_parts _ _ (and_parts _ _ parts.1).0).1 in
+    let recovery = it.sound.recovering.ccbs run.number run it.there (not-true _ parts.0) in
     let same_live : it.between.live ≡ world.live = ap (λ (w : World). w.live) it.between_is in
     record {
-      few = leb-true _ _ parts.0;
+      few = leb-true _ _ few;
       live = recovery.live;
       found = ap (ccb_of it.run.ccb) (sym same_live) ∙ recovery.found;
       state = recovery.state;
@@ -149,7 +144,7 @@ requeue_leads setup world number segment retries live it stop found =
     let again : LiveCcb = record { ccb = requeued live.ccb retries; state = Waiting } in
     let stands = call_stop run setup.limits segment.stop (Requeue retries) stop it.stands in
     let same_live : it.between.live ≡ world.live = ap (λ (w : World). w.live) it.between_is in
-    let step = requeue_step setup it.between run retries live it.there it.out stands.0 (requeue_rule setup.limits run.machine retries stands.1) (ap (ccb_of it.run.ccb) same_live ∙ found) in
+    let step = requeue_step setup it.between run retries live it.there it.out stands.0 stands.1 (ap (ccb_of it.run.ccb) same_live ∙ found) in
     let end : (answers (record it.between { live = with_ccb again it.between.live }) run (Requeue retries) 0).1 ≡ record world { live = with_ccb again world.live; runs = with_run made world.runs } =
     ap (λ (w : World). (answers (record w { live = with_ccb again w.live }) run (Requeue retries) 0).1) it.between_is
     ∙ ap (λ (runs : List LiveRun). record world { live = with_ccb again world.live; runs = runs }) (put_put run_key run made world.runs refl) in

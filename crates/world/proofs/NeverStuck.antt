@@ -52,10 +52,10 @@ stands_at setup world number run exit reply after found e =
     (it.r0, subst (λ (r : LiveRun). exit_at r.program r.machine ≡ Some it.r0) (its_run world number run exit found it.it) it.exit_is)
 
 -- a step, and that no other instruction is one
-one_step : (setup : Setup) (world : World) (number : ℕ) (run : LiveRun) → run_of number world.runs ≡ Some run → run.out ≡ true → (instruction : Instruction) (p : Reply × World) → step_run world run instruction ≡ Some p → ((other : Instruction) → StandsAt run other → other ≡ instruction) → HasOneStep setup world number
+one_step : (setup : Setup) (world : World) (number : ℕ) (run : LiveRun) → run_of number world.runs ≡ Some run → run.out ≡ true → (instruction : Instruction) (p : Reply × World) → step_run setup.limits world run instruction ≡ Some p → ((other : Instruction) → StandsAt run other → other ≡ instruction) → HasOneStep setup world number
 one_step setup world number run found out instruction p e only =
     let step : WorldStep setup world (executes number instruction) p.0 p.1 =
-    ap (step_executes world instruction) found ∙ (cond-true run.out (step_run world run instruction) None out ∙ e) in
+    ap (step_executes setup.limits world instruction) found ∙ (cond-true run.out (step_run setup.limits world run instruction) None out ∙ e) in
     record {
       instruction = instruction;
       reply = p.0;
@@ -84,14 +84,14 @@ same_call : (a b : Request) → Some a ≡ Some b → a ≡ b
 same_call a b e = cc
 
 -- a release whose freeze the run holds is the one
-at_release : (setup : Setup) (world : World) (number : ℕ) (run : LiveRun) → IsSound setup world → run_of number world.runs ≡ Some run → run.out ≡ true → (f : ℕ) → request_at run.program run.machine ≡ Some (Release f) → is_held run.machine.held f ≡ true → private_step run.program run.machine ≡ None → exit_at run.program run.machine ≡ None → HasOneStep setup world number
+at_release : (setup : Setup) (world : World) (number : ℕ) (run : LiveRun) → IsSound setup world → run_of number world.runs ≡ Some run → run.out ≡ true → (f : ℕ) → request_at run.program run.machine ≡ Some (Release f) → meets_rule setup.limits run.machine (Release f) ≡ true → private_step run.program run.machine ≡ None → exit_at run.program run.machine ≡ None → HasOneStep setup world number
 at_release setup world number run sound found out f call_is rule no_step no_exit =
     let among = among_is number f 0 world.freezes world.greatest_freeze sound.kept.freezes.numbered
-    (sym (ap (λ (ns : List ℕ). is_held ns f) (sound.held.machines number run found)) ∙ rule) in
+    (sym (ap (λ (ns : List ℕ). is_held ns f) (sound.held.machines number run found)) ∙ (and_parts _ _ rule).0) in
     let named : run.number ≡ number = found_key run_key number world.runs run found in
     let its : is_run run.number among.0.holder ≡ true = subst (λ (n : ℕ). is_run n among.0.holder ≡ true) (sym named) among.2 in
     one_step setup world number run found out (call helpers.Release) _
-    (ap (option_and_then (step_call world run helpers.Release)) call_is ∙ (ap (releases world run) among.1 ∙ cond-true (is_run run.number among.0.holder) _ None its))
+    (ap (option_and_then (step_call setup.limits world run helpers.Release)) call_is ∙ (cond-true (meets_rule setup.limits run.machine (Release f)) _ None rule ∙ (ap (releases world run) among.1 ∙ cond-true (is_run run.number among.0.holder) _ None its)))
     only
   where
     only : (other : Instruction) → StandsAt run other → other ≡ call helpers.Release
@@ -100,12 +100,12 @@ at_release setup world number run sound found out f call_is rule no_step no_exit
     only exit at = absurd (absent _ _ no_exit at.1)
 
 -- a requeue of a CCB that is not disposed of is the one
-at_requeue : (setup : Setup) (world : World) (number : ℕ) (run : LiveRun) → IsSound setup world → run_of number world.runs ≡ Some run → run.out ≡ true → (n : ℕ) → request_at run.program run.machine ≡ Some (Requeue n) → (leb n 1 && not run.machine.disposed) ≡ true → run.machine.disposed ≡ false → private_step run.program run.machine ≡ None → exit_at run.program run.machine ≡ None → HasOneStep setup world number
-at_requeue setup world number run sound found out n call_is rule fresh no_step no_exit =
-    let recovery = sound.recovering.ccbs number run found fresh in
+at_requeue : (setup : Setup) (world : World) (number : ℕ) (run : LiveRun) → IsSound setup world → run_of number world.runs ≡ Some run → run.out ≡ true → (n : ℕ) → request_at run.program run.machine ≡ Some (Requeue n) → meets_rule setup.limits run.machine (Requeue n) ≡ true → private_step run.program run.machine ≡ None → exit_at run.program run.machine ≡ None → HasOneStep setup world number
+at_requeue setup world number run sound found out n call_is rule no_step no_exit =
+    let recovery = sound.recovering.ccbs number run found (not-true _ (and_parts (not run.machine.disposed) _ rule).0) in
     one_step setup world number run found out (call helpers.Requeue) _
-    (ap (option_and_then (step_call world run helpers.Requeue)) call_is
-    ∙ (cond-true (leb n 1 && not run.machine.disposed) (requeues world run n (ccb_of run.ccb world.live)) None rule ∙ ap (requeues world run n) recovery.found))
+    (ap (option_and_then (step_call setup.limits world run helpers.Requeue)) call_is
+    ∙ (cond-true (meets_rule setup.limits run.machine (Requeue n)) (requeues world run n (ccb_of run.ccb world.live)) None rule ∙ ap (requeues world run n) recovery.found))
     only
   where
     only : (other : Instruction) → StandsAt run other → other ≡ call helpers.Requeue
@@ -114,11 +114,8 @@ at_requeue setup world number run sound found out n call_is rule fresh no_step n
     only exit at = absurd (absent _ _ no_exit at.1)
 
 at_call : (setup : Setup) (world : World) (number : ℕ) (run : LiveRun) → IsSound setup world → run_of number world.runs ≡ Some run → run.out ≡ true → (request : Request) → request_at run.program run.machine ≡ Some request → meets_rule setup.limits run.machine request ≡ true → private_step run.program run.machine ≡ None → exit_at run.program run.machine ≡ None → HasOneStep setup world number
-at_call setup world number run sound found out (Release f) call_is rule no_step no_exit = at_release setup world number run sound found out f call_is (and_parts _ _ rule).0 no_step no_exit
-at_call setup world number run sound found out (Requeue n) call_is rule no_step no_exit =
-    let parts = and_parts (not run.machine.disposed) _ rule in
-    let few = (and_parts _ _ (and_parts _ _ parts.1).0).1 in
-    at_requeue setup world number run sound found out n call_is (and_from _ _ few parts.0) (not-true _ parts.0) no_step no_exit
+at_call setup world number run sound found out (Release f) call_is rule no_step no_exit = at_release setup world number run sound found out f call_is rule no_step no_exit
+at_call setup world number run sound found out (Requeue n) call_is rule no_step no_exit = at_requeue setup world number run sound found out n call_is rule no_step no_exit
 
 -- the lawful exit is the one
 at_exit : (setup : Setup) (world : World) (number : ℕ) (run : LiveRun) → run_of number world.runs ≡ Some run → run.out ≡ true → AtLawfulExit run.program run.machine → HasOneStep setup world number

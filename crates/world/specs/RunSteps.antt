@@ -1,5 +1,5 @@
 -- What one instruction of a run does: to its own machine, and by a helper call or its exit to the world.
-use Rattle.std.specs.Prelude.{ℕ, Bool, false, not, ◌&&◌, ◌==◌, if◌then◌else◌, nat_le, Option, Some, None, filter}
+use Rattle.std.specs.Prelude.{ℕ, Bool, false, not, ◌&&◌, ◌==◌, if◌then◌else◌, Option, Some, None, filter}
 use Rattle.std.specs.Option.{option_map, option_and_then}
 use Rattle.ccb.specs.Ccb.{requeued}
 use Rattle.freeze_ledger.specs.declared.freeze.Holder.{Holder}
@@ -7,10 +7,12 @@ use Rattle.freeze_ledger.specs.declared.freeze.Holder.TheVariants.{Run, Timer, G
 use Rattle.freeze_ledger.specs.declared.freeze.Freeze.{Freeze}
 use Rattle.freeze_ledger.specs.Freezes.{entry_of}
 use Rattle.helpers.specs.declared.helper.Helper.{Helper}
+use Rattle.helpers.specs.declared.limits.HelperLimits.{HelperLimits}
 use Rattle.helpers.specs.declared.request.Request.{Request}
 use Rattle.helpers.specs.declared.request.Request.TheVariants.{Release, Requeue}
 use Rattle.helpers.specs.Table.{helper_in, is_helper}
 use Rattle.bpf_machine.specs.MachineState.{MachineState}
+use Rattle.bpf_machine.specs.Calls.{meets_rule}
 use Rattle.bpf_machine.specs.Step.{private_step, request_at, exit_at, answered}
 use Rattle.world.specs.declared.ccb_state.CcbState.TheVariants.{Waiting}
 use Rattle.world.specs.World.{LiveCcb, LiveRun, World}
@@ -48,27 +50,30 @@ requeues world run retries (Some live) =
     let after = record world { live = with_ccb (record { ccb = requeued live.ccb retries; state = Waiting }) world.live } in
     Some (answers after run (Requeue retries) 0)
 
--- no event unless the helper's rule holds
+-- what a call does
 abbrev pub step_request : World → LiveRun → Request → Option (Reply × World)
 step_request world run (Release freeze) = releases world run (entry_of freeze world.freezes)
-step_request world run (Requeue retries) =
-    if nat_le retries 1 && not run.machine.disposed then requeues world run retries (ccb_of run.ccb world.live) else None
+step_request world run (Requeue retries) = requeues world run retries (ccb_of run.ccb world.live)
 
--- no event unless the machine stands at a call of this very helper
-abbrev pub step_call : World → LiveRun → Helper → Request → Option (Reply × World)
-step_call world run helper request = if is_helper helper (helper_in request) then step_request world run request else None
+-- it is a call of this very helper, by the helper's rule
+abbrev pub may_call : HelperLimits → LiveRun → Helper → Request → Bool
+may_call limits run helper request = is_helper helper (helper_in request) && meets_rule limits run.machine request
+
+-- and else no event
+abbrev pub step_call : HelperLimits → World → LiveRun → Helper → Request → Option (Reply × World)
+step_call limits world run helper request = if may_call limits run helper request then step_request world run request else None
 
 -- the run is gone
 abbrev pub ends : World → LiveRun → World
 ends world run = record world { runs = filter (λ other. not (other.number == run.number)) world.runs }
 
 -- no event unless the machine stands at such an instruction
-abbrev pub step_run : World → LiveRun → Instruction → Option (Reply × World)
-step_run world run private = option_map (λ machine. (went_on, goes_on world run machine)) (private_step run.program run.machine)
-step_run world run (call helper) = option_and_then (step_call world run helper) (request_at run.program run.machine)
-step_run world run exit = option_map (λ r0. (result r0, ends world run)) (exit_at run.program run.machine)
+abbrev pub step_run : HelperLimits → World → LiveRun → Instruction → Option (Reply × World)
+step_run limits world run private = option_map (λ machine. (went_on, goes_on world run machine)) (private_step run.program run.machine)
+step_run limits world run (call helper) = option_and_then (step_call limits world run helper) (request_at run.program run.machine)
+step_run limits world run exit = option_map (λ r0. (result r0, ends world run)) (exit_at run.program run.machine)
 
 -- no event unless the run is live and out
-abbrev pub step_executes : World → Instruction → Option LiveRun → Option (Reply × World)
-step_executes world instruction None = None
-step_executes world instruction (Some run) = if run.out then step_run world run instruction else None
+abbrev pub step_executes : HelperLimits → World → Instruction → Option LiveRun → Option (Reply × World)
+step_executes limits world instruction None = None
+step_executes limits world instruction (Some run) = if run.out then step_run limits world run instruction else None

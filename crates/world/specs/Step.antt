@@ -16,7 +16,7 @@ step setup world (dispatch queue) = Some (step_dispatch setup world queue)
 step setup world (complete outcome) = step_complete setup world outcome
 step setup world (guest_freeze queue guest) = Some (step_guest_freeze setup world queue guest)
 step setup world (guest_release number) = step_guest_release world (entry_of number world.freezes)
-step setup world (executes run instruction) = step_executes world instruction (run_of run world.runs)
+step setup world (executes run instruction) = step_executes setup.limits world instruction (run_of run world.runs)
 
 -- the event with this reply leads from one world to the other
 abbrev pub WorldStep : Setup → World → Event → Reply → World → Type 0

@@ -7,6 +7,7 @@ use Rattle.ccb.specs.Completion.{Outcome}
 use Rattle.ccb.specs.Ccb.{submitted, started, completed, requeued}
 use Rattle.helpers.specs.declared.helper.Helper.{Helper}
 use Rattle.helpers.specs.declared.helper.Helper.TheVariants as helpers
+use Rattle.helpers.specs.declared.limits.HelperLimits.{HelperLimits}
 use Rattle.helpers.specs.Table.{helper_in, is_helper}
 use Rattle.helpers.proofs.Numbers.{same_helper}
 use Rattle.freeze_ledger.specs.declared.freeze.Holder.TheVariants.{Run, Guest}
@@ -15,6 +16,7 @@ use Rattle.freeze_ledger.specs.Freezes.{frozen, meets_limit, entry_of, without}
 use Rattle.helpers.specs.declared.request.Request.{Request}
 use Rattle.helpers.specs.declared.request.Request.TheVariants.{Release, Requeue}
 use Rattle.bpf_machine.specs.MachineState.{MachineState}
+use Rattle.bpf_machine.specs.Calls.{meets_rule}
 use Rattle.bpf_machine.specs.Step.{private_step, request_at, exit_at}
 use Rattle.world.specs.declared.refusal.Refusal.{Refusal}
 use Rattle.world.specs.declared.refusal.Refusal.TheVariants.{Unknown, Limit, NotActive, Frozen, NoOpening, NothingWaits}
@@ -24,7 +26,7 @@ use Rattle.world.specs.Lookups.{is_active, active_count, ccb_of, with_ccb, next_
 use Rattle.world.specs.Event.{Instruction, private, call, exit, Event, instruction_of, submit, dispatch, complete, guest_freeze, guest_release, executes, Reply, ccb_given, done, freeze_given, count_left, went_on, result, refused}
 use Rattle.world.specs.FreezeSteps.{frozen_with, is_guest, froze, thawed, step_guest_release}
 use Rattle.world.specs.CcbSteps.{ccb_meets_limit, starts, is_success, run_meets_limit, finishes, run_starts, completes, is_completion}
-use Rattle.world.specs.RunSteps.{is_run, goes_on, answers, releases, requeues, step_call, ends, step_run, step_executes}
+use Rattle.world.specs.RunSteps.{is_run, goes_on, answers, releases, requeues, step_request, may_call, step_call, ends, step_run, step_executes}
 use Rattle.world.specs.Step.{WorldStep}
 use Rattle.world.specs.FreezeLaws.{MovesCounts}
 use Rattle.world.specs.CcbLaws.{finished_by}
@@ -366,23 +368,29 @@ requeue_found before event reply after it retries call_is few fresh None found e
 requeue_found before event reply after it retries call_is few fresh (Some live) found e =
     record { it = it; retries = retries; call_is = call_is; few = few; fresh = fresh; live = live; found = found; answer = some_is _ _ e }
 
-call_release_found : (before : World) (event : Event) (reply : Reply) (after : World) (it : Executes before event (call helpers.Release)) (o : Option Request) → request_at it.run.program it.run.machine ≡ o → option_and_then (step_call before it.run helpers.Release) o ≡ Some (reply, after) → GivesBack before event reply after
-call_release_found before event reply after it None call_is e = absurd cc
-call_release_found before event reply after it (Some (Release number)) call_is e =
-    release_found before event reply after it number call_is (entry_of number before.freezes) refl e
-call_release_found before event reply after it (Some (Requeue retries)) call_is e = absurd cc
+-- a call that is an event is one by its rule
+called : (limits : HelperLimits) (world : World) (run : LiveRun) (helper : Helper) (request : Request) (step : Reply × World) → step_call limits world run helper request ≡ Some step → (is_helper helper (helper_in request) ≡ true) × (meets_rule limits run.machine request ≡ true) × (step_request world run request ≡ Some step)
+called limits world run helper request step e = elim (cases_Bool (may_call limits run helper request)) [
+  | inl may ↦
+      let parts = and_parts (is_helper helper (helper_in request)) (meets_rule limits run.machine request) may in
+      (parts.0, parts.1, sym (cond-true (may_call limits run helper request) _ _ may) ∙ e)
+  | inr broken ↦ let none = sym (cond-false (may_call limits run helper request) _ _ broken) ∙ e in absurd cc
+]
 
-call_requeue_found : (before : World) (event : Event) (reply : Reply) (after : World) (it : Executes before event (call helpers.Requeue)) (o : Option Request) → request_at it.run.program it.run.machine ≡ o → option_and_then (step_call before it.run helpers.Requeue) o ≡ Some (reply, after) → Requeues before event reply after
-call_requeue_found before event reply after it None call_is e = absurd cc
-call_requeue_found before event reply after it (Some (Release number)) call_is e = absurd cc
-call_requeue_found before event reply after it (Some (Requeue retries)) call_is e =
-    elim (cases_Bool (leb retries 1 && not it.run.machine.disposed)) [
-      | inl rule ↦
-          let parts = and_parts (leb retries 1) (not it.run.machine.disposed) rule in
-          requeue_found before event reply after it retries call_is (leb-true _ _ parts.0) (not-true _ parts.1)
-          (ccb_of it.run.ccb before.live) refl (sym (cond-true (leb retries 1 && not it.run.machine.disposed) _ _ rule) ∙ e)
-      | inr broken ↦ let none = sym (cond-false (leb retries 1 && not it.run.machine.disposed) _ _ broken) ∙ e in absurd cc
-    ]
+call_release_found : (limits : HelperLimits) (before : World) (event : Event) (reply : Reply) (after : World) (it : Executes before event (call helpers.Release)) (o : Option Request) → request_at it.run.program it.run.machine ≡ o → option_and_then (step_call limits before it.run helpers.Release) o ≡ Some (reply, after) → GivesBack before event reply after
+call_release_found limits before event reply after it None call_is e = absurd cc
+call_release_found limits before event reply after it (Some (Release number)) call_is e =
+    release_found before event reply after it number call_is (entry_of number before.freezes) refl (called limits before it.run helpers.Release (Release number) (reply, after) e).2
+call_release_found limits before event reply after it (Some (Requeue retries)) call_is e = absurd cc
+
+call_requeue_found : (limits : HelperLimits) (before : World) (event : Event) (reply : Reply) (after : World) (it : Executes before event (call helpers.Requeue)) (o : Option Request) → request_at it.run.program it.run.machine ≡ o → option_and_then (step_call limits before it.run helpers.Requeue) o ≡ Some (reply, after) → Requeues before event reply after
+call_requeue_found limits before event reply after it None call_is e = absurd cc
+call_requeue_found limits before event reply after it (Some (Release number)) call_is e = absurd cc
+call_requeue_found limits before event reply after it (Some (Requeue retries)) call_is e =
+    let may = called limits before it.run helpers.Requeue (Requeue retries) (reply, after) e in
+    let parts = and_parts (not it.run.machine.disposed) _ may.1 in
+    let few = (and_parts _ _ (and_parts _ _ parts.1).0).1 in
+    requeue_found before event reply after it retries call_is (leb-true _ _ few) (not-true _ parts.0) (ccb_of it.run.ccb before.live) refl may.2
 
 exit_found : (before : World) (event : Event) (reply : Reply) (after : World) (it : Executes before event exit) (o : Option ℕ) → exit_at it.run.program it.run.machine ≡ o → option_map (λ (r0 : ℕ). let x : Reply × World = (result r0, ends before it.run) in x) o ≡ Some (reply, after) → Exits before event reply after
 exit_found before event reply after it None exit_is e = absurd cc
@@ -391,13 +399,13 @@ exit_found before event reply after it (Some r0) exit_is e =
     record { it = it; r0 = r0; exit_is = exit_is; reply_is = ap (λ (x : Reply × World). x.0) last; after_is = ap (λ (x : Reply × World). x.1) last }
 
 -- a run that is out, and its instruction
-pub record Instructs (before : World) (number : ℕ) (instruction : Instruction) (reply : Reply) (after : World) : Type 0 where
+pub record Instructs (limits : HelperLimits) (before : World) (number : ℕ) (instruction : Instruction) (reply : Reply) (after : World) : Type 0 where
   pub it : Executes before (executes number instruction) instruction
-  pub step : step_run before it.run instruction ≡ Some (reply, after)
+  pub step : step_run limits before it.run instruction ≡ Some (reply, after)
 
-executes_found : (before : World) (number : ℕ) (instruction : Instruction) (reply : Reply) (after : World) (o : Option LiveRun) → run_of number before.runs ≡ o → step_executes before instruction o ≡ Some (reply, after) → Instructs before number instruction reply after
-executes_found before number instruction reply after None found e = absurd cc
-executes_found before number instruction reply after (Some run) found e =
+executes_found : (limits : HelperLimits) (before : World) (number : ℕ) (instruction : Instruction) (reply : Reply) (after : World) (o : Option LiveRun) → run_of number before.runs ≡ o → step_executes limits before instruction o ≡ Some (reply, after) → Instructs limits before number instruction reply after
+executes_found limits before number instruction reply after None found e = absurd cc
+executes_found limits before number instruction reply after (Some run) found e =
     elim (cases_Bool run.out) [
       | inl out ↦ record {
         it = record { number = number; event_is = refl; run = run; found = found; out = out };
@@ -406,8 +414,8 @@ executes_found before number instruction reply after (Some run) found e =
       | inr parked ↦ let none = sym (cond-false run.out _ _ parked) ∙ e in absurd cc
     ]
 
-pub executes_parts : (setup : Setup) (before : World) (number : ℕ) (instruction : Instruction) (reply : Reply) (after : World) → WorldStep setup before (executes number instruction) reply after → Instructs before number instruction reply after
-executes_parts setup before number instruction reply after e = executes_found before number instruction reply after (run_of number before.runs) refl e
+pub executes_parts : (setup : Setup) (before : World) (number : ℕ) (instruction : Instruction) (reply : Reply) (after : World) → WorldStep setup before (executes number instruction) reply after → Instructs setup.limits before number instruction reply after
+executes_parts setup before number instruction reply after e = executes_found setup.limits before number instruction reply after (run_of number before.runs) refl e
 
 pub private_parts : (setup : Setup) (before : World) (number : ℕ) (reply : Reply) (after : World) → WorldStep setup before (executes number private) reply after → GoesOn before (executes number private) reply after
 private_parts setup before number reply after e =
@@ -417,12 +425,12 @@ private_parts setup before number reply after e =
 pub release_parts : (setup : Setup) (before : World) (number : ℕ) (reply : Reply) (after : World) → WorldStep setup before (executes number (call helpers.Release)) reply after → GivesBack before (executes number (call helpers.Release)) reply after
 release_parts setup before number reply after e =
     let i = executes_parts setup before number (call helpers.Release) reply after e in
-    call_release_found before (executes number (call helpers.Release)) reply after i.it (request_at i.it.run.program i.it.run.machine) refl i.step
+    call_release_found setup.limits before (executes number (call helpers.Release)) reply after i.it (request_at i.it.run.program i.it.run.machine) refl i.step
 
 pub requeue_parts : (setup : Setup) (before : World) (number : ℕ) (reply : Reply) (after : World) → WorldStep setup before (executes number (call helpers.Requeue)) reply after → Requeues before (executes number (call helpers.Requeue)) reply after
 requeue_parts setup before number reply after e =
     let i = executes_parts setup before number (call helpers.Requeue) reply after e in
-    call_requeue_found before (executes number (call helpers.Requeue)) reply after i.it (request_at i.it.run.program i.it.run.machine) refl i.step
+    call_requeue_found setup.limits before (executes number (call helpers.Requeue)) reply after i.it (request_at i.it.run.program i.it.run.machine) refl i.step
 
 pub exit_parts : (setup : Setup) (before : World) (number : ℕ) (reply : Reply) (after : World) → WorldStep setup before (executes number exit) reply after → Exits before (executes number exit) reply after
 exit_parts setup before number reply after e =
@@ -436,18 +444,16 @@ pub record IsCall (before : World) (number : ℕ) (helper : Helper) : Type 0 whe
   pub call_is : request_at it.run.program it.run.machine ≡ Some request
   pub named : helper ≡ helper_in request
 
-call_found : (before : World) (number : ℕ) (helper : Helper) (reply : Reply) (after : World) (it : Executes before (executes number (call helper)) (call helper)) (o : Option Request) → request_at it.run.program it.run.machine ≡ o → option_and_then (step_call before it.run helper) o ≡ Some (reply, after) → IsCall before number helper
-call_found before number helper reply after it None call_is e = absurd cc
-call_found before number helper reply after it (Some request) call_is e =
-    elim (cases_Bool (is_helper helper (helper_in request))) [
-      | inl same ↦ record { it = it; request = request; call_is = call_is; named = same_helper helper (helper_in request) same }
-      | inr other ↦ let none = sym (cond-false (is_helper helper (helper_in request)) _ _ other) ∙ e in absurd cc
-    ]
+call_found : (limits : HelperLimits) (before : World) (number : ℕ) (helper : Helper) (reply : Reply) (after : World) (it : Executes before (executes number (call helper)) (call helper)) (o : Option Request) → request_at it.run.program it.run.machine ≡ o → option_and_then (step_call limits before it.run helper) o ≡ Some (reply, after) → IsCall before number helper
+call_found limits before number helper reply after it None call_is e = absurd cc
+call_found limits before number helper reply after it (Some request) call_is e =
+    let may = called limits before it.run helper request (reply, after) e in
+    record { it = it; request = request; call_is = call_is; named = same_helper helper (helper_in request) may.0 }
 
 pub call_parts : (setup : Setup) (before : World) (number : ℕ) (helper : Helper) (reply : Reply) (after : World) → WorldStep setup before (executes number (call helper)) reply after → IsCall before number helper
 call_parts setup before number helper reply after e =
     let i = executes_parts setup before number (call helper) reply after e in
-    call_found before number helper reply after i.it (request_at i.it.run.program i.it.run.machine) refl i.step
+    call_found setup.limits before number helper reply after i.it (request_at i.it.run.program i.it.run.machine) refl i.step
 
 by_request : (setup : Setup) (before : World) (number : ℕ) (reply : Reply) (after : World) (request : Request) → WorldStep setup before (executes number (call (helper_in request))) reply after → Case setup before (executes number (call (helper_in request))) reply after
 by_request setup before number reply after (Release freeze) e = gives_back (release_parts setup before number reply after e)

@@ -4,10 +4,10 @@ use Rattle.bpf_decode.proofs.decoder.program.Goals as goal
 
 pub loop-slot-preserved : goal.loop-slot-preserved
 loop-slot-preserved c = record {
-  spelled = rw (c.in_ok-push-in-Ok.ensures.ok, c.split_at.ensures.back, c.slots_of-taken.ensures)
+  spelled = rw (c.in_ok-push-in-Ok.ensures.ok, c.split_at.ensures.back, c.slots-taken.ensures)
       (SpellsThen-push c.args.bytes.now c.loop-slot.builder c.loop-slot.rest.now c.in-Ok.insn c.loop-slot.invariant.spelled c.in-Ok.ensures.found);
   spares = rw c.in_ok-push-in-Ok.ensures.ok (one_more_spares c.loop-slot.builder c.in-Ok.insn c.loop-slot.invariant.spares c.in-Ok.ensures.spares);
-  slots = rw (c.in_ok-push-in-Ok.ensures.ok, length-layout-push c.loop-slot.builder c.in-Ok.insn, c.loop-slot.invariant.slots, c.slots_of-taken.ensures) refl;
+  slots = rw (c.in_ok-push-in-Ok.ensures.ok, length-layout-push c.loop-slot.builder c.in-Ok.insn, c.loop-slot.invariant.slots, c.slots-taken.ensures) refl;
   left = omega (arith, c.split_at.ensures.back_len, c.loop-slot.invariant.left);
 }
 

@@ -1,0 +1,5 @@
+pub mod Bits
+pub mod Sets
+pub mod Words
+pub mod FrameLists
+pub mod Worked

@@ -1,0 +1,4 @@
+pub mod ByteSet
+pub mod SetWords
+pub mod Frame
+pub mod FrameBytes

@@ -6,7 +6,7 @@ ghost use Rattle.stack_frame.specs.ByteSet.{with_all, HasAll};
 
 use std::marker::Model;
 
-/// The most bytes that are added or looked up at once.
+/// The most bytes that are added at once.
 pub const MOST_BYTES: usize = 64;
 
 /// A set of the 512 bytes of a frame, by their offsets. Contracts see a list of 512 truth values, one for each byte.
@@ -70,22 +70,21 @@ impl ByteSet {
         self.words[offset / 64] & mask == mask
     }
 
-    /// Whether `count` bytes from that offset on, at most `MOST_BYTES` and up to the frame's end, are all in the set.
+    /// Whether `count` bytes from that offset on, up to the frame's end, are all in the set.
     pub fn contains_all(&self, offset: usize, count: usize) -> bool
-        requires inside { offset + count ≤ 512 }
-        requires few { count ≤ MOST_BYTES }
+        requires { offset + count ≤ 512 }
         ensures { IsTrue result ↔ HasAll self.now offset count }
     {
-        if count == 0 {
-            return true;
+        let end = offset + count;
+        let mut from = offset;
+        while from < end {
+            let piece = (64 - from % 64).min(end - from);
+            if !self.contains_in_word(from, piece) {
+                return false;
+            }
+            from += piece;
         }
-        let room = 64 - offset % 64;
-        if count <= room {
-            self.contains_in_word(offset, count)
-        } else {
-            self.contains_in_word(offset, room)
-                && self.contains_in_word(offset + room, count - room)
-        }
+        true
     }
 
     /// Adds `count` bytes from that offset on, which lie in one word.

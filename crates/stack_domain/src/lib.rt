@@ -1,0 +1,7 @@
+// Which stack bytes of which live frame are written, as far as a verifier knows that follows a program's paths. It
+// relies on `stack_frame` for sets of bytes and on `bpf_machine` for how machines have their frames.
+#![tactic(auto)]
+
+mod stack;
+
+pub use stack::{MAX_FRAMES, Stack};

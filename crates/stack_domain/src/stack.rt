@@ -1,0 +1,129 @@
+// What is known of a program's stack at a place: for each live frame a set of bytes that are written on every path to
+// it. Clauses speak of the frames that a description covers. It relies on `stack_frame` for sets of bytes.
+
+ghost use Rattle.std.specs.Prelude.{◌≡◌, ◌<◌, ◌≤◌, ◌+◌, ◌-◌, ◌↔◌, ℕ, List, [], ◌∷◌, ◌++◌, Option, IsTrue, length};
+ghost use Rattle.stack_frame.specs.declared.byte_set.TheConstants.{MOST_BYTES};
+ghost use Rattle.stack_domain.specs.Stack.{Covers, Knows, AreWritten};
+
+use stack_frame::ByteSet;
+use std::marker::Model;
+
+/// The most frames that are live at a time.
+pub const MAX_FRAMES: usize = 8;
+
+/// Which bytes are known to be written in each live frame, from 1 to `MAX_FRAMES` of them, the outermost being 0.
+#[derive(Clone, Copy, Debug, PartialEq, Eq)]
+pub struct Stack {
+    // no byte in those that are not live
+    sets: [ByteSet; MAX_FRAMES],
+    depth: usize,
+}
+
+impl Model for Stack {
+    ghost use Rattle.std.specs.Prelude.{List, Bool, take, length};
+    ghost use Rattle.stack_domain.specs.Sets.{padded, AreSets, length-live};
+
+    ghost Value = { List (List Bool) };
+
+    ghost view = { λ s. take s.depth s.sets };
+
+    ghost invariant = { λ s. AreSets s.sets s.depth };
+
+    ghost inverse = { λ stack. record { sets = padded stack; depth = length stack } };
+
+    ghost inverse_ok = { λ s are i. record { sets = are.rest i; depth = length-live s.sets s.depth are i } };
+}
+
+impl Stack {
+    /// The outermost frame, of which no byte is known to be written.
+    pub fn outermost() -> Self
+        ensures depth { length result ≡ 1 }
+        ensures covers { (frame : List (Option ℕ)) → length frame ≡ 512 → Covers result (frame ∷ []) }
+    {
+        Stack {
+            sets: [ByteSet::empty(); MAX_FRAMES],
+            depth: 1,
+        }
+    }
+
+    /// How many frames are live.
+    pub fn depth(&self) -> usize
+        ensures frames { result ≡ length self.now }
+        ensures some { 1 ≤ result }
+        ensures few { result ≤ MAX_FRAMES }
+    {
+        self.depth
+    }
+
+    /// One live frame more, the innermost, of which no byte is known to be written.
+    pub fn opened(&self) -> Self
+        requires { length self.now < MAX_FRAMES }
+        ensures depth { length result ≡ length self.now + 1 }
+        ensures covers { (frames : List (List (Option ℕ))) (frame : List (Option ℕ)) → (Covers result (frames ++ frame ∷ []) ↔ (Covers self.now frames × (length frame ≡ 512))) }
+    {
+        Stack {
+            sets: self.sets,
+            depth: self.depth + 1,
+        }
+    }
+
+    /// The innermost frame is gone.
+    pub fn closed(&self) -> Self
+        requires { 1 < length self.now }
+        ensures depth { length result + 1 ≡ length self.now }
+        ensures covers { (frames : List (List (Option ℕ))) (frame : List (Option ℕ)) → Covers self.now (frames ++ frame ∷ []) → Covers result frames }
+        ensures knows { (k offset : ℕ) → k < length result → Knows self.now k offset → Knows result k offset }
+    {
+        let depth = self.depth - 1;
+        let mut sets = self.sets;
+        sets[depth] = ByteSet::empty();
+        Stack { sets, depth }
+    }
+
+    /// After a store at a known offset: `count` bytes of a frame, at most `MOST_BYTES`, are written from there on.
+    pub fn mark(&mut self, frame: usize, offset: usize, count: usize)
+        requires live { frame < length self.old }
+        requires inside { offset + count ≤ 512 }
+        requires few { count ≤ MOST_BYTES }
+        ensures depth { length self.new ≡ length self.old }
+        ensures covers { (frames : List (List (Option ℕ))) → (Covers self.new frames ↔ (Covers self.old frames × AreWritten frames frame offset (offset + count))) }
+    {
+        // The proof knows how many frames there are once a field is read.
+        let _depth = self.depth;
+        let mut set = self.sets[frame];
+        set.insert_all(offset, count);
+        self.sets[frame] = set;
+    }
+
+    /// Whether a frame's bytes are known to be written, `count` of them from any offset from `least` to `most` on.
+    pub fn is_written(&self, frame: usize, least: usize, most: usize, count: usize) -> bool
+        requires live { frame < length self.now }
+        requires order { least ≤ most }
+        requires inside { most + count ≤ 512 }
+        ensures { IsTrue result ↔ ((frames : List (List (Option ℕ))) → Covers self.now frames → AreWritten frames frame least (most + count)) }
+    {
+        // The proof knows how many frames there are once a field is read.
+        let _depth = self.depth;
+        self.sets[frame].contains_all(least, most + count - least)
+    }
+
+    /// What both know, as where two paths meet.
+    pub fn join(&self, other: &Self) -> Self
+        requires { length self.now ≡ length other.now }
+        ensures depth { length result ≡ length self.now }
+        ensures first { (frames : List (List (Option ℕ))) → Covers self.now frames → Covers result frames }
+        ensures second { (frames : List (List (Option ℕ))) → Covers other.now frames → Covers result frames }
+        ensures knows { (k offset : ℕ) → Knows self.now k offset → Knows other.now k offset → Knows result k offset }
+    {
+        let first = &self.sets[..];
+        let second = &other.sets[..];
+        let mut sets = self.sets;
+        for k in 0..self.depth {
+            sets[k] = first[k].intersection(&second[k]);
+        }
+        Stack {
+            sets,
+            depth: self.depth,
+        }
+    }
+}

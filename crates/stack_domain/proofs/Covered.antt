@@ -1,10 +1,10 @@
 -- Which stacks are covered: with a frame more or less, with bytes marked, and what is known of what two cover.
-use Rattle.std.proofs.Common.{◌≡◌, ◌≢◌, ℕ, zero, suc, ◌+◌, ◌-◌, ◌<◌, ◌≤◌, Bool, true, false, List, [], ◌∷◌, ◌++◌, Option, Some, None, is_some, length, map, replicate, get_or, set, refl, ap, sym, subst, ◌∙◌, arith, inl, inr, ◌⊎◌, length-append}
-use Rattle.std.specs.Prelude.{slice_index_or, ◌&&◌, ◌↔◌}
+use Rattle.std.proofs.Common.{◌≡◌, ◌≢◌, ℕ, zero, suc, ◌+◌, ◌<◌, ◌≤◌, Bool, true, false, List, [], ◌∷◌, ◌++◌, Option, Some, None, is_some, length, map, replicate, set, refl, ap, sym, subst, ◌∙◌, arith, inl, inr, length-append}
+use Rattle.std.specs.Prelude.{slice_index_or, ◌&&◌}
 use Rattle.std.proofs.lemmas.Bool.{cases_lt, cases_eq}
-use Rattle.std.proofs.lemmas.List.{get_or_append_left, get_or_at, get_or_past, get_or_default, get_or-map, get_or-replicate, get_or-set_same, get_or-set_other, length-set, length-map, length-replicate}
-use Rattle.stack_frame.specs.ByteSet.{Has, HasAll, with_all}
-use Rattle.stack_frame.proofs.Sets.{with_all_below, with_all_inside, with_all_above, length-with_all}
+use Rattle.std.proofs.lemmas.List.{get_or_append_left, get_or_at, get_or_past, get_or-replicate, get_or-set_same, get_or-set_other, length-set, length-map, length-replicate}
+use Rattle.stack_frame.specs.ByteSet.{Has, with_all}
+use Rattle.stack_frame.proofs.Sets.{with_all_below, with_all_inside, with_all_above}
 use Rattle.stack_domain.specs.Stack.{Marked, IsWritten, Covers, AreWritten, Knows}
 
 -- a byte that is marked is one of a live frame
@@ -66,11 +66,11 @@ module _ (stack : List (List Bool)) (bytes : List Bool) (frames : List (List (Op
             subst (λ (T : Type 0). T) (sym (written_below frames frame k offset (omega (arith, covers.depth))))
             (covers.written k offset (ap (λ (s : List Bool). slice_index_or s offset false) (sym (get_or_append_left stack (bytes ∷ []) [] k below)) ∙ has))
         | inr above ↦ (
-          let live = marked_live (stack ++ bytes ∷ []) k offset has in
-          let at : length stack ≡ k = omega (arith, length-append stack (bytes ∷ [])) in
-          subst (λ (T : Type 0). T) (sym (written_last frames frame k offset (covers.depth ∙ at)))
-          (marked offset (ap (λ (s : List Bool). slice_index_or s offset false) (sym (get_or_at stack bytes [] [] k at)) ∙ has))
-        )
+            let live = marked_live (stack ++ bytes ∷ []) k offset has in
+            let at : length stack ≡ k = omega (arith, length-append stack (bytes ∷ [])) in
+            subst (λ (T : Type 0). T) (sym (written_last frames frame k offset (covers.depth ∙ at)))
+            (marked offset (ap (λ (s : List Bool). slice_index_or s offset false) (sym (get_or_at stack bytes [] [] k at)) ∙ has))
+            )
       ]
 
   pub covers_less : Covers (stack ++ bytes ∷ []) (frames ++ frame ∷ []) → Covers stack frames
@@ -80,9 +80,9 @@ module _ (stack : List (List Bool)) (bytes : List Bool) (frames : List (List (Op
         depth = same;
         whole = whole_less frames frame covers.whole;
         written = λ k offset has.
-          let live = marked_live stack k offset has in
-          subst (λ (T : Type 0). T) (written_below frames frame k offset (omega arith))
-          (covers.written k offset (ap (λ (s : List Bool). slice_index_or s offset false) (get_or_append_left stack (bytes ∷ []) [] k live) ∙ has));
+            let live = marked_live stack k offset has in
+            subst (λ (T : Type 0). T) (written_below frames frame k offset (omega arith))
+            (covers.written k offset (ap (λ (s : List Bool). slice_index_or s offset false) (get_or_append_left stack (bytes ∷ []) [] k live) ∙ has));
       }
 
   pub last_whole : Covers (stack ++ bytes ∷ []) (frames ++ frame ∷ []) → length frame ≡ 512
@@ -142,8 +142,8 @@ known_less stack bytes k offset long live knows frames covers =
     let zero_byte : Option ℕ = Some 0 in
     let last : length all ≡ 512 = length-replicate {A = Option ℕ} 512 zero_byte in
     let more = covers_more stack bytes frames all covers last (λ i has.
-      let within = has_inside bytes i has in
-      ap is_some (get_or-replicate {A = Option ℕ} 512 i zero_byte None (omega arith))) in
+    let within = has_inside bytes i has in
+    ap is_some (get_or-replicate {A = Option ℕ} 512 i zero_byte None (omega arith))) in
     subst (λ (T : Type 0). T) (written_below frames all k offset (omega (arith, covers.depth))) (knows (frames ++ all ∷ []) more)
 
 -- ---- bytes marked in one frame
@@ -177,7 +177,7 @@ module _ (stack : List (List Bool)) (frame offset count : ℕ) (live : frame < l
       whole = covers.whole;
       written = λ k i has. covers.written k i (still_marked k i has);
     },
-    λ i from to. covers.written frame i (here i ∙ with_all_inside (slice_index_or stack frame []) offset count inside i from to)
+    λ i from to. covers.written frame i (here i ∙ with_all_inside (slice_index_or stack frame []) offset count inside i from to),
   )
 
   pub covers_after : (frames : List (List (Option ℕ))) → Covers stack frames → AreWritten frames frame offset (offset + count) → Covers (with_marks stack frame offset count) frames

@@ -1,3 +1,5 @@
 pub mod Covered
+pub mod Joined
 pub mod Places
 pub mod Stores
+pub mod Worked

@@ -1,6 +1,6 @@
 -- The live frames' sets among eight places.
-use Rattle.std.proofs.Common.{◌≡◌, ◌≢◌, ℕ, zero, suc, ◌+◌, ◌-◌, ◌<◌, ◌≤◌, Bool, false, List, [], ◌∷◌, ◌++◌, length, take, drop, replicate, get_or, set, refl, ap, sym, ◌∙◌, arith, inl, inr, length-append, length-drop}
-use Rattle.std.specs.Prelude.{slice_index_or, ◌&&◌}
+use Rattle.std.proofs.Common.{◌≡◌, ◌≢◌, ℕ, zero, suc, ◌+◌, ◌-◌, ◌<◌, ◌≤◌, Bool, false, List, [], ◌∷◌, ◌++◌, length, take, replicate, get_or, set, refl, ap, sym, ◌∙◌, arith, inl, inr, length-append}
+use Rattle.std.specs.Prelude.{slice_index_or}
 use Rattle.std.proofs.lemmas.Bool.{cases_lt, cases_eq}
 use Rattle.std.proofs.lemmas.List.{get_or_append_left, get_or-append_right, get_or-take, get_or-replicate, get_or_past, length-take-le, length-replicate, ext_get_or, take_more, length-set, get_or-set_same, get_or-set_other, take-set}
 use Rattle.stack_frame.specs.ByteSet.{with_all}
@@ -81,7 +81,7 @@ module _ (sets : List (List Bool)) (depth : ℕ) (are : AreSets sets depth) wher
       | inl same ↦ ap (λ (n : ℕ). length (slice_index_or (set sets k bytes) n [])) same ∙ ap length (get_or-set_same sets k bytes [] (omega (arith, are.count, are.within))) ∙ long
     ];
     rest = are_padded (set sets k bytes) depth are.within (length-set sets k bytes ∙ are.count)
-      (λ j past less. let apart : j ≢ k = omega arith in get_or-set_other sets k j bytes [] apart ∙ none_past j past less);
+        (λ j past less. let apart : j ≢ k = omega arith in get_or-set_other sets k j bytes [] apart ∙ none_past j past less);
   }
 
   pub kept_less : (less : ℕ) → less + 1 ≡ depth → 1 < depth → AreSets (set sets less no_bytes) less
@@ -150,25 +150,3 @@ module _ (sets : List (List Bool)) (depth : ℕ) (stack : List (List Bool)) (are
       let whole : length (slice_index_or sets frame []) ≡ 512 = are.whole frame (omega (arith, depth_is, are.within)) in
       kept_set sets depth are frame (with_all (slice_index_or sets frame []) offset count) (omega (arith, depth_is))
       (length-with_all (slice_index_or sets frame []) offset count (omega arith) ∙ whole)
-
--- sets of what two stacks have in common
-module _ (xs : List (List Bool)) (depth : ℕ) (x : List (List Bool)) (are : AreSets xs depth) (view : take depth xs ≡ x)
-    (ys : List (List Bool)) (depth_too : ℕ) (y : List (List Bool)) (are_too : AreSets ys depth_too) (view_too : take depth_too ys ≡ y)
-    (both : List (List Bool)) (eight : length both ≡ 8) (same : length x ≡ length y)
-    (is : (j i : ℕ) → j < depth → slice_index_or (slice_index_or both j []) i false ≡ (slice_index_or (slice_index_or xs j []) i false && slice_index_or (slice_index_or ys j []) i false)) where
-  pub length_joined : length (take depth both) ≡ length x
-  length_joined = length-take-le depth both (omega (arith, are.within)) ∙ sym (depth_is xs depth x are view)
-
-  pub joined_is : (k offset : ℕ) → slice_index_or (slice_index_or (take depth both) k []) offset false ≡ (slice_index_or (slice_index_or x k []) offset false && slice_index_or (slice_index_or y k []) offset false)
-  joined_is k offset = elim (cases_lt k depth) [
-    | inl live ↦
-        let deep = depth_is xs depth x are view in
-        ap (λ (s : List Bool). slice_index_or s offset false) (get_or-take depth both k [] live)
-        ∙ is k offset live
-        ∙ ap (λ (s : List Bool). slice_index_or s offset false && slice_index_or (slice_index_or ys k []) offset false) (sym (there xs depth x are view k (omega arith)))
-        ∙ ap (λ (s : List Bool). slice_index_or (slice_index_or x k []) offset false && slice_index_or s offset false) (sym (there ys depth_too y are_too view_too k (omega arith)))
-    | inr past ↦
-        let deep = depth_is xs depth x are view in
-        ap (λ (s : List Bool). slice_index_or s offset false) (get_or_past (take depth both) k [] (omega (arith, length_joined)))
-        ∙ ap (λ (s : List Bool). slice_index_or s offset false && slice_index_or (slice_index_or y k []) offset false) (sym (get_or_past x k [] (omega arith)))
-  ]

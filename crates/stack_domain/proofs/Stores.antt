@@ -1,10 +1,11 @@
 -- A store keeps what is covered, since written bytes stay written; and the bytes that it writes are written.
-use Rattle.std.proofs.Common.{◌≡◌, ◌≢◌, ℕ, ◌+◌, ◌-◌, ◌<◌, ◌≤◌, Bool, true, List, [], ◌++◌, Option, Some, None, is_some, length, map, take, drop, get_or, set, refl, ap, sym, subst, ◌∙◌, arith, inl, inr, ◌⊎◌, length-append, length-drop}
+use Rattle.std.proofs.Common.{◌≡◌, ◌≢◌, ℕ, ◌+◌, ◌-◌, ◌<◌, ◌≤◌, Bool, true, List, [], ◌++◌, Option, Some, None, is_some, length, map, take, drop, get_or, ap, subst, ◌∙◌, arith, inl, inr, ◌⊎◌, length-append, length-drop}
 use Rattle.std.specs.Prelude.{slice_index_or}
 use Rattle.std.proofs.lemmas.Bool.{cases_lt, cases_eq}
 use Rattle.std.proofs.lemmas.List.{get_or_append_left, get_or-append_right, get_or-take, get_or-drop, get_or-map, get_or-set_same, get_or-set_other, length-set, length-map, length-take-le}
 use Rattle.stack_frame.specs.Frame.{written_at}
-use Rattle.stack_domain.specs.Stack.{Marked, IsWritten, Covers, AreWritten}
+use Rattle.stack_domain.specs.Stores.{stored}
+use Rattle.stack_domain.specs.Stack.{Marked, Covers, AreWritten}
 
 module _ (frame : List (Option ℕ)) (offset : ℕ) (bytes : List ℕ) (inside : offset + length bytes ≤ length frame) where
   front : length (take offset frame) ≡ offset
@@ -46,10 +47,6 @@ module _ (frame : List (Option ℕ)) (offset : ℕ) (bytes : List ℕ) (inside :
       | inr above ↦ ap is_some (written_at_outside k (inr above)) ∙ was
     ]
   ]
-
--- the frames after a store of these bytes in one of them
-abbrev pub stored : List (List (Option ℕ)) → ℕ → ℕ → List ℕ → List (List (Option ℕ))
-stored frames k offset bytes = set frames k (written_at offset bytes (slice_index_or frames k []))
 
 module _ (stack : List (List Bool)) (frames : List (List (Option ℕ))) (covers : Covers stack frames) (k offset : ℕ) (bytes : List ℕ) (live : k < length frames) (inside : offset + length bytes ≤ 512) where
   fits : offset + length bytes ≤ length (slice_index_or frames k [])

@@ -1,7 +1,8 @@
 // Which stack bytes of which live frame are written, as far as a verifier knows that follows a program's paths. It
-// relies on `stack_frame` for sets of bytes and on `bpf_machine` for how machines have their frames.
+// relies on `stack_frame` for sets of bytes and for what a store writes.
 #![tactic(auto)]
 
+pub mod laws;
 mod stack;
 
 pub use stack::{MAX_FRAMES, Stack};

@@ -4,6 +4,7 @@
 ghost use Rattle.std.specs.Prelude.{◌≡◌, ◌<◌, ◌≤◌, ◌+◌, ◌-◌, ◌↔◌, ℕ, List, [], ◌∷◌, ◌++◌, Option, IsTrue, length};
 ghost use Rattle.stack_frame.specs.declared.byte_set.TheConstants.{MOST_BYTES};
 ghost use Rattle.stack_domain.specs.Stack.{Covers, Knows, AreWritten};
+ghost use Rattle.stack_domain.specs.Stores.{stored};
 
 use stack_frame::ByteSet;
 use std::marker::Model;
@@ -86,6 +87,7 @@ impl Stack {
         requires inside { offset + count ≤ 512 }
         requires few { count ≤ MOST_BYTES }
         ensures depth { length self.new ≡ length self.old }
+        ensures stored { (frames : List (List (Option ℕ))) (bytes : List ℕ) → Covers self.old frames → length bytes ≡ count → Covers self.new (stored frames frame offset bytes) }
         ensures covers { (frames : List (List (Option ℕ))) → (Covers self.new frames ↔ (Covers self.old frames × AreWritten frames frame offset (offset + count))) }
     {
         // The proof knows how many frames there are once a field is read.

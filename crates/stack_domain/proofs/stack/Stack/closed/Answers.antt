@@ -1,4 +1,4 @@
-use Rattle.std.proofs.Common.{◌≡◌, ◌<◌, ◌+◌, ◌-◌, ℕ, Bool, false, List, [], ◌∷◌, ◌++◌, Option, length, take, set, subst, sym, ap, arith, length-take-le}
+use Rattle.std.proofs.Common.{◌<◌, ◌-◌, Bool, List, [], ◌∷◌, ◌++◌, take, set, subst, sym, arith}
 use Rattle.std.specs.Prelude.{slice_index_or}
 use Rattle.stack_domain.specs.Stack.{Covers, Knows}
 use Rattle.stack_domain.specs.Sets.{no_bytes, AreSets}

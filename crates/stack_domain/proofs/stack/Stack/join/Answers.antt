@@ -1,9 +1,9 @@
-use Rattle.std.proofs.Common.{◌≡◌, ◌≢◌, ◌<◌, ◌≤◌, ◌+◌, ◌-◌, ℕ, Bool, false, List, [], length, set, take, subst, sym, ap, refl, ◌∙◌, arith, inl, inr}
+use Rattle.std.proofs.Common.{◌≡◌, ◌≢◌, ℕ, Bool, false, List, [], length, set, sym, ap, refl, ◌∙◌, arith, inl, inr}
 use Rattle.std.specs.Prelude.{slice_index_or, ◌&&◌}
 use Rattle.std.proofs.lemmas.Bool.{cases_eq}
 use Rattle.std.proofs.lemmas.List.{get_or-set_same, get_or-set_other, get_or_read, length-set}
-use Rattle.stack_domain.proofs.Places.{are_padded, none_past, stack_whole, length_joined, joined_is}
-use Rattle.stack_domain.proofs.Covered.{covers_first, covers_second, knows_both}
+use Rattle.stack_domain.proofs.Places.{are_padded, none_past}
+use Rattle.stack_domain.proofs.Joined.{is_join}
 use Rattle.stack_domain.proofs.stack.Stack.join.Goals as goal
 
 pub loop-k-init : goal.loop-k-init
@@ -18,8 +18,7 @@ loop-k-preserved c =
     let within = c.self.invariant.within in
     let eight = c.self.invariant.count in
     let eight_too = c.other.invariant.count in
-    let here : slice_index_or (set old at new) at [] ≡ new = get_or-set_same old at new [] (omega arith) in
-    (
+    let here : slice_index_or (set old at new) at [] ≡ new = get_or-set_same old at new [] (omega arith) in (
       length-set old at new ∙ long,
       λ j less. elim (cases_eq j at) [
         | inl same ↦ ap (λ (n : ℕ). length (slice_index_or (set old at new) n [])) same ∙ ap length here ∙ c.intersection.ensures.len
@@ -35,7 +34,7 @@ loop-k-preserved c =
             ∙ ap (λ (n : ℕ). slice_index_or (slice_index_or c.self.inside.sets n []) i false && slice_index_or (slice_index_or c.other.inside.sets n []) i false) (sym same)
         | inr apart ↦ ap (λ (s : List Bool). slice_index_or s i false) (get_or-set_other old at j new [] apart) ∙ c.loop-k.invariant.2 j i (omega arith)
       ],
-      λ j from. (let apart : j ≢ at = omega arith in get_or-set_other old at j new [] apart ∙ c.loop-k.invariant.3 j (omega arith))
+      λ j from. (let apart : j ≢ at = omega arith in get_or-set_other old at j new [] apart ∙ c.loop-k.invariant.3 j (omega arith)),
     )
 
 pub invariant_of-result : goal.invariant_of-result
@@ -48,56 +47,12 @@ invariant_of-result c =
       count = c.loop-k.invariant.0;
       whole = c.loop-k.invariant.1;
       rest = are_padded c.loop-k.sets c.self.inside.depth c.self.invariant.within c.loop-k.invariant.0
-        (λ j past less. c.loop-k.invariant.3 j (omega arith) ∙ none_past c.self.inside.sets c.self.inside.depth c.self.invariant j past less);
+          (λ j past less. c.loop-k.invariant.3 j (omega arith) ∙ none_past c.self.inside.sets c.self.inside.depth c.self.invariant j past less);
     }
 
-pub returns-clause-first : goal.returns-clause-first
-returns-clause-first c =
-    let xs = c.self.inside.sets in
-    let depth = c.self.inside.depth in
-    let x = c.args.self.now in
-    let ys = c.other.inside.sets in
-    let depth_too = c.other.inside.depth in
-    let y = c.args.other.now in
-    let both = c.loop-k.sets in
-    let far = c.loop-k-test.false in
-    let is = λ (j i : ℕ) (less : j < depth). c.loop-k.invariant.2 j i (omega arith) in
-    covers_first x y (take depth both)
-    (length_joined xs depth x c.self.invariant c.self.view_is ys depth_too y c.other.invariant c.other.view_is both c.loop-k.invariant.0 c.requires is)
-    c.requires
-    (joined_is xs depth x c.self.invariant c.self.view_is ys depth_too y c.other.invariant c.other.view_is both c.loop-k.invariant.0 c.requires is)
-
-pub returns-clause-second : goal.returns-clause-second
-returns-clause-second c =
-    let xs = c.self.inside.sets in
-    let depth = c.self.inside.depth in
-    let x = c.args.self.now in
-    let ys = c.other.inside.sets in
-    let depth_too = c.other.inside.depth in
-    let y = c.args.other.now in
-    let both = c.loop-k.sets in
-    let far = c.loop-k-test.false in
-    let is = λ (j i : ℕ) (less : j < depth). c.loop-k.invariant.2 j i (omega arith) in
-    covers_second x y (take depth both)
-    (length_joined xs depth x c.self.invariant c.self.view_is ys depth_too y c.other.invariant c.other.view_is both c.loop-k.invariant.0 c.requires is)
-    c.requires
-    (joined_is xs depth x c.self.invariant c.self.view_is ys depth_too y c.other.invariant c.other.view_is both c.loop-k.invariant.0 c.requires is)
-
-pub returns-clause-knows : goal.returns-clause-knows
-returns-clause-knows c =
-    let xs = c.self.inside.sets in
-    let depth = c.self.inside.depth in
-    let x = c.args.self.now in
-    let ys = c.other.inside.sets in
-    let depth_too = c.other.inside.depth in
-    let y = c.args.other.now in
-    let both = c.loop-k.sets in
-    let far = c.loop-k-test.false in
-    let is = λ (j i : ℕ) (less : j < depth). c.loop-k.invariant.2 j i (omega arith) in
-    knows_both x y (take depth both)
-    (length_joined xs depth x c.self.invariant c.self.view_is ys depth_too y c.other.invariant c.other.view_is both c.loop-k.invariant.0 c.requires is)
-    c.requires
-    (joined_is xs depth x c.self.invariant c.self.view_is ys depth_too y c.other.invariant c.other.view_is both c.loop-k.invariant.0 c.requires is)
-    (stack_whole xs depth x c.self.invariant c.self.view_is)
-    (stack_whole ys depth_too y c.other.invariant c.other.view_is)
-
+pub returns : goal.returns
+returns c =
+    let deep = c.loop-k-test.false in
+    let join = is_join c.self.inside.sets c.self.inside.depth c.args.self.now c.self.invariant c.self.view_is c.other.inside.sets c.other.inside.depth c.args.other.now c.other.invariant c.other.view_is
+    c.loop-k.sets c.loop-k.invariant.0 c.requires (λ j i less. c.loop-k.invariant.2 j i (omega arith)) in
+    record { depth = join.depth; first = join.first; second = join.second; knows = join.knows }

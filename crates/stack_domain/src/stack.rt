@@ -97,7 +97,8 @@ impl Stack {
         self.sets[frame] = set;
     }
 
-    /// Whether a frame's bytes are known to be written, `count` of them from any offset from `least` to `most` on.
+    /// Whether a frame's bytes from `least` up to `most + count` are known to be written: all that `count` bytes may be
+    /// which begin at some offset from `least` to `most`.
     pub fn is_written(&self, frame: usize, least: usize, most: usize, count: usize) -> bool
         requires live { frame < length self.now }
         requires order { least ≤ most }

@@ -1,4 +1,7 @@
+mod Entries
 pub mod Held
+pub mod MemoryFound
+mod MemoryRows
 pub mod Progress
 pub mod RegisterLists
 pub mod Room

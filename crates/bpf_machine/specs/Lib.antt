@@ -5,6 +5,7 @@ pub mod Frames
 pub mod MachineState
 pub mod Calls
 pub mod Words
+pub mod Memory
 pub mod Step
 pub mod Stops
 pub mod Stuck

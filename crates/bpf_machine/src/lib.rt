@@ -9,6 +9,7 @@ mod held_freezes;
 pub mod laws;
 mod low;
 mod machine;
+mod memory;
 mod registers;
 mod stepping;
 mod stop;

@@ -1,6 +1,6 @@
-// The machine of the code, of fixed size: it is copied and compared without memory. No instruction so far
-// writes the stack or opens a call, so neither is stored. It relies on `registers` and `held_freezes` for what it
-// keeps, on `stepping` for an instruction, on `bpf_insn` for programs, and on `helpers` for the calls.
+// The machine of the code, of fixed size: it is copied and compared without memory. No instruction so far opens a call,
+// so there is one frame. It relies on `registers`, `held_freezes` and `stack_frame` for what it keeps, on `stepping` for
+// an instruction, on `bpf_insn` for programs, and on `helpers` for the calls.
 
 ghost use Rattle.std.specs.Prelude.{◌≡◌, ◌+◌, ◌<◌, ◌↔◌, true, None, IsTrue};
 ghost use Rattle.bpf_insn.specs.declared.program.TheConstants.{MAX_SLOTS};
@@ -12,18 +12,17 @@ ghost use Rattle.bpf_machine.specs.Reached.{IsEntry, PrivateSteps};
 ghost use Rattle.bpf_machine.specs.Able.{GoesOnWithin};
 
 use crate::held_freezes::HeldFreezes;
+use crate::memory::{CONTEXT_ADDRESS, FRAME_ADDRESS, FRAME_BYTES};
 use crate::registers::Registers;
 use crate::stepping::advance;
 use crate::stop::Stop;
 use bpf_insn::{Callee, Insn, Program, Reg};
 use helpers::{Answer, Arguments, Asked, Helper, Request};
+use stack_frame::Frame;
 use std::marker::Model;
 
-/// Where the context lies.
-const CONTEXT_ADDRESS: u64 = 0x1000_0000;
-
-/// The frame pointer of the outermost frame: 512 above the frame's start.
-const FRAME_POINTER: u64 = 0x2000_0000 + 512;
+/// The frame pointer of the outermost frame: behind its last byte.
+const FRAME_POINTER: u64 = FRAME_ADDRESS + FRAME_BYTES;
 
 /// A machine: where a program stands, its registers, the context that it reads, and what its run has.
 #[derive(Clone, Copy, Debug, PartialEq, Eq)]
@@ -31,6 +30,7 @@ pub struct Machine {
     place: usize,
     registers: Registers,
     context: [u8; 96],
+    frame: Frame,
     held: HeldFreezes,
     disposed: bool,
 }
@@ -62,6 +62,7 @@ impl Machine {
             place: 0,
             registers,
             context: *context,
+            frame: Frame::unwritten(),
             held: HeldFreezes::at_start(freeze),
             disposed: false,
         }
@@ -78,8 +79,12 @@ impl Machine {
     pub fn is_same(&self, other: &Self) -> bool
         ensures { IsTrue result ↔ (self.now ≡ other.now) }
     {
-        // The proof knows what a machine keeps where a field of it is read.
-        self.place == other.place && self == other
+        self.place == other.place
+            && self.registers.is_same(&other.registers)
+            && self.context == other.context
+            && self.frame.is_same(&other.frame)
+            && self.held == other.held
+            && self.disposed == other.disposed
     }
 
     /// What a register holds, where it is written.
@@ -100,7 +105,13 @@ impl Machine {
         let mut place = self.place;
         let mut registers = self.registers;
         let mut steps = 0;
-        while let Some(next) = advance(program, place, &mut registers) {
+        while let Some(next) = advance(
+            program,
+            place,
+            &mut registers,
+            &self.context,
+            &mut self.frame,
+        ) {
             prove!(steps < budget);
             place = next;
             steps += 1;

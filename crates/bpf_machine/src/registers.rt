@@ -1,7 +1,7 @@
 // The registers of a machine, in a place of fixed size: a word for each, and beside the words which are written, so
 // that an instruction reads and writes words and tests nothing. It relies on `bpf_insn` for the registers' names.
 
-ghost use Rattle.std.specs.Prelude.{◌≡◌, ◌∷◌, ◌++◌, Some, None, drop, replicate, slice_index_or, slice_set, length};
+ghost use Rattle.std.specs.Prelude.{◌≡◌, ◌↔◌, IsTrue, ◌∷◌, ◌++◌, Some, None, drop, replicate, slice_index_or, slice_set, length};
 ghost use Rattle.bpf_insn.specs.Reg.{number_of};
 ghost use Rattle.bpf_machine.specs.Unchecked.{word_at, word_for, with_word};
 
@@ -40,6 +40,13 @@ impl Registers {
             words: [0; 11],
             written: [false; 11],
         }
+    }
+
+    /// Whether both hold the same.
+    pub fn is_same(&self, other: &Self) -> bool
+        ensures { IsTrue result ↔ (self.now ≡ other.now) }
+    {
+        self == other
     }
 
     /// What a register holds, where it is written.

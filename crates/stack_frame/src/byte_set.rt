@@ -52,6 +52,13 @@ impl ByteSet {
         ByteSet { words: [0; 8] }
     }
 
+    /// Whether both are one set.
+    pub fn is_same(&self, other: &Self) -> bool
+        ensures { IsTrue result ↔ (self.now ≡ other.now) }
+    {
+        self.words == other.words
+    }
+
     /// Whether the byte at that offset, from 0 to 511, is in the set.
     pub fn contains(&self, offset: usize) -> bool
         requires { offset < 512 }

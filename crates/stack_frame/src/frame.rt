@@ -1,7 +1,7 @@
 // A stack frame: 512 bytes, and which of them are written. A load or a store of a word has no loop. It relies on
 // `byte_set` for what is written, and on `byteorder` for words in memory.
 
-ghost use Rattle.std.specs.Prelude.{◌≡◌, ◌≤◌, ◌+◌, length, replicate, None, map, take, drop};
+ghost use Rattle.std.specs.Prelude.{◌≡◌, ◌≤◌, ◌+◌, ◌↔◌, IsTrue, length, replicate, None, map, take, drop};
 ghost use Rattle.byteorder.specs.Endian.{little_bytes};
 ghost use Rattle.stack_frame.specs.Frame.{byte_of, word_at, written_at};
 
@@ -41,6 +41,13 @@ impl Frame {
             bytes: [0; 512],
             written: ByteSet::empty(),
         }
+    }
+
+    /// Whether both are one frame.
+    pub fn is_same(&self, other: &Self) -> bool
+        ensures { IsTrue result ↔ (self.now ≡ other.now) }
+    {
+        self.written.is_same(&other.written) && self.bytes == other.bytes
     }
 
     /// The byte at that offset, as 0 where it is unwritten.

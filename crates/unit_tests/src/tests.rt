@@ -10,4 +10,5 @@ mod policies;
 mod recovery;
 mod structure;
 mod tables;
+mod tokens;
 mod verdicts;

@@ -1,17 +1,19 @@
 -- A private instruction changes neither what the run holds nor whether its CCB is disposed of.
-use Rattle.std.proofs.Common.{◌≡◌, ℕ, ℤ, List, [], ◌∷◌, Option, Some, None, refl, ap, sym, ◌∙◌}
-use Rattle.std.specs.Option.{option_and_then}
+use Rattle.std.proofs.Common.{◌≡◌, ℕ, ℤ, ◌+◌, List, [], ◌∷◌, Option, Some, None, refl, ap, sym, ◌∙◌}
+use Rattle.std.specs.Option.{option_map, option_and_then}
 use Rattle.bpf_insn.specs.declared.insn.Insn.{Insn}
 use Rattle.bpf_insn.specs.declared.insn.Insn.TheVariants.{Alu, InPlace, SignExtend, JumpIf, Jump, LoadImmediate, Load, Store, Call, Exit}
 use Rattle.bpf_insn.specs.declared.insn.Width.{Width}
 use Rattle.bpf_insn.specs.declared.insn.AluOp.{AluOp}
 use Rattle.bpf_insn.specs.declared.insn.Condition.{Condition}
+use Rattle.bpf_insn.specs.declared.insn.StoreSize.{StoreSize}
 use Rattle.bpf_insn.specs.declared.reg.Reg.{Reg}
 use Rattle.bpf_insn.specs.declared.program.Slot.{Slot}
 use Rattle.bpf_insn.specs.Program.{insn_at}
-use Rattle.bpf_machine.specs.MachineState.{OpenCall, MachineState, register}
+use Rattle.bpf_machine.specs.MachineState.{OpenCall, MachineState, register, moved_to}
+use Rattle.bpf_machine.specs.Memory.{address_of, load_width, loaded, word_from}
 use Rattle.bpf_machine.specs.Words.{in_place, sign_extended}
-use Rattle.bpf_machine.specs.Step.{compute, compute_one, first_operand, operand, jump_if, returned, does, private_step}
+use Rattle.bpf_machine.specs.Step.{compute, compute_one, first_operand, operand, jump_if, store, returned, does, private_step}
 
 -- what one machine has of another
 pub record HasTheSame (before after : MachineState) : Type 0 where
@@ -37,6 +39,15 @@ jumped m width condition offset (Some a) (Some b) after e = some_same m _ after 
 jumped m width condition offset (Some a) None after e = absurd cc
 jumped m width condition offset None b after e = absurd cc
 
+wrote : (m : MachineState) (frames : Option (List (List (Option ℕ)))) (after : MachineState) → option_map (λ next. moved_to next (m.place + 1)) (option_map (λ fs. record m { frames = fs }) frames) ≡ Some after → HasTheSame m after
+wrote m (Some frames) after e = some_same m _ after e (record { held = refl; disposed = refl })
+wrote m None after e = absurd cc
+
+stored : (m : MachineState) (size : StoreSize) (address word : Option ℕ) (after : MachineState) → store m size address word ≡ Some after → HasTheSame m after
+stored m size (Some address) (Some word) after e = wrote m _ after e
+stored m size (Some address) None after e = absurd cc
+stored m size None word after e = absurd cc
+
 came_back : (m : MachineState) (calls : List OpenCall) (after : MachineState) → returned m calls ≡ Some after → HasTheSame m after
 came_back m [] after e = absurd cc
 came_back m (call ∷ calls) after e = some_same m _ after e (record { held = refl; disposed = refl })
@@ -48,8 +59,8 @@ did m (SignExtend extension dst src) after e = computed_one m dst (sign_extended
 did m (JumpIf width condition dst src offset) after e = jumped m width condition offset (register m dst) (operand m src) after e
 did m (Jump distance) after e = some_same m _ after e (record { held = refl; disposed = refl })
 did m (LoadImmediate dst value) after e = some_same m _ after e (record { held = refl; disposed = refl })
-did m (Load form dst src offset) after e = absurd cc
-did m (Store size dst src offset) after e = absurd cc
+did m (Load form dst src offset) after e = computed_one m dst (loaded form) (option_and_then (word_from (load_width form) m) (address_of m src offset)) after e
+did m (Store size dst src offset) after e = stored m size (address_of m dst offset) (operand m src) after e
 did m (Call callee) after e = absurd cc
 did m Exit after e = came_back m m.open_calls after e
 

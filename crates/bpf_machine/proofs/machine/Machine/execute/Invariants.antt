@@ -1,11 +1,16 @@
-use Rattle.std.proofs.Common.{◌-◌}
+use Rattle.std.proofs.Common.{◌≡◌, ◌-◌}
 use Rattle.bpf_machine.specs.Reached.{PrivateSteps}
 use Rattle.bpf_machine.specs.Unchecked.{standing}
 use Rattle.bpf_machine.proofs.machine.Machine.execute.Given as goal
 
--- so many private instructions lead to this place and these registers
+-- so many private instructions lead to this place, these registers and this frame
 abbrev pub invariant-loop-next : goal.invariant-loop-next
-invariant-loop-next l = PrivateSteps l.program l.steps l.fn.self (standing l.fn.self l.place l.registers)
+invariant-loop-next l = record {
+  there : PrivateSteps l.program l.steps l.fn.self (standing l.fn.self l.place l.registers l.self-inside.frame);
+  context : l.self-inside.context ≡ l.fn.self.context;
+  held : l.self-inside.held ≡ l.fn.self.held;
+  disposed : l.self-inside.disposed ≡ l.fn.self.disposed;
+}
 
 abbrev pub decreases-loop-next : goal.decreases-loop-next
 decreases-loop-next l = l.budget - l.steps

@@ -2,3 +2,4 @@ pub mod Slots
 pub mod Same
 pub mod SameWords
 pub mod WordRows
+pub mod RowLists

@@ -2,3 +2,4 @@ pub mod Reg
 pub mod Program
 pub mod Target
 pub mod Words
+pub mod Rows

@@ -3,8 +3,10 @@
 #![tactic(auto)]
 
 mod insn;
+mod opcode;
 mod program;
 mod reg;
+mod row;
 mod target;
 mod words;
 
@@ -12,6 +14,8 @@ pub use insn::{
     AluOp, ByteOrder, Callee, Condition, Distance, InPlaceOp, Insn, LoadForm, Operand,
     SignExtension, StoreSize, Width, WordSize,
 };
+pub use opcode::Opcode;
 pub use program::{MAX_SLOTS, Program, ProgramBuilder, Slot};
 pub use reg::Reg;
+pub use row::Row;
 pub use target::jump_target;

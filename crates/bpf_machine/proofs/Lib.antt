@@ -1,3 +1,4 @@
+pub mod ByRows
 mod Entries
 pub mod Held
 pub mod MemoryFound

@@ -11,6 +11,7 @@ use Rattle.bpf_insn.specs.declared.insn.Operand.TheVariants.{Immediate, Register
 use Rattle.bpf_insn.specs.declared.reg.Reg.{Reg}
 use Rattle.bpf_insn.specs.declared.reg.Reg.TheVariants.{R1, R2, R3, R10}
 use Rattle.helpers.specs.declared.limits.HelperLimits.{HelperLimits}
+use Rattle.stack_frame.specs.Frame.{written_at}
 use Rattle.bpf_machine.specs.MachineState.{MachineState, entry, register}
 use Rattle.bpf_machine.specs.Step.{does}
 use Rattle.bpf_machine.specs.Stuck.{insn_is_stuck}
@@ -65,13 +66,16 @@ stored_and_loaded at form from =
     option_and_then (λ (m : MachineState). loads_of (does m (load form R10 from))) (does start (Store stores.Word R10 (Immediate (negsuc 1)) at))
 
 row_stored : stored_and_loaded (negsuc 7) loads.Word (negsuc 7) ≡ Some 0xfffffffe
+unfolding written_at
 row_stored = refl
 
 row_unaligned : stored_and_loaded (negsuc 10) loads.HalfWord (negsuc 8) ≡ Some 0xffff
+unfolding written_at
 row_unaligned = refl
 
 -- a byte beside it is unwritten
 row_unwritten : stored_and_loaded (negsuc 7) loads.DoubleWord (negsuc 7) ≡ None
+unfolding written_at
 row_unwritten = refl
 
 -- the frame's first bytes, its last, and one past each

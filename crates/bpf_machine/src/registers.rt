@@ -1,24 +1,27 @@
 // The registers of a machine, in a place of fixed size: a word for each, and beside the words which are written, so
-// that an instruction reads and writes words and tests nothing. It relies on `bpf_insn` for the registers' names.
+// that an instruction reads and writes words and tests nothing. Behind the words is one that is always 0, the source of a
+// row that has a constant. It relies on `bpf_insn` for the registers' names and for rows.
 
-ghost use Rattle.std.specs.Prelude.{◌≡◌, ◌↔◌, IsTrue, ◌∷◌, ◌++◌, Some, None, drop, replicate, slice_index_or, slice_set, length};
+ghost use Rattle.std.specs.Prelude.{◌≡◌, ◌≤◌, ◌↔◌, IsTrue, ◌∷◌, ◌++◌, Some, None, drop, replicate, slice_index_or, slice_set, length};
+ghost use Rattle.bpf_insn.specs.declared.insn.Operand.{Operand};
 ghost use Rattle.bpf_insn.specs.Reg.{number_of};
+ghost use Rattle.bpf_insn.specs.Rows.{HasSource, no_source};
 ghost use Rattle.bpf_machine.specs.Unchecked.{word_at, word_for, with_word};
 
-use bpf_insn::{Operand, Reg};
+use bpf_insn::{Reg, Row};
 use std::marker::Model;
 
 /// The registers R0 to R10. Contracts see the list, in which an unwritten register is `None`.
 #[derive(Clone, Copy, Debug, PartialEq, Eq)]
 pub struct Registers {
-    // 0 where nothing is written
-    words: [u64; 11],
+    // 0 where nothing is written, and behind the registers
+    words: [u64; 12],
     written: [bool; 11],
 }
 
 impl Model for Registers {
     ghost use Rattle.std.specs.Prelude.{ℕ, List, Option};
-    ghost use Rattle.bpf_machine.specs.RegisterWords.{registers_of, words_of, written_of, AreRegisters};
+    ghost use Rattle.bpf_machine.specs.RegisterWords.{registers_of, words_kept, written_of, AreRegisters};
 
     ghost Value = { List (Option ℕ) };
 
@@ -26,7 +29,7 @@ impl Model for Registers {
 
     ghost invariant = { λ r. AreRegisters r.words r.written };
 
-    ghost inverse = { λ registers. record { words = words_of registers; written = written_of registers } };
+    ghost inverse = { λ registers. record { words = words_kept registers; written = written_of registers } };
 
     ghost inverse_ok = { λ r is i. record { words = is.same_words i; written = is.same_written i } };
 }
@@ -37,7 +40,7 @@ impl Registers {
         ensures { result ≡ replicate 11 None }
     {
         Registers {
-            words: [0; 11],
+            words: [0; 12],
             written: [false; 11],
         }
     }
@@ -69,18 +72,14 @@ impl Registers {
         self.words[usize::from(reg.number())]
     }
 
-    /// What an operand stands for, where an unwritten register counts as 0: a constant is sign-extended.
+    /// What a row's second operand stands for, where an unwritten register counts as 0. Of the source's word and the
+    /// constant one is 0, so that the row is not asked which it has.
     #[inline(always)]
-    pub fn word_for(&self, source: Operand) -> u64
-        ensures { result ≡ word_for self.now source }
+    pub fn second(&self, row: Row) -> u64
+        requires { row.src ≤ no_source }
+        ensures { (source : Operand) → HasSource source row → result ≡ word_for self.now source }
     {
-        // A register is read in any case, and counts 0 times or once: so there is no branch, which a processor would
-        // have to foresee.
-        let (reg, times, constant) = match source {
-            Operand::Immediate(value) => (Reg::R0, 0, i64::from(value).cast_unsigned()),
-            Operand::Register(reg) => (reg, 1, 0),
-        };
-        self.word(reg).wrapping_mul(times).wrapping_add(constant)
+        self.words[usize::from(row.src)].wrapping_add(i64::from(row.constant).cast_unsigned())
     }
 
     /// Writes a register.

@@ -1,12 +1,11 @@
-use Rattle.std.proofs.Common.{◌≡◌, ℕ, List, Option, Some, None, length, ap, sym, ◌∙◌}
+use Rattle.std.proofs.Common.{◌≡◌, ℕ, List, Option, None, length, ap, sym, ◌∙◌}
 use Rattle.std.specs.Prelude.{slice_set}
-use Rattle.bpf_machine.proofs.RegisterLists.{answered_is, count_registers}
+use Rattle.bpf_machine.proofs.RegisterLists.{answered_is, count_kept}
 use Rattle.bpf_machine.proofs.registers.Registers.answer.Goals as goal
 
 pub returns : goal.returns
 returns c =
-    let count = c.self.invariant.count in
-    let long : length c.args.self.now ≡ 11 = ap (λ (rs : List (Option ℕ)). length rs) (sym c.self.view_is) ∙ (count_registers c.self.inside.words c.self.inside.written (count.0 ∙ sym count.1) ∙ count.0) in
+    let long : length c.args.self.now ≡ 11 = ap (λ (rs : List (Option ℕ)). length rs) (sym c.self.view_is) ∙ count_kept c.self.inside.words c.self.inside.written c.self.invariant in
     let unwritten : (k : ℕ) → List (Option ℕ) → List (Option ℕ) = λ k rs. slice_set rs k None in
     c.clear-5.ensures
     ∙ (ap (unwritten 5) c.clear-4.ensures

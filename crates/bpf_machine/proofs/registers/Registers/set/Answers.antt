@@ -7,7 +7,7 @@ use Rattle.bpf_machine.proofs.registers.Registers.set.Goals as goal
 
 pub invariant_of-self : goal.invariant_of-self
 invariant_of-self c =
-    set_kept c.self.inside.words c.self.inside.written c.from-index.result c.args.word true refl c.self.invariant
+    set_kept c.self.inside.words c.self.inside.written c.from-index.result c.args.word true (rw (c.from-index.ensures) c.number.ensures.in_range) refl c.self.invariant
 
 pub returns : goal.returns
 returns c =

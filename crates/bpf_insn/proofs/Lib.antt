@@ -2,4 +2,5 @@ pub mod Slots
 pub mod Same
 pub mod SameWords
 pub mod WordRows
+pub mod OperandRows
 pub mod RowLists

@@ -5,6 +5,7 @@
 #![tactic(auto)]
 
 mod extensions;
+mod following;
 mod held_freezes;
 pub mod laws;
 mod low;

@@ -12,46 +12,8 @@ use crate::words32::{alu_of_32, holds32};
 use crate::words64::{alu64, holds64};
 use bpf_insn::{AluOp, Condition, InPlaceOp, Width};
 
-/// What an operation of that width makes of two words. Each operation stands for itself, so that a processor has to
-/// foresee one jump alone.
-#[inline(always)]
+/// What an operation of that width makes of two words.
 pub fn alu(width: Width, op: AluOp, dst: u64, src: u64) -> u64
-    ensures { result ≡ alu_of width op dst src }
-{
-    match op {
-        AluOp::Add => both(width, AluOp::Add, dst, src),
-        AluOp::Sub => both(width, AluOp::Sub, dst, src),
-        AluOp::Mul => both(width, AluOp::Mul, dst, src),
-        AluOp::Div => divided(width, AluOp::Div, dst, src),
-        AluOp::SignedDiv => divided(width, AluOp::SignedDiv, dst, src),
-        AluOp::Mod => divided(width, AluOp::Mod, dst, src),
-        AluOp::SignedMod => divided(width, AluOp::SignedMod, dst, src),
-        AluOp::Or => both(width, AluOp::Or, dst, src),
-        AluOp::And => both(width, AluOp::And, dst, src),
-        AluOp::Xor => both(width, AluOp::Xor, dst, src),
-        AluOp::Lsh => both(width, AluOp::Lsh, dst, src),
-        AluOp::Rsh => both(width, AluOp::Rsh, dst, src),
-        AluOp::Arsh => both(width, AluOp::Arsh, dst, src),
-        AluOp::Mov => both(width, AluOp::Mov, dst, src),
-    }
-}
-
-// Computed in both widths, of which one is taken: that is quick, and there is nothing to foresee.
-#[inline(always)]
-fn both(width: Width, op: AluOp, dst: u64, src: u64) -> u64
-    ensures { result ≡ alu_of width op dst src }
-{
-    let narrow = alu32(op, dst, src);
-    let wide = alu64(op, dst, src);
-    match width {
-        Width::Bits32 => narrow,
-        Width::Bits64 => wide,
-    }
-}
-
-// Computed in the width that is asked for, as a division takes long.
-#[inline(always)]
-fn divided(width: Width, op: AluOp, dst: u64, src: u64) -> u64
     ensures { result ≡ alu_of width op dst src }
 {
     match width {
@@ -94,15 +56,11 @@ pub fn negated32(word: u64) -> u64
 }
 
 /// Whether a condition holds of two words, or of their low 32 bits.
-#[inline(always)]
 pub fn holds(width: Width, condition: Condition, dst: u64, src: u64) -> bool
     ensures { result ≡ holds_of width condition dst src }
 {
-    // Both are computed, as in `alu`.
-    let narrow = holds32(condition, low32(dst), low32(src));
-    let wide = holds64(condition, dst, src);
     match width {
-        Width::Bits32 => narrow,
-        Width::Bits64 => wide,
+        Width::Bits32 => holds32(condition, low32(dst), low32(src)),
+        Width::Bits64 => holds64(condition, dst, src),
     }
 }

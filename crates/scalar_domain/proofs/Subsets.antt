@@ -1,0 +1,99 @@
+-- Bits of one word among those of another.
+use Rattle.std.proofs.Common.{◌≡◌, ℕ, zero, suc, ◌+◌, ◌-◌, ◌*◌, ◌/◌, ◌%◌, ◌^◌, ◌<◌, ◌≤◌, refl, ap, sym, ◌∙◌, subst, arith, bit_and, bit_or, bit_xor}
+use Rattle.std.specs.Int.{bit_at}
+use Rattle.std.proofs.lemmas.Bool.{cases_lt}
+use Rattle.std.proofs.lemmas.Nat.{and_le_r, le-div, pow_pos, shr-shr, xor_shr, leading_length, leading_le}
+use lib.Count.{count_leading_zeros}
+use Rattle.std.proofs.Math.Nat.{div-eq_of_lt, div-mul-le_self}
+use Rattle.std.proofs.lemmas.Nat.Bits.{bit_at-zero, bit_at_ones, bit_at_above, bit_at_and, bit_at_or, bit_at_xor, same_from_bits, bit_at_mask_below, ones_shr}
+use mathlib.Core.Logic.{⊎_elim}
+use Rattle.scalar_domain.specs.Scalar.{Subset}
+
+pub none_in : (w : ℕ) → Subset 0 w
+none_in w = record { bit = λ i. omega (arith, bit_at-zero i) }
+
+pub in_all : (w : ℕ) → w < 2 ^ 64 → Subset w (2 ^ 64 - 1)
+in_all w fits = record { bit = λ i. ⊎_elim (λ lt. omega (arith, bit_at_ones 64 i lt)) (λ le. omega (arith, bit_at_above w 64 i fits le)) (cases_lt i 64) }
+
+pub whole : (w : ℕ) → Subset w w
+whole w = record { bit = λ i. omega arith }
+
+pub through : (a b c : ℕ) → Subset a b → Subset b c → Subset a c
+through a b c p q = record { bit = λ i. omega (arith, p.bit i, q.bit i) }
+
+-- bits of both words are in a third word where those of each are
+pub both_in : (a b w : ℕ) → Subset a w → Subset b w → Subset (bit_or a b) w
+both_in a b w p q = record { bit = λ i. omega (arith, bit_at_or a b i, p.bit i, q.bit i) }
+
+pub in_both : (a b w : ℕ) → Subset w a → Subset w b → Subset w (bit_and a b)
+in_both a b w p q = record { bit = λ i. omega (arith, bit_at_and a b i, p.bit i, q.bit i) }
+
+pub left_in_or : (a b : ℕ) → Subset a (bit_or a b)
+left_in_or a b = record { bit = λ i. omega (arith, bit_at_or a b i) }
+
+pub right_in_or : (a b : ℕ) → Subset b (bit_or a b)
+right_in_or a b = record { bit = λ i. omega (arith, bit_at_or a b i) }
+
+pub and_in_left : (a b : ℕ) → Subset (bit_and a b) a
+and_in_left a b = record { bit = λ i. omega (arith, bit_at_and a b i) }
+
+pub and_in_right : (a b : ℕ) → Subset (bit_and a b) b
+and_in_right a b = record { bit = λ i. omega (arith, bit_at_and a b i) }
+
+-- a word with more bits is no less
+pub subset_le : (a b : ℕ) → Subset a b → a ≤ b
+subset_le a b p = subst (λ (n : ℕ). n ≤ b) (same_from_bits (bit_and a b) a (λ i. omega (arith, bit_at_and a b i, p.bit i))) (and_le_r a b)
+
+pub and_subset : (a b x y : ℕ) → Subset a x → Subset b y → Subset (bit_and a b) (bit_and x y)
+and_subset a b x y p q = record { bit = λ i. omega (arith, bit_at_and a b i, bit_at_and x y i, p.bit i, q.bit i) }
+
+pub or_subset : (a b x y : ℕ) → Subset a x → Subset b y → Subset (bit_or a b) (bit_or x y)
+or_subset a b x y p q = record { bit = λ i. omega (arith, bit_at_or a b i, bit_at_or x y i, p.bit i, q.bit i) }
+
+-- The bits from m on are alike in all words between two that differ below m alone.
+bits_above : (n m i : ℕ) → m ≤ i → bit_at n i ≡ bit_at (n / 2 ^ m) (i - m)
+bits_above n m i le =
+    let e : i ≡ m + (i - m) = omega arith in
+    ap (bit_at n) e ∙ ap (λ x. x % 2) (sym (shr-shr n m (i - m)))
+
+same_top : (l t m : ℕ) → bit_xor l t < 2 ^ m → l / 2 ^ m ≡ t / 2 ^ m
+same_top l t m small =
+    let none : bit_xor (l / 2 ^ m) (t / 2 ^ m) ≡ 0 = sym (xor_shr l t m) ∙ div-eq_of_lt small in
+    same_from_bits _ _ (λ i. omega (arith, bit_at_xor (l / 2 ^ m) (t / 2 ^ m) i, ap (λ x. bit_at x i) none, bit_at-zero i))
+
+pub quotient_le : (a b m : ℕ) → a ≤ b → a / 2 ^ m ≤ b / 2 ^ m
+quotient_le a b m le = le-div (a / 2 ^ m) b (2 ^ m) (pow_pos m) (omega (arith, div-mul-le_self a (2 ^ m)))
+
+top_of_between : (l t w m : ℕ) → bit_xor l t < 2 ^ m → l ≤ w → w ≤ t → l / 2 ^ m ≡ w / 2 ^ m
+top_of_between l t w m small from to =
+    let same = same_top l t m small in
+    omega (arith, same, quotient_le l w m from, quotient_le w t m to)
+
+pub common_must : (l t w m : ℕ) → m ≤ 64 → l < 2 ^ 64 → bit_xor l t < 2 ^ m → l ≤ w → w ≤ t → Subset (bit_and l (2 ^ 64 - 1 - (2 ^ m - 1))) w
+common_must l t w m within fits small from to =
+    let top = top_of_between l t w m small from to in
+    let mask : 2 ^ 64 - 1 - (2 ^ m - 1) ≡ 2 ^ 64 - 2 ^ m = omega (arith, pow_pos m) in
+    record {
+      bit = λ i. ⊎_elim
+      (λ lt. omega (arith, bit_at_and l (2 ^ 64 - 1 - (2 ^ m - 1)) i, ap (λ x. bit_at x i) mask, bit_at_mask_below m 64 i lt))
+      (λ le. omega (arith, bit_at_and l (2 ^ 64 - 1 - (2 ^ m - 1)) i, bits_above l m i le, bits_above w m i le, ap (λ x. bit_at x (i - m)) top))
+      (cases_lt i m);
+    }
+
+pub common_may : (l t w m : ℕ) → bit_xor l t < 2 ^ m → l ≤ w → w ≤ t → Subset w (bit_or t (2 ^ m - 1))
+common_may l t w m small from to =
+    let top : w / 2 ^ m ≡ t / 2 ^ m = sym (top_of_between l t w m small from to) ∙ same_top l t m small in
+    record {
+      bit = λ i. ⊎_elim
+      (λ lt. omega (arith, bit_at_or t (2 ^ m - 1) i, bit_at_ones m i lt))
+      (λ le. omega (arith, bit_at_or t (2 ^ m - 1) i, bits_above t m i le, bits_above w m i le, ap (λ x. bit_at x (i - m)) top))
+      (cases_lt i m);
+    }
+
+-- `leading_zeros` of a word that is not 0 leaves as many ones as the word has bits
+pub ones_left : (word : ℕ) → word < 2 ^ 64 → (word ≡ 0 → ⊥) → (m : ℕ) × (m ≤ 64) × (word < 2 ^ m) × ((2 ^ 64 - 1) / 2 ^ count_leading_zeros 64 word ≡ 2 ^ m - 1)
+ones_left word fits some =
+    let top = leading_length 64 word fits in
+    let m = top.0 in
+    let rest : 64 - count_leading_zeros 64 word ≡ m = omega (arith, top.1) in
+    (m, omega (arith, top.1), top.2, ones_shr 64 (count_leading_zeros 64 word) (leading_le 64 word) ∙ ap (λ (k : ℕ). 2 ^ k - 1) rest)

@@ -1,0 +1,5 @@
+use Rattle.scalar_domain.proofs.Subsets.{none_in, in_all}
+use Rattle.scalar_domain.proofs.bits.KnownBits.any.Goals as goal
+
+pub returns : goal.returns
+returns c = λ w fits. record { has = none_in w; has_only = in_all w fits }

@@ -1,0 +1,2 @@
+pub use Rattle.bpf_machine.specs.Words
+pub mod Scalar

@@ -1,0 +1,90 @@
+// Bits of a word that are known. It relies on `spans`.
+
+ghost use Rattle.std.specs.Prelude.{◌≡◌, ℕ, ◌<◌, ◌≤◌, ◌^◌, ◌-◌};
+ghost use Rattle.scalar_domain.specs.Scalar.{Agrees, Within};
+
+use crate::spans::Span;
+
+/// The bits that a word must have, and those that it may have.
+#[derive(Clone, Copy, Debug, PartialEq, Eq)]
+pub struct KnownBits {
+    pub must: u64,
+    pub may: u64,
+}
+
+impl KnownBits {
+    /// Nothing is known.
+    pub fn any() -> Self
+        ensures { (w : ℕ) → w < 2 ^ 64 → Agrees result w }
+    {
+        KnownBits {
+            must: 0,
+            may: u64::MAX,
+        }
+    }
+
+    /// Each bit is that word's.
+    pub fn exactly(value: u64) -> Self
+        ensures { Agrees result value }
+    {
+        KnownBits {
+            must: value,
+            may: value,
+        }
+    }
+
+    /// The bits that all words of a range have alike, from the top.
+    pub fn of(span: Span) -> Self
+        ensures { (w : ℕ) → w < 2 ^ 64 → Within span w → Agrees result w }
+    {
+        let open = ones_over(span.least ^ span.most);
+        KnownBits {
+            must: span.least & !open,
+            may: span.most | open,
+        }
+    }
+
+    /// The range in which all words with these bits lie.
+    pub fn span(self) -> Span
+        ensures { (w : ℕ) → Agrees self w → Within result w }
+    {
+        Span {
+            least: self.must,
+            most: self.may,
+        }
+    }
+
+    /// What both say.
+    pub fn meet(self, other: KnownBits) -> Self
+        ensures kept { (w : ℕ) → Agrees self w → Agrees other w → Agrees result w }
+        ensures in_self { (w : ℕ) → Agrees result w → Agrees self w }
+        ensures in_other { (w : ℕ) → Agrees result w → Agrees other w }
+    {
+        KnownBits {
+            must: self.must | other.must,
+            may: self.may & other.may,
+        }
+    }
+
+    /// What one or the other says.
+    pub fn hull(self, other: KnownBits) -> Self
+        ensures of_self { (w : ℕ) → Agrees self w → Agrees result w }
+        ensures of_other { (w : ℕ) → Agrees other w → Agrees result w }
+    {
+        KnownBits {
+            must: self.must & other.must,
+            may: self.may | other.may,
+        }
+    }
+}
+
+// As many ones from the lowest bit on as the word has bits.
+fn ones_over(word: u64) -> u64
+    ensures { (m : ℕ) × (m ≤ 64) × (word < 2 ^ m) × (result ≡ 2 ^ m - 1) }
+{
+    if word == 0 {
+        0
+    } else {
+        u64::MAX >> word.leading_zeros()
+    }
+}

@@ -29,3 +29,6 @@ sign_extended_fits From16To32 a = omega arith
 sign_extended_fits From8To64 a = omega arith
 sign_extended_fits From16To64 a = omega arith
 sign_extended_fits From32To64 a = omega arith
+
+pub alu32_fits : (op : AluOp) (a b : ℕ) → b < 2 ^ 32 → alu w32 op a b < 2 ^ 32
+alu32_fits op a b fits = elim (reads_dst op) as (λ r. (if r then low w32 (computed w32 op a b) else b) < 2 ^ 32) [ true ↦ omega arith | false ↦ fits ]

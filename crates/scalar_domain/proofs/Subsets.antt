@@ -1,11 +1,11 @@
 -- Bits of one word among those of another.
-use Rattle.std.proofs.Common.{◌≡◌, ℕ, zero, suc, ◌+◌, ◌-◌, ◌*◌, ◌/◌, ◌%◌, ◌^◌, ◌<◌, ◌≤◌, refl, ap, sym, ◌∙◌, subst, arith, bit_and, bit_or, bit_xor}
-use Rattle.std.specs.Int.{bit_at}
+use Rattle.std.proofs.Common.{◌≡◌, ℕ, zero, suc, ◌+◌, ◌-◌, ◌*◌, ◌/◌, ◌%◌, ◌^◌, ◌<◌, ◌≤◌, refl, ap, sym, ◌∙◌, subst, arith, bit_and, bit_or, bit_xor, min, add-zero}
+use Rattle.std.specs.Int.{w64, bit_at}
 use Rattle.std.proofs.lemmas.Bool.{cases_lt}
-use Rattle.std.proofs.lemmas.Nat.{and_le_r, le-div, pow_pos, shr-shr, xor_shr, leading_length, leading_le}
+use Rattle.std.proofs.lemmas.Nat.{and_le_l, and_le_r, le-div, pow_pos, shr-shr, shr_split, xor_shr, leading_length, leading_le}
 use lib.Count.{count_leading_zeros}
 use Rattle.std.proofs.Math.Nat.{div-eq_of_lt, div-mul-le_self}
-use Rattle.std.proofs.lemmas.Nat.Bits.{bit_at-zero, bit_at_ones, bit_at_above, bit_at_and, bit_at_or, bit_at_xor, same_from_bits, bit_at_mask_below, ones_shr}
+use Rattle.std.proofs.lemmas.Nat.Bits.{bit_at-zero, bit_at_ones, bit_at_above, bit_at_and, bit_at_or, bit_at_xor, same_from_bits, bit_at_mask_below, bit_at_mask_inside, bit_at_not, bit_at_cat_low, bit_at_cat_high, ones_shr}
 use mathlib.Core.Logic.{⊎_elim}
 use Rattle.scalar_domain.specs.Scalar.{Subset}
 
@@ -97,3 +97,78 @@ ones_left word fits some =
     let m = top.0 in
     let rest : 64 - count_leading_zeros 64 word ≡ m = omega (arith, top.1) in
     (m, omega (arith, top.1), top.2, ones_shr 64 (count_leading_zeros 64 word) (leading_le 64 word) ∙ ap (λ (k : ℕ). 2 ^ k - 1) rest)
+
+-- bits of a word that are not in a mask
+without : (a y i : ℕ) → y < 2 ^ 64 → i < 64 → bit_at (bit_and a (2 ^ 64 - 1 - y)) i ≡ min (bit_at a i) (1 - bit_at y i)
+without a y i fits less = bit_at_and a (2 ^ 64 - 1 - y) i ∙ ap (min (bit_at a i)) (bit_at_not w64 y i fits less)
+
+-- bits that just one of two words has, where x and y bound the first from below and above, and u and v the second
+pub xor_must : (x y u v a b : ℕ) → y < 2 ^ 64 → v < 2 ^ 64 → x < 2 ^ 64 → u < 2 ^ 64 → Subset x a → Subset a y → Subset u b → Subset b v → Subset (bit_or (bit_and x (2 ^ 64 - 1 - v)) (bit_and u (2 ^ 64 - 1 - y))) (bit_xor a b)
+xor_must x y u v a b fits_y fits_v fits_x fits_u p q r s =
+    let left = bit_and x (2 ^ 64 - 1 - v) in
+    let right = bit_and u (2 ^ 64 - 1 - y) in
+    record {
+      bit = λ i. ⊎_elim
+      (λ lt. omega (arith, bit_at_or left right i, without x v i fits_v lt, without u y i fits_y lt, bit_at_xor a b i, p.bit i, q.bit i, r.bit i, s.bit i))
+      (λ le. omega (arith, bit_at_or left right i, bit_at_and x (2 ^ 64 - 1 - v) i, bit_at_and u (2 ^ 64 - 1 - y) i, bit_at_above x 64 i fits_x le, bit_at_above u 64 i fits_u le))
+      (cases_lt i 64);
+    }
+
+pub xor_may : (x y u v a b : ℕ) → x < 2 ^ 64 → a < 2 ^ 64 → b < 2 ^ 64 → Subset x a → Subset a y → Subset u b → Subset b v → Subset (bit_xor a b) (bit_and (bit_or y v) (2 ^ 64 - 1 - bit_and x u))
+xor_may x y u v a b fits_x fits_a fits_b p q r s =
+    let fits : bit_and x u < 2 ^ 64 = omega (arith, and_le_l x u) in
+    record {
+      bit = λ i. ⊎_elim
+      (λ lt. omega (arith, without (bit_or y v) (bit_and x u) i fits lt, bit_at_or y v i, bit_at_and x u i, bit_at_xor a b i, p.bit i, q.bit i, r.bit i, s.bit i))
+      (λ le. omega (arith, bit_at_xor a b i, bit_at_above a 64 i fits_a le, bit_at_above b 64 i fits_b le))
+      (cases_lt i 64);
+    }
+
+-- bits of a word cut to its low bits
+pub bits_cut : (k n i : ℕ) → i < k → bit_at (n % 2 ^ k) i ≡ bit_at n i
+bits_cut k n i less = sym (ap (λ x. bit_at x i) (sym (shr_split n k)) ∙ bit_at_cat_low (n / 2 ^ k) k (n % 2 ^ k) i less)
+
+-- and shifted left
+bits_left : (n k i : ℕ) → k ≤ i → bit_at (n * 2 ^ k) i ≡ bit_at n (i - k)
+bits_left n k i le = ap (λ x. bit_at x i) (sym (add-zero (n * 2 ^ k))) ∙ bit_at_cat_high n k 0 i (pow_pos k) le
+
+no_bits_left : (n k i : ℕ) → i < k → bit_at (n * 2 ^ k) i ≡ 0
+no_bits_left n k i lt = ap (λ x. bit_at x i) (sym (add-zero (n * 2 ^ k))) ∙ bit_at_cat_low n k 0 i lt ∙ bit_at-zero i
+
+pub left_subset : (a b k : ℕ) → Subset a b → Subset (a * 2 ^ k % 2 ^ 64) (b * 2 ^ k % 2 ^ 64)
+left_subset a b k p = record {
+  bit = λ i. ⊎_elim
+  (λ lt. ⊎_elim
+    (λ low. omega (arith, bits_cut 64 (a * 2 ^ k) i lt, no_bits_left a k i low))
+    (λ high. omega (arith, bits_cut 64 (a * 2 ^ k) i lt, bits_cut 64 (b * 2 ^ k) i lt, bits_left a k i high, bits_left b k i high, p.bit (i - k)))
+    (cases_lt i k))
+  (λ le. omega (arith, bit_at_above (a * 2 ^ k % 2 ^ 64) 64 i (omega arith) le))
+  (cases_lt i 64);
+}
+
+-- and right
+bits_right : (n k i : ℕ) → bit_at (n / 2 ^ k) i ≡ bit_at n (k + i)
+bits_right n k i = ap (λ x. x % 2) (shr-shr n k i)
+
+pub right_subset : (a b k : ℕ) → Subset a b → Subset (a / 2 ^ k) (b / 2 ^ k)
+right_subset a b k p = record { bit = λ i. omega (arith, bits_right a k i, bits_right b k i, p.bit (k + i)) }
+
+-- the bits of a word by those of its low half
+pub must_by_low : (a w : ℕ) → Subset a (w % 2 ^ 32) → Subset (a % 2 ^ 32) w
+must_by_low a w p = record {
+  bit = λ i. ⊎_elim
+  (λ lt. omega (arith, bits_cut 32 a i lt, bits_cut 32 w i lt, p.bit i))
+  (λ le. omega (arith, bit_at_above (a % 2 ^ 32) 32 i (omega arith) le))
+  (cases_lt i 32);
+}
+
+pub may_by_low : (b w : ℕ) → w < 2 ^ 64 → Subset (w % 2 ^ 32) b → Subset w (bit_or b (2 ^ 64 - 2 ^ 32))
+may_by_low b w fits p = record {
+  bit = λ i. ⊎_elim
+  (λ lt. omega (arith, bits_cut 32 w i lt, bit_at_or b (2 ^ 64 - 2 ^ 32) i, p.bit i))
+  (λ le. ⊎_elim
+    (λ lt. omega (arith, bit_at_or b (2 ^ 64 - 2 ^ 32) i, bit_at_mask_inside 32 64 i le lt))
+    (λ above. omega (arith, bit_at_above w 64 i fits above))
+    (cases_lt i 64))
+  (cases_lt i 32);
+}

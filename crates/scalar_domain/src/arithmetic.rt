@@ -1,32 +1,69 @@
-// What arithmetic makes of scalars. It relies on `scalars`.
+// What arithmetic makes of scalars. It relies on `wide`, `moves` and `halves`, and for known words on `bpf_machine`.
 
 ghost use Rattle.std.specs.Prelude.{◌≡◌, ℕ};
-ghost use Rattle.bpf_machine.specs.Words.{alu_of, in_place, sign_extended};
+ghost use Rattle.std.specs.Int.{w32, w64};
+ghost use Rattle.bpf_machine.specs.Words.{alu, alu_of, low};
 ghost use Rattle.scalar_domain.specs.Scalar.{Has};
 
+use crate::halves::low_half;
+use crate::moves::{extended, shifted_left, shifted_right, signed_shifted_right};
 use crate::scalars::Scalar;
-use bpf_insn::{AluOp, InPlaceOp, SignExtension, Width};
+use crate::wide;
+use bpf_insn::{AluOp, Width};
 
 /// What an operation of that width makes of two words.
 pub fn alu(width: Width, op: AluOp, left: Scalar, right: Scalar) -> Scalar
     ensures { (a b : ℕ) → Has left a → Has right b → Has result (alu_of width op a b) }
 {
-    let _operands = (width, op, left, right);
-    Scalar::any()
+    match (left.known(), right.known()) {
+        (Some(a), Some(b)) => Scalar::exactly(bpf_machine::alu(width, op, a, b)),
+        _ => match width {
+            Width::Bits64 => alu64(op, left, right),
+            Width::Bits32 => alu32(op, low_half(left), low_half(right)),
+        },
+    }
 }
 
-/// What an operation makes of one word in its place.
-pub fn in_place(op: InPlaceOp, scalar: Scalar) -> Scalar
-    ensures { (w : ℕ) → Has scalar w → Has result (in_place op w) }
+// At 64 bits.
+fn alu64(op: AluOp, left: Scalar, right: Scalar) -> Scalar
+    ensures { (a b : ℕ) → Has left a → Has right b → Has result (alu w64 op a b) }
 {
-    let _operand = (op, scalar);
-    Scalar::any()
+    let counts = right.unsigned.counts(64);
+    match op {
+        AluOp::Add => wide::add(left, right),
+        AluOp::Sub => wide::sub(left, right),
+        AluOp::Mul => wide::mul(left, right),
+        AluOp::Div => wide::div(left, right),
+        AluOp::Mod => wide::modulo(left, right),
+        AluOp::SignedDiv | AluOp::SignedMod => Scalar::any(),
+        AluOp::Or => wide::or(left, right),
+        AluOp::And => wide::and(left, right),
+        AluOp::Xor => wide::xor(left, right),
+        AluOp::Lsh => shifted_left(left, counts),
+        AluOp::Rsh => shifted_right(left, counts),
+        AluOp::Arsh => signed_shifted_right(left, counts),
+        AluOp::Mov => right,
+    }
 }
 
-/// The low bits of a word, extended by their sign.
-pub fn extend(extension: SignExtension, scalar: Scalar) -> Scalar
-    ensures { (w : ℕ) → Has scalar w → Has result (sign_extended extension w) }
+// At 32 bits, of the low halves: the low half of what 64 bits give, but for counts, signs and what is borrowed.
+fn alu32(op: AluOp, left: Scalar, right: Scalar) -> Scalar
+    ensures { (a b : ℕ) → Has left (low w32 a) → Has right (low w32 b) → Has result (alu w32 op (low w32 a) (low w32 b)) }
 {
-    let _operand = (extension, scalar);
-    Scalar::any()
+    let counts = right.unsigned.counts(32);
+    match op {
+        AluOp::Add => low_half(wide::add(left, right)),
+        AluOp::Sub => low_half(wide::sub(left, right)),
+        AluOp::Mul => low_half(wide::mul(left, right)),
+        AluOp::Div => low_half(wide::div(left, right)),
+        AluOp::Mod => low_half(wide::modulo(left, right)),
+        AluOp::SignedDiv | AluOp::SignedMod => low_half(Scalar::any()),
+        AluOp::Or => low_half(wide::or(left, right)),
+        AluOp::And => low_half(wide::and(left, right)),
+        AluOp::Xor => low_half(wide::xor(left, right)),
+        AluOp::Lsh => low_half(shifted_left(left, counts)),
+        AluOp::Rsh => low_half(shifted_right(left, counts)),
+        AluOp::Arsh => low_half(signed_shifted_right(extended(left, 32), counts)),
+        AluOp::Mov => right,
+    }
 }

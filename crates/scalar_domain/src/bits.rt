@@ -1,6 +1,6 @@
 // Bits of a word that are known. It relies on `spans`.
 
-ghost use Rattle.std.specs.Prelude.{◌≡◌, ℕ, ◌<◌, ◌≤◌, ◌^◌, ◌-◌};
+ghost use Rattle.std.specs.Prelude.{◌≡◌, ℕ, ◌<◌, ◌≤◌, ◌^◌, ◌-◌, ◌*◌, ◌/◌, ◌%◌, bit_and, bit_or, bit_xor};
 ghost use Rattle.scalar_domain.specs.Scalar.{Agrees, Within};
 
 use crate::spans::Span;
@@ -51,6 +51,58 @@ impl KnownBits {
         Span {
             least: self.must,
             most: self.may,
+        }
+    }
+
+    /// The bits that both of two words have.
+    pub(crate) fn and(self, other: KnownBits) -> Self
+        ensures { (a b : ℕ) → Agrees self a → Agrees other b → Agrees result (bit_and a b) }
+    {
+        KnownBits {
+            must: self.must & other.must,
+            may: self.may & other.may,
+        }
+    }
+
+    /// The bits that either of two words has.
+    pub(crate) fn or(self, other: KnownBits) -> Self
+        ensures { (a b : ℕ) → Agrees self a → Agrees other b → Agrees result (bit_or a b) }
+    {
+        KnownBits {
+            must: self.must | other.must,
+            may: self.may | other.may,
+        }
+    }
+
+    /// The bits that just one of two words has.
+    pub(crate) fn xor(self, other: KnownBits) -> Self
+        ensures { (a b : ℕ) → a < 2 ^ 64 → b < 2 ^ 64 → Agrees self a → Agrees other b → Agrees result (bit_xor a b) }
+    {
+        KnownBits {
+            must: (self.must & !other.may) | (other.must & !self.may),
+            may: (self.may | other.may) & !(self.must & other.must),
+        }
+    }
+
+    /// The bits of words shifted left.
+    pub(crate) fn shifted_left(self, count: u64) -> Self
+        requires { count < 64 }
+        ensures { (w : ℕ) → Agrees self w → Agrees result (w * 2 ^ count % 2 ^ 64) }
+    {
+        KnownBits {
+            must: self.must << count,
+            may: self.may << count,
+        }
+    }
+
+    /// The bits of words shifted right.
+    pub(crate) fn shifted_right(self, count: u64) -> Self
+        requires { count < 64 }
+        ensures { (w : ℕ) → Agrees self w → Agrees result (w / 2 ^ count) }
+    {
+        KnownBits {
+            must: self.must >> count,
+            may: self.may >> count,
         }
     }
 

@@ -5,12 +5,19 @@
 
 mod arithmetic;
 mod bits;
+mod halves;
+mod moves;
 mod narrowing;
 mod scalars;
+mod shifts;
+mod single_operand;
 mod spans;
+mod sums;
+mod wide;
 
-pub use arithmetic::{alu, extend, in_place};
+pub use arithmetic::alu;
 pub use bits::KnownBits;
 pub use narrowing::{Sides, narrow};
 pub use scalars::Scalar;
+pub use single_operand::{extend, in_place};
 pub use spans::Span;

@@ -1,0 +1,5 @@
+use Rattle.std.proofs.Common.{arith}
+use Rattle.scalar_domain.proofs.spans.Span.sum.Goals as goal
+
+pub returns-else-least-most : goal.returns-else-least-most
+returns-else-least-most c = λ a b h k. c.any.ensures _ (omega arith)

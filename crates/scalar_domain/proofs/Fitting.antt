@@ -1,5 +1,5 @@
 -- What operations compute is a word.
-use Rattle.std.proofs.Common.{◌≡◌, ℕ, ◌+◌, ◌-◌, ◌*◌, ◌/◌, ◌%◌, ◌^◌, ◌<◌, ◌≤◌, true, false, arith}
+use Rattle.std.proofs.Common.{ℕ, ◌^◌, ◌<◌, true, false, arith}
 use Rattle.std.specs.Int.{w32, w64}
 use Rattle.std.specs.Prelude.{if◌then◌else◌}
 use Rattle.bpf_insn.specs.declared.insn.AluOp.{AluOp}

@@ -5,3 +5,5 @@ pub mod Shifting
 pub mod Remainders
 pub mod Moved
 pub mod Extending
+pub mod SignedOrder
+pub mod ComparedHalves

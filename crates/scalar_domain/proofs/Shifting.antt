@@ -1,5 +1,5 @@
 -- Where shifted words lie.
-use Rattle.std.proofs.Common.{◌≡◌, ◌⊎◌, inl, inr, ℕ, zero, suc, ◌+◌, ◌-◌, ◌*◌, ◌/◌, ◌%◌, ◌^◌, ◌<◌, ◌≤◌, ℤ, pos, negsuc, refl, ap, sym, ◌∙◌, subst, arith, div-le_self}
+use Rattle.std.proofs.Common.{◌≡◌, ◌⊎◌, inl, inr, ℕ, suc, ◌+◌, ◌-◌, ◌*◌, ◌/◌, ◌%◌, ◌^◌, ◌<◌, ◌≤◌, ℤ, ap, sym, ◌∙◌, arith, div-le_self}
 use Rattle.std.specs.Int.{w64, cast_signed, cast_unsigned, int_shr}
 use Rattle.std.proofs.lemmas.Bool.{cases_lt}
 use Rattle.std.proofs.lemmas.Nat.{pow_pos, pow-add, shl-shr, mul-le, le-div, div_below, div-mul-add}
@@ -69,11 +69,11 @@ signed_right_place w k less fits =
     let shifted = λ (z : ℤ). place (cast_unsigned w64 (int_shr z k)) in
     ⊎_elim
     (λ lt.
-        let at : place w ≡ w + 2 ^ 63 = omega arith in
-        ap shifted (signed_below w lt) ∙ right_below w h (2 ^ k) (pow_pos k) (sign_back k less) half lt ∙ ap (λ x. x / 2 ^ k + (2 ^ 63 - h)) (sym at))
+    let at : place w ≡ w + 2 ^ 63 = omega arith in
+    ap shifted (signed_below w lt) ∙ right_below w h (2 ^ k) (pow_pos k) (sign_back k less) half lt ∙ ap (λ x. x / 2 ^ k + (2 ^ 63 - h)) (sym at))
     (λ ge.
-        let at : place w ≡ 2 ^ 63 - suc (2 ^ 64 - suc w) = omega arith in
-        ap shifted (signed_above w ge) ∙ right_above (2 ^ 64 - suc w) h (2 ^ k) (pow_pos k) (sign_back k less) half (omega arith) ∙ ap (λ x. x / 2 ^ k + (2 ^ 63 - h)) (sym at))
+    let at : place w ≡ 2 ^ 63 - suc (2 ^ 64 - suc w) = omega arith in
+    ap shifted (signed_above w ge) ∙ right_above (2 ^ 64 - suc w) h (2 ^ k) (pow_pos k) (sign_back k less) half (omega arith) ∙ ap (λ x. x / 2 ^ k + (2 ^ 63 - h)) (sym at))
     (cases_lt w (2 ^ 63))
 
 -- and what stands for it is a word

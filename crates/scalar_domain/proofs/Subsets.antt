@@ -1,11 +1,11 @@
 -- Bits of one word among those of another.
-use Rattle.std.proofs.Common.{◌≡◌, ℕ, zero, suc, ◌+◌, ◌-◌, ◌*◌, ◌/◌, ◌%◌, ◌^◌, ◌<◌, ◌≤◌, refl, ap, sym, ◌∙◌, subst, arith, bit_and, bit_or, bit_xor, min, add-zero}
+use Rattle.std.proofs.Common.{◌≡◌, ℕ, ◌+◌, ◌-◌, ◌*◌, ◌/◌, ◌%◌, ◌^◌, ◌<◌, ◌≤◌, ap, sym, ◌∙◌, subst, arith, bit_and, bit_or, bit_xor, min, add-zero}
 use Rattle.std.specs.Int.{w64, bit_at}
-use Rattle.std.proofs.lemmas.Bool.{cases_lt}
-use Rattle.std.proofs.lemmas.Nat.{and_le_l, and_le_r, le-div, pow_pos, shr-shr, shr_split, xor_shr, leading_length, leading_le}
-use lib.Count.{count_leading_zeros}
+use Rattle.std.proofs.lemmas.Bool.{cases_lt, cases_eq}
+use Rattle.std.proofs.lemmas.Nat.{and_le_l, and_le_r, le-div, pow_pos, shr-shr, shr_split, xor_shr, leading_length, leading_le, one_shl}
+use lib.Count.{count_leading_zeros, count_trailing_zeros}
 use Rattle.std.proofs.Math.Nat.{div-eq_of_lt, div-mul-le_self}
-use Rattle.std.proofs.lemmas.Nat.Bits.{bit_at-zero, bit_at_ones, bit_at_above, bit_at_and, bit_at_or, bit_at_xor, same_from_bits, bit_at_mask_below, bit_at_mask_inside, bit_at_not, bit_at_cat_low, bit_at_cat_high, ones_shr}
+use Rattle.std.proofs.lemmas.Nat.Bits.{bit_at-zero, bit_at_ones, bit_at_above, bit_at_and, bit_at_or, bit_at_xor, same_from_bits, bit_at-pow_same, bit_at-pow_other, bit_at-trailing_zeros, bit_at_mask_below, bit_at_mask_inside, bit_at_not, bit_at_cat_low, bit_at_cat_high, ones_shr}
 use mathlib.Core.Logic.{⊎_elim}
 use Rattle.scalar_domain.specs.Scalar.{Subset}
 
@@ -75,9 +75,9 @@ common_must l t w m within fits small from to =
     let mask : 2 ^ 64 - 1 - (2 ^ m - 1) ≡ 2 ^ 64 - 2 ^ m = omega (arith, pow_pos m) in
     record {
       bit = λ i. ⊎_elim
-      (λ lt. omega (arith, bit_at_and l (2 ^ 64 - 1 - (2 ^ m - 1)) i, ap (λ x. bit_at x i) mask, bit_at_mask_below m 64 i lt))
-      (λ le. omega (arith, bit_at_and l (2 ^ 64 - 1 - (2 ^ m - 1)) i, bits_above l m i le, bits_above w m i le, ap (λ x. bit_at x (i - m)) top))
-      (cases_lt i m);
+          (λ lt. omega (arith, bit_at_and l (2 ^ 64 - 1 - (2 ^ m - 1)) i, ap (λ x. bit_at x i) mask, bit_at_mask_below m 64 i lt))
+          (λ le. omega (arith, bit_at_and l (2 ^ 64 - 1 - (2 ^ m - 1)) i, bits_above l m i le, bits_above w m i le, ap (λ x. bit_at x (i - m)) top))
+          (cases_lt i m);
     }
 
 pub common_may : (l t w m : ℕ) → bit_xor l t < 2 ^ m → l ≤ w → w ≤ t → Subset w (bit_or t (2 ^ m - 1))
@@ -85,9 +85,9 @@ common_may l t w m small from to =
     let top : w / 2 ^ m ≡ t / 2 ^ m = sym (top_of_between l t w m small from to) ∙ same_top l t m small in
     record {
       bit = λ i. ⊎_elim
-      (λ lt. omega (arith, bit_at_or t (2 ^ m - 1) i, bit_at_ones m i lt))
-      (λ le. omega (arith, bit_at_or t (2 ^ m - 1) i, bits_above t m i le, bits_above w m i le, ap (λ x. bit_at x (i - m)) top))
-      (cases_lt i m);
+          (λ lt. omega (arith, bit_at_or t (2 ^ m - 1) i, bit_at_ones m i lt))
+          (λ le. omega (arith, bit_at_or t (2 ^ m - 1) i, bits_above t m i le, bits_above w m i le, ap (λ x. bit_at x (i - m)) top))
+          (cases_lt i m);
     }
 
 -- `leading_zeros` of a word that is not 0 leaves as many ones as the word has bits
@@ -109,9 +109,9 @@ xor_must x y u v a b fits_y fits_v fits_x fits_u p q r s =
     let right = bit_and u (2 ^ 64 - 1 - y) in
     record {
       bit = λ i. ⊎_elim
-      (λ lt. omega (arith, bit_at_or left right i, without x v i fits_v lt, without u y i fits_y lt, bit_at_xor a b i, p.bit i, q.bit i, r.bit i, s.bit i))
-      (λ le. omega (arith, bit_at_or left right i, bit_at_and x (2 ^ 64 - 1 - v) i, bit_at_and u (2 ^ 64 - 1 - y) i, bit_at_above x 64 i fits_x le, bit_at_above u 64 i fits_u le))
-      (cases_lt i 64);
+          (λ lt. omega (arith, bit_at_or left right i, without x v i fits_v lt, without u y i fits_y lt, bit_at_xor a b i, p.bit i, q.bit i, r.bit i, s.bit i))
+          (λ le. omega (arith, bit_at_or left right i, bit_at_and x (2 ^ 64 - 1 - v) i, bit_at_and u (2 ^ 64 - 1 - y) i, bit_at_above x 64 i fits_x le, bit_at_above u 64 i fits_u le))
+          (cases_lt i 64);
     }
 
 pub xor_may : (x y u v a b : ℕ) → x < 2 ^ 64 → a < 2 ^ 64 → b < 2 ^ 64 → Subset x a → Subset a y → Subset u b → Subset b v → Subset (bit_xor a b) (bit_and (bit_or y v) (2 ^ 64 - 1 - bit_and x u))
@@ -119,9 +119,9 @@ xor_may x y u v a b fits_x fits_a fits_b p q r s =
     let fits : bit_and x u < 2 ^ 64 = omega (arith, and_le_l x u) in
     record {
       bit = λ i. ⊎_elim
-      (λ lt. omega (arith, without (bit_or y v) (bit_and x u) i fits lt, bit_at_or y v i, bit_at_and x u i, bit_at_xor a b i, p.bit i, q.bit i, r.bit i, s.bit i))
-      (λ le. omega (arith, bit_at_xor a b i, bit_at_above a 64 i fits_a le, bit_at_above b 64 i fits_b le))
-      (cases_lt i 64);
+          (λ lt. omega (arith, without (bit_or y v) (bit_and x u) i fits lt, bit_at_or y v i, bit_at_and x u i, bit_at_xor a b i, p.bit i, q.bit i, r.bit i, s.bit i))
+          (λ le. omega (arith, bit_at_xor a b i, bit_at_above a 64 i fits_a le, bit_at_above b 64 i fits_b le))
+          (cases_lt i 64);
     }
 
 -- bits of a word cut to its low bits
@@ -138,12 +138,12 @@ no_bits_left n k i lt = ap (λ x. bit_at x i) (sym (add-zero (n * 2 ^ k))) ∙ b
 pub left_subset : (a b k : ℕ) → Subset a b → Subset (a * 2 ^ k % 2 ^ 64) (b * 2 ^ k % 2 ^ 64)
 left_subset a b k p = record {
   bit = λ i. ⊎_elim
-  (λ lt. ⊎_elim
-    (λ low. omega (arith, bits_cut 64 (a * 2 ^ k) i lt, no_bits_left a k i low))
-    (λ high. omega (arith, bits_cut 64 (a * 2 ^ k) i lt, bits_cut 64 (b * 2 ^ k) i lt, bits_left a k i high, bits_left b k i high, p.bit (i - k)))
-    (cases_lt i k))
-  (λ le. omega (arith, bit_at_above (a * 2 ^ k % 2 ^ 64) 64 i (omega arith) le))
-  (cases_lt i 64);
+      (λ lt. ⊎_elim
+      (λ low. omega (arith, bits_cut 64 (a * 2 ^ k) i lt, no_bits_left a k i low))
+      (λ high. omega (arith, bits_cut 64 (a * 2 ^ k) i lt, bits_cut 64 (b * 2 ^ k) i lt, bits_left a k i high, bits_left b k i high, p.bit (i - k)))
+      (cases_lt i k))
+      (λ le. omega (arith, bit_at_above (a * 2 ^ k % 2 ^ 64) 64 i (omega arith) le))
+      (cases_lt i 64);
 }
 
 -- and right
@@ -157,18 +157,56 @@ right_subset a b k p = record { bit = λ i. omega (arith, bits_right a k i, bits
 pub must_by_low : (a w : ℕ) → Subset a (w % 2 ^ 32) → Subset (a % 2 ^ 32) w
 must_by_low a w p = record {
   bit = λ i. ⊎_elim
-  (λ lt. omega (arith, bits_cut 32 a i lt, bits_cut 32 w i lt, p.bit i))
-  (λ le. omega (arith, bit_at_above (a % 2 ^ 32) 32 i (omega arith) le))
-  (cases_lt i 32);
+      (λ lt. omega (arith, bits_cut 32 a i lt, bits_cut 32 w i lt, p.bit i))
+      (λ le. omega (arith, bit_at_above (a % 2 ^ 32) 32 i (omega arith) le))
+      (cases_lt i 32);
 }
 
 pub may_by_low : (b w : ℕ) → w < 2 ^ 64 → Subset (w % 2 ^ 32) b → Subset w (bit_or b (2 ^ 64 - 2 ^ 32))
 may_by_low b w fits p = record {
   bit = λ i. ⊎_elim
-  (λ lt. omega (arith, bits_cut 32 w i lt, bit_at_or b (2 ^ 64 - 2 ^ 32) i, p.bit i))
-  (λ le. ⊎_elim
-    (λ lt. omega (arith, bit_at_or b (2 ^ 64 - 2 ^ 32) i, bit_at_mask_inside 32 64 i le lt))
-    (λ above. omega (arith, bit_at_above w 64 i fits above))
-    (cases_lt i 64))
-  (cases_lt i 32);
+      (λ lt. omega (arith, bits_cut 32 w i lt, bit_at_or b (2 ^ 64 - 2 ^ 32) i, p.bit i))
+      (λ le. ⊎_elim
+      (λ lt. omega (arith, bit_at_or b (2 ^ 64 - 2 ^ 32) i, bit_at_mask_inside 32 64 i le lt))
+      (λ above. omega (arith, bit_at_above w 64 i fits above))
+      (cases_lt i 64))
+      (cases_lt i 32);
 }
+
+-- a word with no bits of a mask has the others alone
+pub left_without : (y n w : ℕ) → w < 2 ^ 64 → n < 2 ^ 64 → Subset w y → bit_and w n ≡ 0 → Subset w (bit_and y (2 ^ 64 - 1 - n))
+left_without y n w fits fits_n p none = record {
+  bit = λ i. ⊎_elim
+      (λ lt. omega (arith, without y n i fits_n lt, p.bit i, bit_at_and w n i, ap (λ x. bit_at x i) none, bit_at-zero i))
+      (λ le. omega (arith, bit_at_above w 64 i fits le))
+      (cases_lt i 64);
+}
+
+pub must_in_may : (x y w : ℕ) → Subset x w → Subset w y → bit_and x y ≡ x
+must_in_may x y w p q = same_from_bits _ _ (λ i. omega (arith, bit_at_and x y i, p.bit i, q.bit i))
+
+pub no_common : (a b n : ℕ) → Subset n b → bit_and a b ≡ 0 → bit_and a n ≡ 0
+no_common a b n p none = omega (arith, subset_le (bit_and a n) (bit_and a b) (and_subset a n a b (whole a) p))
+
+pub none_common : (a b x y : ℕ) → Subset a x → Subset b y → bit_and x y ≡ 0 → bit_and a b ≡ 0
+none_common a b x y p q none = omega (arith, subset_le (bit_and a b) (bit_and x y) (and_subset a b x y p q))
+
+-- where two words have a bit in common, and only one may be that, both have it
+only_bit : (n t i : ℕ) → Subset n (2 ^ t) → bit_at n t ≡ 0 → bit_at n i ≡ 0
+only_bit n t i p none = ⊎_elim (λ e. ap (bit_at n) e ∙ none) (λ apart. omega (arith, p.bit i, bit_at-pow_other t i apart)) (cases_eq i t)
+
+pub common_bit : (a b t : ℕ) → Subset (bit_and a b) (2 ^ t) → (bit_and a b ≡ 0 → ⊥) → Subset (2 ^ t) a
+common_bit a b t p some =
+    let has : 1 ≤ bit_at a t = ⊎_elim
+    (λ lt. absurd (some (same_from_bits _ _ (λ i. only_bit (bit_and a b) t i p (omega arith) ∙ sym (bit_at-zero i)))))
+    (λ ge. omega (arith, bit_at_and a b t))
+    (cases_lt (bit_at (bit_and a b) t) 1) in
+    record {
+      bit = λ i. ⊎_elim
+          (λ e. omega (arith, ap (bit_at (2 ^ t)) e, ap (bit_at a) e, bit_at-pow_same t))
+          (λ apart. omega (arith, bit_at-pow_other t i apart))
+          (cases_eq i t);
+    }
+
+pub single_bit : (n : ℕ) → n < 2 ^ 64 → (n ≡ 0 → ⊥) → n ≡ 1 * 2 ^ count_trailing_zeros 64 n % 2 ^ 64 → n ≡ 2 ^ count_trailing_zeros 64 n
+single_bit n fits some is = is ∙ one_shl (count_trailing_zeros 64 n) 64 (bit_at-trailing_zeros w64 n (omega arith) fits).0

@@ -1,6 +1,6 @@
 -- What a scalar says of a word: a number below 2 ^ 64 that lies in an unsigned range and, as a signed number, in a signed
 -- one, and some of whose bits are known.
-use Rattle.std.specs.Prelude.{ℕ, ◌≡◌, ◌+◌, ◌%◌, ◌^◌, ◌<◌, ◌≤◌, Bool, Option, None, Some}
+use Rattle.std.specs.Prelude.{ℕ, ◌+◌, ◌%◌, ◌^◌, ◌<◌, ◌≤◌, Option, None, Some}
 use Rattle.std.specs.Int.{bit_at}
 use Rattle.scalar_domain.specs.declared.spans.Span.{Span}
 use Rattle.scalar_domain.specs.declared.bits.KnownBits.{KnownBits}

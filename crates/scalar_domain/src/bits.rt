@@ -1,7 +1,7 @@
 // Bits of a word that are known. It relies on `spans`.
 
-ghost use Rattle.std.specs.Prelude.{◌≡◌, ℕ, ◌<◌, ◌≤◌, ◌^◌, ◌-◌, ◌*◌, ◌/◌, ◌%◌, bit_and, bit_or, bit_xor};
-ghost use Rattle.scalar_domain.specs.Scalar.{Agrees, Within};
+ghost use Rattle.std.specs.Prelude.{◌≡◌, ℕ, false, ◌<◌, ◌≤◌, ◌^◌, ◌-◌, ◌*◌, ◌/◌, ◌%◌, bit_and, bit_or, bit_xor};
+ghost use Rattle.scalar_domain.specs.Scalar.{Agrees, Subset, Within};
 
 use crate::spans::Span;
 
@@ -52,6 +52,35 @@ impl KnownBits {
             least: self.must,
             most: self.may,
         }
+    }
+
+    /// The words that have these bits.
+    pub(crate) fn with(self, bits: u64) -> Self
+        ensures has { (w : ℕ) → Agrees self w → Subset bits w → Agrees result w }
+        ensures only { (w : ℕ) → Agrees result w → Agrees self w }
+    {
+        KnownBits {
+            must: self.must | bits,
+            may: self.may,
+        }
+    }
+
+    /// The words that have none of these bits.
+    pub(crate) fn without(self, bits: u64) -> Self
+        ensures has { (w : ℕ) → w < 2 ^ 64 → Agrees self w → bit_and w bits ≡ 0 → Agrees result w }
+        ensures only { (w : ℕ) → Agrees result w → Agrees self w }
+    {
+        KnownBits {
+            must: self.must,
+            may: self.may & !bits,
+        }
+    }
+
+    /// Whether no word has the bits that it must have and none but those that it may have.
+    pub(crate) fn is_empty(self) -> bool
+        ensures { (w : ℕ) → Agrees self w → result ≡ false }
+    {
+        self.must & self.may != self.must
     }
 
     /// The bits that both of two words have.

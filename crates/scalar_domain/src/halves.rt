@@ -52,7 +52,9 @@ pub(crate) fn with_low_half(words: Scalar, lows: Scalar) -> Scalar
     ensures only { (w : ℕ) → Has result w → Has words w }
 {
     Scalar {
-        unsigned: words.unsigned.meet(span_by_low(words.unsigned, lows.unsigned)),
+        unsigned: words
+            .unsigned
+            .meet(span_by_low(words.unsigned, lows.unsigned)),
         signed: words.signed,
         bits: words.bits.meet(bits_by_low(lows.bits)),
     }

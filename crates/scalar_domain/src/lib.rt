@@ -5,7 +5,9 @@
 
 mod arithmetic;
 mod bits;
+mod comparing;
 mod halves;
+mod limits;
 mod moves;
 mod narrowing;
 mod scalars;

@@ -1,6 +1,6 @@
 // What is known of a word. It relies on `spans` and `bits`.
 
-ghost use Rattle.std.specs.Prelude.{◌≡◌, ℕ, ◌<◌, ◌≤◌, ◌^◌, ◌≤ℤ◌, IfSome, SomeIff};
+ghost use Rattle.std.specs.Prelude.{◌≡◌, ℕ, false, ◌<◌, ◌≤◌, ◌^◌, ◌≤ℤ◌, IfSome, SomeIff};
 ghost use Rattle.std.specs.Int.{w64, cast_signed};
 ghost use Rattle.scalar_domain.specs.Scalar.{Has};
 
@@ -112,6 +112,26 @@ impl Scalar {
             signed: self.signed.meet(unsigned.turned()),
             bits: self.bits.meet(KnownBits::of(unsigned)),
         }
+    }
+
+    /// The words that both have.
+    pub(crate) fn meet(self, other: Scalar) -> Self
+        ensures has { (w : ℕ) → Has self w → Has other w → Has result w }
+        ensures only { (w : ℕ) → Has result w → Has self w }
+        ensures only_other { (w : ℕ) → Has result w → Has other w }
+    {
+        Scalar {
+            unsigned: self.unsigned.meet(other.unsigned),
+            signed: self.signed.meet(other.signed),
+            bits: self.bits.meet(other.bits),
+        }
+    }
+
+    /// Whether it is seen to have no word.
+    pub(crate) fn is_empty(self) -> bool
+        ensures { (w : ℕ) → Has self w → result ≡ false }
+    {
+        self.unsigned.is_empty() || self.signed.is_empty() || self.bits.is_empty()
     }
 
     /// The words that either has, and perhaps more.

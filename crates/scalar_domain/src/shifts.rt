@@ -60,7 +60,10 @@ impl Span {
         ensures { (w : ℕ) → w < 2 ^ 64 → Within self (place w) → Within result (place (w * 2 ^ count % 2 ^ 64)) }
     {
         let lost = SIGN - (SIGN >> count);
-        if lost <= self.least && self.most.wrapping_sub(lost) <= u64::MAX >> count && lost <= self.most {
+        if lost <= self.least
+            && self.most.wrapping_sub(lost) <= u64::MAX >> count
+            && lost <= self.most
+        {
             Span {
                 least: (self.least - lost) << count,
                 most: (self.most - lost) << count,

@@ -1,6 +1,5 @@
-use Rattle.std.proofs.Common.{ℕ, ◌≡◌, ◌%◌, ap, sym, ◌∙◌, arith, mod-eq_of_lt}
-use Rattle.std.specs.Int.{w64, w32, cast_signed, cast_unsigned, int_shr}
-use Rattle.bpf_insn.specs.declared.insn.AluOp.{AluOp}
+use Rattle.std.proofs.Common.{ap, sym, ◌∙◌, arith, mod-eq_of_lt}
+use Rattle.std.specs.Int.{w32}
 use Rattle.bpf_machine.specs.Words.{alu, low}
 use Rattle.scalar_domain.proofs.Fitting.{alu32_fits}
 use Rattle.scalar_domain.proofs.Moved.{moved_has}

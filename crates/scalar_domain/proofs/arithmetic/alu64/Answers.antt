@@ -1,4 +1,4 @@
-use Rattle.std.proofs.Common.{ℕ, ◌≡◌, ap, sym, ◌∙◌, ◌^◌, ◌%◌, arith, mod-eq_of_lt, div-le_self}
+use Rattle.std.proofs.Common.{ap, ◌∙◌, ◌^◌, ◌%◌, arith, mod-eq_of_lt, div-le_self}
 use Rattle.std.specs.Int.{w64}
 use Rattle.bpf_insn.specs.declared.insn.Width.TheVariants.{Bits64}
 use Rattle.bpf_machine.specs.Words.{alu}

@@ -1,4 +1,4 @@
-use Rattle.std.proofs.Common.{◌≡◌, ℕ, ◌*◌, ◌%◌, ◌^◌, ap, arith}
+use Rattle.std.proofs.Common.{◌≡◌, ◌*◌, ◌%◌, ◌^◌, ap, arith}
 use Rattle.scalar_domain.specs.Scalar.{Within}
 use Rattle.scalar_domain.proofs.Moved.{moved_has}
 use Rattle.scalar_domain.proofs.moves.shifted_left.Goals as goal

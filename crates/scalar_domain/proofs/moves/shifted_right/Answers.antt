@@ -1,4 +1,4 @@
-use Rattle.std.proofs.Common.{◌≡◌, ℕ, ◌/◌, ◌^◌, ap, arith, div-le_self}
+use Rattle.std.proofs.Common.{◌≡◌, ◌/◌, ◌^◌, ap, arith, div-le_self}
 use Rattle.scalar_domain.specs.Scalar.{Within}
 use Rattle.scalar_domain.proofs.Moved.{moved_has}
 use Rattle.scalar_domain.proofs.moves.shifted_right.Goals as goal

@@ -1,5 +1,5 @@
 use Rattle.std.proofs.Common.{◌≡◌, ap, ◌∙◌}
-use Rattle.bpf_insn.specs.declared.insn.InPlaceOp.TheVariants.{Neg, Reorder}
+use Rattle.bpf_insn.specs.declared.insn.InPlaceOp.TheVariants.{Neg}
 use Rattle.bpf_machine.specs.Words.{in_place}
 use Rattle.scalar_domain.proofs.Moved.{moved_has}
 use Rattle.scalar_domain.proofs.Extending.{minus}

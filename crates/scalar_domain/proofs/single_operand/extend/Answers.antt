@@ -1,8 +1,8 @@
-use Rattle.std.proofs.Common.{ℕ, ◌≡◌, ap, sym, ◌∙◌, arith}
+use Rattle.std.proofs.Common.{ap, sym, ◌∙◌}
 use Rattle.bpf_machine.specs.Words.{low, sign_extended}
 use Rattle.std.specs.Int.{w32}
 use Rattle.scalar_domain.proofs.Moved.{moved_has}
-use Rattle.scalar_domain.proofs.Extending.{extension_of_8, extension_of_16, extension_of_32, half_extension_of_8, half_extension_of_16}
+use Rattle.scalar_domain.proofs.Extending.{extension_of_8, extension_of_16, half_extension_of_8, half_extension_of_16}
 use Rattle.scalar_domain.proofs.single_operand.extend.Goals as goal
 
 pub returns-in-From8To32 : goal.returns-in-From8To32

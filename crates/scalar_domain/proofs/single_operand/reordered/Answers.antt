@@ -1,4 +1,4 @@
-use Rattle.std.proofs.Common.{◌≡◌, ap, sym, ◌∙◌, bit_and, arith}
+use Rattle.std.proofs.Common.{ap, sym, ◌∙◌, bit_and, arith}
 use Rattle.std.specs.Int.{w64}
 use Rattle.bpf_machine.specs.Words.{low, swap}
 use Rattle.scalar_domain.proofs.Moved.{moved_has}

@@ -1,4 +1,4 @@
-use Rattle.std.proofs.Common.{ℕ, ◌≤◌, ◌<◌, ◌-◌, ◌*◌, ◌/◌, ◌^◌, ◌%◌, arith, sym, subst}
+use Rattle.std.proofs.Common.{◌≤◌, ◌<◌, ◌-◌, ◌*◌, ◌/◌, ◌^◌, arith}
 use Rattle.scalar_domain.specs.Scalar.{place}
 use Rattle.scalar_domain.proofs.Shifting.{kept_below, shifted_left_le, shifted_left_fits, shifted_place}
 use Rattle.scalar_domain.proofs.spans.Span.signed_shifted_left.Goals as goal

@@ -1,4 +1,4 @@
-use Rattle.std.proofs.Common.{ℕ, ◌≤◌, ◌<◌, ◌-◌, ◌*◌, ◌/◌, ◌^◌, ◌%◌, arith}
+use Rattle.std.proofs.Common.{arith}
 use Rattle.scalar_domain.specs.Scalar.{place}
 use Rattle.scalar_domain.proofs.Shifting.{shifted_right_le, signed_right_place, right_place_fits}
 use Rattle.scalar_domain.proofs.spans.Span.signed_shifted_right.Goals as goal

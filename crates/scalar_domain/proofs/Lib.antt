@@ -7,3 +7,5 @@ pub mod Moved
 pub mod Extending
 pub mod SignedOrder
 pub mod ComparedHalves
+pub mod PlainDivision
+pub mod Worked

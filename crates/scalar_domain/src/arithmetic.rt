@@ -1,4 +1,5 @@
-// What arithmetic makes of scalars. It relies on `wide`, `moves` and `halves`, and for known words on `bpf_machine`.
+// What arithmetic makes of scalars. It relies on `wide`, `signed_division`, `moves` and `halves`, and for
+// known words on `bpf_machine`.
 
 ghost use Rattle.std.specs.Prelude.{◌≡◌, ℕ};
 ghost use Rattle.std.specs.Int.{w32, w64};
@@ -8,6 +9,7 @@ ghost use Rattle.scalar_domain.specs.Scalar.{Has};
 use crate::halves::low_half;
 use crate::moves::{extended, shifted_left, shifted_right, signed_shifted_right};
 use crate::scalars::Scalar;
+use crate::signed_division::{signed_div32, signed_div64, signed_modulo32, signed_modulo64};
 use crate::wide;
 use bpf_insn::{AluOp, Width};
 
@@ -35,7 +37,8 @@ fn alu64(op: AluOp, left: Scalar, right: Scalar) -> Scalar
         AluOp::Mul => wide::mul(left, right),
         AluOp::Div => wide::div(left, right),
         AluOp::Mod => wide::modulo(left, right),
-        AluOp::SignedDiv | AluOp::SignedMod => Scalar::any(),
+        AluOp::SignedDiv => signed_div64(left, right),
+        AluOp::SignedMod => signed_modulo64(left, right),
         AluOp::Or => wide::or(left, right),
         AluOp::And => wide::and(left, right),
         AluOp::Xor => wide::xor(left, right),
@@ -57,7 +60,8 @@ fn alu32(op: AluOp, left: Scalar, right: Scalar) -> Scalar
         AluOp::Mul => low_half(wide::mul(left, right)),
         AluOp::Div => low_half(wide::div(left, right)),
         AluOp::Mod => low_half(wide::modulo(left, right)),
-        AluOp::SignedDiv | AluOp::SignedMod => low_half(Scalar::any()),
+        AluOp::SignedDiv => signed_div32(left, right),
+        AluOp::SignedMod => signed_modulo32(left, right),
         AluOp::Or => low_half(wide::or(left, right)),
         AluOp::And => low_half(wide::and(left, right)),
         AluOp::Xor => low_half(wide::xor(left, right)),

@@ -12,6 +12,7 @@ mod moves;
 mod narrowing;
 mod scalars;
 mod shifts;
+mod signed_division;
 mod single_operand;
 mod spans;
 mod sums;

@@ -1,7 +1,6 @@
-use Rattle.std.proofs.Common.{ap, sym, ◌∙◌, arith, mod-eq_of_lt}
+use Rattle.std.proofs.Common.{ap, ◌∙◌, arith}
 use Rattle.std.specs.Int.{w32}
 use Rattle.bpf_machine.specs.Words.{alu, low}
-use Rattle.scalar_domain.proofs.Fitting.{alu32_fits}
 use Rattle.scalar_domain.proofs.Moved.{moved_has}
 use Rattle.scalar_domain.proofs.Extending.{cut_once, half_sub, arsh_of_half}
 use Rattle.scalar_domain.proofs.arithmetic.alu32.Goals as goal
@@ -37,11 +36,6 @@ returns-in-Xor c = λ a b h k.
 pub returns-in-Sub : goal.returns-in-Sub
 returns-in-Sub c = λ a b h k.
     moved_has _ _ _ (ap (λ op. alu w32 op (low w32 a) (low w32 b)) c.in-Sub.is ∙ half_sub (low w32 a) (low w32 b) (omega arith)) (c.low_half-in-Sub.ensures _ (c.sub.ensures _ _ h k))
-
-pub returns-in-SignedDiv : goal.returns-in-SignedDiv
-returns-in-SignedDiv c = λ a b h k.
-    let fits = alu32_fits c.args.op (low w32 a) (low w32 b) (omega arith) in
-    moved_has _ _ _ (sym (mod-eq_of_lt fits)) (c.low_half-in-SignedDiv.ensures _ (c.any.ensures _ (omega (arith, fits))))
 
 pub returns-in-Lsh : goal.returns-in-Lsh
 returns-in-Lsh c = λ a b h k.

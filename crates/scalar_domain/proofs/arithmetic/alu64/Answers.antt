@@ -1,14 +1,9 @@
 use Rattle.std.proofs.Common.{ap, ◌∙◌, ◌^◌, ◌%◌, arith, mod-eq_of_lt, div-le_self}
 use Rattle.std.specs.Int.{w64}
-use Rattle.bpf_insn.specs.declared.insn.Width.TheVariants.{Bits64}
 use Rattle.bpf_machine.specs.Words.{alu}
 use Rattle.scalar_domain.proofs.Moved.{moved_has}
-use Rattle.scalar_domain.proofs.Fitting.{alu_of_fits}
 use Rattle.scalar_domain.proofs.Extending.{shifted_word}
 use Rattle.scalar_domain.proofs.arithmetic.alu64.Goals as goal
-
-pub returns-in-SignedDiv : goal.returns-in-SignedDiv
-returns-in-SignedDiv c = λ a b h k. c.any.ensures _ (alu_of_fits Bits64 c.args.op a b k.fits)
 
 pub returns-in-Lsh : goal.returns-in-Lsh
 returns-in-Lsh c = λ a b h k.

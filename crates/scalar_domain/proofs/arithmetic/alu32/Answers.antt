@@ -1,3 +1,4 @@
+-- The low half of what 64 bits compute.
 use Rattle.std.proofs.Common.{ap, ◌∙◌, arith}
 use Rattle.std.specs.Int.{w32}
 use Rattle.bpf_machine.specs.Words.{alu, low}

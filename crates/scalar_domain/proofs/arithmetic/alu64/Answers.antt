@@ -1,3 +1,4 @@
+-- What is computed is a word already.
 use Rattle.std.proofs.Common.{ap, ◌∙◌, ◌^◌, ◌%◌, arith, mod-eq_of_lt, div-le_self}
 use Rattle.std.specs.Int.{w64}
 use Rattle.bpf_machine.specs.Words.{alu}

@@ -1,3 +1,4 @@
+-- As many ones as leading zeros leave.
 use Rattle.std.proofs.Common.{arith}
 use Rattle.scalar_domain.proofs.Subsets.{ones_left}
 use Rattle.scalar_domain.proofs.bits.ones_over.Goals as goal

@@ -1,3 +1,4 @@
+-- Words whose test for equality fails differ.
 use Rattle.std.proofs.Common.{sym}
 use Rattle.scalar_domain.proofs.SignedOrder.{differ}
 use Rattle.scalar_domain.proofs.comparing.alike.Goals as goal

@@ -1,3 +1,4 @@
+-- Each condition as an order, with the sides as they stand or changed for one another.
 use Rattle.std.proofs.Common.{ap, sym, subst, ◌∙◌}
 use Rattle.std.specs.Int.{w64}
 use Rattle.bpf_machine.specs.Words.{holds}

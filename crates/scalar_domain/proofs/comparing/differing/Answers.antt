@@ -1,3 +1,4 @@
+-- Words that differ stand at different places.
 use Rattle.std.proofs.Common.{◌∙◌, ap, sym}
 use Rattle.scalar_domain.specs.Scalar.{place}
 use Rattle.scalar_domain.proofs.Places.{place_twice}

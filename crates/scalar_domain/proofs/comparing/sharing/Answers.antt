@@ -1,3 +1,4 @@
+-- The test of a common bit, as a fact on the AND.
 use Rattle.std.proofs.Common.{◌∙◌}
 use Rattle.std.proofs.lemmas.Nat.{and_comm}
 use Rattle.scalar_domain.proofs.SignedOrder.{is_some, is_none}

@@ -1,3 +1,4 @@
+-- Bits that the other must have are in no common bit.
 use Rattle.scalar_domain.proofs.Subsets.{no_common}
 use Rattle.scalar_domain.proofs.comparing.sharing_none.Goals as goal
 

@@ -1,3 +1,4 @@
+-- Where one bit alone may be common, it is.
 use Rattle.std.proofs.Common.{◌<◌, ◌^◌, bit_and, sym, subst, arith}
 use Rattle.std.proofs.lemmas.Nat.{and_le_l}
 use Rattle.scalar_domain.specs.Scalar.{Subset}

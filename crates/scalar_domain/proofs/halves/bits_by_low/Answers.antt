@@ -1,3 +1,4 @@
+-- Below bit 32 by the low half, and above it nothing is said.
 use Rattle.scalar_domain.proofs.Subsets.{must_by_low, may_by_low}
 use Rattle.scalar_domain.proofs.halves.bits_by_low.Goals as goal
 

@@ -1,3 +1,4 @@
+-- The low half is the AND with 32 ones.
 use Rattle.std.proofs.Common.{sym}
 use Rattle.std.proofs.lemmas.Nat.{and_mask}
 use Rattle.scalar_domain.proofs.Moved.{moved_agrees}

@@ -1,3 +1,4 @@
+-- Part by part.
 use Rattle.std.proofs.Common.{arith}
 use Rattle.scalar_domain.proofs.halves.low_half.Goals as goal
 

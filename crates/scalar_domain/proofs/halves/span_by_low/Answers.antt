@@ -1,3 +1,4 @@
+-- Where the upper halves differ, any word.
 use Rattle.scalar_domain.proofs.halves.span_by_low.Goals as goal
 
 pub returns-else-upper-words : goal.returns-else-upper-words

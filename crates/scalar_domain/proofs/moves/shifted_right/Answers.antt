@@ -1,3 +1,4 @@
+-- A count of a range with one number is that number.
 use Rattle.std.proofs.Common.{◌≡◌, ◌/◌, ◌^◌, ap, arith, div-le_self}
 use Rattle.scalar_domain.specs.Scalar.{Within}
 use Rattle.scalar_domain.proofs.Moved.{moved_has}

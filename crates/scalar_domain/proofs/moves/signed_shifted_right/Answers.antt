@@ -1,3 +1,4 @@
+-- Words that are not negative are shifted as plain ones.
 use Rattle.std.proofs.Common.{◌≡◌, ◌<◌, ◌^◌, ap, arith}
 use Rattle.std.specs.Int.{w64, cast_signed, cast_unsigned, int_shr}
 use Rattle.scalar_domain.proofs.Moved.{moved_has}

@@ -1,3 +1,4 @@
+-- The low halves are compared as words of 64 bits, and each narrows its word.
 use Rattle.std.proofs.Common.{sym, ◌∙◌}
 use Rattle.scalar_domain.specs.Halves.{compared_half}
 use Rattle.scalar_domain.proofs.Moved.{moved_has}

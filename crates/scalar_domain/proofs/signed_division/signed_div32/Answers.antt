@@ -1,3 +1,4 @@
+-- The low half of the plain quotient of halves that are not negative.
 use Rattle.std.proofs.Common.{sym, arith, mod-eq_of_lt}
 use Rattle.std.specs.Int.{w32}
 use Rattle.bpf_insn.specs.declared.insn.AluOp.TheVariants.{SignedDiv}

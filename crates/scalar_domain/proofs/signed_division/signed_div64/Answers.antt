@@ -1,3 +1,4 @@
+-- The plain quotient of words that are not negative.
 use Rattle.bpf_insn.specs.declared.insn.AluOp.TheVariants.{SignedDiv}
 use Rattle.bpf_insn.specs.declared.insn.Width.TheVariants.{Bits64}
 use Rattle.scalar_domain.proofs.Moved.{moved_has}

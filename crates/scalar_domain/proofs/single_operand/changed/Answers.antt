@@ -1,3 +1,4 @@
+-- NEG is the difference from 0.
 use Rattle.std.proofs.Common.{◌≡◌, ap, ◌∙◌}
 use Rattle.bpf_insn.specs.declared.insn.InPlaceOp.TheVariants.{Neg}
 use Rattle.bpf_machine.specs.Words.{in_place}

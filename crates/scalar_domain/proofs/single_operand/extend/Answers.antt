@@ -1,3 +1,4 @@
+-- Two shifts, and for 32 bits the low half.
 use Rattle.std.proofs.Common.{ap, sym, ◌∙◌}
 use Rattle.bpf_machine.specs.Words.{low, sign_extended}
 use Rattle.std.specs.Int.{w32}

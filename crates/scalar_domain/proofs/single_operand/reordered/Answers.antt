@@ -1,3 +1,4 @@
+-- The low bits are an AND, and a reversed word is no greater than its size allows.
 use Rattle.std.proofs.Common.{ap, sym, ◌∙◌, bit_and, arith}
 use Rattle.std.specs.Int.{w64}
 use Rattle.bpf_machine.specs.Words.{low, swap}

@@ -1,3 +1,4 @@
+-- The place of a sum is the sum of the places and of the sign.
 use Rattle.std.proofs.Common.{arith}
 use Rattle.scalar_domain.proofs.Moved.{moved_within}
 use Rattle.scalar_domain.proofs.wide.add.Goals as goal

@@ -1,3 +1,4 @@
+-- The bits of both make no greater word than either.
 use Rattle.std.proofs.Common.{◌≡◌, ◌%◌, ◌^◌, bit_and, mod-eq_of_lt, arith}
 use Rattle.std.proofs.lemmas.Nat.{and_le_l, and_le_r}
 use Rattle.scalar_domain.proofs.Moved.{moved_agrees}

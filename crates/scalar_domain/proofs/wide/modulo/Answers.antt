@@ -1,3 +1,4 @@
+-- By the unsigned ranges; a greater word leaves the word.
 use Rattle.std.proofs.Common.{◌∙◌, arith}
 use Rattle.scalar_domain.proofs.Moved.{moved_within, moved_has}
 use Rattle.scalar_domain.proofs.Remainders.{left_by_greater, low_remainder}

@@ -1,3 +1,4 @@
+-- By the unsigned ranges.
 use Rattle.std.proofs.Common.{arith}
 use Rattle.scalar_domain.proofs.wide.mul.Goals as goal
 

@@ -1,3 +1,4 @@
+-- The bits of either make no lesser word than each.
 use Rattle.std.proofs.Common.{◌≡◌, ◌%◌, ◌^◌, bit_or, mod-eq_of_lt, arith}
 use Rattle.std.proofs.lemmas.Nat.{le_or_l, le_or_r, or_lt}
 use Rattle.scalar_domain.proofs.Moved.{moved_agrees}

@@ -1,3 +1,4 @@
+-- A difference is the sum with the complement and 1.
 use Rattle.std.proofs.Common.{arith}
 use Rattle.scalar_domain.proofs.Moved.{moved_within}
 use Rattle.scalar_domain.proofs.wide.sub.Goals as goal

@@ -1,3 +1,4 @@
+-- By the bits.
 use Rattle.std.proofs.Common.{◌≡◌, ◌%◌, ◌^◌, bit_xor, mod-eq_of_lt, arith}
 use Rattle.std.proofs.lemmas.Nat.{xor_lt}
 use Rattle.scalar_domain.proofs.Moved.{moved_agrees}

@@ -1,3 +1,4 @@
+-- Bit by bit.
 use Rattle.scalar_domain.proofs.Subsets.{and_subset}
 use Rattle.scalar_domain.proofs.bits.KnownBits.and.Goals as goal
 

@@ -1,3 +1,4 @@
+-- No bit must be there, and each of the 64 may.
 use Rattle.scalar_domain.proofs.Subsets.{none_in, in_all}
 use Rattle.scalar_domain.proofs.bits.KnownBits.any.Goals as goal
 

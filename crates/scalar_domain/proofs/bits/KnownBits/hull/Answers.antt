@@ -1,3 +1,4 @@
+-- Bits of both must be there, and bits of either may.
 use Rattle.scalar_domain.proofs.Subsets.{through, and_in_left, and_in_right, left_in_or, right_in_or}
 use Rattle.scalar_domain.proofs.bits.KnownBits.hull.Goals as goal
 

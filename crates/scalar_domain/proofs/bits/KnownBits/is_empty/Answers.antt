@@ -1,3 +1,4 @@
+-- The bits that a word must have are among those that it may have.
 use Rattle.std.proofs.Common.{ap}
 use Rattle.std.specs.Prelude.{not}
 use Rattle.std.proofs.lemmas.Bool.{eq-eqb}

@@ -1,3 +1,4 @@
+-- Bits of either must be there, and bits of both may.
 use Rattle.scalar_domain.proofs.Subsets.{through, both_in, in_both, and_in_left, and_in_right, left_in_or, right_in_or}
 use Rattle.scalar_domain.proofs.bits.KnownBits.meet.Goals as goal
 

@@ -1,3 +1,4 @@
+-- Words between two that are alike from the top have those bits.
 use Rattle.std.proofs.Common.{ℕ, ◌^◌, ◌-◌, bit_and, bit_or, sym, subst, arith}
 use Rattle.scalar_domain.specs.Scalar.{Subset}
 use Rattle.scalar_domain.proofs.Subsets.{common_must, common_may}

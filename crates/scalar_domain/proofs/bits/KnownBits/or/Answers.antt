@@ -1,3 +1,4 @@
+-- Bit by bit.
 use Rattle.scalar_domain.proofs.Subsets.{or_subset}
 use Rattle.scalar_domain.proofs.bits.KnownBits.or.Goals as goal
 

@@ -1,3 +1,4 @@
+-- A shift keeps which bits are among which.
 use Rattle.scalar_domain.proofs.Subsets.{right_subset}
 use Rattle.scalar_domain.proofs.bits.KnownBits.shifted_right.Goals as goal
 

@@ -1,3 +1,4 @@
+-- A word with more bits is no less.
 use Rattle.scalar_domain.proofs.Subsets.{subset_le}
 use Rattle.scalar_domain.proofs.bits.KnownBits.span.Goals as goal
 

@@ -1,3 +1,4 @@
+-- More bits that must be there.
 use Rattle.scalar_domain.proofs.Subsets.{through, both_in, left_in_or}
 use Rattle.scalar_domain.proofs.bits.KnownBits.with.Goals as goal
 

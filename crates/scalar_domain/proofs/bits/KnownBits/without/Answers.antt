@@ -1,3 +1,4 @@
+-- Fewer bits that may be there.
 use Rattle.std.proofs.Common.{◌^◌, ◌-◌, arith}
 use Rattle.scalar_domain.proofs.Subsets.{through, left_without, and_in_left}
 use Rattle.scalar_domain.proofs.bits.KnownBits.without.Goals as goal

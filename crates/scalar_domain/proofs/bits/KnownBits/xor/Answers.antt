@@ -1,3 +1,4 @@
+-- Bit by bit, below bit 64.
 use Rattle.std.proofs.Common.{arith}
 use Rattle.scalar_domain.proofs.Subsets.{xor_must, xor_may}
 use Rattle.scalar_domain.proofs.bits.KnownBits.xor.Goals as goal

@@ -1,3 +1,4 @@
+-- Each part holds of every word.
 use Rattle.std.proofs.Common.{arith}
 use Rattle.scalar_domain.proofs.scalars.Scalar.any.Goals as goal
 

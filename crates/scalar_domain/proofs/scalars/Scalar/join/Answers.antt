@@ -1,3 +1,4 @@
+-- Part by part.
 use Rattle.scalar_domain.proofs.scalars.Scalar.join.Goals as goal
 
 pub returns-clause-of_self : goal.returns-clause-of_self

@@ -1,3 +1,4 @@
+-- Part by part.
 use Rattle.scalar_domain.proofs.scalars.Scalar.meet.Goals as goal
 
 pub returns-clause-has : goal.returns-clause-has

@@ -1,3 +1,4 @@
+-- A word of all three parts is one of what each says of the others.
 use Rattle.scalar_domain.proofs.Places.{place_fits, turned_back}
 use Rattle.scalar_domain.proofs.scalars.Scalar.tightened.Goals as goal
 

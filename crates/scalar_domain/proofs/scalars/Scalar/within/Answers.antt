@@ -1,3 +1,4 @@
+-- The range holds by the premises, the rest of any word.
 use Rattle.std.proofs.Common.{arith}
 use Rattle.scalar_domain.proofs.scalars.Scalar.within.Goals as goal
 

@@ -1,3 +1,4 @@
+-- A product that does not fit may be any word.
 use Rattle.std.proofs.Common.{arith}
 use Rattle.scalar_domain.proofs.spans.Span.product.Goals as goal
 

@@ -1,3 +1,4 @@
+-- A greater word leaves the word as it is.
 use Rattle.std.proofs.Common.{sym, subst, arith}
 use Rattle.scalar_domain.specs.Scalar.{Within}
 use Rattle.scalar_domain.proofs.Remainders.{left_by_greater}

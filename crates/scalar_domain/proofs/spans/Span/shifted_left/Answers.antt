@@ -1,3 +1,4 @@
+-- A word no greater, shifted by no more, is no greater, as nothing is lost.
 use Rattle.std.proofs.Common.{arith}
 use Rattle.scalar_domain.proofs.Shifting.{kept_below, shifted_left_le, shifted_left_fits}
 use Rattle.scalar_domain.proofs.spans.Span.shifted_left.Goals as goal

@@ -1,3 +1,4 @@
+-- A word no greater, shifted by no less, is no greater.
 use Rattle.scalar_domain.proofs.Shifting.{shifted_right_le}
 use Rattle.scalar_domain.proofs.spans.Span.shifted_right.Goals as goal
 

@@ -1,3 +1,4 @@
+-- Places above the least that keeps its sign are shifted as words are.
 use Rattle.std.proofs.Common.{◌≤◌, ◌<◌, ◌-◌, ◌*◌, ◌/◌, ◌^◌, arith}
 use Rattle.scalar_domain.specs.Scalar.{place}
 use Rattle.scalar_domain.proofs.Shifting.{kept_below, shifted_left_le, shifted_left_fits, shifted_place}

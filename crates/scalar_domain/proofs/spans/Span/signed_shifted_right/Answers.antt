@@ -1,3 +1,4 @@
+-- The place of a signed word shifted right, by that of the word.
 use Rattle.std.proofs.Common.{arith}
 use Rattle.scalar_domain.specs.Scalar.{place}
 use Rattle.scalar_domain.proofs.Shifting.{shifted_right_le, signed_right_place, right_place_fits}

@@ -1,3 +1,4 @@
+-- Where some sums pass 2^64 and others do not, any word.
 use Rattle.std.proofs.Common.{arith}
 use Rattle.scalar_domain.proofs.spans.Span.sum.Goals as goal
 

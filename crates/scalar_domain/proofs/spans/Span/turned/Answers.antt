@@ -1,3 +1,4 @@
+-- Where the sign differs, any place.
 use Rattle.std.proofs.Common.{arith}
 use Rattle.scalar_domain.proofs.spans.Span.turned.Goals as goal
 

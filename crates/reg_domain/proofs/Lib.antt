@@ -1,0 +1,4 @@
+pub mod Shifts
+pub mod Sums
+pub mod Moves
+pub mod Accesses

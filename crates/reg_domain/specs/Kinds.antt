@@ -1,0 +1,81 @@
+-- What a kind says of a register, where the freeze of the run's start has that number, or is 0.
+use Rattle.std.specs.Prelude.{◌≡◌, ℕ, ◌+◌, ◌<◌, ◌≤◌, Option, Some, ⊤, ◌^◌}
+use Rattle.scalar_domain.specs.declared.scalars.Scalar.{Scalar}
+use Rattle.scalar_domain.specs.Scalar.{Has}
+use Rattle.bpf_machine.specs.MachineState.{context_address}
+use Rattle.bpf_machine.specs.Frames.{frame_start}
+use Rattle.reg_domain.specs.declared.region.Region.{Region}
+use Rattle.reg_domain.specs.declared.region.Region.TheVariants.{Context, Frame}
+use Rattle.reg_domain.specs.declared.region.Offsets.{Offsets}
+use Rattle.reg_domain.specs.declared.kind.Certainty.{Certainty}
+use Rattle.reg_domain.specs.declared.kind.Certainty.TheVariants.{Open, Sure}
+use Rattle.reg_domain.specs.declared.kind.Kind.{Kind}
+use Rattle.reg_domain.specs.declared.kind.Kind.TheVariants.{Unwritten, Number, Address, Freeze}
+
+-- where a region begins
+abbrev pub start_of : Region → ℕ
+start_of Context = context_address
+start_of (Frame k) = frame_start k
+
+-- how many bytes it has
+abbrev pub size_of : Region → ℕ
+size_of Context = 96
+size_of (Frame k) = 512
+
+-- an address in the region, at one of these offsets
+abbrev pub LiesAt : Region → Offsets → ℕ → Type 0
+LiesAt region offsets address =
+    (offset : ℕ) × (address ≡ start_of region + offset) × (offsets.least ≤ offset) × (offset ≤ offsets.most) × (offset ≤ size_of region)
+
+-- a freeze of which that is known
+abbrev pub IsCertain : Certainty → ℕ → Type 0
+IsCertain Open freeze = ⊤
+IsCertain Sure freeze = 0 < freeze
+
+-- what a kind says of a register
+abbrev pub HoldsKind : ℕ → Kind → Option ℕ → Type 0
+HoldsKind freeze Unwritten o = ⊤
+HoldsKind freeze (Number scalar) o = (word : ℕ) × (o ≡ Some word) × Has scalar word
+HoldsKind freeze (Address region offsets) o = (address : ℕ) × (o ≡ Some address) × LiesAt region offsets address
+HoldsKind freeze (Freeze certainty) o = (o ≡ Some freeze) × IsCertain certainty freeze
+
+abbrev pub IsNumber : Kind → Type 0
+IsNumber Unwritten = ⊥
+IsNumber (Number scalar) = ⊤
+IsNumber (Address region offsets) = ⊥
+IsNumber (Freeze certainty) = ⊥
+
+-- an address in that region
+abbrev pub LiesIn : Region → Kind → Type 0
+LiesIn region Unwritten = ⊥
+LiesIn region (Number scalar) = ⊥
+LiesIn region (Address other offsets) = other ≡ region
+LiesIn region (Freeze certainty) = ⊥
+
+abbrev pub IsWritten : Kind → Type 0
+IsWritten Unwritten = ⊥
+IsWritten (Number scalar) = ⊤
+IsWritten (Address region offsets) = ⊤
+IsWritten (Freeze certainty) = ⊤
+
+-- a number of which just that one is possible
+abbrev pub IsKnown : ℕ → Kind → Type 0
+IsKnown n Unwritten = ⊥
+IsKnown n (Number scalar) = (scalar.unsigned.least ≡ n) × (scalar.unsigned.most ≡ n)
+IsKnown n (Address region offsets) = ⊥
+IsKnown n (Freeze certainty) = ⊥
+
+-- an address at these offsets is in its region, or behind its last byte, where one of these numbers is added; the ends
+-- of a signed range are places in the order of signed words, where 0 is at 2 ^ 63
+pub record StaysAhead (region : Region) (offsets : Offsets) (by : Scalar) : Type 0 where
+  pub least_from : 2 ^ 63 ≤ offsets.least + by.signed.least
+  pub least_to : offsets.least + by.signed.least ≤ 2 ^ 63 + size_of region
+  pub most_from : 2 ^ 63 ≤ offsets.most + by.signed.most
+  pub most_to : offsets.most + by.signed.most ≤ 2 ^ 63 + size_of region
+
+-- and where one is taken from it
+pub record StaysBehind (region : Region) (offsets : Offsets) (by : Scalar) : Type 0 where
+  pub least_from : by.signed.most ≤ offsets.least + 2 ^ 63
+  pub least_to : offsets.least + 2 ^ 63 ≤ by.signed.most + size_of region
+  pub most_from : by.signed.least ≤ offsets.most + 2 ^ 63
+  pub most_to : offsets.most + 2 ^ 63 ≤ by.signed.least + size_of region

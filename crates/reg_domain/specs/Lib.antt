@@ -1,0 +1,4 @@
+pub mod CauseText
+pub mod Kinds
+pub mod Computes
+pub mod Finds

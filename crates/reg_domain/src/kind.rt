@@ -1,0 +1,126 @@
+// What is known of one register. It relies on `region` for addresses and on `scalar_domain` for numbers.
+
+ghost use Rattle.std.specs.Prelude.{◌≡◌, ℕ, ◌<◌, ◌↔◌, ⊤, IfSome, IsSome, IsTrue, Option, Some};
+ghost use Rattle.reg_domain.specs.Kinds.{HoldsKind, IsKnown, IsNumber, IsWritten, LiesIn};
+
+use crate::cause::Cause;
+use crate::region::{Offsets, Region};
+use scalar_domain::Scalar;
+
+/// Whether a freeze may be 0.
+#[derive(Clone, Copy, Debug, PartialEq, Eq)]
+pub enum Certainty {
+    /// It is 0 where the run got none.
+    Open,
+    /// It is not 0.
+    Sure,
+}
+
+/// What a register holds, as far as it is known.
+#[derive(Clone, Copy, Debug, PartialEq, Eq)]
+pub enum Kind {
+    /// Perhaps nothing.
+    Unwritten,
+    /// One of these numbers.
+    Number(Scalar),
+    /// An address in a region, or the one behind its last byte.
+    Address(Region, Offsets),
+    /// The freeze of the run's start.
+    Freeze(Certainty),
+}
+
+impl Kind {
+    /// That number.
+    pub fn exactly(value: u64) -> Self
+        ensures has { (freeze : ℕ) → HoldsKind freeze result (Some value) }
+        ensures only { (freeze : ℕ) (o : Option ℕ) → HoldsKind freeze result o → o ≡ Some value }
+        ensures number { IsNumber result }
+        ensures known { IsKnown value result }
+    {
+        Kind::Number(Scalar::exactly(value))
+    }
+
+    /// Whether it is a number.
+    pub fn is_number(self) -> bool
+        ensures { IsTrue result ↔ IsNumber self }
+    {
+        match self {
+            Kind::Number(_) => true,
+            Kind::Unwritten | Kind::Address(_, _) | Kind::Freeze(_) => false,
+        }
+    }
+
+    /// Whether something is there.
+    pub fn is_written(self) -> bool
+        ensures { IsTrue result ↔ IsWritten self }
+    {
+        !matches!(self, Kind::Unwritten)
+    }
+
+    /// The only number that it may be.
+    pub fn known(self) -> Option<u64>
+        ensures only { IfSome result (λ n. (freeze : ℕ) (o : Option ℕ) → HoldsKind freeze self o → o ≡ Some n) }
+        ensures known { (n : ℕ) → IsKnown n self → result ≡ Some n }
+        ensures number { IsSome result → IsNumber self }
+    {
+        match self {
+            Kind::Number(scalar) => scalar.known(),
+            Kind::Unwritten | Kind::Address(_, _) | Kind::Freeze(_) => None,
+        }
+    }
+
+    /// Why it is refused where only numbers are allowed: it may be unwritten, or is an address or a freeze.
+    pub(crate) fn as_number(self) -> Cause
+        ensures { (IsWritten self → result ≡ Cause.AddressAsNumber) × (self ≡ Kind.Unwritten → result ≡ Cause.UnwrittenRegister) }
+    {
+        match self {
+            Kind::Unwritten => Cause::UnwrittenRegister,
+            Kind::Number(_) | Kind::Address(_, _) | Kind::Freeze(_) => Cause::AddressAsNumber,
+        }
+    }
+
+    /// What holds of a register where one or the other does: two numbers are a number, and two addresses of a region
+    /// one between them. Where both are of different kinds nothing is known.
+    pub fn join(self, other: Kind) -> Self
+        ensures of_self { (freeze : ℕ) (o : Option ℕ) → HoldsKind freeze self o → HoldsKind freeze result o }
+        ensures of_other { (freeze : ℕ) (o : Option ℕ) → HoldsKind freeze other o → HoldsKind freeze result o }
+        ensures equal { self ≡ other → result ≡ self }
+        ensures numbers { IsNumber self → IsNumber other → IsNumber result }
+        ensures addresses { (region : Region) → LiesIn region self → LiesIn region other → LiesIn region result }
+    {
+        if self == other {
+            return self;
+        }
+        match self {
+            Kind::Number(scalar) => join_number(scalar, other),
+            Kind::Address(region, offsets) => join_address(region, offsets, other),
+            Kind::Unwritten | Kind::Freeze(_) => Kind::Unwritten,
+        }
+    }
+}
+
+// What holds where a register has one of those numbers or is of the other kind.
+fn join_number(scalar: Scalar, other: Kind) -> Kind
+    ensures of_self { (freeze : ℕ) (o : Option ℕ) → HoldsKind freeze (Kind.Number scalar) o → HoldsKind freeze result o }
+    ensures of_other { (freeze : ℕ) (o : Option ℕ) → HoldsKind freeze other o → HoldsKind freeze result o }
+    ensures numbers { IsNumber other → IsNumber result }
+{
+    match other {
+        Kind::Number(numbers) => Kind::Number(scalar.join(numbers)),
+        _ => Kind::Unwritten,
+    }
+}
+
+// What holds where a register has such an address or is of the other kind.
+fn join_address(region: Region, offsets: Offsets, other: Kind) -> Kind
+    ensures of_self { (freeze : ℕ) (o : Option ℕ) → HoldsKind freeze (Kind.Address region offsets) o → HoldsKind freeze result o }
+    ensures of_other { (freeze : ℕ) (o : Option ℕ) → HoldsKind freeze other o → HoldsKind freeze result o }
+    ensures addresses { LiesIn region other → LiesIn region result }
+{
+    match other {
+        Kind::Address(place, others) if place == region => {
+            Kind::Address(region, offsets.hull(others))
+        }
+        _ => Kind::Unwritten,
+    }
+}

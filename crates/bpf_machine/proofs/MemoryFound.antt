@@ -1,6 +1,6 @@
 -- Where an access is not stuck, what it reads or writes is there.
-use Rattle.std.proofs.Common.{◌≡◌, ℕ, zero, suc, ◌+◌, ◌-◌, true, false, List, [], ◌∷◌, Option, Some, None, length, refl, ap, sym, subst, ◌∙◌, inl, inr}
-use Rattle.std.specs.Prelude.{◌||◌, is_some, take, drop, if◌then◌else◌}
+use Rattle.std.proofs.Common.{◌≡◌, ℕ, zero, suc, ◌+◌, ◌-◌, true, false, List, [], ◌∷◌, Option, Some, None, length, refl, ap, sym, ◌∙◌, inl, inr}
+use Rattle.std.specs.Prelude.{◌||◌, is_some, take, drop}
 use Rattle.std.specs.Option.{option_map, option_and_then}
 use Rattle.std.specs.Int.{Width, byte_len, bytes_low_first}
 use Rattle.byteorder.specs.Endian.{little_bytes}
@@ -8,7 +8,7 @@ use Rattle.stack_frame.specs.Frame.{written_at}
 use Rattle.std.proofs.lemmas.Bool.{cases_Bool, cond-true, cond-false}
 use Rattle.bpf_machine.specs.MachineState.{MachineState, context_address}
 use Rattle.bpf_machine.specs.Frames.{frame_start, is_inside, frame_bytes, all_written, has_room, has_written, frames_with}
-use Rattle.bpf_machine.specs.Memory.{in_context, read, can_read, with_memory, with_word_at}
+use Rattle.bpf_machine.specs.Memory.{in_context, read, can_read, with_word_at}
 
 some_there : {X : Type 0} → (o : Option X) → is_some o ≡ true → (x : X) × (o ≡ Some x)
 some_there None h = absurd (let bad : false ≡ true = h in cc)

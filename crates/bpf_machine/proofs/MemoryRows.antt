@@ -1,7 +1,7 @@
 -- Worked rows of loads and stores, computed by the definitions themselves: at the first and the last byte of the context
 -- and of the frame, and one past each.
-use Rattle.std.proofs.Common.{◌≡◌, ℕ, ℤ, pos, negsuc, Bool, true, false, List, [], ◌∷◌, ◌++◌, Option, Some, None, refl, replicate}
-use Rattle.std.specs.Option.{option_and_then, option_map}
+use Rattle.std.proofs.Common.{◌≡◌, ℕ, ℤ, pos, negsuc, true, false, List, [], ◌∷◌, ◌++◌, Option, Some, None, refl, replicate}
+use Rattle.std.specs.Option.{option_and_then}
 use Rattle.bpf_insn.specs.declared.insn.Insn.{Insn}
 use Rattle.bpf_insn.specs.declared.insn.Insn.TheVariants.{Load, Store}
 use Rattle.bpf_insn.specs.declared.insn.LoadForm.{LoadForm}

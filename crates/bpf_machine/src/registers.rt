@@ -8,7 +8,7 @@ ghost use Rattle.bpf_insn.specs.Reg.{number_of};
 ghost use Rattle.bpf_insn.specs.Rows.{HasSource, no_source};
 ghost use Rattle.bpf_machine.specs.Unchecked.{word_at, word_for, with_word};
 
-use bpf_insn::{Reg, Row};
+use bpf_insn::{Operand, Reg, Row};
 use std::marker::Model;
 
 /// The registers R0 to R10. Contracts see the list, in which an unwritten register is `None`.
@@ -70,6 +70,16 @@ impl Registers {
         ensures { result ≡ word_at self.now reg }
     {
         self.words[usize::from(reg.number())]
+    }
+
+    /// What an operand stands for, where an unwritten register counts as 0: a constant is sign-extended.
+    pub fn word_for(&self, source: Operand) -> u64
+        ensures { result ≡ word_for self.now source }
+    {
+        match source {
+            Operand::Immediate(value) => i64::from(value).cast_unsigned(),
+            Operand::Register(reg) => self.word(reg),
+        }
     }
 
     /// What a row's second operand stands for, where an unwritten register counts as 0. Of the source's word and the

@@ -1,13 +1,13 @@
 // What arithmetic makes of an address and a number. It relies on `region` for offsets.
 
-ghost use Rattle.std.specs.Prelude.{◌≡◌, ℕ, ◌+◌, ◌-◌, ◌^◌, Some, IfOk, IsOk, IsOkAnd};
+ghost use Rattle.std.specs.Prelude.{◌≡◌, ℕ, ◌+◌, ◌-◌, ◌^◌, Some, IfOk, IsOkAnd};
 ghost use Rattle.bpf_insn.specs.declared.insn.AluOp.TheVariants.{Add, Sub};
 ghost use Rattle.bpf_insn.specs.declared.insn.Width.TheVariants.{Bits64};
 ghost use Rattle.std.specs.Int.{w64};
 ghost use Rattle.bpf_machine.specs.Words.{alu_of, low};
 ghost use Rattle.scalar_domain.specs.Scalar.{Has};
 ghost use Rattle.reg_domain.specs.Computes.{CombinesKind};
-ghost use Rattle.reg_domain.specs.Kinds.{HoldsKind, IsNumber, LiesAt, StaysAhead, StaysBehind};
+ghost use Rattle.reg_domain.specs.Kinds.{HoldsKind, IsNumber, LiesAt, LiesIn, StaysAhead, StaysBehind};
 
 use crate::cause::Cause;
 use crate::kind::Kind;
@@ -23,7 +23,7 @@ pub(crate) fn number_plus(
     second: Kind,
 ) -> Result<Kind, Cause>
     ensures means { IfOk result (λ kind. (freeze : ℕ) → CombinesKind freeze (alu_of width op) (Kind.Number number) second kind) }
-    ensures sums { (region : Region) (offsets : Offsets) → width ≡ Bits64 → op ≡ Add → second ≡ Kind.Address region offsets → StaysAhead region offsets number → IsOk result }
+    ensures sums { (region : Region) (offsets : Offsets) → width ≡ Bits64 → op ≡ Add → second ≡ Kind.Address region offsets → StaysAhead region offsets number → IsOkAnd result (LiesIn region) }
     ensures unwritten { second ≡ Kind.Unwritten → result ≡ Err Cause.UnwrittenRegister }
     ensures numbers { IsNumber second → IsOkAnd result IsNumber }
 {
@@ -43,7 +43,7 @@ fn plus_address(
     offsets: Offsets,
 ) -> Result<Kind, Cause>
     ensures means { IfOk result (λ kind. (freeze : ℕ) → CombinesKind freeze (alu_of width op) (Kind.Number number) (Kind.Address region offsets) kind) }
-    ensures sums { width ≡ Bits64 → op ≡ Add → StaysAhead region offsets number → IsOk result }
+    ensures sums { width ≡ Bits64 → op ≡ Add → StaysAhead region offsets number → IsOkAnd result (LiesIn region) }
 {
     match width {
         Width::Bits32 => Err(Cause::AddressAsNumber),
@@ -63,8 +63,8 @@ pub(crate) fn address_plus(
     second: Kind,
 ) -> Result<Kind, Cause>
     ensures means { IfOk result (λ kind. (freeze : ℕ) → CombinesKind freeze (alu_of width op) (Kind.Address region offsets) second kind) }
-    ensures sums { (number : Scalar) → width ≡ Bits64 → op ≡ Add → second ≡ Kind.Number number → StaysAhead region offsets number → IsOk result }
-    ensures differences { (number : Scalar) → width ≡ Bits64 → op ≡ Sub → second ≡ Kind.Number number → StaysBehind region offsets number → IsOk result }
+    ensures sums { (number : Scalar) → width ≡ Bits64 → op ≡ Add → second ≡ Kind.Number number → StaysAhead region offsets number → IsOkAnd result (LiesIn region) }
+    ensures differences { (number : Scalar) → width ≡ Bits64 → op ≡ Sub → second ≡ Kind.Number number → StaysBehind region offsets number → IsOkAnd result (LiesIn region) }
     ensures unwritten { second ≡ Kind.Unwritten → result ≡ Err Cause.UnwrittenRegister }
 {
     match second {
@@ -82,8 +82,8 @@ fn address_and_number(
     number: Scalar,
 ) -> Result<Kind, Cause>
     ensures means { IfOk result (λ kind. (freeze : ℕ) → CombinesKind freeze (alu_of width op) (Kind.Address region offsets) (Kind.Number number) kind) }
-    ensures sums { width ≡ Bits64 → op ≡ Add → StaysAhead region offsets number → IsOk result }
-    ensures differences { width ≡ Bits64 → op ≡ Sub → StaysBehind region offsets number → IsOk result }
+    ensures sums { width ≡ Bits64 → op ≡ Add → StaysAhead region offsets number → IsOkAnd result (LiesIn region) }
+    ensures differences { width ≡ Bits64 → op ≡ Sub → StaysBehind region offsets number → IsOkAnd result (LiesIn region) }
 {
     match width {
         Width::Bits32 => Err(Cause::AddressAsNumber),
@@ -98,7 +98,7 @@ fn address_and_number(
 // An address plus a number.
 fn ahead(region: Region, offsets: Offsets, number: Scalar) -> Result<Kind, Cause>
     ensures means { IfOk result (λ kind. (freeze address word : ℕ) → LiesAt region offsets address → Has number word → HoldsKind freeze kind (Some (low w64 (address + word)))) }
-    ensures stays { StaysAhead region offsets number → IsOk result }
+    ensures stays { StaysAhead region offsets number → IsOkAnd result (LiesIn region) }
 {
     match offsets.advanced(region, number) {
         Some(offsets) => Ok(Kind::Address(region, offsets)),
@@ -109,7 +109,7 @@ fn ahead(region: Region, offsets: Offsets, number: Scalar) -> Result<Kind, Cause
 // An address minus a number.
 fn behind(region: Region, offsets: Offsets, number: Scalar) -> Result<Kind, Cause>
     ensures means { IfOk result (λ kind. (freeze address word : ℕ) → LiesAt region offsets address → Has number word → HoldsKind freeze kind (Some (low w64 (address + (2 ^ 64 - word))))) }
-    ensures stays { StaysBehind region offsets number → IsOk result }
+    ensures stays { StaysBehind region offsets number → IsOkAnd result (LiesIn region) }
 {
     match offsets.receded(region, number) {
         Some(offsets) => Ok(Kind::Address(region, offsets)),

@@ -1,13 +1,13 @@
 // What arithmetic makes of kinds. It relies on `scalar_domain` for numbers and on `addresses` for addresses.
 
-ghost use Rattle.std.specs.Prelude.{◌≡◌, ℕ, true, false, IfOk, IsOk, IsOkAnd};
+ghost use Rattle.std.specs.Prelude.{◌≡◌, ℕ, true, false, IfOk, IsOkAnd};
 ghost use Rattle.bpf_insn.specs.declared.insn.AluOp.TheVariants.{Add, Mov, Sub};
 ghost use Rattle.bpf_insn.specs.declared.insn.Width.TheVariants.{Bits32, Bits64};
 ghost use Rattle.bpf_machine.specs.Words.{alu_of, in_place, reads_dst, sign_extended};
 ghost use Rattle.reg_domain.specs.declared.region.Region.{Region};
 ghost use Rattle.reg_domain.specs.declared.region.Offsets.{Offsets};
 ghost use Rattle.reg_domain.specs.Computes.{ComputesKind, CombinesKind, ChangesKind};
-ghost use Rattle.reg_domain.specs.Kinds.{HoldsKind, IsNumber, IsWritten, StaysAhead, StaysBehind};
+ghost use Rattle.reg_domain.specs.Kinds.{HoldsKind, IsNumber, IsWritten, LiesIn, StaysAhead, StaysBehind};
 
 use crate::addresses::{address_plus, number_plus};
 use crate::cause::Cause;
@@ -23,9 +23,9 @@ use scalar_domain::{Scalar, alu, extend, in_place};
 /// region, and `AddressAsNumber` for all else that is computed with an address or a freeze.
 pub fn computed(width: Width, op: AluOp, first: Kind, second: Kind) -> Result<Kind, Cause>
     ensures means { IfOk result (λ kind. (freeze : ℕ) → ComputesKind freeze width op first second kind) }
-    ensures sums { (region : Region) (offsets : Offsets) (number : Scalar) → width ≡ Bits64 → op ≡ Add → first ≡ Kind.Address region offsets → second ≡ Kind.Number number → StaysAhead region offsets number → IsOk result }
-    ensures turned_sums { (region : Region) (offsets : Offsets) (number : Scalar) → width ≡ Bits64 → op ≡ Add → first ≡ Kind.Number number → second ≡ Kind.Address region offsets → StaysAhead region offsets number → IsOk result }
-    ensures differences { (region : Region) (offsets : Offsets) (number : Scalar) → width ≡ Bits64 → op ≡ Sub → first ≡ Kind.Address region offsets → second ≡ Kind.Number number → StaysBehind region offsets number → IsOk result }
+    ensures sums { (region : Region) (offsets : Offsets) (number : Scalar) → width ≡ Bits64 → op ≡ Add → first ≡ Kind.Address region offsets → second ≡ Kind.Number number → StaysAhead region offsets number → IsOkAnd result (LiesIn region) }
+    ensures turned_sums { (region : Region) (offsets : Offsets) (number : Scalar) → width ≡ Bits64 → op ≡ Add → first ≡ Kind.Number number → second ≡ Kind.Address region offsets → StaysAhead region offsets number → IsOkAnd result (LiesIn region) }
+    ensures differences { (region : Region) (offsets : Offsets) (number : Scalar) → width ≡ Bits64 → op ≡ Sub → first ≡ Kind.Address region offsets → second ≡ Kind.Number number → StaysBehind region offsets number → IsOkAnd result (LiesIn region) }
     ensures unwritten { second ≡ Kind.Unwritten → result ≡ Err Cause.UnwrittenRegister }
     ensures unwritten_first { reads_dst op ≡ true → first ≡ Kind.Unwritten → result ≡ Err Cause.UnwrittenRegister }
     ensures numbers { (reads_dst op ≡ true → IsNumber first) → IsNumber second → IsOkAnd result IsNumber }
@@ -122,9 +122,9 @@ fn moved_whole(op: AluOp, second: Kind) -> Result<Kind, Cause>
 // What any other operation makes of two operands.
 fn combined(width: Width, op: AluOp, first: Kind, second: Kind) -> Result<Kind, Cause>
     ensures means { IfOk result (λ kind. (freeze : ℕ) → CombinesKind freeze (alu_of width op) first second kind) }
-    ensures sums { (region : Region) (offsets : Offsets) (number : Scalar) → width ≡ Bits64 → op ≡ Add → first ≡ Kind.Address region offsets → second ≡ Kind.Number number → StaysAhead region offsets number → IsOk result }
-    ensures turned_sums { (region : Region) (offsets : Offsets) (number : Scalar) → width ≡ Bits64 → op ≡ Add → first ≡ Kind.Number number → second ≡ Kind.Address region offsets → StaysAhead region offsets number → IsOk result }
-    ensures differences { (region : Region) (offsets : Offsets) (number : Scalar) → width ≡ Bits64 → op ≡ Sub → first ≡ Kind.Address region offsets → second ≡ Kind.Number number → StaysBehind region offsets number → IsOk result }
+    ensures sums { (region : Region) (offsets : Offsets) (number : Scalar) → width ≡ Bits64 → op ≡ Add → first ≡ Kind.Address region offsets → second ≡ Kind.Number number → StaysAhead region offsets number → IsOkAnd result (LiesIn region) }
+    ensures turned_sums { (region : Region) (offsets : Offsets) (number : Scalar) → width ≡ Bits64 → op ≡ Add → first ≡ Kind.Number number → second ≡ Kind.Address region offsets → StaysAhead region offsets number → IsOkAnd result (LiesIn region) }
+    ensures differences { (region : Region) (offsets : Offsets) (number : Scalar) → width ≡ Bits64 → op ≡ Sub → first ≡ Kind.Address region offsets → second ≡ Kind.Number number → StaysBehind region offsets number → IsOkAnd result (LiesIn region) }
     ensures unwritten { second ≡ Kind.Unwritten → result ≡ Err Cause.UnwrittenRegister }
     ensures unwritten_first { first ≡ Kind.Unwritten → result ≡ Err Cause.UnwrittenRegister }
     ensures numbers { IsNumber first → IsNumber second → IsOkAnd result IsNumber }

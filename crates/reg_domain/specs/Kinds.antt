@@ -65,6 +65,13 @@ IsKnown n (Number scalar) = (scalar.unsigned.least ≡ n) × (scalar.unsigned.mo
 IsKnown n (Address region offsets) = ⊥
 IsKnown n (Freeze certainty) = ⊥
 
+-- a number, and none above that one is possible
+abbrev pub IsAtMost : ℕ → Kind → Type 0
+IsAtMost n Unwritten = ⊥
+IsAtMost n (Number scalar) = scalar.unsigned.most ≤ n
+IsAtMost n (Address region offsets) = ⊥
+IsAtMost n (Freeze certainty) = ⊥
+
 -- an address at these offsets is in its region, or behind its last byte, where one of these numbers is added; the ends
 -- of a signed range are places in the order of signed words, where 0 is at 2 ^ 63
 pub record StaysAhead (region : Region) (offsets : Offsets) (by : Scalar) : Type 0 where

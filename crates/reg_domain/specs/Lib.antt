@@ -2,3 +2,8 @@ pub mod CauseText
 pub mod Kinds
 pub mod Computes
 pub mod Finds
+pub mod Description
+pub mod Follows
+pub mod Enough
+pub mod Memory
+pub mod Calls

@@ -1,19 +1,26 @@
-// What is known of a register where a program's paths come by: a number, an address, a freeze, or nothing. It relies on
-// `scalar_domain` for numbers and on `bpf_machine` for what machines and instructions mean.
+// What is known of a machine where a program's paths come by: of each register, of the stack, of the freeze and of the
+// CCB. It relies on `scalar_domain` for numbers, on `stack_domain` for stack bytes, on `helpers` for what calls ask, and
+// on `bpf_machine` for what machines and instructions mean.
 #![tactic(auto)]
 
 mod access;
 mod addresses;
 mod arithmetic;
+mod calls;
 mod cause;
 mod comparison;
+mod description;
+mod following;
 mod freeze;
 mod kind;
+mod memory;
 mod region;
 
 pub use access::{Access, accessed};
 pub use arithmetic::{changed, computed, extended};
 pub use cause::Cause;
 pub use comparison::{Finding, compared};
+pub use description::{Description, Held};
+pub use following::Way;
 pub use kind::{Certainty, Kind};
 pub use region::{Offsets, Region};

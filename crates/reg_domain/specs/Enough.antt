@@ -1,0 +1,210 @@
+-- What is enough for the check of an instruction to pass, and what is known behind it then. It says nothing of machines:
+-- it is what a program may rely on that is to be accepted.
+use Rattle.std.specs.Prelude.{◌≡◌, ℕ, ℤ, pos, ◌+◌, ◌<◌, ◌≤◌, ◌==◌, true, false, length, ◌⊎◌}
+use Rattle.std.specs.Int.{w64, byte_len, cast_unsigned}
+use Rattle.bpf_insn.specs.declared.insn.AluOp.{AluOp}
+use Rattle.bpf_insn.specs.declared.insn.AluOp.TheVariants.{Mov}
+use Rattle.bpf_insn.specs.declared.insn.Callee.{Callee}
+use Rattle.bpf_insn.specs.declared.insn.Callee.TheVariants.{Helper, Local}
+use Rattle.bpf_insn.specs.declared.insn.Condition.{Condition}
+use Rattle.bpf_insn.specs.declared.insn.Condition.TheVariants.{Equal}
+use Rattle.bpf_insn.specs.declared.insn.Insn.{Insn}
+use Rattle.bpf_insn.specs.declared.insn.Insn.TheVariants.{Alu, InPlace, SignExtend, JumpIf, Jump, LoadImmediate, Load, Store, Call, Exit}
+use Rattle.bpf_insn.specs.declared.insn.Operand.{Operand}
+use Rattle.bpf_insn.specs.declared.insn.Operand.TheVariants.{Immediate, Register}
+use Rattle.bpf_insn.specs.declared.insn.Width.{Width}
+use Rattle.bpf_insn.specs.declared.insn.Width.TheVariants.{Bits64}
+use Rattle.bpf_insn.specs.declared.reg.Reg.{Reg}
+use Rattle.bpf_insn.specs.declared.reg.Reg.TheVariants.{R0, R1, R2, R6, R10}
+use Rattle.bpf_insn.specs.Reg.{number_of}
+use Rattle.bpf_machine.specs.Memory.{address_at, load_width, store_width}
+use Rattle.bpf_machine.specs.Words.{reads_dst}
+use Rattle.stack_domain.specs.Stack.{Knows}
+use Rattle.reg_domain.specs.declared.description.Description.{Description}
+use Rattle.reg_domain.specs.declared.description.Held.TheVariants.{Nothing, Open, Sure}
+use Rattle.reg_domain.specs.declared.following.Way.{Way}
+use Rattle.reg_domain.specs.declared.following.Way.TheVariants.{FallThrough, Taken}
+use Rattle.reg_domain.specs.declared.kind.Certainty.{Certainty}
+use Rattle.reg_domain.specs.declared.kind.Certainty.TheVariants as certainties
+use Rattle.reg_domain.specs.declared.kind.Kind.{Kind}
+use Rattle.reg_domain.specs.declared.kind.Kind.TheVariants.{Unwritten, Number, Address, Freeze}
+use Rattle.reg_domain.specs.declared.region.Region.{Region}
+use Rattle.reg_domain.specs.declared.region.Region.TheVariants.{Context, Frame}
+use Rattle.reg_domain.specs.Description.{kind_at}
+use Rattle.reg_domain.specs.Kinds.{IsAtMost, IsKnown, IsNumber, size_of}
+
+-- the address of one byte of a region
+abbrev pub IsAt : Region → ℕ → Kind → Type 0
+IsAt region at kind = kind ≡ Address region (record { least = at; most = at })
+
+abbrev pub IsNumberOperand : Description → Operand → Type 0
+IsNumberOperand d (Immediate value) = Unit {0}
+IsNumberOperand d (Register reg) = IsNumber (kind_at d reg)
+
+abbrev pub IsFreeze : Kind → Type 0
+IsFreeze kind = (certainty : Certainty) × (kind ≡ Freeze certainty)
+
+-- bytes of the context, of which it is known where they lie
+pub record LiesInContext (d : Description) (reg : Reg) (offset : ℤ) (bytes : ℕ) : Type 0 where
+  pub at : ℕ
+  pub base : IsAt Context at (kind_at d reg)
+  pub inside : address_at at offset + bytes ≤ 96
+
+-- and bytes of a live frame
+pub record LiesInFrame (d : Description) (reg : Reg) (offset : ℤ) (bytes : ℕ) : Type 0 where
+  pub frame : ℕ
+  pub at : ℕ
+  pub base : IsAt (Frame frame) at (kind_at d reg)
+  pub live : frame < length d.stack
+  pub inside : address_at at offset + bytes ≤ 512
+
+-- so many bytes of a frame are known to be written
+abbrev pub AreKnown : Description → ℕ → ℕ → ℕ → Type 0
+AreKnown d frame from bytes = (at : ℕ) → from ≤ at → at < from + bytes → Knows d.stack frame at
+
+-- the bytes of a load
+pub record LiesWritten (d : Description) (reg : Reg) (offset : ℤ) (bytes : ℕ) : Type 0 where
+  pub there : LiesInFrame d reg offset bytes
+  pub known : AreKnown d there.frame (address_at there.at offset) bytes
+
+-- a freeze that is tested for 0
+pub record TestsFreeze (d : Description) (width : Width) (condition : Condition) (dst : Reg) (src : Operand) : Type 0 where
+  pub all : width ≡ Bits64
+  pub equal : condition ≡ Equal
+  pub zero_constant : src ≡ Immediate (pos 0)
+  pub freeze : IsFreeze (kind_at d dst)
+
+-- numbers that are compared
+pub record ComparesNumbers (d : Description) (dst : Reg) (src : Operand) : Type 0 where
+  pub first : IsNumber (kind_at d dst)
+  pub second : IsNumberOperand d src
+
+-- the freeze is given back, and is sure to be held
+pub record GivesBack (d : Description) (number : ℤ) : Type 0 where
+  pub release : number ≡ pos 2
+  pub freeze : kind_at d R1 ≡ Freeze certainties.Sure
+  pub held : d.held ≡ Sure
+
+-- the CCB is to wait again
+pub record Requeues (d : Description) (number : ℤ) : Type 0 where
+  pub requeue : number ≡ pos 4
+  pub retries : IsAtMost 1 (kind_at d R1)
+  pub waits_not : d.disposed ≡ false
+
+-- a register is copied, or numbers are computed with
+abbrev pub EnoughToCompute : Description → Width → AluOp → Reg → Operand → Type 0
+EnoughToCompute d width op dst src =
+    ((reads_dst op ≡ true → IsNumber (kind_at d dst)) × IsNumberOperand d src)
+    ⊎ ((width ≡ Bits64) × (op ≡ Mov) × (reg : Reg) × (src ≡ Register reg) × IsFreeze (kind_at d reg))
+
+-- the check passes
+abbrev pub Enough : Insn → Description → Type 0
+Enough (Alu width op dst src) d = EnoughToCompute d width op dst src
+Enough (InPlace op dst) d = IsNumber (kind_at d dst)
+Enough (SignExtend extension dst src) d = IsNumber (kind_at d src)
+Enough (JumpIf width condition dst src offset) d = ComparesNumbers d dst src ⊎ TestsFreeze d width condition dst src
+Enough (Jump distance) d = Unit {0}
+Enough (LoadImmediate dst value) d = Unit {0}
+Enough (Load form dst src offset) d = LiesInContext d src offset (byte_len (load_width form)) ⊎ LiesWritten d src offset (byte_len (load_width form))
+Enough (Store size dst src offset) d = IsNumberOperand d src × LiesInFrame d dst offset (byte_len (store_width size))
+Enough (Call (Local distance)) d = ⊥
+Enough (Call (Helper number)) d = GivesBack d number ⊎ Requeues d number
+Enough Exit d = (d.held ≡ Nothing) × (d.disposed ≡ true) × IsNumber (kind_at d R0)
+
+-- behind an instruction that writes one register: all else is known as before
+pub record ChangesOnly (dst : Reg) (d there : Description) : Type 0 where
+  pub others : (reg : Reg) → (number_of reg == number_of dst) ≡ false → kind_at there reg ≡ kind_at d reg
+  pub stack : there.stack ≡ d.stack
+  pub held : there.held ≡ d.held
+  pub disposal : there.disposed ≡ d.disposed
+
+-- what is moved is what is there then
+abbrev pub IsMoved : Description → Operand → Kind → Type 0
+IsMoved d (Immediate value) kind = IsKnown (cast_unsigned w64 value) kind
+IsMoved d (Register reg) kind = kind ≡ kind_at d reg
+
+pub record LeavesComputed (d : Description) (width : Width) (op : AluOp) (dst : Reg) (src : Operand) (there : Description) : Type 0 where
+  pub only : ChangesOnly dst d there
+  pub number : IsNumberOperand d src → IsNumber (kind_at there dst)
+  pub moved : width ≡ Bits64 → op ≡ Mov → IsMoved d src (kind_at there dst)
+
+pub record LeavesNumber (dst : Reg) (d there : Description) : Type 0 where
+  pub only : ChangesOnly dst d there
+  pub number : IsNumber (kind_at there dst)
+
+-- behind a store the bytes that it wrote are known, and so is what was
+pub record LeavesStored (d : Description) (dst : Reg) (offset : ℤ) (bytes : ℕ) (there : Description) : Type 0 where
+  pub registers : there.registers ≡ d.registers
+  pub depth : length there.stack ≡ length d.stack
+  pub written : (frame at : ℕ) → IsAt (Frame frame) at (kind_at d dst) → AreKnown there frame (address_at at offset) bytes
+  pub known : (frame at : ℕ) → Knows d.stack frame at → Knows there.stack frame at
+  pub held : there.held ≡ d.held
+  pub disposal : there.disposed ≡ d.disposed
+
+-- a number is still one, and an address stays what it is
+abbrev pub StaysKnown : Kind → Kind → Type 0
+StaysKnown Unwritten after = Unit {0}
+StaysKnown (Number scalar) after = IsNumber after
+StaysKnown (Address region offsets) after = after ≡ Address region offsets
+StaysKnown (Freeze certainty) after = Unit {0}
+
+-- behind a jump, and behind a call for the registers that are kept over it
+pub record LeavesKnown (d there : Description) : Type 0 where
+  pub registers : (reg : Reg) → StaysKnown (kind_at d reg) (kind_at there reg)
+  pub stack : there.stack ≡ d.stack
+  pub disposal : there.disposed ≡ d.disposed
+
+-- which way a test for 0 goes, where the run may hold the freeze
+abbrev pub LeavesTested : Way → Reg → Description → Type 0
+LeavesTested FallThrough reg there = (kind_at there reg ≡ Freeze certainties.Sure) × (there.held ≡ Sure)
+LeavesTested Taken reg there = there.held ≡ Nothing
+
+pub record LeavesCompared (d : Description) (width : Width) (condition : Condition) (dst : Reg) (src : Operand) (way : Way) (there : Description) : Type 0 where
+  pub known : LeavesKnown d there
+  pub numbers : ComparesNumbers d dst src → there.held ≡ d.held
+  pub tested : TestsFreeze d width condition dst src → d.held ≡ Open → LeavesTested way dst there
+
+pub record LeavesCalled (d : Description) (number : ℤ) (there : Description) : Type 0 where
+  pub registers : (reg : Reg) → 6 ≤ number_of reg → StaysKnown (kind_at d reg) (kind_at there reg)
+  pub stack : there.stack ≡ d.stack
+  pub released : GivesBack d number → (there.held ≡ Nothing) × (there.disposed ≡ d.disposed)
+  pub requeued : Requeues d number → (there.held ≡ d.held) × (there.disposed ≡ true)
+
+-- what is known behind an instruction of which enough was known, where the way is open
+abbrev pub Leaves : Insn → Way → Description → Description → Type 0
+Leaves (Alu width op dst src) way d there = LeavesComputed d width op dst src there
+Leaves (InPlace op dst) way d there = LeavesNumber dst d there
+Leaves (SignExtend extension dst src) way d there = LeavesNumber dst d there
+Leaves (JumpIf width condition dst src offset) way d there = LeavesCompared d width condition dst src way there
+Leaves (Jump distance) way d there = there ≡ d
+Leaves (LoadImmediate dst value) way d there = LeavesNumber dst d there
+Leaves (Load form dst src offset) way d there = LeavesNumber dst d there
+Leaves (Store size dst src offset) way d there = LeavesStored d dst offset (byte_len (store_width size)) there
+Leaves (Call (Local distance)) way d there = Unit {0}
+Leaves (Call (Helper number)) way d there = LeavesCalled d number there
+Leaves Exit way d there = Unit {0}
+
+-- what is known at the entry
+pub record IsEntryKnown (d : Description) : Type 0 where
+  pub context : IsAt Context 0 (kind_at d R1)
+  pub freeze : kind_at d R2 ≡ Freeze certainties.Open
+  pub frame : IsAt (Frame 0) 512 (kind_at d R10)
+  pub depth : length d.stack ≡ 1
+  pub held : d.held ≡ Open
+  pub waits : d.disposed ≡ false
+
+-- two that can be joined
+pub record Agree (a b : Description) : Type 0 where
+  pub held : a.held ≡ b.held
+  pub disposal : a.disposed ≡ b.disposed
+  pub depth : length a.stack ≡ length b.stack
+
+-- what is known where two are joined
+pub record JoinsTo (a b joined : Description) : Type 0 where
+  pub equal : (reg : Reg) → kind_at a reg ≡ kind_at b reg → kind_at joined reg ≡ kind_at a reg
+  pub numbers : (reg : Reg) → IsNumber (kind_at a reg) → IsNumber (kind_at b reg) → IsNumber (kind_at joined reg)
+  pub bounds : (reg : Reg) (most : ℕ) → IsAtMost most (kind_at a reg) → IsAtMost most (kind_at b reg) → IsAtMost most (kind_at joined reg)
+  pub known : (frame at : ℕ) → Knows a.stack frame at → Knows b.stack frame at → Knows joined.stack frame at
+  pub depth : length joined.stack ≡ length a.stack
+  pub held : joined.held ≡ a.held
+  pub disposal : joined.disposed ≡ a.disposed

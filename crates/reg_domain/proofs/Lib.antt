@@ -2,3 +2,9 @@ pub mod Shifts
 pub mod Sums
 pub mod Moves
 pub mod Accesses
+pub mod FramePlaces
+pub mod ByteNumbers
+pub mod Reading
+pub mod Loading
+pub mod Writing
+pub mod Storing

@@ -1,14 +1,32 @@
 -- What a load or a store makes of the machines that are described, and that none of them is stuck there.
-use Rattle.std.specs.Prelude.{◌≡◌, ℕ, ℤ, Option, Some}
+use Rattle.std.specs.Prelude.{◌≡◌, ℕ, ℤ, ◌+◌, ◌<◌, ◌≤◌, List, length, Option, Some, All}
 use Rattle.bpf_insn.specs.declared.insn.LoadForm.{LoadForm}
 use Rattle.bpf_insn.specs.declared.insn.StoreSize.{StoreSize}
 use Rattle.bpf_insn.specs.declared.reg.Reg.{Reg}
 use Rattle.bpf_machine.specs.MachineState.{MachineState}
-use Rattle.bpf_machine.specs.Memory.{address_of, load_width, loaded, store_width, with_word_at, word_from}
+use Rattle.bpf_machine.specs.Memory.{address_of, load_width, loaded, read, store_width, with_memory, with_word_at, word_from}
+use Rattle.stack_domain.specs.Stack.{Knows}
+use Rattle.reg_domain.specs.declared.access.Access.{Access}
 use Rattle.reg_domain.specs.declared.description.Description.{Description}
 use Rattle.reg_domain.specs.declared.kind.Kind.{Kind}
+use Rattle.reg_domain.specs.declared.region.Offsets.{Offsets}
+use Rattle.reg_domain.specs.declared.region.Region.TheVariants.{Frame}
 use Rattle.reg_domain.specs.Description.{DescribesWith}
-use Rattle.reg_domain.specs.Kinds.{HoldsKind}
+use Rattle.reg_domain.specs.Enough.{AreKnown}
+use Rattle.reg_domain.specs.Kinds.{HoldsKind, LiesAt}
+
+-- the bytes from an address on can be read
+pub record AreThere (m : MachineState) (address bytes : ℕ) : Type 0 where
+  pub found : List ℕ
+  pub are : read m address bytes ≡ Some found
+  pub each : All (λ byte. byte < 256) found
+
+-- wherever in its region an access begins
+abbrev pub Reads : Description → Access → ℕ → Type 0
+Reads d access bytes = (freeze : ℕ) (m : MachineState) (address : ℕ) → DescribesWith freeze d m → LiesAt access.region access.offsets address → AreThere m address bytes
+
+abbrev pub ReadsFrame : Description → ℕ → Offsets → ℕ → Type 0
+ReadsFrame d frame offsets bytes = (freeze : ℕ) (m : MachineState) (address : ℕ) → DescribesWith freeze d m → LiesAt (Frame frame) offsets address → AreThere m address bytes
 
 -- the word is there, and the kind holds of what the load makes of it
 pub record IsLoaded (freeze : ℕ) (m : MachineState) (form : LoadForm) (src : Reg) (offset : ℤ) (kind : Kind) : Type 0 where
@@ -21,7 +39,19 @@ pub record IsLoaded (freeze : ℕ) (m : MachineState) (form : LoadForm) (src : R
 abbrev pub Loads : Description → LoadForm → Reg → ℤ → Kind → Type 0
 Loads d form src offset kind = (freeze : ℕ) (m : MachineState) → DescribesWith freeze d m → IsLoaded freeze m form src offset kind
 
--- the word is a number, and there is room for it; the machine with it is described
+-- there is room for bytes, and the machine with them is described
+pub record AreWritten (freeze : ℕ) (m : MachineState) (address : ℕ) (bytes : List ℕ) (there : Description) : Type 0 where
+  pub with_bytes : MachineState
+  pub does : with_memory m address bytes ≡ Some with_bytes
+  pub describes : DescribesWith freeze there with_bytes
+
+-- wherever in the frame they begin
+abbrev pub Writes : Description → ℕ → Offsets → ℕ → Description → Type 0
+Writes d frame offsets count there =
+    (freeze : ℕ) (m : MachineState) (address : ℕ) (bytes : List ℕ) → DescribesWith freeze d m → LiesAt (Frame frame) offsets address →
+    length bytes ≡ count → All (λ byte. byte < 256) bytes → AreWritten freeze m address bytes there
+
+-- the word is there, and there is room for it; the machine with it is described
 pub record IsStored (freeze : ℕ) (m : MachineState) (size : StoreSize) (dst : Reg) (offset : ℤ) (stored : Option ℕ) (there : Description) : Type 0 where
   pub address : ℕ
   pub word : ℕ
@@ -35,3 +65,12 @@ abbrev pub Stores : Description → StoreSize → Reg → ℤ → Kind → Descr
 Stores d size dst offset kind there =
     (freeze : ℕ) (m : MachineState) (stored : Option ℕ) → DescribesWith freeze d m → HoldsKind freeze kind stored →
     IsStored freeze m size dst offset stored there
+
+-- bytes at a known offset of a frame are known to be written, and nothing else is changed
+pub record LeavesMarked (d : Description) (frame from bytes : ℕ) (there : Description) : Type 0 where
+  pub registers : there.registers ≡ d.registers
+  pub depth : length there.stack ≡ length d.stack
+  pub written : AreKnown there frame from bytes
+  pub known : (k at : ℕ) → Knows d.stack k at → Knows there.stack k at
+  pub held : there.held ≡ d.held
+  pub disposal : there.disposed ≡ d.disposed

@@ -1,8 +1,10 @@
 // Where a load or store lies. It relies on `region` for offsets.
 
-ghost use Rattle.std.specs.Prelude.{◌≡◌, ℕ, ◌+◌, ◌<◌, ◌^◌, ◌≤◌, Option, Some, IfErr, IfOk, IsTrue, ◌↔◌};
+ghost use Rattle.std.specs.Prelude.{◌≡◌, ℕ, ◌+◌, ◌<◌, ◌^◌, ◌≤◌, Option, Some, IfErr, IfOk, IsOkAnd, IsTrue, ◌↔◌};
 ghost use Rattle.std.specs.Int.{w64, cast_unsigned};
 ghost use Rattle.bpf_machine.specs.Memory.{address_at};
+ghost use Rattle.reg_domain.specs.Accesses.{BeginsAt};
+ghost use Rattle.reg_domain.specs.Enough.{IsAt};
 ghost use Rattle.reg_domain.specs.Kinds.{HoldsKind, LiesAt, size_of};
 
 use crate::cause::Cause;
@@ -26,6 +28,7 @@ pub fn accessed(base: Kind, offset: i16, bytes: u16) -> Result<Access, Cause>
     ensures address { IfOk result (λ access. (freeze : ℕ) (o : Option ℕ) → HoldsKind freeze base o → (start : ℕ) × (o ≡ Some start) × LiesAt access.region access.offsets (address_at start offset)) }
     ensures inside { IfOk result (λ access. access.offsets.most + bytes ≤ size_of access.region) }
     ensures unwritten { (base ≡ Kind.Unwritten) ↔ (result ≡ Err Cause.UnwrittenRegister) }
+    ensures known { (region : Region) (at : ℕ) → IsAt region at base → address_at at offset + bytes ≤ size_of region → IsOkAnd result (BeginsAt region (address_at at offset)) }
 {
     match base {
         Kind::Unwritten => Err(Cause::UnwrittenRegister),
@@ -39,6 +42,7 @@ fn located(region: Region, offsets: Offsets, offset: i16, bytes: u16) -> Result<
     ensures address { IfOk result (λ access. (address : ℕ) → LiesAt region offsets address → LiesAt access.region access.offsets (address_at address offset)) }
     ensures inside { IfOk result (λ access. access.offsets.most + bytes ≤ size_of access.region) }
     ensures cause { IfErr result (λ cause. cause ≡ Cause.AccessOutside) }
+    ensures known { offsets.least ≡ offsets.most → address_at offsets.least offset + bytes ≤ size_of region → IsOkAnd result (BeginsAt region (address_at offsets.least offset)) }
 {
     match offsets.advanced(region, Scalar::exactly(word_of(offset))) {
         Some(offsets) if fits(region, offsets, bytes) => Ok(Access { region, offsets }),

@@ -45,10 +45,9 @@ impl Description {
 
     /// What a register holds.
     pub fn kind(&self, reg: Reg) -> Kind
-        requires stub { ⊥ }
         ensures { result ≡ kind_at self.now reg }
     {
-        unreachable!()
+        self.registers[usize::from(reg.number())]
     }
 
     /// What holds of a machine of which one or the other holds, as where two paths meet: None where they disagree on the

@@ -1,18 +1,22 @@
 // Loads and stores where a machine is described. It relies on `access` for where they lie, and on `stack_domain` for
 // which stack bytes are written.
 
-ghost use Rattle.std.specs.Prelude.{◌≡◌, ⊤, ℕ, ◌⊎◌, Some, IfOk, IsOkAnd};
+ghost use Rattle.std.specs.Prelude.{◌≡◌, ◌<◌, ◌≤◌, ◌+◌, ◌^◌, ℕ, length, IfOk, IsOk, IsOkAnd};
 ghost use Rattle.std.specs.Int.{byte_len};
-ghost use Rattle.bpf_machine.specs.MachineState.{MachineState};
-ghost use Rattle.bpf_machine.specs.Memory.{load_width, store_width};
-ghost use Rattle.reg_domain.specs.Enough.{LeavesStored, LiesInContext, LiesInFrame, LiesWritten};
-ghost use Rattle.reg_domain.specs.Kinds.{IsNumber};
-ghost use Rattle.reg_domain.specs.Memory.{Loads, Stores};
+ghost use Rattle.bpf_machine.specs.Memory.{load_width, loaded, store_width};
+ghost use Rattle.scalar_domain.specs.Scalar.{Has};
+ghost use Rattle.reg_domain.specs.declared.region.Region.TheVariants.{Context, Frame};
+ghost use Rattle.reg_domain.specs.Enough.{AreKnown, LeavesStored, LiesInContext, LiesInFrame, LiesWritten};
+ghost use Rattle.reg_domain.specs.Kinds.{IsNumber, size_of};
+ghost use Rattle.reg_domain.specs.Memory.{Loads, Reads, ReadsFrame, LeavesMarked, Stores, Writes};
 
+use crate::access::{Access, accessed};
 use crate::cause::Cause;
 use crate::description::Description;
 use crate::kind::Kind;
-use bpf_insn::{LoadForm, Reg, StoreSize};
+use crate::region::{Offsets, Region};
+use bpf_insn::{LoadForm, Reg, SignExtension, StoreSize};
+use scalar_domain::{Scalar, extend};
 
 impl Description {
     /// What a load gives of the bytes that begin at a register's address plus the offset.
@@ -21,12 +25,46 @@ impl Description {
     /// `UnwrittenRegister` for the address, `AccessOutside` where it is none or a byte may lie outside the context and
     /// the live frames, and `UnwrittenByte`.
     pub(crate) fn loaded(&self, form: LoadForm, src: Reg, offset: i16) -> Result<Kind, Cause>
-        requires stub { ⊥ }
         ensures loads { IfOk result (Loads self.now form src offset) }
         ensures in_context { LiesInContext self.now src offset (byte_len (load_width form)) → IsOkAnd result IsNumber }
         ensures in_frame { LiesWritten self.now src offset (byte_len (load_width form)) → IsOkAnd result IsNumber }
     {
-        unreachable!()
+        let bytes = load_bytes(form);
+        let access = accessed(self.kind(src), offset, bytes)?;
+        self.check_read(access, bytes)?;
+        Ok(Kind::Number(loaded_words(form)))
+    }
+
+    // Whether the bytes of a load are written.
+    fn check_read(&self, access: Access, bytes: u16) -> Result<(), Cause>
+        requires inside { access.offsets.most + bytes ≤ size_of access.region }
+        ensures reads { IfOk result (λ _. Reads self.now access bytes) }
+        ensures context { access.region ≡ Context → IsOk result }
+        ensures frame { (frame from : ℕ) → access.region ≡ Frame frame → access.offsets ≡ record { least = from; most = from } → frame < length self.now.stack → AreKnown self.now frame from bytes → IsOk result }
+    {
+        match access.region {
+            Region::Context => Ok(()),
+            Region::Frame(frame) => self.check_frame(frame, access.offsets, bytes),
+        }
+    }
+
+    // Whether bytes of a frame are written, wherever they begin.
+    fn check_frame(&self, frame: u8, offsets: Offsets, bytes: u16) -> Result<(), Cause>
+        requires inside { offsets.most + bytes ≤ 512 }
+        ensures reads { IfOk result (λ _. ReadsFrame self.now frame offsets bytes) }
+        ensures known { (from : ℕ) → offsets ≡ record { least = from; most = from } → frame < length self.now.stack → AreKnown self.now frame from bytes → IsOk result }
+    {
+        let frame = usize::from(frame);
+        if frame >= self.stack.depth() || offsets.least > offsets.most {
+            return Err(Cause::AccessOutside);
+        }
+        let least = usize::from(offsets.least);
+        let most = usize::from(offsets.most);
+        if self.stack.is_written(frame, least, most, usize::from(bytes)) {
+            Ok(())
+        } else {
+            Err(Cause::UnwrittenByte)
+        }
     }
 
     /// Stores a word of that kind from a register's address plus the offset on.
@@ -41,10 +79,83 @@ impl Description {
         offset: i16,
         word: Kind,
     ) -> Result<(), Cause>
-        requires stub { ⊥ }
         ensures stores { IfOk result (λ _. Stores self.old size dst offset word self.new) }
         ensures leaves { IsNumber word → LiesInFrame self.old dst offset (byte_len (store_width size)) → IsOkAnd result (λ _. LeavesStored self.old dst offset (byte_len (store_width size)) self.new) }
     {
-        unreachable!()
+        let bytes = store_bytes(size);
+        if word == Kind::Unwritten {
+            return Err(Cause::UnwrittenRegister);
+        }
+        let access = accessed(self.kind(dst), offset, bytes)?;
+        match access.region {
+            Region::Context => Err(Cause::StoreToContext),
+            Region::Frame(frame) => self.store_in(frame, access.offsets, bytes, word),
+        }
+    }
+
+    // Stores a word of that kind in a frame.
+    fn store_in(
+        &mut self,
+        frame: u8,
+        offsets: Offsets,
+        bytes: u16,
+        word: Kind,
+    ) -> Result<(), Cause>
+        requires inside { offsets.most + bytes ≤ 512 }
+        requires few { bytes ≤ 8 }
+        ensures writes { IfOk result (λ _. Writes self.old frame offsets bytes self.new) }
+        ensures number { IfOk result (λ _. IsNumber word) }
+        ensures leaves { (from : ℕ) → IsNumber word → offsets ≡ record { least = from; most = from } → frame < length self.old.stack → IsOkAnd result (λ _. LeavesMarked self.old frame from bytes self.new) }
+    {
+        if usize::from(frame) >= self.stack.depth() {
+            return Err(Cause::AccessOutside);
+        }
+        if !word.is_number() {
+            return Err(Cause::AddressStored);
+        }
+        if offsets.least == offsets.most {
+            let offset = usize::from(offsets.least);
+            self.stack.mark(usize::from(frame), offset, usize::from(bytes));
+        }
+        Ok(())
+    }
+}
+
+// How many bytes a load reads.
+fn load_bytes(form: LoadForm) -> u16
+    ensures { result ≡ byte_len (load_width form) }
+{
+    match form {
+        LoadForm::Byte | LoadForm::SignedByte => 1,
+        LoadForm::HalfWord | LoadForm::SignedHalfWord => 2,
+        LoadForm::Word | LoadForm::SignedWord => 4,
+        LoadForm::DoubleWord => 8,
+    }
+}
+
+// How many bytes a store writes.
+fn store_bytes(size: StoreSize) -> u16
+    ensures { result ≡ byte_len (store_width size) }
+{
+    match size {
+        StoreSize::Byte => 1,
+        StoreSize::HalfWord => 2,
+        StoreSize::Word => 4,
+        StoreSize::DoubleWord => 8,
+    }
+}
+
+// What a load makes of the words that may stand there.
+fn loaded_words(form: LoadForm) -> Scalar
+    ensures { (word : ℕ) → word < 256 ^ byte_len (load_width form) → Has result (loaded form word) }
+{
+    match form {
+        LoadForm::Byte => Scalar::within(0, 0xff),
+        LoadForm::HalfWord => Scalar::within(0, 0xffff),
+        LoadForm::Word => Scalar::within(0, 0xffff_ffff),
+        LoadForm::DoubleWord => Scalar::any(),
+        LoadForm::SignedByte => extend(SignExtension::From8To64, Scalar::within(0, 0xff)),
+        LoadForm::SignedHalfWord => extend(SignExtension::From16To64, Scalar::within(0, 0xffff)),
+        LoadForm::SignedWord => extend(SignExtension::From32To64, Scalar::within(0, 0xffff_ffff)),
     }
 }

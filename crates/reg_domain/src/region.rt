@@ -61,6 +61,7 @@ impl Offsets {
     pub fn advanced(self, region: Region, by: Scalar) -> Option<Offsets>
         ensures means { IfSome result (λ offsets. (address word : ℕ) → LiesAt region self address → Has by word → LiesAt region offsets (low w64 (address + word))) }
         ensures inside { StaysAhead region self by → IsSome result }
+        ensures ends { IfSome result (λ offsets. (offsets.least + 2 ^ 63 ≡ self.least + by.signed.least) × (offsets.most + 2 ^ 63 ≡ self.most + by.signed.most)) }
     {
         let size = region.size();
         let least = shifted(self.least, by.signed.least, ZERO_PLACE, size)?;

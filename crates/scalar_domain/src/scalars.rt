@@ -2,7 +2,7 @@
 
 ghost use Rattle.std.specs.Prelude.{◌≡◌, ℕ, false, ◌<◌, ◌≤◌, ◌^◌, ◌≤ℤ◌, IfSome, SomeIff};
 ghost use Rattle.std.specs.Int.{w64, cast_signed};
-ghost use Rattle.scalar_domain.specs.Scalar.{Has};
+ghost use Rattle.scalar_domain.specs.Scalar.{Has, place};
 
 use crate::bits::KnownBits;
 use crate::spans::{SIGN, Span};
@@ -34,6 +34,7 @@ impl Scalar {
         ensures has { Has result value }
         ensures only { (w : ℕ) → Has result w → w ≡ value }
         ensures is_known { (result.unsigned.least ≡ value) × (result.unsigned.most ≡ value) }
+        ensures is_placed { (result.signed.least ≡ place value) × (result.signed.most ≡ place value) }
     {
         Scalar {
             unsigned: Span::exactly(value),

@@ -1,0 +1,54 @@
+-- What can be read where a machine is described.
+use Rattle.std.proofs.Common.{◌≡◌, ℕ, ◌+◌, ◌-◌, ◌<◌, ◌≤◌, true, List, [], Option, Some, None, length, take, drop, refl, ap, sym, subst, ◌∙◌, arith, length-drop}
+use Rattle.std.specs.Prelude.{All, is_some, slice_index_or}
+use Rattle.std.specs.List.{list_all}
+use Rattle.std.specs.Option.{option_and_then}
+use Rattle.std.proofs.lemmas.Bool.{and_from, cond-true, cond-false, le-leb}
+use Rattle.std.proofs.lemmas.List.{get_or-take, get_or-drop, length-take}
+use Rattle.stack_domain.specs.Stack.{Covers as CoversFrames, AreWritten}
+use Rattle.stack_domain.proofs.Loads as loads
+use Rattle.bpf_machine.specs.MachineState.{MachineState, context_address}
+use Rattle.bpf_machine.specs.Frames.{all_written}
+use Rattle.bpf_machine.specs.Memory.{in_context}
+use Rattle.reg_domain.specs.declared.description.Description.{Description}
+use Rattle.reg_domain.specs.declared.region.Offsets.{Offsets}
+use Rattle.reg_domain.specs.declared.region.Region.TheVariants.{Context, Frame}
+use Rattle.reg_domain.specs.Description.{DescribesWith}
+use Rattle.reg_domain.specs.Kinds.{LiesAt}
+use Rattle.reg_domain.specs.Memory.{AreThere}
+use Rattle.reg_domain.proofs.ByteNumbers.{bytes_found}
+use Rattle.reg_domain.proofs.FramePlaces.{frame_found, not_in_context}
+
+-- what stands in a part of a list
+in_part : {X : Type 0} (xs : List X) (n offset k : ℕ) (d : X) → k < length (take n (drop offset xs)) → slice_index_or (take n (drop offset xs)) k d ≡ slice_index_or xs (offset + k) d
+in_part xs n offset k d lt =
+    get_or-take n (drop offset xs) k d (omega (arith, lt, length-take n (drop offset xs))) ∙ get_or-drop offset xs k d
+
+pub context_read : (freeze : ℕ) (d : Description) (m : MachineState) (offsets : Offsets) (address bytes : ℕ) → DescribesWith freeze d m → LiesAt Context offsets address → offsets.most + bytes ≤ 96 → AreThere m address bytes
+context_read freeze d m offsets address bytes is lies fits =
+    let inside : in_context address bytes ≡ true = and_from _ _ (le-leb context_address address (omega (arith, lies.1))) (le-leb (address + bytes) (context_address + 96) (omega (arith, lies.1, lies.3, fits))) in
+    let offset : ℕ = address - context_address in
+    record {
+      found = take bytes (drop offset m.context);
+      are = cond-true (in_context address bytes) _ _ inside;
+      each = λ k byte lt.
+          let short = length-take bytes (drop offset m.context) in
+          subst (λ (b : ℕ). b < 256) (sym (in_part m.context bytes offset k byte lt)) (is.context.1 (offset + k) byte (omega (arith, lt, short, length-drop offset m.context)));
+    }
+
+pub frame_read : (freeze : ℕ) (d : Description) (m : MachineState) (frame : ℕ) (offsets : Offsets) (address bytes : ℕ) → DescribesWith freeze d m → frame < length d.stack → LiesAt (Frame frame) offsets address → offsets.most + bytes ≤ 512
+    → ((frames : List (List (Option ℕ))) → CoversFrames d.stack frames → AreWritten frames frame offsets.least (offsets.most + bytes)) → AreThere m address bytes
+frame_read freeze d m frame offsets address bytes is live lies fits written =
+    let offset : ℕ = lies.0 in
+    let there : frame < length m.frames = omega (arith, live, is.frames.depth) in
+    let stack : List (Option ℕ) = slice_index_or m.frames frame [] in
+    let all = loads.all_written m.frames frame offset bytes (omega (arith, is.frames.whole frame there, lies.3, fits)) (λ at from to. written m.frames is.frames at (omega (arith, from, lies.2)) (omega (arith, to, lies.3))) in
+    let found = bytes_found (take bytes (drop offset stack)) all (λ i byte lt same. is.bytes frame (offset + i) byte (sym (in_part stack bytes offset i None lt) ∙ same)) in
+    record {
+      found = found.found;
+      are =
+          cond-false (in_context address bytes) _ _ (not_in_context frame address offset bytes lies.1)
+          ∙ (ap (option_and_then all_written) (frame_found 0 m.frames frame address offset bytes there (omega (arith, lies.1)) (omega (arith, lies.3, fits)))
+          ∙ found.are);
+      each = found.each;
+    }

@@ -8,7 +8,7 @@ use Rattle.std.proofs.lemmas.List.{get_or-take, get_or-drop, length-take}
 use Rattle.stack_domain.specs.Stack.{Covers as CoversFrames, AreWritten}
 use Rattle.stack_domain.proofs.Loads as loads
 use Rattle.bpf_machine.specs.MachineState.{MachineState, context_address}
-use Rattle.bpf_machine.specs.Frames.{all_written}
+use Rattle.bpf_machine.specs.Frames.{all_written, frame_bytes, has_room}
 use Rattle.bpf_machine.specs.Memory.{in_context}
 use Rattle.reg_domain.specs.declared.description.Description.{Description}
 use Rattle.reg_domain.specs.declared.region.Offsets.{Offsets}
@@ -18,6 +18,9 @@ use Rattle.reg_domain.specs.Kinds.{LiesAt}
 use Rattle.reg_domain.specs.Memory.{AreThere}
 use Rattle.reg_domain.proofs.ByteNumbers.{bytes_found}
 use Rattle.reg_domain.proofs.FramePlaces.{frame_found, not_in_context}
+
+pub some_same : (a b : ℕ) → Some a ≡ Some b → a ≡ b
+some_same a b e = cc
 
 -- what stands in a part of a list
 in_part : {X : Type 0} (xs : List X) (n offset k : ℕ) (d : X) → k < length (take n (drop offset xs)) → slice_index_or (take n (drop offset xs)) k d ≡ slice_index_or xs (offset + k) d
@@ -36,9 +39,15 @@ context_read freeze d m offsets address bytes is lies fits =
           subst (λ (b : ℕ). b < 256) (sym (in_part m.context bytes offset k byte lt)) (is.context.1 (offset + k) byte (omega (arith, lt, short, length-drop offset m.context)));
     }
 
-pub frame_read : (freeze : ℕ) (d : Description) (m : MachineState) (frame : ℕ) (offsets : Offsets) (address bytes : ℕ) → DescribesWith freeze d m → frame < length d.stack → LiesAt (Frame frame) offsets address → offsets.most + bytes ≤ 512
-    → ((frames : List (List (Option ℕ))) → CoversFrames d.stack frames → AreWritten frames frame offsets.least (offsets.most + bytes)) → AreThere m address bytes
-frame_read freeze d m frame offsets address bytes is live lies fits written =
+-- bytes of a frame that are all written
+pub record AreInFrame (m : MachineState) (address bytes : ℕ) : Type 0 where
+  pub found : List ℕ
+  pub are : option_and_then all_written (frame_bytes 0 m.frames address bytes) ≡ Some found
+  pub each : All (λ byte. byte < 256) found
+
+pub in_frame : (freeze : ℕ) (d : Description) (m : MachineState) (frame : ℕ) (offsets : Offsets) (address bytes : ℕ) → DescribesWith freeze d m → frame < length d.stack → LiesAt (Frame frame) offsets address → offsets.most + bytes ≤ 512
+    → ((frames : List (List (Option ℕ))) → CoversFrames d.stack frames → AreWritten frames frame offsets.least (offsets.most + bytes)) → AreInFrame m address bytes
+in_frame freeze d m frame offsets address bytes is live lies fits written =
     let offset : ℕ = lies.0 in
     let there : frame < length m.frames = omega (arith, live, is.frames.depth) in
     let stack : List (Option ℕ) = slice_index_or m.frames frame [] in
@@ -46,9 +55,22 @@ frame_read freeze d m frame offsets address bytes is live lies fits written =
     let found = bytes_found (take bytes (drop offset stack)) all (λ i byte lt same. is.bytes frame (offset + i) byte (sym (in_part stack bytes offset i None lt) ∙ same)) in
     record {
       found = found.found;
-      are =
-          cond-false (in_context address bytes) _ _ (not_in_context frame address offset bytes lies.1)
-          ∙ (ap (option_and_then all_written) (frame_found 0 m.frames frame address offset bytes there (omega (arith, lies.1)) (omega (arith, lies.3, fits)))
-          ∙ found.are);
+      are = ap (option_and_then all_written) (frame_found 0 m.frames frame address offset bytes there (omega (arith, lies.1)) (omega (arith, lies.3, fits))) ∙ found.are;
       each = found.each;
     }
+
+pub frame_read : (freeze : ℕ) (d : Description) (m : MachineState) (frame : ℕ) (offsets : Offsets) (address bytes : ℕ) → DescribesWith freeze d m → frame < length d.stack → LiesAt (Frame frame) offsets address → offsets.most + bytes ≤ 512
+    → ((frames : List (List (Option ℕ))) → CoversFrames d.stack frames → AreWritten frames frame offsets.least (offsets.most + bytes)) → AreThere m address bytes
+frame_read freeze d m frame offsets address bytes is live lies fits written =
+    let there = in_frame freeze d m frame offsets address bytes is live lies fits written in
+    record {
+      found = there.found;
+      are = cond-false (in_context address bytes) _ _ (not_in_context frame address lies.0 bytes lies.1) ∙ there.are;
+      each = there.each;
+    }
+
+-- there is room in a frame
+pub frame_has_room : (freeze : ℕ) (d : Description) (m : MachineState) (frame : ℕ) (offsets : Offsets) (address bytes : ℕ) → DescribesWith freeze d m → frame < length d.stack → LiesAt (Frame frame) offsets address → offsets.most + bytes ≤ 512
+    → has_room 0 m.frames address bytes ≡ true
+frame_has_room freeze d m frame offsets address bytes is live lies fits =
+    ap is_some (frame_found 0 m.frames frame address lies.0 bytes (omega (arith, live, is.frames.depth)) (omega (arith, lies.1)) (omega (arith, lies.3, fits)))

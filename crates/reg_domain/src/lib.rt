@@ -5,6 +5,7 @@
 
 mod access;
 mod addresses;
+mod arguments;
 mod arithmetic;
 mod calls;
 mod cause;

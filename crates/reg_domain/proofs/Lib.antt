@@ -8,3 +8,4 @@ pub mod Reading
 pub mod Loading
 pub mod Writing
 pub mod Storing
+pub mod Calling

@@ -1,26 +1,141 @@
 // Helper calls where a machine is described. It relies on `arguments` for what is known of their arguments, and on
 // `helpers` for what is asked of them.
 
-ghost use Rattle.std.specs.Prelude.{◌≡◌, ⊤, ◌⊎◌, IfOk, IsOkAnd};
-ghost use Rattle.reg_domain.specs.Calls.{CallFollows, CallIsNeverStuck};
+ghost use Rattle.std.specs.Prelude.{◌≡◌, ◌↔◌, ◌⊎◌, false, IfOk, IsOk, IsOkAnd, IsTrue, slice_index_or};
+ghost use Rattle.bpf_insn.specs.declared.reg.Reg.{Reg};
+ghost use Rattle.bpf_insn.specs.declared.reg.Reg.TheVariants.{R1};
+ghost use Rattle.bpf_insn.specs.Reg.{number_of};
+ghost use Rattle.helpers.specs.declared.helper.Helper.TheVariants as helpers;
+ghost use Rattle.reg_domain.specs.declared.kind.Certainty.TheVariants.{Sure};
+ghost use Rattle.reg_domain.specs.Calls.{CallFollows, CallIsNeverStuck, IsAnswered, IsReleased, LeavesOverCall, Obeys, Passes, after_call_kinds};
+ghost use Rattle.reg_domain.specs.Description.{kind_at};
 ghost use Rattle.reg_domain.specs.Enough.{GivesBack, LeavesCalled, Requeues};
+ghost use Rattle.reg_domain.specs.Kinds.{IsAtMost};
 
 use crate::cause::Cause;
-use crate::description::Description;
-use helpers::HelperLimits;
+use crate::description::{Description, Held};
+use crate::kind::Kind;
+use helpers::{Helper, HelperLimits};
+use scalar_domain::Scalar;
+
+/// The most freezes that a queue can have once one is given back.
+const MOST_FROZEN_LEFT: u64 = 254;
 
 impl Description {
     /// Calls the helper of that number under these limits.
     ///
     /// # Errors
     /// `UnknownHelper`; `UnwrittenRegister` for an argument, and `ArgumentAgainstRule` for one that may not be as the
-    /// helper asks; `DisposedTwice`.
+    /// helper asks, or `UnwrittenByte`; `DisposedTwice`.
     pub(crate) fn call(&mut self, limits: &HelperLimits, number: i32) -> Result<(), Cause>
-        requires stub { ⊥ }
         ensures unstuck { IfOk result (λ _. CallIsNeverStuck limits.now number self.old) }
         ensures follows { IfOk result (λ _. CallFollows number self.old self.new) }
         ensures leaves { (GivesBack self.old number ⊎ Requeues self.old number) → IsOkAnd result (λ _. LeavesCalled self.old number self.new) }
     {
-        unreachable!()
+        let Some(helper) = Helper::with_number(number) else {
+            return Err(Cause::UnknownHelper);
+        };
+        if !is_answered(helper) {
+            return Err(Cause::UnknownHelper);
+        }
+        self.check_call(limits, helper)?;
+        self.pass(helper);
+        Ok(())
     }
+
+    // Whether a call of the helper meets its rule.
+    fn check_call(&self, limits: &HelperLimits, helper: Helper) -> Result<(), Cause>
+        ensures obeys { IfOk result (λ _. IsAnswered helper → Obeys limits.now self.now helper) }
+        ensures sure { IfOk result (λ _. helper ≡ helpers.Release → (kind_at self.now R1 ≡ Kind.Freeze Sure) × (self.now.held ≡ Held.Sure)) }
+        ensures gives_back { helper ≡ helpers.Release → kind_at self.now R1 ≡ Kind.Freeze Sure → self.now.held ≡ Held.Sure → IsOk result }
+        ensures requeues { helper ≡ helpers.Requeue → IsAtMost 1 (kind_at self.now R1) → self.now.disposed ≡ false → IsOk result }
+    {
+        let asks = helper.asks();
+        let known = self.arguments(asks);
+        self.check_arguments(limits, asks, &known)?;
+        self.check_run(helper)
+    }
+
+    // Whether what the helper asks of the run is so.
+    fn check_run(&self, helper: Helper) -> Result<(), Cause>
+        ensures may { IfOk result (λ _. (helper ≡ helpers.Requeue → self.now.disposed ≡ false) × (helper ≡ helpers.Finish → self.now.disposed ≡ false)) }
+        ensures release { helper ≡ helpers.Release → IsOk result }
+        ensures requeue { self.now.disposed ≡ false → IsOk result }
+    {
+        match helper {
+            Helper::Requeue | Helper::Finish if self.disposed => Err(Cause::DisposedTwice),
+            _ => Ok(()),
+        }
+    }
+
+    // After a call of a helper that is answered.
+    fn pass(&mut self, helper: Helper)
+        requires sure { helper ≡ helpers.Release → self.old.held ≡ Held.Sure }
+        ensures passes { Passes helper self.old self.new }
+        ensures leaves { IsAnswered helper → LeavesOverCall helper self.old self.new }
+    {
+        match helper {
+            Helper::Release => self.release(),
+            Helper::Requeue => self.requeue(),
+            Helper::Freeze
+            | Helper::ReleaseAfter
+            | Helper::Finish
+            | Helper::TableGet
+            | Helper::TablePut
+            | Helper::TableAdd
+            | Helper::QueueInfo
+            | Helper::Trace
+            | Helper::Now
+            | Helper::SetOpenings => {}
+        }
+    }
+
+    // The freeze is given back, and its copies are no freeze any more.
+    fn release(&mut self)
+        requires { self.old.held ≡ Held.Sure }
+        ensures passes { Passes helpers.Release self.old self.new }
+        ensures leaves { LeavesOverCall helpers.Release self.old self.new }
+    {
+        let copies = released(self.registers);
+        let count = Kind::Number(Scalar::within(0, MOST_FROZEN_LEFT));
+        self.registers = after_call(copies, count);
+        self.held = Held::Nothing;
+    }
+
+    // The CCB waits again.
+    fn requeue(&mut self)
+        ensures passes { Passes helpers.Requeue self.old self.new }
+        ensures leaves { LeavesOverCall helpers.Requeue self.old self.new }
+    {
+        self.registers = after_call(self.registers, Kind::exactly(0));
+        self.disposed = true;
+    }
+}
+
+// Whether the helper is answered.
+fn is_answered(helper: Helper) -> bool
+    ensures { IsTrue result ↔ IsAnswered helper }
+{
+    matches!(helper, Helper::Release | Helper::Requeue)
+}
+
+// The registers where the freeze is given back.
+fn released(registers: [Kind; 11]) -> [Kind; 11]
+    ensures { (reg : Reg) → IsReleased (slice_index_or registers (number_of reg) Kind.Unwritten) (slice_index_or result (number_of reg) Kind.Unwritten) }
+{
+    registers.map(Kind::released)
+}
+
+// The registers after a call: R0 is the answer and R1 to R5 are unwritten.
+fn after_call(registers: [Kind; 11], r0: Kind) -> [Kind; 11]
+    ensures { result ≡ after_call_kinds registers r0 }
+{
+    let mut after = registers;
+    after[0] = r0;
+    after[1] = Kind::Unwritten;
+    after[2] = Kind::Unwritten;
+    after[3] = Kind::Unwritten;
+    after[4] = Kind::Unwritten;
+    after[5] = Kind::Unwritten;
+    after
 }

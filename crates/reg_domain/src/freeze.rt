@@ -3,6 +3,7 @@
 ghost use Rattle.std.specs.Prelude.{◌≡◌, ℕ, ◌<◌, ◌^◌, Option};
 ghost use Rattle.reg_domain.specs.declared.kind.Certainty.{Certainty};
 ghost use Rattle.reg_domain.specs.declared.kind.Certainty.TheVariants.{Sure};
+ghost use Rattle.reg_domain.specs.Enough.{StaysKnown};
 ghost use Rattle.reg_domain.specs.Kinds.{HoldsKind};
 
 use crate::kind::{Certainty, Kind};
@@ -37,6 +38,7 @@ impl Kind {
     /// What it says once the freeze is given back: each copy is a number from 1 to 4,294,967,295, and no freeze any
     /// more.
     pub fn released(self) -> Self
+        ensures known { StaysKnown self result }
         ensures kept { (freeze any_freeze : ℕ) (o : Option ℕ) → 0 < freeze → freeze < 2 ^ 32 → HoldsKind freeze self o → HoldsKind any_freeze result o }
     {
         match self {

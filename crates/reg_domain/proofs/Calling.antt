@@ -1,0 +1,194 @@
+-- What becomes of a described machine by a helper call, and that the call meets its rule.
+use Rattle.std.proofs.Common.{◌≡◌, ℕ, ℤ, ◌+◌, ◌-◌, ◌<◌, ◌≤◌, ◌^◌, Bool, true, false, not, ◌&&◌, eqb, cond, List, [], ◌∷◌, ◌++◌, Option, Some, None, Result, Ok, Err, IfOk, length, drop, refl, ap, sym, subst, ◌∙◌, arith, length-drop}
+use Rattle.std.specs.Prelude.{filter, replicate, slice_index_or}
+use Rattle.std.specs.Option.{option_and_then}
+use Rattle.std.proofs.lemmas.Bool.{and_from, eq-eqb}
+use Rattle.std.proofs.lemmas.List.{get_or-drop}
+use Rattle.bpf_insn.specs.declared.reg.Reg.{Reg}
+use Rattle.bpf_insn.specs.declared.reg.Reg.TheVariants.{R0, R1, R2, R3, R4, R5, R6, R7, R8, R9, R10}
+use Rattle.bpf_insn.specs.Reg.{number_of}
+use Rattle.helpers.specs.declared.helper.Helper.{Helper}
+use Rattle.helpers.specs.declared.helper.Helper.TheVariants as helpers
+use Rattle.helpers.specs.declared.helper.Asked.{Asked}
+use Rattle.helpers.specs.declared.helper.Asks.{Asks}
+use Rattle.helpers.specs.declared.limits.HelperLimits.{HelperLimits}
+use Rattle.helpers.specs.declared.request.Answer.{Answer}
+use Rattle.helpers.specs.declared.request.Arguments.{Arguments}
+use Rattle.helpers.specs.declared.request.Request.{Request}
+use Rattle.helpers.specs.declared.request.Request.TheVariants.{Release, Requeue}
+use Rattle.helpers.specs.Table.{asks, helper_of, request_of}
+use Rattle.bpf_machine.specs.Calls.{all_written, argument, arguments_at, meets, obeys, request_by, run_may}
+use Rattle.bpf_machine.specs.MachineState.{MachineState}
+use Rattle.bpf_machine.specs.Step.{Allowed, after_call, answered}
+use Rattle.reg_domain.specs.declared.arguments.Known.{Known}
+use Rattle.reg_domain.specs.declared.cause.Cause.{Cause}
+use Rattle.reg_domain.specs.declared.description.Description.{Description}
+use Rattle.reg_domain.specs.declared.description.Held.{Held}
+use Rattle.reg_domain.specs.declared.description.Held.TheVariants.{Nothing, Sure}
+use Rattle.reg_domain.specs.declared.kind.Kind.{Kind}
+use Rattle.reg_domain.specs.declared.kind.Kind.TheVariants.{Unwritten, Number, Address, Freeze}
+use Rattle.reg_domain.specs.declared.kind.Certainty.TheVariants as certainties
+use Rattle.reg_domain.specs.Arguments.{AllFit, AreArguments, FitsAny}
+use Rattle.reg_domain.specs.Calls.{IsAnswered, IsLawfulCall, IsReleased, Obeys, Passes, after_call_kinds}
+use Rattle.reg_domain.specs.Description.{Describes, DescribesWith, HoldsFreeze, kind_at}
+use Rattle.reg_domain.specs.Kinds.{HoldsKind, IsWritten}
+
+-- what lists of kinds say of lists of registers
+abbrev HoldKinds : ℕ → List Kind → List (Option ℕ) → Type 0
+HoldKinds freeze kinds registers = (reg : Reg) → HoldsKind freeze (slice_index_or kinds (number_of reg) Unwritten) (slice_index_or registers (number_of reg) None)
+
+-- what stands behind the first six registers
+behind_holds : (freeze k : ℕ) (kinds : List Kind) (registers : List (Option ℕ)) → HoldsKind freeze (slice_index_or kinds (6 + k) Unwritten) (slice_index_or registers (6 + k) None) → HoldsKind freeze (slice_index_or (drop 6 kinds) k Unwritten) (slice_index_or (drop 6 registers) k None)
+behind_holds freeze k kinds registers holds =
+    subst (λ (o : Option ℕ). HoldsKind freeze (slice_index_or (drop 6 kinds) k Unwritten) o) (sym (get_or-drop 6 registers k None))
+    (subst (λ (kind : Kind). HoldsKind freeze kind (slice_index_or registers (6 + k) None)) (sym (get_or-drop 6 kinds k Unwritten)) holds)
+
+call_holds : (freeze r0 : ℕ) (answer : Kind) (kinds : List Kind) (m : MachineState) → HoldsKind freeze answer (Some r0) → HoldKinds freeze kinds m.registers → HoldKinds freeze (after_call_kinds kinds answer) (after_call m r0).registers
+call_holds freeze r0 answer kinds m holds each R0 = holds
+call_holds freeze r0 answer kinds m holds each R1 = tt
+call_holds freeze r0 answer kinds m holds each R2 = tt
+call_holds freeze r0 answer kinds m holds each R3 = tt
+call_holds freeze r0 answer kinds m holds each R4 = tt
+call_holds freeze r0 answer kinds m holds each R5 = tt
+call_holds freeze r0 answer kinds m holds each R6 = behind_holds freeze 0 kinds m.registers (each R6)
+call_holds freeze r0 answer kinds m holds each R7 = behind_holds freeze 1 kinds m.registers (each R7)
+call_holds freeze r0 answer kinds m holds each R8 = behind_holds freeze 2 kinds m.registers (each R8)
+call_holds freeze r0 answer kinds m holds each R9 = behind_holds freeze 3 kinds m.registers (each R9)
+call_holds freeze r0 answer kinds m holds each R10 = behind_holds freeze 4 kinds m.registers (each R10)
+
+call_count : (m : MachineState) (r0 : ℕ) → length m.registers ≡ 11 → length (after_call m r0).registers ≡ 11
+call_count m r0 count = omega (arith, count, length-drop 6 m.registers)
+
+pub requeued : (freeze retries : ℕ) (d : Description) (registers : List Kind) (kind : Kind) (m : MachineState) (answer : Answer) → registers ≡ after_call_kinds d.registers kind → HoldsKind freeze kind (Some answer.r0) → DescribesWith freeze d m
+    → DescribesWith freeze (record d { registers = registers; disposed = true }) (answered (Requeue retries) answer m)
+requeued freeze retries d registers kind m answer are holds is = record {
+  registers = subst (λ (kinds : List Kind). HoldKinds freeze kinds (after_call m answer.r0).registers) (sym are) (call_holds freeze answer.r0 kind d.registers m holds is.registers);
+  count = call_count m answer.r0 is.count;
+  frames = is.frames;
+  bytes = is.bytes;
+  context = is.context;
+  held = is.held;
+  disposal = refl;
+  calls = is.calls;
+  number = is.number;
+}
+
+pub released : (freeze : ℕ) (d : Description) (registers copies : List Kind) (kind : Kind) (m : MachineState) (answer : Answer) → registers ≡ after_call_kinds copies kind → HoldsKind freeze kind (Some answer.r0)
+    → ((reg : Reg) → IsReleased (kind_at d reg) (slice_index_or copies (number_of reg) Unwritten)) → d.held ≡ Sure → DescribesWith freeze d m
+    → DescribesWith freeze (record d { registers = registers; held = Nothing }) (answered (Release freeze) answer m)
+released freeze d registers copies kind m answer are holds each sure is =
+    let held = subst (λ (h : Held). HoldsFreeze freeze h m.held) sure is.held in
+    record {
+      registers = subst (λ (kinds : List Kind). HoldKinds freeze kinds (after_call m answer.r0).registers) (sym are)
+          (call_holds freeze answer.r0 kind copies m holds (λ reg. (each reg).holds freeze (slice_index_or m.registers (number_of reg) None) held.1 is.number (is.registers reg)));
+      count = call_count m answer.r0 is.count;
+      frames = is.frames;
+      bytes = is.bytes;
+      context = is.context;
+      held = ap (filter (λ number. not (eqb number freeze))) held.0 ∙ ap (λ (b : Bool). cond (not b) (freeze ∷ []) []) (eq-eqb freeze freeze refl);
+      disposal = is.disposal;
+      calls = is.calls;
+      number = is.number;
+    }
+
+-- what is written is some number
+value_of : (freeze : ℕ) (kind : Kind) (o : Option ℕ) → IsWritten kind → HoldsKind freeze kind o → (value : ℕ) × (o ≡ Some value) × HoldsKind freeze kind (Some value)
+value_of freeze Unwritten o written h = absurd written
+value_of freeze (Number scalar) o written h = (h.0, h.1, (h.0, refl, h.2))
+value_of freeze (Address region offsets) o written h = (h.0, h.1, (h.0, refl, h.2))
+value_of freeze (Freeze certainty) o written h = (freeze, h.0, (refl, h.1))
+
+-- each argument is as asked
+meets_asked : (limits : HelperLimits) (d : Description) (freeze : ℕ) (m : MachineState) (known : Known) (arguments : Arguments) (asked : Option Asked) (kind : Kind) (value : ℕ) → DescribesWith freeze d m → AreArguments freeze known arguments
+    → HoldsKind freeze kind (Some value) → FitsAny limits d known asked kind → meets limits m arguments asked value ≡ true
+meets_asked limits d freeze m known arguments (Some asked) kind value is are holds fits = fits freeze m arguments value is are holds
+meets_asked limits d freeze m known arguments None kind value is are holds fits = refl
+
+-- what is known of the arguments with which a machine calls
+pub record HoldsArguments (freeze : ℕ) (m : MachineState) (asks : Asks) (known : Known) : Type 0 where
+  pub first : HoldsKind freeze known.first (argument m asks.first R1)
+  pub second : HoldsKind freeze known.second (argument m asks.second R2)
+  pub third : HoldsKind freeze known.third (argument m asks.third R3)
+
+pub lawful : (limits : HelperLimits) (d : Description) (freeze : ℕ) (m : MachineState) (helper : Helper) (known : Known) → DescribesWith freeze d m → HoldsArguments freeze m (asks helper) known → AllFit limits d (asks helper) known → run_may m helper ≡ true
+    → IsLawfulCall limits m helper
+lawful limits d freeze m helper known is holds fit may =
+    let first = value_of freeze known.first (argument m (asks helper).first R1) fit.first_written holds.first in
+    let second = value_of freeze known.second (argument m (asks helper).second R2) fit.second_written holds.second in
+    let third = value_of freeze known.third (argument m (asks helper).third R3) fit.third_written holds.third in
+    let arguments : Arguments = record { first = first.0; second = second.0; third = third.0 } in
+    let are : AreArguments freeze known arguments = record { first = first.2; second = second.2; third = third.2 } in
+    record {
+      arguments = arguments;
+      at =
+          ap (λ (o : Option ℕ). all_written o (argument m (asks helper).second R2) (argument m (asks helper).third R3)) first.1
+          ∙ (ap (λ (o : Option ℕ). all_written (Some first.0) o (argument m (asks helper).third R3)) second.1
+          ∙ ap (λ (o : Option ℕ). all_written (Some first.0) (Some second.0) o) third.1);
+      obeys =
+          and_from (run_may m helper) _ may
+          (and_from _ _ (meets_asked limits d freeze m known arguments (asks helper).first known.first first.0 is are first.2 fit.first)
+          (and_from _ _ (meets_asked limits d freeze m known arguments (asks helper).second known.second second.0 is are second.2 fit.second)
+          (meets_asked limits d freeze m known arguments (asks helper).third known.third third.0 is are third.2 fit.third)));
+    }
+
+-- what a helper that is answered asks of the run
+pub may_run : (freeze : ℕ) (d : Description) (m : MachineState) (helper : Helper) → IsAnswered helper → DescribesWith freeze d m → (helper ≡ helpers.Requeue → d.disposed ≡ false) → run_may m helper ≡ true
+may_run freeze d m helpers.Release answered is waits = refl
+may_run freeze d m helpers.Requeue answered is waits = ap not (is.disposal ∙ waits refl)
+may_run freeze d m helpers.Freeze answered is waits = absurd answered
+may_run freeze d m helpers.ReleaseAfter answered is waits = absurd answered
+may_run freeze d m helpers.Finish answered is waits = absurd answered
+may_run freeze d m helpers.TableGet answered is waits = absurd answered
+may_run freeze d m helpers.TablePut answered is waits = absurd answered
+may_run freeze d m helpers.TableAdd answered is waits = absurd answered
+may_run freeze d m helpers.QueueInfo answered is waits = absurd answered
+may_run freeze d m helpers.Trace answered is waits = absurd answered
+may_run freeze d m helpers.Now answered is waits = absurd answered
+may_run freeze d m helpers.SetOpenings answered is waits = absurd answered
+
+-- a check that passes
+pub obeys_ok : (r : Result (Unit {0}) Cause) (limits : HelperLimits) (d : Description) (helper : Helper) (asked : Asks) (known : Known) → asked ≡ asks helper
+    → ((freeze : ℕ) (m : MachineState) → DescribesWith freeze d m → HoldsArguments freeze m asked known) → AllFit limits d asked known
+    → IfOk r (λ x. (helper ≡ helpers.Requeue → d.disposed ≡ false) × (helper ≡ helpers.Finish → d.disposed ≡ false)) → IfOk r (λ x. IsAnswered helper → Obeys limits d helper)
+obeys_ok (Err cause) limits d helper asked known same holds fit may = tt
+obeys_ok (Ok x) limits d helper asked known same holds fit may = λ answered freeze m is.
+    lawful limits d freeze m helper known is (subst (λ (a : Asks). HoldsArguments freeze m a known) same (holds freeze m is)) (subst (λ (a : Asks). AllFit limits d a known) same fit)
+    (may_run freeze d m helper answered is may.0)
+
+-- what is answered
+
+released_is : (freeze : ℕ) (o : Option ℕ) (request : Request) → o ≡ Some freeze → option_and_then (request_of helpers.Release) (all_written o (Some 0) (Some 0)) ≡ Some request → Release freeze ≡ request
+released_is freeze o request at e =
+    let found : Some (Release freeze) ≡ Some request = sym (ap (λ (x : Option ℕ). option_and_then (request_of helpers.Release) (all_written x (Some 0) (Some 0))) at) ∙ e in
+    cc
+
+requeued_is : (o : Option ℕ) (request : Request) → option_and_then (request_of helpers.Requeue) (all_written o (Some 0) (Some 0)) ≡ Some request → (retries : ℕ) × (Requeue retries ≡ request)
+requeued_is None request e = absurd (let bad : None ≡ Some request = e in cc)
+requeued_is (Some retries) request e = (retries, cc)
+
+passed : (freeze : ℕ) (helper : Helper) (d there : Description) (m m' : MachineState) (request : Request) (answer : Answer) → IsAnswered helper → Passes helper d there → (helper ≡ helpers.Release → kind_at d R1 ≡ Freeze certainties.Sure) → DescribesWith freeze d m
+    → request_by m helper ≡ Some request → Allowed request answer m m' → DescribesWith freeze there m'
+passed freeze helpers.Release d there m m' request answer known passes sure is called allowed =
+    let held = subst (λ (kind : Kind). HoldsKind freeze kind (slice_index_or m.registers 1 None)) (sure refl) (is.registers R1) in
+    let same = released_is freeze (slice_index_or m.registers 1 None) request held.0 called in
+    let given = subst (λ (r : Request). Allowed r answer m m') (sym same) allowed in
+    subst (DescribesWith freeze there) (sym given.1) (passes freeze m answer is given.0)
+passed freeze helpers.Requeue d there m m' request answer known passes sure is called allowed =
+    let same = requeued_is (slice_index_or m.registers 1 None) request called in
+    let given = subst (λ (r : Request). Allowed r answer m m') (sym same.1) allowed in
+    subst (DescribesWith freeze there) (sym given.1) (passes freeze same.0 m answer is given.0)
+passed freeze helpers.Freeze d there m m' request answer known passes sure is called allowed = absurd known
+passed freeze helpers.ReleaseAfter d there m m' request answer known passes sure is called allowed = absurd known
+passed freeze helpers.Finish d there m m' request answer known passes sure is called allowed = absurd known
+passed freeze helpers.TableGet d there m m' request answer known passes sure is called allowed = absurd known
+passed freeze helpers.TablePut d there m m' request answer known passes sure is called allowed = absurd known
+passed freeze helpers.TableAdd d there m m' request answer known passes sure is called allowed = absurd known
+passed freeze helpers.QueueInfo d there m m' request answer known passes sure is called allowed = absurd known
+passed freeze helpers.Trace d there m m' request answer known passes sure is called allowed = absurd known
+passed freeze helpers.Now d there m m' request answer known passes sure is called allowed = absurd known
+passed freeze helpers.SetOpenings d there m m' request answer known passes sure is called allowed = absurd known
+
+pub follows : (number : ℤ) (helper : Helper) (d there : Description) (m m' : MachineState) (request : Request) (answer : Answer) → helper_of number ≡ Some helper → IsAnswered helper → Passes helper d there
+    → (helper ≡ helpers.Release → kind_at d R1 ≡ Freeze certainties.Sure) → Describes d m → option_and_then (request_by m) (helper_of number) ≡ Some request → Allowed request answer m m' → Describes there m'
+follows number helper d there m m' request answer named known passes sure is called allowed =
+    (is.0, passed is.0 helper d there m m' request answer known passes sure is.1 (sym (ap (option_and_then (request_by m)) named) ∙ called) allowed)

@@ -1,7 +1,7 @@
 // Helper calls where a machine is described. It relies on `arguments` for what is known of their arguments, and on
 // `helpers` for what is asked of them.
 
-ghost use Rattle.std.specs.Prelude.{◌≡◌, ◌↔◌, ◌⊎◌, false, IfOk, IsOk, IsOkAnd, IsTrue, slice_index_or};
+ghost use Rattle.std.specs.Prelude.{◌≡◌, ◌↔◌, false, IfOk, IsOk, IsOkAnd, IsTrue, slice_index_or};
 ghost use Rattle.bpf_insn.specs.declared.reg.Reg.{Reg};
 ghost use Rattle.bpf_insn.specs.declared.reg.Reg.TheVariants.{R1};
 ghost use Rattle.bpf_insn.specs.Reg.{number_of};
@@ -30,7 +30,8 @@ impl Description {
     pub(crate) fn call(&mut self, limits: &HelperLimits, number: i32) -> Result<(), Cause>
         ensures unstuck { IfOk result (λ _. CallIsNeverStuck limits.now number self.old) }
         ensures follows { IfOk result (λ _. CallFollows number self.old self.new) }
-        ensures leaves { (GivesBack self.old number ⊎ Requeues self.old number) → IsOkAnd result (λ _. LeavesCalled self.old number self.new) }
+        ensures gives_back { GivesBack self.old number → IsOkAnd result (λ _. LeavesCalled self.old number self.new) }
+        ensures requeues { Requeues self.old number → IsOkAnd result (λ _. LeavesCalled self.old number self.new) }
     {
         let Some(helper) = Helper::with_number(number) else {
             return Err(Cause::UnknownHelper);

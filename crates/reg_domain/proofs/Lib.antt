@@ -2,3 +2,5 @@ pub mod Shifts
 pub mod Sums
 pub mod Moves
 pub mod Accesses
+pub mod AtEntry
+pub mod RegisterPlaces

@@ -7,3 +7,4 @@ pub mod Follows
 pub mod Enough
 pub mod Memory
 pub mod Calls
+pub mod Changes

@@ -15,6 +15,7 @@ mod freeze;
 mod kind;
 mod memory;
 mod region;
+mod registers;
 
 pub use access::{Access, accessed};
 pub use arithmetic::{changed, computed, extended};

@@ -4,3 +4,9 @@ pub mod Moves
 pub mod Accesses
 pub mod AtEntry
 pub mod RegisterPlaces
+pub mod Described
+pub mod Accessible
+pub mod GoingOn
+pub mod StaysKnown
+pub mod Jumps
+pub mod Ways

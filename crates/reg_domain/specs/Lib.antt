@@ -8,3 +8,4 @@ pub mod Enough
 pub mod Memory
 pub mod Calls
 pub mod Changes
+pub mod GoesOn

@@ -9,3 +9,11 @@ pub mod Loading
 pub mod Writing
 pub mod Storing
 pub mod Calling
+pub mod AtEntry
+pub mod RegisterPlaces
+pub mod Described
+pub mod Accessible
+pub mod GoingOn
+pub mod StaysKnown
+pub mod Jumps
+pub mod Ways

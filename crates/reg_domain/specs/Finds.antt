@@ -1,5 +1,5 @@
 -- What is found of the words of a comparison, and of the run's freeze, on one way of a jump; and where an access lies.
-use Rattle.std.specs.Prelude.{◌≡◌, ℕ, ◌<◌, Bool, Option, Some}
+use Rattle.std.specs.Prelude.{◌≡◌, ℕ, ◌<◌, Bool, true, false, Option, Some, ⊤}
 use Rattle.bpf_insn.specs.declared.insn.Condition.{Condition}
 use Rattle.bpf_insn.specs.declared.insn.Width.{Width}
 use Rattle.bpf_machine.specs.Words.{holds_of}
@@ -14,6 +14,20 @@ Found freeze a b NoWay = ⊥
 Found freeze a b (Numbers left right) = Has left a × Has right b
 Found freeze a b FreezeIsZero = freeze ≡ 0
 Found freeze a b FreezeIsSure = 0 < freeze
+
+-- what may be found of numbers
+abbrev pub IsOfNumbers : Finding → Type 0
+IsOfNumbers NoWay = ⊤
+IsOfNumbers (Numbers left right) = ⊤
+IsOfNumbers FreezeIsZero = ⊥
+IsOfNumbers FreezeIsSure = ⊥
+
+-- and of a freeze that is tested for 0, where it is that and where it is not
+abbrev pub IsOfFreeze : Bool → Finding → Type 0
+IsOfFreeze is_zero NoWay = ⊤
+IsOfFreeze is_zero (Numbers left right) = ⊥
+IsOfFreeze is_zero FreezeIsZero = is_zero ≡ true
+IsOfFreeze is_zero FreezeIsSure = is_zero ≡ false
 
 -- Both registers are written, and where the condition of what they hold is that, so it was found.
 abbrev pub FindsWay : ℕ → Width → Condition → Bool → Kind → Kind → Finding → Type 0

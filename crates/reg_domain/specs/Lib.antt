@@ -9,3 +9,5 @@ pub mod Memory
 pub mod Calls
 pub mod Accesses
 pub mod Arguments
+pub mod Changes
+pub mod GoesOn

@@ -1,11 +1,11 @@
 // What one way of a conditional jump says of what is compared. It relies on `scalar_domain` for numbers.
 
-ghost use Rattle.std.specs.Prelude.{◌≡◌, ℕ, ◌==◌, true, false, Some, IfOk, IsOk, IsTrue, Option};
+ghost use Rattle.std.specs.Prelude.{◌≡◌, ℕ, ◌==◌, true, false, not, Some, IfOk, IsOkAnd, IsTrue, Option};
 ghost use Rattle.bpf_machine.specs.Words.{holds_of};
 ghost use Rattle.bpf_insn.specs.declared.insn.Condition.TheVariants.{Equal, NotEqual};
 ghost use Rattle.bpf_insn.specs.declared.insn.Width.TheVariants.{Bits64};
 ghost use Rattle.reg_domain.specs.declared.kind.Certainty.TheVariants.{Sure};
-ghost use Rattle.reg_domain.specs.Finds.{Found, FindsWay};
+ghost use Rattle.reg_domain.specs.Finds.{Found, FindsWay, IsOfFreeze, IsOfNumbers};
 ghost use Rattle.reg_domain.specs.Kinds.{HoldsKind, IsCertain, IsKnown, IsNumber};
 
 use crate::cause::Cause;
@@ -41,13 +41,13 @@ pub fn compared(
     is_constant: bool,
 ) -> Result<Finding, Cause>
     ensures means { IfOk result (λ finding. (freeze : ℕ) → FindsWay freeze width condition taken first second finding) }
-    ensures equal { (certainty : Certainty) → first ≡ Kind.Freeze certainty → width ≡ Bits64 → is_constant ≡ true → IsKnown 0 second → condition ≡ Equal → IsOk result }
-    ensures not_equal { (certainty : Certainty) → first ≡ Kind.Freeze certainty → width ≡ Bits64 → is_constant ≡ true → IsKnown 0 second → condition ≡ NotEqual → IsOk result }
+    ensures equal { (certainty : Certainty) → first ≡ Kind.Freeze certainty → width ≡ Bits64 → is_constant ≡ true → IsKnown 0 second → condition ≡ Equal → IsOkAnd result (IsOfFreeze taken) }
+    ensures not_equal { (certainty : Certainty) → first ≡ Kind.Freeze certainty → width ≡ Bits64 → is_constant ≡ true → IsKnown 0 second → condition ≡ NotEqual → IsOkAnd result (IsOfFreeze (not taken)) }
     ensures sure_equal { first ≡ Kind.Freeze Sure → width ≡ Bits64 → is_constant ≡ true → IsKnown 0 second → condition ≡ Equal → taken ≡ true → result ≡ Ok Finding.NoWay }
     ensures sure_not_equal { first ≡ Kind.Freeze Sure → width ≡ Bits64 → is_constant ≡ true → IsKnown 0 second → condition ≡ NotEqual → taken ≡ false → result ≡ Ok Finding.NoWay }
     ensures unwritten { second ≡ Kind.Unwritten → result ≡ Err Cause.UnwrittenRegister }
     ensures unwritten_first { first ≡ Kind.Unwritten → result ≡ Err Cause.UnwrittenRegister }
-    ensures numbers { IsNumber first → IsNumber second → IsOk result }
+    ensures numbers { IsNumber first → IsNumber second → IsOkAnd result IsOfNumbers }
 {
     match first {
         Kind::Unwritten => Err(Cause::UnwrittenRegister),
@@ -86,7 +86,7 @@ fn number_compared(
 ) -> Result<Finding, Cause>
     ensures means { IfOk result (λ finding. (freeze : ℕ) → FindsWay freeze width condition taken (Kind.Number left) second finding) }
     ensures unwritten { second ≡ Kind.Unwritten → result ≡ Err Cause.UnwrittenRegister }
-    ensures numbers { IsNumber second → IsOk result }
+    ensures numbers { IsNumber second → IsOkAnd result IsOfNumbers }
 {
     match second {
         Kind::Number(right) => Ok(numbers_compared(width, condition, taken, left, right)),
@@ -102,7 +102,8 @@ fn numbers_compared(
     left: Scalar,
     right: Scalar,
 ) -> Finding
-    ensures { (freeze : ℕ) → FindsWay freeze width condition taken (Kind.Number left) (Kind.Number right) result }
+    ensures means { (freeze : ℕ) → FindsWay freeze width condition taken (Kind.Number left) (Kind.Number right) result }
+    ensures numbers { IsOfNumbers result }
 {
     match narrow(width, condition, taken, left, right) {
         Some(sides) => Finding::Numbers(sides.left, sides.right),
@@ -120,8 +121,8 @@ fn freeze_tested(
 ) -> Result<Finding, Cause>
     requires { (freeze : ℕ) (o : Option ℕ) → HoldsKind freeze second o → o ≡ Some 0 }
     ensures means { IfOk result (λ finding. (freeze : ℕ) → FindsWay freeze width condition taken (Kind.Freeze certainty) second finding) }
-    ensures equal { width ≡ Bits64 → condition ≡ Equal → IsOk result }
-    ensures not_equal { width ≡ Bits64 → condition ≡ NotEqual → IsOk result }
+    ensures equal { width ≡ Bits64 → condition ≡ Equal → IsOkAnd result (IsOfFreeze taken) }
+    ensures not_equal { width ≡ Bits64 → condition ≡ NotEqual → IsOkAnd result (IsOfFreeze (not taken)) }
     ensures sure_equal { certainty ≡ Sure → width ≡ Bits64 → condition ≡ Equal → taken ≡ true → result ≡ Ok Finding.NoWay }
     ensures sure_not_equal { certainty ≡ Sure → width ≡ Bits64 → condition ≡ NotEqual → taken ≡ false → result ≡ Ok Finding.NoWay }
 {
@@ -139,6 +140,7 @@ fn freeze_tested(
 fn freeze_found(is_zero: bool, certainty: Certainty) -> Finding
     ensures means { (freeze : ℕ) → IsCertain certainty freeze → (freeze == 0) ≡ is_zero → Found freeze freeze 0 result }
     ensures no_way { certainty ≡ Sure → is_zero ≡ true → result ≡ Finding.NoWay }
+    ensures freeze { IsOfFreeze is_zero result }
 {
     if !is_zero {
         Finding::FreezeIsSure

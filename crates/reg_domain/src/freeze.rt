@@ -18,6 +18,7 @@ impl Kind {
         ensures kept { (freeze : ℕ) (o : Option ℕ) → 0 < freeze → HoldsKind freeze self o → HoldsKind freeze result o }
         ensures no_less { (freeze : ℕ) (o : Option ℕ) → HoldsKind freeze result o → HoldsKind freeze self o }
         ensures freezes { (certainty : Certainty) → self ≡ Kind.Freeze certainty → result ≡ Kind.Freeze Sure }
+        ensures stays { StaysKnown self result }
     {
         match self {
             Kind::Freeze(_) => Kind::Freeze(Certainty::Sure),
@@ -28,6 +29,7 @@ impl Kind {
     /// What it says where the freeze was found to be 0: each copy is that number, and no freeze any more.
     pub fn zero(self) -> Self
         ensures kept { (freeze : ℕ) (o : Option ℕ) → HoldsKind 0 self o → HoldsKind freeze result o }
+        ensures stays { StaysKnown self result }
     {
         match self {
             Kind::Freeze(_) => Kind::exactly(0),

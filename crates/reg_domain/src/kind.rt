@@ -1,7 +1,7 @@
 // What is known of one register. It relies on `region` for addresses and on `scalar_domain` for numbers.
 
-ghost use Rattle.std.specs.Prelude.{◌≡◌, ℕ, ◌<◌, ◌↔◌, ⊤, IfSome, IsSome, IsTrue, Option, Some};
-ghost use Rattle.reg_domain.specs.Kinds.{HoldsKind, IsKnown, IsNumber, IsWritten, LiesIn};
+ghost use Rattle.std.specs.Prelude.{◌≡◌, ℕ, ◌<◌, ◌≤◌, ◌↔◌, ⊤, IfSome, IsSome, IsTrue, Option, Some};
+ghost use Rattle.reg_domain.specs.Kinds.{HoldsKind, IsAtMost, IsKnown, IsNumber, IsWritten, LiesIn};
 
 use crate::cause::Cause;
 use crate::region::{Offsets, Region};
@@ -87,6 +87,7 @@ impl Kind {
         ensures equal { self ≡ other → result ≡ self }
         ensures numbers { IsNumber self → IsNumber other → IsNumber result }
         ensures addresses { (region : Region) → LiesIn region self → LiesIn region other → LiesIn region result }
+        ensures bounds { (most : ℕ) → IsAtMost most self → IsAtMost most other → IsAtMost most result }
     {
         if self == other {
             return self;
@@ -104,6 +105,7 @@ fn join_number(scalar: Scalar, other: Kind) -> Kind
     ensures of_self { (freeze : ℕ) (o : Option ℕ) → HoldsKind freeze (Kind.Number scalar) o → HoldsKind freeze result o }
     ensures of_other { (freeze : ℕ) (o : Option ℕ) → HoldsKind freeze other o → HoldsKind freeze result o }
     ensures numbers { IsNumber other → IsNumber result }
+    ensures bounds { (most : ℕ) → scalar.unsigned.most ≤ most → IsAtMost most other → IsAtMost most result }
 {
     match other {
         Kind::Number(numbers) => Kind::Number(scalar.join(numbers)),

@@ -13,9 +13,12 @@ mod comparison;
 mod description;
 mod following;
 mod freeze;
+mod jumping;
 mod kind;
 mod memory;
 mod region;
+mod registers;
+mod straight;
 
 pub use access::{Access, accessed};
 pub use arithmetic::{changed, computed, extended};

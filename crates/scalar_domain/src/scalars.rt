@@ -139,6 +139,7 @@ impl Scalar {
     pub fn join(self, other: Scalar) -> Self
         ensures of_self { (w : ℕ) → Has self w → Has result w }
         ensures of_other { (w : ℕ) → Has other w → Has result w }
+        ensures bounds { (n : ℕ) → self.unsigned.most ≤ n → other.unsigned.most ≤ n → result.unsigned.most ≤ n }
     {
         Scalar {
             unsigned: self.unsigned.hull(other.unsigned),

@@ -50,6 +50,7 @@ impl Span {
     pub fn hull(self, other: Span) -> Self
         ensures of_self { (w : ℕ) → Within self w → Within result w }
         ensures of_other { (w : ℕ) → Within other w → Within result w }
+        ensures bounds { (n : ℕ) → self.most ≤ n → other.most ≤ n → result.most ≤ n }
     {
         Span {
             least: self.least.min(other.least),

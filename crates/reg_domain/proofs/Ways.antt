@@ -1,0 +1,70 @@
+-- Which way an instruction leads that is no jump, and what an exit asks.
+use Rattle.std.proofs.Common.{◌≡◌, ℕ, ℤ, true, false, Bool, not, ◌||◌, List, [], Option, Some, Result, Ok, Err, IfOk, refl, ap, sym, subst, ◌∙◌, inl, inr}
+use Rattle.std.specs.Prelude.{is_none}
+use Rattle.bpf_insn.specs.declared.insn.Insn.{Insn}
+use Rattle.bpf_insn.specs.declared.insn.Callee.TheVariants.{Helper}
+use Rattle.bpf_insn.specs.declared.insn.Condition.{Condition}
+use Rattle.bpf_insn.specs.declared.insn.Insn.TheVariants.{Call, Exit, JumpIf}
+use Rattle.bpf_insn.specs.declared.insn.Operand.{Operand}
+use Rattle.bpf_insn.specs.declared.insn.Width.{Width}
+use Rattle.bpf_insn.specs.declared.reg.Reg.{Reg}
+use Rattle.bpf_insn.specs.declared.reg.Reg.TheVariants.{R0}
+use Rattle.helpers.specs.declared.limits.HelperLimits.{HelperLimits}
+use Rattle.bpf_machine.specs.MachineState.{MachineState, register}
+use Rattle.bpf_machine.specs.Stuck.{exit_is_stuck, holds_none}
+use Rattle.reg_domain.specs.declared.cause.Cause.{Cause}
+use Rattle.reg_domain.specs.declared.description.Description.{Description}
+use Rattle.reg_domain.specs.declared.description.Held.{Held}
+use Rattle.reg_domain.specs.declared.description.Held.TheVariants.{Nothing}
+use Rattle.reg_domain.specs.declared.following.Way.{Way}
+use Rattle.reg_domain.specs.declared.following.Way.TheVariants.{FallThrough, Taken}
+use Rattle.reg_domain.specs.declared.kind.Kind.{Kind}
+use Rattle.reg_domain.specs.declared.kind.Kind.TheVariants.{Unwritten, Number, Address, Freeze}
+use Rattle.reg_domain.specs.Calls.{CallFollows}
+use Rattle.reg_domain.specs.Description.{HoldsFreeze, kind_at}
+use Rattle.reg_domain.specs.Follows.{Follows, NeverStuck, jumps}
+use Rattle.reg_domain.specs.GoesOn.{GoesOn, is_taken}
+use Rattle.reg_domain.specs.Kinds.{HoldsKind, IsNumber}
+
+-- what is no jump goes on at the next instruction alone
+pub follows_way : (insn : Insn) (way : Way) (d there : Description) → ((m : MachineState) → jumps m insn ≡ false) → Follows insn FallThrough d true there → Follows insn way d (not (is_taken way)) there
+follows_way insn FallThrough d there stays follows = follows
+follows_way insn Taken d there stays follows = λ m m' is jumped steps. absurd (let bad : false ≡ true = sym (stays m) ∙ jumped in cc)
+
+pub goes_way : (insn : Insn) (way : Way) (d there : Description) → ((m : MachineState) → jumps m insn ≡ false) → GoesOn insn d there → Follows insn way d (not (is_taken way)) there
+goes_way insn way d there stays goes = follows_way insn way d there stays goes.follows
+
+-- a helper call has whatever answer it may have
+pub call_follows : {X : Type 0} (r : Result X Cause) (d there : Description) (number : ℤ) → IfOk r (λ _. CallFollows number d there) → IfOk r (λ _. Follows (Call (Helper number)) FallThrough d true there)
+call_follows (Ok done) d there number follows = λ m m' is goes steps. elim steps [
+  | inl e ↦ absurd cc
+  | inr (request, answer, made, allowed) ↦ (refl, follows m m' request answer is made allowed)
+]
+call_follows (Err cause) d there number follows = follows
+
+pub jump_never_stuck : (r : Result Bool Cause) (limits : HelperLimits) (width : Width) (condition : Condition) (dst : Reg) (src : Operand) (offset : ℤ) (d : Description) → IfOk r (λ is_open. (limits : HelperLimits) (offset : ℤ) → NeverStuck limits (JumpIf width condition dst src offset) d) → IfOk r (λ is_open. NeverStuck limits (JumpIf width condition dst src offset) d)
+jump_never_stuck (Ok is_open) limits width condition dst src offset d never = never limits offset
+jump_never_stuck (Err cause) limits width condition dst src offset d never = never
+
+pub jump_goes : (r : Result Bool Cause) (width : Width) (condition : Condition) (dst : Reg) (src : Operand) (offset : ℤ) (way : Way) (d there : Description) → IfOk r (λ is_open. (offset : ℤ) → Follows (JumpIf width condition dst src offset) way d is_open there) → IfOk r (λ is_open. Follows (JumpIf width condition dst src offset) way d is_open there)
+jump_goes (Ok is_open) width condition dst src offset way d there follows = follows offset
+jump_goes (Err cause) width condition dst src offset way d there follows = follows
+
+pub exit_never_stuck : (r : Result Bool Cause) (limits : HelperLimits) (d : Description) → IfOk r (λ is_open. (limits : HelperLimits) → NeverStuck limits Exit d) → IfOk r (λ is_open. NeverStuck limits Exit d)
+exit_never_stuck (Ok is_open) limits d never = never limits
+exit_never_stuck (Err cause) limits d never = never
+
+number_there : (freeze : ℕ) (kind : Kind) (o : Option ℕ) → IsNumber kind → HoldsKind freeze kind o → is_none o ≡ false
+number_there freeze Unwritten o number holds = absurd number
+number_there freeze (Number scalar) o number holds = ap is_none holds.1
+number_there freeze (Address region offsets) o number holds = absurd number
+number_there freeze (Freeze certainty) o number holds = absurd number
+
+-- nothing is held, the CCB is disposed of, and R0 is a number
+pub exit_unstuck : (limits : HelperLimits) (d : Description) → d.held ≡ Nothing → d.disposed ≡ true → IsNumber (kind_at d R0) → NeverStuck limits Exit d
+exit_unstuck limits d nothing disposed number = λ m (freeze, is).
+    let none_held : m.held ≡ [] = subst (λ (held : Held). HoldsFreeze freeze held m.held) nothing is.held in
+    let held : not (holds_none m.held) ≡ false = ap (λ held. not (holds_none held)) none_held in
+    let waits : not m.disposed ≡ false = ap not (is.disposal ∙ disposed) in
+    let r0 = number_there freeze (kind_at d R0) (register m R0) number (is.registers R0) in
+    ap (exit_is_stuck m) is.calls ∙ (ap (λ b. (b || not m.disposed) || is_none (register m R0)) held ∙ (ap (λ b. b || is_none (register m R0)) waits ∙ r0))

@@ -1,0 +1,11 @@
+use Rattle.std.proofs.Common.{ℕ, ◌≡◌, ◌<◌, ◌≤◌, length}
+use Rattle.reg_domain.specs.Changes.{BecomesZero, at}
+use Rattle.reg_domain.proofs.registers.make_zero.Given as goal
+
+-- those before this one are changed, and the others not yet
+abbrev pub invariant-loop-reg : goal.invariant-loop-reg
+invariant-loop-reg l = record {
+  count : length l.registers ≡ 11;
+  done : (i : ℕ) → i < l.reg → BecomesZero (at l.fn.registers i) (at l.registers i);
+  rest : (i : ℕ) → l.reg ≤ i → at l.registers i ≡ at l.fn.registers i;
+}

@@ -1,0 +1,79 @@
+// Conditional jumps: what one way tells of the registers that are compared, or of the run's freeze. It relies on
+// `comparison` for what is found.
+
+ghost use Rattle.std.specs.Prelude.{◌≡◌, ℕ, ℤ, true, ◌⊎◌, IfOk, IsOkAnd, IsTrue, Some};
+ghost use Rattle.bpf_insn.specs.declared.insn.Insn.TheVariants.{JumpIf};
+ghost use Rattle.bpf_machine.specs.MachineState.{MachineState, register};
+ghost use Rattle.bpf_machine.specs.Step.{operand as operand_of};
+ghost use Rattle.helpers.specs.declared.limits.HelperLimits.{HelperLimits};
+ghost use Rattle.scalar_domain.specs.Scalar.{Has};
+ghost use Rattle.reg_domain.specs.Description.{DescribesWith, kind_at};
+ghost use Rattle.reg_domain.specs.Enough.{ComparesNumbers, IsFreeze, LeavesCompared, LeavesKnown, LeavesTested, TestsFreeze};
+ghost use Rattle.reg_domain.specs.Finds.{Found, IsOfFreeze, IsOfNumbers};
+ghost use Rattle.reg_domain.specs.Follows.{Follows, NeverStuck};
+ghost use Rattle.reg_domain.specs.GoesOn.{is_taken};
+
+use crate::cause::Cause;
+use crate::comparison::{Finding, compared};
+use crate::description::{Description, Held};
+use crate::following::Way;
+use crate::kind::Kind;
+use bpf_insn::{Condition, Operand, Reg, Width};
+use scalar_domain::Scalar;
+
+impl Description {
+    // Goes one way of a jump: the answer is whether any machine does.
+    pub(crate) fn jump_if(
+        &mut self,
+        width: Width,
+        condition: Condition,
+        dst: Reg,
+        src: Operand,
+        way: Way,
+    ) -> Result<bool, Cause>
+        ensures unstuck { IfOk result (λ is_open. (limits : HelperLimits) (offset : ℤ) → NeverStuck limits (JumpIf width condition dst src offset) self.old) }
+        ensures follows { IfOk result (λ is_open. (offset : ℤ) → Follows (JumpIf width condition dst src offset) way self.old is_open self.new) }
+        ensures leaves { (ComparesNumbers self.old dst src ⊎ TestsFreeze self.old width condition dst src) → IsOkAnd result (λ is_open. IsTrue is_open → LeavesCompared self.old width condition dst src way self.new) }
+    {
+        let first = self.kind(dst);
+        let second = self.operand(src);
+        let taken = way.is_taken();
+        let finding = compared(width, condition, taken, first, second, is_constant(src))?;
+        Ok(self.learn(dst, src, finding))
+    }
+
+    // Takes in what is found of the operands: the answer is whether any machine goes that way.
+    fn learn(&mut self, dst: Reg, src: Operand, finding: Finding) -> bool
+        ensures means { (freeze a b : ℕ) (m : MachineState) → DescribesWith freeze self.old m → register m dst ≡ Some a → operand_of m src ≡ Some b → Found freeze a b finding → (result ≡ true) × DescribesWith freeze self.new m }
+        ensures numbers { ComparesNumbers self.old dst src → IsOfNumbers finding → LeavesKnown self.old self.new × (self.new.held ≡ self.old.held) }
+        ensures freeze { (way : Way) → IsOfFreeze (is_taken way) finding → LeavesKnown self.old self.new }
+        ensures tested { (way : Way) → IsOfFreeze (is_taken way) finding → IsFreeze (kind_at self.old dst) → self.old.held ≡ Held.Open → result ≡ true → LeavesTested way dst self.new }
+    {
+        match finding {
+            Finding::NoWay => return false,
+            Finding::Numbers(left, right) => self.narrow(dst, src, left, right),
+            Finding::FreezeIsZero => self.freeze_is_zero(),
+            Finding::FreezeIsSure => self.freeze_is_sure(),
+        }
+        true
+    }
+
+    // The registers that are compared hold one of these numbers each.
+    fn narrow(&mut self, dst: Reg, src: Operand, left: Scalar, right: Scalar)
+        ensures means { (freeze a b : ℕ) (m : MachineState) → DescribesWith freeze self.old m → register m dst ≡ Some a → operand_of m src ≡ Some b → Has left a → Has right b → DescribesWith freeze self.new m }
+        ensures known { ComparesNumbers self.old dst src → LeavesKnown self.old self.new }
+        ensures held { self.new.held ≡ self.old.held }
+    {
+        self.set(dst, Kind::Number(left));
+        if let Operand::Register(reg) = src {
+            self.set(reg, Kind::Number(right));
+        }
+    }
+}
+
+// Whether an operand is the instruction's own constant.
+fn is_constant(src: Operand) -> bool
+    ensures { (value : ℤ) → src ≡ Operand.Immediate value → result ≡ true }
+{
+    matches!(src, Operand::Immediate(_))
+}

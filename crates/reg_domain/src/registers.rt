@@ -1,0 +1,58 @@
+// The kinds of all registers at once. It relies on `kind` and `freeze` for each of them.
+
+ghost use Rattle.std.specs.Prelude.{◌≡◌, ℕ};
+ghost use Rattle.reg_domain.specs.declared.kind.Certainty.TheVariants as certainties;
+ghost use Rattle.reg_domain.specs.Changes.{BecomesSure, BecomesZero, EachBecomes, EachJoins, HoldAtEntry, at};
+ghost use Rattle.reg_domain.specs.Enough.{IsAt};
+
+use crate::kind::{Certainty, Kind};
+use crate::region::{Offsets, Region};
+
+// At the entry of a program: R1 is the context's address, R2 the freeze, and R10 the frame pointer.
+pub(crate) fn entry_registers() -> [Kind; 11]
+    ensures hold { HoldAtEntry result }
+    ensures context { IsAt Region.Context 0 (at result 1) }
+    ensures freeze { at result 2 ≡ Kind.Freeze certainties.Open }
+    ensures frame { IsAt (Region.Frame 0) 512 (at result 10) }
+{
+    let mut registers = [Kind::Unwritten; 11];
+    registers[1] = Kind::Address(Region::Context, Offsets { least: 0, most: 0 });
+    registers[2] = Kind::Freeze(Certainty::Open);
+    registers[10] = Kind::Address(
+        Region::Frame(0),
+        Offsets {
+            least: 512,
+            most: 512,
+        },
+    );
+    registers
+}
+
+// What holds of each register where it holds on one path or on the other.
+pub(crate) fn join_registers(first: &[Kind; 11], second: &[Kind; 11]) -> [Kind; 11]
+    ensures { EachJoins first.now second.now result }
+{
+    let mut joined = [Kind::Unwritten; 11];
+    for reg in 0..11 {
+        joined[reg] = first[reg].join(second[reg]);
+    }
+    joined
+}
+
+// Each copy of the freeze is sure not to be 0.
+pub(crate) fn make_sure(registers: &mut [Kind; 11])
+    ensures { EachBecomes BecomesSure registers.old registers.new }
+{
+    for reg in 0..11 {
+        registers[reg] = registers[reg].sure();
+    }
+}
+
+// Each copy of the freeze is the number 0.
+pub(crate) fn make_zero(registers: &mut [Kind; 11])
+    ensures { EachBecomes BecomesZero registers.old registers.new }
+{
+    for reg in 0..11 {
+        registers[reg] = registers[reg].zero();
+    }
+}

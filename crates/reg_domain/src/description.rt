@@ -155,11 +155,9 @@ impl Description {
         ensures second { Covers other.now result }
         ensures joins { JoinsTo self.now other.now result }
     {
-        Description {
-            registers: join_registers(&self.registers, &other.registers),
-            stack: self.stack.join(&other.stack),
-            held: self.held,
-            disposed: self.disposed,
-        }
+        let mut joined = *self;
+        join_registers(&mut joined.registers, &other.registers);
+        joined.stack = self.stack.join(&other.stack);
+        joined
     }
 }

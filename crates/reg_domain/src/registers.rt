@@ -28,15 +28,13 @@ pub(crate) fn entry_registers() -> [Kind; 11]
     registers
 }
 
-// What holds of each register where it holds on one path or on the other.
-pub(crate) fn join_registers(first: &[Kind; 11], second: &[Kind; 11]) -> [Kind; 11]
-    ensures { EachJoins first.now second.now result }
+// What holds of each register where it holds on this path or on the other.
+pub(crate) fn join_registers(registers: &mut [Kind; 11], other: &[Kind; 11])
+    ensures { EachJoins registers.old other.now registers.new }
 {
-    let mut joined = [Kind::Unwritten; 11];
     for reg in 0..11 {
-        joined[reg] = first[reg].join(second[reg]);
+        registers[reg] = registers[reg].join(other[reg]);
     }
-    joined
 }
 
 // Each copy of the freeze is sure not to be 0.

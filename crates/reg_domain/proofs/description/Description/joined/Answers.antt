@@ -7,8 +7,8 @@ returns-clause-joins c = record {
   equal = λ reg. (c.join_registers.ensures _ (number_below reg)).equal;
   numbers = λ reg. (c.join_registers.ensures _ (number_below reg)).numbers;
   bounds = λ reg. (c.join_registers.ensures _ (number_below reg)).bounds;
-  known = c.join.ensures.knows;
-  depth = c.join.ensures.depth;
+  known = c.join-joined.ensures.knows;
+  depth = c.join-joined.ensures.depth;
   held = refl;
   disposal = refl;
 }

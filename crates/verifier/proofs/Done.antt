@@ -1,7 +1,7 @@
 -- The places before one are done with, and a visit is done with that one too.
-use Rattle.std.proofs.Common.{◌≡◌, true, ℕ, zero, suc, ◌+◌, ◌<◌, ◌≤◌, List, [], length, Option, Some, None, refl, ap, sym, subst, ◌∙◌, arith, inl, inr}
+use Rattle.std.proofs.Common.{refl, ◌≡◌, true, ℕ, zero, suc, ◌++◌, ◌∷◌, ◌-◌, ◌+◌, ◌<◌, ◌≤◌, List, [], length, Option, Some, None, ap, sym, subst, ◌∙◌, arith, inl, inr}
 use Rattle.std.proofs.lemmas.Bool.{cases_eq, cases_lt}
-use Rattle.std.proofs.lemmas.List.{get_or_past}
+use Rattle.std.proofs.lemmas.List.{get_or_past, get_or_append_left, get_or-append_right, length-append}
 use Rattle.bpf_insn.specs.declared.insn.Insn.{Insn}
 use Rattle.bpf_insn.specs.declared.program.Slot.{Slot}
 use Rattle.bpf_insn.specs.Program.{IsProgram, insn_at}
@@ -13,7 +13,6 @@ use Rattle.call_shape.proofs.Places.{begins_inside, begins_behind, begins_first}
 use Rattle.helpers.specs.declared.limits.HelperLimits.{HelperLimits}
 use Rattle.reg_domain.specs.declared.description.Description.{Description}
 use Rattle.reg_domain.specs.declared.following.Way.TheVariants.{FallThrough, Taken}
-use Rattle.reg_domain.specs.Follows.{StepsBy}
 use Rattle.verifier.specs.Arrives.{AllArrive, Arrives, enters}
 use Rattle.verifier.specs.Table.{Table, described, IsKnown, Grows, OnlyBeginnings, IsFirstTable, IsDone, AreDone, HasLed}
 use Rattle.verifier.proofs.Joined.{same_description}
@@ -143,6 +142,26 @@ skipped limits program table place none are = record {
 }
 
 -- at first the entry alone is described
+
+one_none : (place : ℕ) → described (None ∷ []) place ≡ None
+one_none zero = refl
+one_none (suc place) = refl
+
+-- with a place more to which nothing leads
+pub one_place_more : (len : ℕ) (table : Table) → 1 ≤ len → IsFirstTable len table → IsFirstTable (len + 1) (table ++ None ∷ [])
+one_place_more len table some first =
+    let nothing : Option Description = None in
+    record {
+      whole = omega (arith, length-append table (nothing ∷ []), first.whole);
+      entry = first.entry;
+      there = get_or_append_left table (nothing ∷ []) nothing 0 (omega (arith, first.whole, some)) ∙ first.there;
+      entries = first.entries;
+      known = first.known;
+      others = λ place le. elim (cases_lt place len) [
+        | inl lt ↦ get_or_append_left table (nothing ∷ []) nothing place (omega (arith, first.whole, lt)) ∙ first.others place le
+        | inr past ↦ get_or-append_right table (nothing ∷ []) len place nothing first.whole past ∙ one_none (place - len)
+      ];
+    }
 
 first_begun : (program : List Slot) (table : Table) → IsProgram program → IsFirstTable (length program) table → OnlyBeginnings program table
 first_begun program table is first zero d there = begins_first program is

@@ -3,10 +3,9 @@ use Rattle.std.proofs.Common.{◌≡◌, ℕ, ◌<◌, List, length, Some, None,
 use Rattle.std.specs.Prelude.{slice_set}
 use Rattle.std.proofs.lemmas.Bool.{cases_eq}
 use Rattle.bpf_insn.specs.declared.program.Slot.{Slot}
-use Rattle.bpf_machine.specs.MachineState.{MachineState}
 use Rattle.reg_domain.specs.declared.description.Description.{Description}
 use Rattle.reg_domain.specs.Description.{Describes, Covers}
-use Rattle.verifier.specs.Table.{Table, described, IsKnown, Grows, HasJoined}
+use Rattle.verifier.specs.Table.{Table, described, HasJoined}
 use Rattle.verifier.specs.Arrives.{Arrives, AllArrive}
 
 pub same_description : (x y : Description) → Some x ≡ Some y → x ≡ y

@@ -5,3 +5,9 @@ pub mod Done
 pub mod Sound
 pub mod Within
 pub mod Told
+pub mod PlainInsns
+pub mod PlainShape
+pub mod PlainKnown
+pub mod PlainList
+pub mod PlainParts
+pub mod PlainGoes

@@ -1,11 +1,10 @@
 -- No run of a safe program is longer than the longest static path.
-use Rattle.std.proofs.Common.{◌≡◌, true, false, ℕ, zero, suc, ◌+◌, ◌≤◌, List, [], Option, Some, None, refl, ap, sym, subst, ◌∙◌, arith, inl, inr}
-use Rattle.std.specs.Option.{option_and_then}
+use Rattle.std.proofs.Common.{◌≡◌, true, false, ℕ, zero, suc, ◌+◌, ◌≤◌, List, [], Option, Some, None, refl, ap, subst, ◌∙◌, arith, inr}
 use Rattle.bpf_insn.specs.declared.insn.Insn.{Insn}
 use Rattle.bpf_insn.specs.declared.program.Slot.{Slot}
 use Rattle.bpf_insn.specs.Program.{IsProgram, insn_at}
 use Rattle.bpf_machine.specs.MachineState.{MachineState}
-use Rattle.bpf_machine.specs.Reached.{Steps, Reached, Safe, Within}
+use Rattle.bpf_machine.specs.Reached.{Reached, Safe, Within}
 use Rattle.bpf_machine.specs.Stuck.{is_stuck_at}
 use Rattle.call_shape.specs.Shape.{IsLawful}
 use Rattle.call_shape.specs.StaticPath.{outermost, StaticPath}

@@ -1,4 +1,4 @@
-use Rattle.std.proofs.Common.{◌≡◌, ◌-◌, ◌≤◌, ◌∷◌, Some, None, length, replicate}
+use Rattle.std.proofs.Common.{◌≤◌}
 use Rattle.std.specs.Prelude.{vec_capacity}
 use Rattle.verifier.specs.Table.{IsFirstTable}
 use Rattle.verifier.proofs.pass.first_table.Given as goal

@@ -1,6 +1,5 @@
 use Rattle.std.proofs.Common.{◌≡◌, Some, None, sym, subst, ◌∙◌}
 use Rattle.std.proofs.lemmas.List.{get_or_default}
-use Rattle.reg_domain.specs.declared.description.Description.{Description}
 use Rattle.reg_domain.specs.Description.{Covers}
 use Rattle.reg_domain.specs.Enough.{Agree, JoinsTo}
 use Rattle.verifier.specs.Arrives.{Arrives, joins}

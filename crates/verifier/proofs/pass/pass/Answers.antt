@@ -1,4 +1,4 @@
-use Rattle.std.proofs.Common.{◌≡◌, length, subst, sym}
+use Rattle.std.proofs.Common.{length, subst, sym}
 use Rattle.std.proofs.lemmas.Bool.{false≢true}
 use Rattle.bpf_insn.specs.Program.{IsProgram}
 use Rattle.bpf_machine.specs.Reached.{Safe}

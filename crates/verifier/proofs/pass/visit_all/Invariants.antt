@@ -1,4 +1,3 @@
-use Rattle.std.proofs.Common.{◌≡◌, length}
 use Rattle.verifier.specs.Arrives.{AllArrive, NeverLacks}
 use Rattle.verifier.specs.Table.{AreDone}
 use Rattle.verifier.proofs.pass.visit_all.Given as goal

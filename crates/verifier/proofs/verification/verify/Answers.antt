@@ -5,7 +5,11 @@ use Rattle.bpf_machine.specs.Reached.{Safe}
 use Rattle.call_shape.specs.Shape.{IsLawful}
 use Rattle.call_shape.specs.StaticPath.{outermost, StaticPath}
 use Rattle.verifier.specs.Arrives.{LacksMemoryOrMore}
-use Rattle.verifier.proofs.Told.{told_of_shape}
+use Rattle.verifier.proofs.Told.{told_of_shape, only_memory}
+use Rattle.verifier.proofs.PlainGoes.{plain_never_lacks}
+use Rattle.verifier.proofs.PlainShape.{plain_lawful}
+use Rattle.verifier.specs.Plain.{IsPlain}
+use Rattle.or_memory.specs.declared.OrMemory.TheVariants.{OutOfMemory}
 use Rattle.verifier.proofs.Within.{safe_within}
 use Rattle.verifier.proofs.verification.verify.Goals as goal
 
@@ -14,6 +18,16 @@ returns-in_err-pass-clause-shape c =
     let shape_is : c.in-Ok.shape ≡ c.args.program.now = c.in-Ok.ensures.value in
     let fails = subst (λ (p : List Slot). LacksMemoryOrMore p c.in_err-pass.field-0.0) shape_is c.in_err-pass.ensures.fails in
     let told = told_of_shape c.args.program.now c.in_err-pass.field-0.0 c.in-Ok.ensures.lawful fails in
+    search (rules, told)
+
+pub returns-in-Err-clause-plain : goal.returns-in-Err-clause-plain
+returns-in-Err-clause-plain c = λ plain. absurd (plain_lawful c.args.program.now c.in-Err.fault plain c.in-Err.ensures.fault)
+
+pub returns-in_err-pass-clause-plain : goal.returns-in_err-pass-clause-plain
+returns-in_err-pass-clause-plain c =
+    let shape_is : c.in-Ok.shape ≡ c.args.program.now = c.in-Ok.ensures.value in
+    let fails = subst (λ (p : List Slot). LacksMemoryOrMore p c.in_err-pass.field-0.0) shape_is c.in_err-pass.ensures.fails in
+    let told : IsPlain c.args.program.now → c.in_err-pass.field-0.0 ≡ OutOfMemory = λ is. only_memory c.args.program.now c.in_err-pass.field-0.0 (plain_never_lacks c.args.program.now is) fails in
     search (rules, told)
 
 pub new-requires : goal.new-requires

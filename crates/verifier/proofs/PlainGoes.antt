@@ -1,216 +1,308 @@
--- Each instruction of a plain program passes where what holds of its place holds.
-use Rattle.std.proofs.Common.{◌≡◌, ℕ, ℤ, pos, ◌+◌, ◌-◌, ◌<◌, ◌≤◌, Bool, true, ◌&&◌, if◌then◌else◌, leb, List, ◌∷◌, length, Option, Some, None, Ok, refl, ap, sym, subst, ◌∙◌, arith, ◌⊎◌, inl, inr, get_or-set_same}
-use Rattle.std.specs.Prelude.{slice_get, replicate}
+-- Of a plain program enough is known everywhere: at each place what holds there is enough for its instruction, and what
+-- is known behind that holds where it leads.
+use Rattle.std.proofs.Common.{◌≡◌, ℕ, ℤ, ◌+◌, ◌≤◌, true, false, List, length, Some, None, refl, ap, sym, subst, ◌∙◌, arith, ◌⊎◌, inl, inr}
+use Rattle.std.specs.Prelude.{pos, slice_get}
 use Rattle.std.specs.Int.{w64, cast_unsigned}
-use Rattle.std.proofs.Math.ListN.{length-set}
-use Rattle.std.proofs.lemmas.Bool.{and_from, cond-true, cond-false, le-leb}
+use Rattle.std.proofs.lemmas.Bool.{ne_eqb}
 use Rattle.bpf_insn.specs.declared.insn.Insn.{Insn}
-use Rattle.bpf_insn.specs.declared.insn.Insn.TheVariants.{Alu, JumpIf, Call, Exit}
-use Rattle.bpf_insn.specs.declared.insn.Operand.TheVariants.{Immediate, Register}
+use Rattle.bpf_insn.specs.declared.insn.Insn.TheVariants.{Alu, InPlace, SignExtend, JumpIf, Jump, LoadImmediate, Load, Store, Call, Exit}
+use Rattle.bpf_insn.specs.declared.insn.Operand.TheVariants.{Immediate}
 use Rattle.bpf_insn.specs.declared.insn.Callee.TheVariants.{Helper}
 use Rattle.bpf_insn.specs.declared.insn.Width.TheVariants.{Bits64}
 use Rattle.bpf_insn.specs.declared.insn.AluOp.TheVariants.{Mov}
 use Rattle.bpf_insn.specs.declared.insn.Condition.TheVariants.{Equal}
 use Rattle.bpf_insn.specs.declared.reg.Reg.{Reg}
-use Rattle.bpf_insn.specs.declared.reg.Reg.TheVariants.{R0, R1, R2}
+use Rattle.bpf_insn.specs.declared.reg.Reg.TheVariants.{R0, R1, R2, R3, R4, R5, R6, R7, R8, R9, R10}
 use Rattle.bpf_insn.specs.declared.program.Slot.{Slot}
+use Rattle.bpf_insn.specs.declared.program.TheConstants.{MAX_SLOTS}
+use Rattle.bpf_insn.specs.Reg.{number_of}
 use Rattle.bpf_insn.specs.Program.{insn_at}
-use Rattle.call_shape.specs.Shape.{behind}
-use Rattle.helpers.specs.declared.limits.HelperLimits.{HelperLimits}
-use Rattle.helpers.specs.declared.helper.Helper.TheVariants as helpers
-use Rattle.helpers.specs.Table.{asks}
-use Rattle.verifier.specs.declared.refusal.Cause.{Cause}
-use Rattle.verifier.specs.declared.refusal.Cause.TheVariants.{ArgumentAgainstRule}
-use Rattle.verifier.specs.declared.kind.Kind.{Kind}
-use Rattle.verifier.specs.declared.kind.Kind.TheVariants.{Unwritten, Number}
-use Rattle.verifier.specs.declared.description.Description.{Description}
-use Rattle.verifier.specs.RegisterKind.{exactly}
-use Rattle.verifier.specs.Knowledge.{entry_description, kind_at, with_kind, zero_freeze, released_freeze, requeued}
-use Rattle.verifier.specs.Flows.{goes_on, goes_both, ends}
-use Rattle.verifier.specs.CallCheck.{known_at, argument_fault, run_fault, unless}
-use Rattle.verifier.specs.InsnCheck.{exit_held, exit_result, check}
-use Rattle.verifier.specs.SlotPass.{Table, pass}
-use Rattle.verifier.specs.Plain.{ComesUnwritten, IsPlain, requeues}
-use Rattle.verifier.proofs.Kept.{six_replaced}
-use Rattle.verifier.proofs.NeverFails.{Goes, never_fails}
-use Rattle.verifier.proofs.PlainFits.{IsListDescription, Within, list_goes}
-use Rattle.verifier.proofs.PlainPass.{AtRequeue, AtAnswer, AtExit, tested, copied, PlainAt, test_fits, copy_fits, release_fits, list_fits, requeue_fits, answer_fits, exit_fits, part_of, plain_joins}
-use Rattle.verifier.proofs.PlainInsns.{list_narrow, at_start, at_list, at_end}
+use Rattle.bpf_insn.specs.Target.{target}
+use Rattle.call_shape.specs.StaticPath.{outermost}
+use Rattle.reg_domain.specs.declared.description.Description.{Description}
+use Rattle.reg_domain.specs.declared.following.Way.{Way}
+use Rattle.reg_domain.specs.declared.following.Way.TheVariants.{FallThrough, Taken}
+use Rattle.reg_domain.specs.declared.kind.Certainty.TheVariants as certainties
+use Rattle.reg_domain.specs.declared.kind.Kind.{Kind}
+use Rattle.reg_domain.specs.declared.kind.Kind.TheVariants.{Unwritten, Number, Address, Freeze}
+use Rattle.reg_domain.specs.declared.region.Region.TheVariants.{Context}
+use Rattle.reg_domain.specs.Description.{kind_at}
+use Rattle.reg_domain.specs.Kinds.{IsAtMost, IsKnown}
+use Rattle.reg_domain.specs.Enough.{Enough, Leaves, IsAt, IsEntryKnown, TestsFreeze, GivesBack, Requeues}
+use Rattle.verifier.specs.Arrives.{Arrives, enters, follows, joins, NeverLacks, goes_to}
+use Rattle.verifier.specs.Plain.{IsContextLoad, IsListed, IsPlain, is_free, is_kept, writes_register}
+use Rattle.verifier.proofs.PlainInsns.{length_plain, test, copy, release, Stands, loads_there, tests, copies, gives_back, lists, sets_retries, requeues_there, sets_answer, exits, stands}
+use Rattle.verifier.proofs.PlainShape.{test_target}
+use Rattle.verifier.proofs.PlainKnown.{IsStep, comes_on, free_not_one, computed_on, number_on, known_on, called_on}
+use Rattle.verifier.proofs.PlainList.{AtList, ReadsWritten, list_enough, list_leads, list_follows}
+use Rattle.verifier.proofs.PlainParts.{AtLoad, AtCopy, AtRelease, AtRequeue, AtAnswer, PlainAt, load_fits, copy_fits, release_fits, list_fits, requeue_fits, answer_fits, exit_fits, behind_fits, plain_joined, plain_agree}
 
-abbrev pub test : Insn
-test = JumpIf Bits64 Equal R2 (Immediate (pos 0)) (pos 2)
+-- where an instruction leads that does not jump
 
-abbrev pub copy : Insn
-copy = Alu Bits64 Mov R1 (Register R2)
+same_slot : (a b : ℕ) → Some a ≡ Some b → a ≡ b
+same_slot a b e = cc
 
-abbrev pub release : Insn
-release = Call (Helper (pos 2))
+nowhere : (to : ℕ) {A : Type 0} → None ≡ Some to → A
+nowhere to e = absurd cc
 
-some_is : (a b : Insn) (o : Option Insn) → o ≡ Some a → o ≡ Some b → a ≡ b
-some_is a b o e f = cc
+-- loads
 
--- an instruction and a description that are known
-goes_as : (limits : HelperLimits) (Fits : ℕ → Description → Type 0) (program : List Slot) (place : ℕ) (insn known : Insn) (d e : Description) → insn_at program place ≡ Some insn → insn_at program place ≡ Some known → d ≡ e → Goes limits Fits place known e → Goes limits Fits place insn d
-goes_as limits Fits program place insn known d e at there is goes =
-    subst (λ (x : Description). Goes limits Fits place insn x) (sym is) (subst (λ (i : Insn). Goes limits Fits place i e) (some_is known insn (insn_at program place) there at) goes)
+kept_free : (reg : Reg) → is_kept reg ≡ true → (is_free reg ≡ true) × (6 ≤ number_of reg) × (number_of reg ≤ 9)
+kept_free R6 kept = (refl, omega arith, omega arith)
+kept_free R7 kept = (refl, omega arith, omega arith)
+kept_free R8 kept = (refl, omega arith, omega arith)
+kept_free R9 kept = (refl, omega arith, omega arith)
+kept_free R0 kept = absurd (let bad : false ≡ true = kept in cc)
+kept_free R1 kept = absurd (let bad : false ≡ true = kept in cc)
+kept_free R2 kept = absurd (let bad : false ≡ true = kept in cc)
+kept_free R3 kept = absurd (let bad : false ≡ true = kept in cc)
+kept_free R4 kept = absurd (let bad : false ≡ true = kept in cc)
+kept_free R5 kept = absurd (let bad : false ≡ true = kept in cc)
+kept_free R10 kept = absurd (let bad : false ≡ true = kept in cc)
 
--- a check that leads on to the next slot alone
-goes_next : (limits : HelperLimits) (Fits : ℕ → Description → Type 0) (place : ℕ) (insn : Insn) (d next : Description) → check limits place insn d ≡ Ok (goes_on next) → Fits (behind place insn) next → Goes limits Fits place insn d
-goes_next limits Fits place insn d next passes fits = record {
-  flow = goes_on next;
-  passes = passes;
-  next = λ on e. let same : next ≡ on = cc in subst (Fits (behind place insn)) same fits;
-  jump = λ to on e. absurd cc;
-}
+load_enough : (program : List Slot) (place : ℕ) (insn : Insn) (d : Description) → IsContextLoad insn → AtLoad program place d → Enough insn d
+load_enough program place (Load form dst src offset) d load is = inl (record {
+  at = 0;
+  base = subst (λ (reg : Reg). IsAt Context 0 (kind_at d reg)) (sym load.1) is.context;
+  inside = load.2;
+})
+load_enough program place (Alu width op dst src) d load is = absurd load
+load_enough program place (InPlace op dst) d load is = absurd load
+load_enough program place (SignExtend extension dst src) d load is = absurd load
+load_enough program place (JumpIf width condition dst src offset) d load is = absurd load
+load_enough program place (Jump distance) d load is = absurd load
+load_enough program place (LoadImmediate dst value) d load is = absurd load
+load_enough program place (Store size dst src offset) d load is = absurd load
+load_enough program place (Call callee) d load is = absurd load
+load_enough program place Exit d load is = absurd load
 
-pair_is : (a b : ℕ × Description) → Some a ≡ Some b → a ≡ b
-pair_is a b e = cc
+load_follows : (program : List Slot) (place to : ℕ) (insn : Insn) (way : Way) (d there : Description) → IsContextLoad insn → insn_at program place ≡ Some insn → goes_to place insn way ≡ Some to → Leaves insn way d there → AtLoad program place d → (to ≡ place + 1) × AtLoad program to there
+load_follows program place to (Load form dst src offset) Taken d there load at goes leaves is = nowhere to goes
+load_follows program place to (Load form dst src offset) FallThrough d there load at goes leaves is =
+    let insn = Load form dst src offset in
+    let same : to ≡ place + 1 = sym (same_slot (place + 1) to goes) in
+    let step : IsStep program place insn to = record { at = at; leads = ap outermost same } in
+    let kept = kept_free dst load.0 in
+    let only = leaves.only in (
+      same,
+      record {
+        start = record {
+          common = number_on program place to insn dst d there step (λ reg apart. apart) (λ byte. refl) kept.0 only leaves.number is.start.common;
+          low = λ reg free lt. comes_on (writes_register reg) program place to insn step (ne_eqb (number_of dst) (number_of reg) (λ e. omega (arith, e, lt, kept.1))) (is.start.low reg free lt);
+        };
+        context = only.others R1 (ne_eqb 1 (number_of dst) (λ e. omega (arith, e, kept.1))) ∙ is.context;
+        freeze = only.others R2 (ne_eqb 2 (number_of dst) (λ e. omega (arith, e, kept.1))) ∙ is.freeze;
+        held = only.held ∙ is.held;
+      },
+    )
+load_follows program place to (Alu width op dst src) way d there load at goes leaves is = absurd load
+load_follows program place to (InPlace op dst) way d there load at goes leaves is = absurd load
+load_follows program place to (SignExtend extension dst src) way d there load at goes leaves is = absurd load
+load_follows program place to (JumpIf width condition dst src offset) way d there load at goes leaves is = absurd load
+load_follows program place to (Jump distance) way d there load at goes leaves is = absurd load
+load_follows program place to (LoadImmediate dst value) way d there load at goes leaves is = absurd load
+load_follows program place to (Store size dst src offset) way d there load at goes leaves is = absurd load
+load_follows program place to (Call callee) way d there load at goes leaves is = absurd load
+load_follows program place to Exit way d there load at goes leaves is = absurd load
 
--- which instructions stand at the start, and so at slots 0 to 2
-pub record Starts (program : List Slot) : Type 0 where
-  pub first : insn_at program 0 ≡ Some test
-  pub second : insn_at program 1 ≡ Some copy
-  pub third : insn_at program 2 ≡ Some release
+-- the freeze is given back
 
--- no path to the list has written a register of the list
-by_jump : (program : List Slot) (reg : Reg) → Starts program → ComesUnwritten program reg 1 3
-by_jump program reg starts = (0, test, refl, starts.first, inr refl, λ le. absurd (omega (arith, le)))
+tests_freeze : (program : List Slot) (place : ℕ) (d : Description) → AtLoad program place d → TestsFreeze d Bits64 Equal R2 (Immediate (pos 0))
+tests_freeze program place d is = record { all = refl; equal = refl; zero_constant = refl; freeze = (certainties.Open, is.freeze) }
 
-by_release : (program : List Slot) (reg : Reg) → Starts program → ComesUnwritten program reg 3 3
-by_release program reg starts =
-    (2, release, (1, copy, (0, test, refl, starts.first, inl refl, λ le. absurd (omega (arith, le))), starts.second, refl, λ le. absurd (omega (arith, le))), starts.third, refl, λ le. absurd (omega (arith, le)))
+gives_back_freeze : (program : List Slot) (place : ℕ) (d : Description) → AtRelease program place d → GivesBack d (pos 2)
+gives_back_freeze program place d is = record { release = refl; freeze = is.freeze; held = is.held }
 
-test_goes : (limits : HelperLimits) (program : List Slot) (size : ℕ) → Starts program → Goes limits (PlainAt program size) 0 test entry_description
-test_goes limits program size starts = record {
-  flow = goes_both tested 3 (zero_freeze entry_description);
-  passes = refl;
-  next = λ on e. let same : tested ≡ on = cc in subst (PlainAt program size 1) same (copy_fits program size);
-  jump = λ to on e. subst (λ (p : ℕ × Description). PlainAt program size p.0 p.1) (pair_is (3, zero_freeze entry_description) (to, on) e)
-      (list_fits program size 3 (zero_freeze entry_description) (omega arith) (omega arith) (record { held = refl; waits = refl; size = refl; known = λ reg free. inr (1, by_jump program reg starts) }));
-}
+test_follows : (program : List Slot) (first size place to : ℕ) (way : Way) (d there : Description) → place ≡ first → place ≤ MAX_SLOTS → insn_at program place ≡ Some test → goes_to place test way ≡ Some to → Leaves test way d there → AtLoad program place d → PlainAt program first size to there
+test_follows program first size place to FallThrough d there here le at goes leaves is =
+    let same : to ≡ place + 1 = sym (same_slot (place + 1) to goes) in
+    let step : IsStep program place test to = record { at = at; leads = inl (ap outermost same) } in
+    let tested = leaves.tested (tests_freeze program place d is) is.held in
+    copy_fits program first size to there (omega (arith, same, here)) (record {
+      start = record {
+        common = known_on program place to test d there step (λ reg. refl) (λ byte. refl) leaves.known is.start.common;
+        low = λ reg free lt. comes_on (writes_register reg) program place to test step refl (is.start.low reg free lt);
+      };
+      freeze = tested.0;
+      held = tested.1;
+    })
+test_follows program first size place to Taken d there here le at goes leaves is =
+    let same : to ≡ target place (pos 2) = sym (same_slot (target place (pos 2)) to goes) in
+    let step : IsStep program place test to = record { at = at; leads = inr (ap outermost same) } in
+    let end : to ≡ place + 3 = same ∙ test_target place le in
+    list_fits program first size to there (omega (arith, end, here)) (omega (arith, end, here)) (record {
+      common = known_on program place to test d there step (λ reg. refl) (λ byte. refl) leaves.known is.start.common;
+      held = leaves.tested (tests_freeze program place d is) is.held;
+    })
 
-release_goes : (limits : HelperLimits) (program : List Slot) (size : ℕ) → Starts program → Goes limits (PlainAt program size) 2 release copied
-release_goes limits program size starts =
-    goes_next limits (PlainAt program size) 2 release copied (released_freeze copied) refl
-    (list_fits program size 3 (released_freeze copied) (omega arith) (omega arith) (record { held = refl; waits = refl; size = refl; known = λ reg free. inr (3, by_release program reg starts) }))
+copy_follows : (program : List Slot) (first size place to : ℕ) (way : Way) (d there : Description) → place ≡ first + 1 → insn_at program place ≡ Some copy → goes_to place copy way ≡ Some to → Leaves copy way d there → AtCopy program place d → PlainAt program first size to there
+copy_follows program first size place to Taken d there here at goes leaves is = nowhere to goes
+copy_follows program first size place to FallThrough d there here at goes leaves is =
+    let same : to ≡ place + 1 = sym (same_slot (place + 1) to goes) in
+    let step : IsStep program place copy to = record { at = at; leads = ap outermost same } in
+    release_fits program first size to there (omega (arith, same, here)) (record {
+      start = record {
+        common = computed_on program place to copy R1 d there step (λ reg apart. apart) (λ byte. refl) refl leaves.only (λ reg free e. absurd (free_not_one reg free e)) is.start.common;
+        low = λ reg free lt. comes_on (writes_register reg) program place to copy step (ne_eqb 1 (number_of reg) (free_not_one reg free)) (is.start.low reg free lt);
+      };
+      freeze = leaves.moved refl refl ∙ is.freeze;
+      held = leaves.only.held ∙ is.held;
+    })
 
--- what the list lets on fits
-listed_fits : (limits : HelperLimits) (program : List Slot) (size place : ℕ) (insn : Insn) (d : Description) → 3 ≤ place → Goes limits (Within program place (3 + size)) place insn d → Goes limits (PlainAt program size) place insn d
-listed_fits limits program size place insn d above goes = record {
-  flow = goes.flow;
-  passes = goes.passes;
-  next = λ on e. let it = goes.next on e in list_fits program size (behind place insn) on (omega (arith, above, it.on)) it.up_to it.is;
-  jump = λ to on e. let it = goes.jump to on e in list_fits program size to on (omega (arith, above, it.on)) it.up_to it.is;
-}
+release_follows : (program : List Slot) (first size place to : ℕ) (way : Way) (d there : Description) → place ≡ first + 2 → insn_at program place ≡ Some release → goes_to place release way ≡ Some to → Leaves release way d there → AtRelease program place d → PlainAt program first size to there
+release_follows program first size place to Taken d there here at goes leaves is = nowhere to goes
+release_follows program first size place to FallThrough d there here at goes leaves is =
+    let same : to ≡ place + 1 = sym (same_slot (place + 1) to goes) in
+    let step : IsStep program place release to = record { at = at; leads = ap outermost same } in
+    let released = leaves.released (gives_back_freeze program place d is) in
+    list_fits program first size to there (omega (arith, same, here)) (omega (arith, same, here)) (record {
+      common = called_on program place to (pos 2) d there step leaves released.1 is.start.low is.start.common;
+      held = released.0;
+    })
 
--- with a register of another kind
-new_kind : (d : Description) (kind : Kind) → length d.registers ≡ 11 → kind_at (with_kind d R1 kind) R1 ≡ kind
-new_kind d kind size = get_or-set_same d.registers 1 kind Unwritten (omega (arith, size))
-
-new_answer : (d : Description) (kind : Kind) → length d.registers ≡ 11 → kind_at (with_kind d R0 kind) R0 ≡ kind
-new_answer d kind size = get_or-set_same d.registers 0 kind Unwritten (omega (arith, size))
+-- behind the list
 
 -- the immediates 0 and 1 are words of at most 1
 few_words : (n : ℤ) → (n ≡ pos 0) ⊎ (n ≡ pos 1) → cast_unsigned w64 n ≤ 1
 few_words n (inl none) = subst (λ (x : ℤ). cast_unsigned w64 x ≤ 1) (sym none) (omega arith)
 few_words n (inr one) = subst (λ (x : ℤ). cast_unsigned w64 x ≤ 1) (sym one) (omega arith)
 
-retries_go : (limits : HelperLimits) (program : List Slot) (size place : ℕ) (n : ℤ) (d : Description) → (n ≡ pos 0) ⊎ (n ≡ pos 1) → place ≡ 3 + size → IsListDescription program place d → Goes limits (PlainAt program size) place (Alu Bits64 Mov R1 (Immediate n)) d
-retries_go limits program size place n d few at is =
-    let kind : Kind = exactly (cast_unsigned w64 n) in
-    goes_next limits (PlainAt program size) place (Alu Bits64 Mov R1 (Immediate n)) d (with_kind d R1 kind) refl
-    (requeue_fits program size (place + 1) (with_kind d R1 kind) (omega (arith, at)) (record {
-      ending = record { held = is.held; size = length-set d.registers 1 kind ∙ is.size };
-      waits = is.waits;
-      least = _;
-      most = _;
-      number = new_kind d kind is.size;
-      few = few_words n few;
-    }))
+known_at_most : (n most : ℕ) (kind : Kind) → n ≤ most → IsKnown n kind → IsAtMost most kind
+known_at_most n most (Number scalar) le known = omega (arith, le, known.1)
+known_at_most n most Unwritten le known = known
+known_at_most n most (Address region offsets) le known = known
+known_at_most n most (Freeze certainty) le known = known
 
-requeue_goes : (limits : HelperLimits) (program : List Slot) (size place : ℕ) (d : Description) → place ≡ 4 + size → AtRequeue d → Goes limits (PlainAt program size) place (Call (Helper (pos 4))) d
-requeue_goes limits program size place d at is =
-    let kind : known_at d (asks helpers.Requeue) ≡ record { first = Number is.least is.most; second = exactly 0; third = exactly 0 } = ap (λ (k : Kind). record { first = k; second = exactly 0; third = exactly 0 }) is.number in
-    let fit : leb 0 is.least && leb is.most 1 ≡ true = and_from _ _ (le-leb 0 is.least (omega arith)) (le-leb is.most 1 is.few) in
-    let arguments : argument_fault limits d.held (asks helpers.Requeue) (known_at d (asks helpers.Requeue)) ≡ None =
-    ap (argument_fault limits d.held (asks helpers.Requeue)) kind ∙ ap (λ (b : Bool). if b && true then None else Some ArgumentAgainstRule) fit in
-    let run : run_fault d helpers.Requeue ≡ None = cond-false d.disposed _ _ is.waits in
-    let passes : check limits place (Call (Helper (pos 4))) d ≡ Ok (goes_on (requeued d)) =
-    ap (λ (fault : Option Cause). unless fault (unless (run_fault d helpers.Requeue) (Ok (goes_on (requeued d))))) arguments
-    ∙ ap (λ (fault : Option Cause). unless fault (Ok (goes_on (requeued d)))) run in
-    goes_next limits (PlainAt program size) place (Call (Helper (pos 4))) d (requeued d) passes
-    (answer_fits program size (place + 1) (requeued d) (omega (arith, at)) (record {
-      ending = record { held = is.ending.held; size = six_replaced (exactly 0 ∷ replicate 5 Unwritten) d.registers refl is.ending.size };
-      done = refl;
-    }))
+retries_follow : (program : List Slot) (first size place to : ℕ) (n : ℤ) (way : Way) (d there : Description) → place ≡ first + 3 + size → (n ≡ pos 0) ⊎ (n ≡ pos 1) → goes_to place (Alu Bits64 Mov R1 (Immediate n)) way ≡ Some to → Leaves (Alu Bits64 Mov R1 (Immediate n)) way d there → AtList program place d → PlainAt program first size to there
+retries_follow program first size place to n Taken d there here few goes leaves is = nowhere to goes
+retries_follow program first size place to n FallThrough d there here few goes leaves is =
+    let same : to ≡ place + 1 = sym (same_slot (place + 1) to goes) in
+    requeue_fits program first size to there (omega (arith, same, here)) (record {
+      held = leaves.only.held ∙ is.held;
+      waits = leaves.only.disposal ∙ is.common.waits;
+      depth = ap length leaves.only.stack ∙ is.common.depth;
+      few = known_at_most (cast_unsigned w64 n) 1 (kind_at there R1) (few_words n few) (leaves.moved refl refl);
+    })
 
-answer_goes : (limits : HelperLimits) (program : List Slot) (size place : ℕ) (k : ℤ) (d : Description) → place ≡ 5 + size → AtAnswer d → Goes limits (PlainAt program size) place (Alu Bits64 Mov R0 (Immediate k)) d
-answer_goes limits program size place k d at is =
-    let kind : Kind = exactly (cast_unsigned w64 k) in
-    goes_next limits (PlainAt program size) place (Alu Bits64 Mov R0 (Immediate k)) d (with_kind d R0 kind) refl
-    (exit_fits program size (place + 1) (with_kind d R0 kind) (omega (arith, at)) (record {
-      answer = record { ending = record { held = is.ending.held; size = length-set d.registers 0 kind ∙ is.ending.size }; done = is.done };
-      number = (_, _, new_answer d kind is.ending.size);
-    }))
+requeues_ccb : (d : Description) → AtRequeue d → Requeues d (pos 4)
+requeues_ccb d is = record { requeue = refl; retries = is.few; waits_not = is.waits }
 
-exit_goes : (limits : HelperLimits) (program : List Slot) (size place : ℕ) (d : Description) → AtExit d → Goes limits (PlainAt program size) place Exit d
-exit_goes limits program size place d is = record {
-  flow = ends;
-  passes = ap (exit_held d) is.answer.ending.held ∙ (cond-true d.disposed _ _ is.answer.done ∙ ap exit_result is.number.2);
-  next = λ on e. absurd cc;
-  jump = λ to on e. absurd cc;
-}
+requeue_follows : (program : List Slot) (first size place to : ℕ) (way : Way) (d there : Description) → place ≡ first + 4 + size → goes_to place (Call (Helper (pos 4))) way ≡ Some to → Leaves (Call (Helper (pos 4))) way d there → AtRequeue d → PlainAt program first size to there
+requeue_follows program first size place to Taken d there here goes leaves is = nowhere to goes
+requeue_follows program first size place to FallThrough d there here goes leaves is =
+    let same : to ≡ place + 1 = sym (same_slot (place + 1) to goes) in
+    let requeued = leaves.requeued (requeues_ccb d is) in
+    answer_fits program first size to there (omega (arith, same, here)) (record {
+      held = requeued.0 ∙ is.held;
+      done = requeued.1;
+      depth = ap length leaves.stack ∙ is.depth;
+    })
 
--- at a slot that is known by its number
-at_slot : (limits : HelperLimits) (Fits : ℕ → Description → Type 0) (program : List Slot) (place slot : ℕ) (insn known : Insn) (d e : Description) → place ≡ slot → insn_at program place ≡ Some insn → insn_at program slot ≡ Some known → d ≡ e → Goes limits Fits slot known e → Goes limits Fits place insn d
-at_slot limits Fits program place slot insn known d e same at there is goes =
-    goes_as limits Fits program place insn known d e at (ap (insn_at program) same ∙ there) is (subst (λ (p : ℕ). Goes limits Fits p known e) (sym same) goes)
+answer_follows : (program : List Slot) (first size place to : ℕ) (k : ℤ) (way : Way) (d there : Description) → place ≡ first + 5 + size → goes_to place (Alu Bits64 Mov R0 (Immediate k)) way ≡ Some to → Leaves (Alu Bits64 Mov R0 (Immediate k)) way d there → AtAnswer d → PlainAt program first size to there
+answer_follows program first size place to k Taken d there here goes leaves is = nowhere to goes
+answer_follows program first size place to k FallThrough d there here goes leaves is =
+    let same : to ≡ place + 1 = sym (same_slot (place + 1) to goes) in
+    exit_fits program first size to there (omega (arith, same, here)) (record {
+      answer = record {
+        held = leaves.only.held ∙ is.held;
+        done = leaves.only.disposal ∙ is.done;
+        depth = ap length leaves.only.stack ∙ is.depth;
+      };
+      number = leaves.number tt;
+    })
 
--- what stands at the start and behind the list
-pub starts_of : (program : List Slot) (is : IsPlain program) → Starts program
-starts_of program is =
-    let narrow = list_narrow is.list is.listed in
-    record {
-      first = ap (λ (p : List Slot). insn_at p 0) is.is ∙ at_start is.list is.retries is.answer narrow 0 (omega arith);
-      second = ap (λ (p : List Slot). insn_at p 1) is.is ∙ at_start is.list is.retries is.answer narrow 1 (omega arith);
-      third = ap (λ (p : List Slot). insn_at p 2) is.is ∙ at_start is.list is.retries is.answer narrow 2 (omega arith);
-    }
+exit_follows : (program : List Slot) (first size place to : ℕ) (way : Way) (there : Description) → place ≡ first + 6 + size → goes_to place Exit way ≡ Some to → PlainAt program first size to there
+exit_follows program first size place to Taken there here goes = nowhere to goes
+exit_follows program first size place to FallThrough there here goes =
+    let same : to ≡ place + 1 = sym (same_slot (place + 1) to goes) in
+    behind_fits program first size to there (omega (arith, same, here))
 
-behind_list : (limits : HelperLimits) (Fits : ℕ → Description → Type 0) (program : List Slot) (is : IsPlain program) (place j : ℕ) (insn known : Insn) (d : Description) → insn_at program place ≡ Some insn → place ≡ 3 + (length is.list + j) → slice_get (requeues is.retries is.answer) j ≡ Some known → Goes limits Fits place known d → Goes limits Fits place insn d
-behind_list limits Fits program is place j insn known d at same there goes =
-    let found : insn_at program place ≡ Some known = ap (insn_at program) same ∙ (ap (λ (p : List Slot). insn_at p (3 + (length is.list + j))) is.is ∙ (at_end is.list is.retries is.answer (list_narrow is.list is.listed) j ∙ there)) in
-    goes_as limits Fits program place insn known d d at found refl goes
-
--- in the list
-within_list : (limits : HelperLimits) (program : List Slot) (is : IsPlain program) (place : ℕ) (insn : Insn) (d : Description) → insn_at program place ≡ Some insn → 3 ≤ place → place < 3 + length is.list → IsListDescription program place d → Goes limits (PlainAt program (length is.list)) place insn d
-within_list limits program is place insn d at above below fits =
-    let i : ℕ = place - 3 in
-    let at_i : place ≡ 3 + i = omega (arith, above) in
-    let there : insn_at program (3 + i) ≡ Some insn = sym (ap (insn_at program) at_i) ∙ at in
-    let from_list : insn_at program (3 + i) ≡ slice_get is.list i = ap (λ (p : List Slot). insn_at p (3 + i)) is.is ∙ at_list is.list is.retries is.answer (list_narrow is.list is.listed) i (omega (arith, below, at_i)) in
-    let listed : slice_get is.list i ≡ Some insn = sym from_list ∙ there in
-    let goes = list_goes limits program (3 + i) (3 + length is.list) insn d (omega (arith, below, at_i)) there (is.listed i insn listed) (λ reg reads n comes. is.written i insn reg listed reads n comes) (subst (λ (p : ℕ). IsListDescription program p d) at_i fits) in
-    listed_fits limits program (length is.list) place insn d above (subst (λ (p : ℕ). Goes limits (Within program p (3 + length is.list)) p insn d) (sym at_i) goes)
-
--- each instruction, by the part of the program where it stands
-plain_goes : (limits : HelperLimits) (program : List Slot) (is : IsPlain program) (place : ℕ) (insn : Insn) (d : Description) → insn_at program place ≡ Some insn → PlainAt program (length is.list) place d → Goes limits (PlainAt program (length is.list)) place insn d
-plain_goes limits program is place insn d at fits =
-    let size : ℕ = length is.list in
-    let starts = starts_of program is in
-    elim (part_of size place fits.inside) [
-      | inl e ↦ at_slot limits (PlainAt program size) program place 0 insn test d entry_description e at starts.first (fits.at_test e) (test_goes limits program size starts)
-      | inr (inl e) ↦ at_slot limits (PlainAt program size) program place 1 insn copy d tested e at starts.second (fits.at_copy e) (goes_next limits (PlainAt program size) 1 copy tested copied refl (release_fits program size))
-      | inr (inr (inl e)) ↦ at_slot limits (PlainAt program size) program place 2 insn release d copied e at starts.third (fits.at_release e) (release_goes limits program size starts)
-      | inr (inr (inr (inl range))) ↦ within_list limits program is place insn d at range.0 range.1 (fits.in_list range.0 (omega (arith, range.1)))
-      | inr (inr (inr (inr (inl e)))) ↦ behind_list limits (PlainAt program size) program is place 0 insn _ d at (omega (arith, e)) refl (retries_go limits program size place is.retries d is.few e (fits.in_list (omega (arith, e)) (omega (arith, e))))
-      | inr (inr (inr (inr (inr (inl e))))) ↦ behind_list limits (PlainAt program size) program is place 1 insn _ d at (omega (arith, e)) refl (requeue_goes limits program size place d e (fits.at_requeue e))
-      | inr (inr (inr (inr (inr (inr (inl e)))))) ↦ behind_list limits (PlainAt program size) program is place 2 insn _ d at (omega (arith, e)) refl (answer_goes limits program size place is.answer d e (fits.at_answer e))
-      | inr (inr (inr (inr (inr (inr (inr e)))))) ↦ behind_list limits (PlainAt program size) program is place 3 insn _ d at (omega (arith, e)) refl (exit_goes limits program size place d (fits.at_exit e))
-    ]
-
-pub plain_passes : (limits : HelperLimits) (program : List Slot) → IsPlain program → (table : Table) × (pass limits program ≡ Ok table)
-plain_passes limits program is = never_fails limits program (PlainAt program (length is.list)) (record {
-  entry = test_fits program (length is.list);
-  goes = plain_goes limits program is;
-  joins = plain_joins program (length is.list);
+-- no path comes to a place of the list without writing what is read there
+reads_written : (program : List Slot) (is : IsPlain program) (place i : ℕ) (insn : Insn) → place ≡ length is.loads + 3 + i → slice_get is.list i ≡ Some insn → ReadsWritten program place insn
+reads_written program is place i insn e there = subst (λ (p : ℕ). ReadsWritten program p insn) (sym e) (record {
+  registers = λ reg free reads. is.written i insn reg there free reads;
+  bytes = λ at reads. is.known i insn at there reads;
 })
+
+-- so what is known at a place is enough there
+
+abbrev pub Fits : (program : List Slot) → IsPlain program → ℕ → Description → Type 0
+Fits program is place d = PlainAt program (length is.loads) (length is.list) place d
+
+enough_by : (program : List Slot) (is : IsPlain program) (place : ℕ) (insn : Insn) (d : Description) → Fits program is place d → Stands program is place insn → Enough insn d
+enough_by program is place insn d fits (loads_there lt load) = load_enough program place insn d load (fits.at_load (omega (arith, lt)))
+enough_by program is place insn d fits (tests e it) = subst (λ (i : Insn). Enough i d) (sym it) (inr (tests_freeze program place d (fits.at_load (omega (arith, e)))))
+enough_by program is place insn d fits (copies e it) =
+    subst (λ (i : Insn). Enough i d) (sym it) (inr (refl, refl, R2, refl, (certainties.Sure, (fits.at_copy e).freeze)))
+enough_by program is place insn d fits (gives_back e it) = subst (λ (i : Insn). Enough i d) (sym it) (inl (gives_back_freeze program place d (fits.at_release e)))
+enough_by program is place insn d fits (lists i e lt there) =
+    let end : ℕ = length is.loads + 3 + length is.list in
+    let listed : IsListed place end insn = subst (λ (p : ℕ). IsListed p end insn) (sym e) (is.listed i insn there) in
+    list_enough program place end insn d listed (reads_written program is place i insn e there) (fits.in_list (omega (arith, e)) (omega (arith, e, lt)))
+enough_by program is place insn d fits (sets_retries e it) = subst (λ (i : Insn). Enough i d) (sym it) (inl ((λ reads. absurd (let bad : false ≡ true = reads in cc)), tt))
+enough_by program is place insn d fits (requeues_there e it) = subst (λ (i : Insn). Enough i d) (sym it) (inr (requeues_ccb d (fits.at_requeue e)))
+enough_by program is place insn d fits (sets_answer e it) = subst (λ (i : Insn). Enough i d) (sym it) (inl ((λ reads. absurd (let bad : false ≡ true = reads in cc)), tt))
+enough_by program is place insn d fits (exits e it) =
+    let last = fits.at_exit e in
+    subst (λ (i : Insn). Enough i d) (sym it) (last.answer.held, last.answer.done, last.number)
+
+-- what an instruction that is known leaves, where it leads
+abbrev Led : (program : List Slot) → IsPlain program → ℕ → Way → Description → Insn → Type 0
+Led program is place way d insn =
+    (to : ℕ) (there : Description) → insn_at program place ≡ Some insn → goes_to place insn way ≡ Some to → Leaves insn way d there → Fits program is to there
+
+follows_by : (program : List Slot) (is : IsPlain program) (place : ℕ) (insn : Insn) (way : Way) (d : Description) → Fits program is place d → Stands program is place insn → Led program is place way d insn
+follows_by program is place insn way d fits (loads_there lt load) = λ to there at goes leaves.
+    let on = load_follows program place to insn way d there load at goes leaves (fits.at_load (omega (arith, lt))) in
+    load_fits program (length is.loads) (length is.list) to there (omega (arith, on.0, lt)) on.1
+follows_by program is place insn way d fits (tests e it) = subst (Led program is place way d) (sym it)
+    (λ to there at goes leaves. test_follows program (length is.loads) (length is.list) place to way d there e (omega (arith, e, length_plain program is, is.in_range)) at goes leaves (fits.at_load (omega (arith, e))))
+follows_by program is place insn way d fits (copies e it) = subst (Led program is place way d) (sym it)
+    (λ to there at goes leaves. copy_follows program (length is.loads) (length is.list) place to way d there e at goes leaves (fits.at_copy e))
+follows_by program is place insn way d fits (gives_back e it) = subst (Led program is place way d) (sym it)
+    (λ to there at goes leaves. release_follows program (length is.loads) (length is.list) place to way d there e at goes leaves (fits.at_release e))
+follows_by program is place insn way d fits (lists i e lt found) = λ to there at goes leaves.
+    let end : ℕ = length is.loads + 3 + length is.list in
+    let listed : IsListed place end insn = subst (λ (p : ℕ). IsListed p end insn) (sym e) (is.listed i insn found) in
+    let leads = list_leads place end insn way to (omega (arith, e, lt)) listed goes in
+    let on = list_follows program place end to insn way d there listed (reads_written program is place i insn e found) (record { at = at; leads = leads.leads }) leaves (fits.in_list (omega (arith, e)) (omega (arith, e, lt))) in
+    list_fits program (length is.loads) (length is.list) to there (omega (arith, e, leads.on)) leads.up_to on
+follows_by program is place insn way d fits (sets_retries e it) = subst (Led program is place way d) (sym it)
+    (λ to there at goes leaves. retries_follow program (length is.loads) (length is.list) place to is.retries way d there e is.few goes leaves (fits.in_list (omega (arith, e)) (omega (arith, e))))
+follows_by program is place insn way d fits (requeues_there e it) = subst (Led program is place way d) (sym it)
+    (λ to there at goes leaves. requeue_follows program (length is.loads) (length is.list) place to way d there e goes leaves (fits.at_requeue e))
+follows_by program is place insn way d fits (sets_answer e it) = subst (Led program is place way d) (sym it)
+    (λ to there at goes leaves. answer_follows program (length is.loads) (length is.list) place to is.answer way d there e goes leaves (fits.at_answer e))
+follows_by program is place insn way d fits (exits e it) = subst (Led program is place way d) (sym it)
+    (λ to there at goes leaves. exit_follows program (length is.loads) (length is.list) place to way there e goes)
+
+-- all that arrives fits
+entry_fits : (program : List Slot) (is : IsPlain program) (d : Description) → IsEntryKnown d → Fits program is 0 d
+entry_fits program is d known = load_fits program (length is.loads) (length is.list) 0 d (omega arith) (record {
+  start = record {
+    common = record {
+      frame = known.frame;
+      depth = known.depth;
+      waits = known.waits;
+      registers = λ reg free. inr (0, refl);
+      bytes = λ at. inr (0, refl);
+    };
+    low = λ reg free lt. (0, refl);
+  };
+  context = known.context;
+  freeze = known.freeze;
+  held = known.held;
+})
+
+arrives_fits : (program : List Slot) (is : IsPlain program) (place : ℕ) (d : Description) → Arrives program place d → Fits program is place d
+arrives_fits program is place d (enters e known) = entry_fits program is e known
+arrives_fits program is place d (follows from to insn way before there arrives at enough goes leaves) =
+    follows_by program is from insn way before (arrives_fits program is from before arrives) (stands program is from insn at) to there at goes leaves
+arrives_fits program is place d (joins at a b joined x y agree are) =
+    plain_joined program (length is.loads) (length is.list) at a b joined are (arrives_fits program is at a x) (arrives_fits program is at b y)
+
+pub plain_never_lacks : (program : List Slot) → IsPlain program → NeverLacks program
+plain_never_lacks program is = record {
+  enough = λ place insn d arrives at. enough_by program is place insn d (arrives_fits program is place d arrives) (stands program is place insn at);
+  agree = λ place a b lt x y. plain_agree program (length is.loads) (length is.list) place a b (omega (arith, lt, length_plain program is)) (arrives_fits program is place a x) (arrives_fits program is place b y);
+}

@@ -1,24 +1,25 @@
 -- What is told of a program that a pass fails on.
-use Rattle.std.proofs.Common.{◌≡◌, List, Ok, Err, refl, sym, ◌∙◌}
+use Rattle.std.proofs.Common.{◌≡◌, List, refl}
 use Rattle.bpf_insn.specs.declared.program.Slot.{Slot}
 use Rattle.call_shape.specs.Shape.{IsLawful}
-use Rattle.helpers.specs.declared.limits.HelperLimits.{HelperLimits}
-use Rattle.verifier.specs.declared.refusal.Refusal.TheVariants.{Shape, Check}
 use Rattle.or_memory.specs.declared.OrMemory.{OrMemory}
-use Rattle.verifier.specs.declared.refusal.Refusal.{Refusal}
 use Rattle.or_memory.specs.declared.OrMemory.TheVariants.{OutOfMemory, Fault as refused}
-use Rattle.verifier.specs.SlotPass.{PassFails}
-use Rattle.verifier.specs.Plain.{IsPlain}
+use Rattle.verifier.specs.declared.refusal.Refusal.{Refusal}
+use Rattle.verifier.specs.declared.refusal.Refusal.TheVariants.{Shape, Check}
+use Rattle.verifier.specs.Arrives.{IsCheck, LacksMemoryOrMore, NeverLacks}
 use Rattle.verifier.specs.Verdict.{ToldOfShape}
-use Rattle.verifier.proofs.Fails.{no_shape_fault}
-use Rattle.verifier.proofs.PlainGoes.{plain_passes}
 
-pub told_of_shape : (limits : HelperLimits) (program : List Slot) (error : OrMemory Refusal) → IsLawful program → PassFails limits program error → ToldOfShape program error
-told_of_shape limits program OutOfMemory lawful fails = lawful
-told_of_shape limits program (refused (Shape fault)) lawful fails = absurd (no_shape_fault limits program fault fails)
-told_of_shape limits program (refused (Check cause slot)) lawful fails = lawful
+pub lacks : (program : List Slot) (refusal : Refusal) → IsCheck refusal → (NeverLacks program → ⊥) → LacksMemoryOrMore program (refused refusal)
+lacks program (Shape fault) is fails = is
+lacks program (Check cause slot) is fails = fails
 
--- a plain program is refused for no cause but memory
-pub plain_out_of_memory : (limits : HelperLimits) (program : List Slot) (error : OrMemory Refusal) → PassFails limits program error → IsPlain program → error ≡ OutOfMemory
-plain_out_of_memory limits program OutOfMemory fails is = refl
-plain_out_of_memory limits program (refused refusal) fails is = absurd (let ok = plain_passes limits program is in let bad : Ok ok.0 ≡ Err refusal = sym ok.1 ∙ fails in cc)
+pub told_of_shape : (program : List Slot) (error : OrMemory Refusal) → IsLawful program → LacksMemoryOrMore program error → ToldOfShape program error
+told_of_shape program OutOfMemory lawful fails = lawful
+told_of_shape program (refused (Shape fault)) lawful fails = absurd fails
+told_of_shape program (refused (Check cause slot)) lawful fails = lawful
+
+-- where what is known is always enough, only memory is wanting
+pub only_memory : (program : List Slot) (error : OrMemory Refusal) → NeverLacks program → LacksMemoryOrMore program error → error ≡ OutOfMemory
+only_memory program OutOfMemory lacks_not fails = refl
+only_memory program (refused (Shape fault)) lacks_not fails = absurd fails
+only_memory program (refused (Check cause slot)) lacks_not fails = absurd (fails lacks_not)

@@ -1,11 +1,7 @@
 pub use Rattle.bpf_machine.specs.Reached
 pub use Rattle.call_shape.specs.StaticPath
-pub mod RegisterKind
-pub mod Knowledge
-pub mod Flows
-pub mod CallCheck
-pub mod InsnCheck
-pub mod SlotPass
+pub mod Table
+pub mod Arrives
 pub mod Verdict
 pub mod Plain
 pub mod RefusalText

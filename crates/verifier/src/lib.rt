@@ -1,20 +1,15 @@
 // The verifier: a program is accepted where no run of it can be stuck, and then its budget is known. It
 // describes what holds at each place before it is executed, in one pass from the first slot to the last,
-// since every jump leads forward. It relies on `call_shape` for that, on `budget_path` for the budget, and on
-// `bpf_machine` for what it proves.
+// since every jump leads forward. It relies on `call_shape` for that, on `reg_domain` for what is known of a machine
+// and what an instruction makes of it, on `budget_path` for the budget, and on `bpf_machine` for what it proves.
 #![tactic(auto)]
 
 mod accepted;
-mod arguments;
-mod calls;
-mod check;
-mod description;
-mod flow;
-mod kind;
 mod pass;
 mod refusal;
 mod verification;
 
 pub use accepted::Accepted;
-pub use refusal::{Cause, Refusal, VerifyError};
+pub use refusal::{Refusal, VerifyError};
+pub use reg_domain::Cause;
 pub use verification::verify;

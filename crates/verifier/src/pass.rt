@@ -1,41 +1,55 @@
-// The pass over a program's slots, from the first to the last. It relies on `check`.
+// The pass over a program's slots, from the first to the last: what is known at a place is joined from all that leads
+// there. It relies on `reg_domain` for what is known and what an instruction makes of it, and on the shape for that
+// jumps lead forward.
 
-ghost use Rattle.std.specs.Prelude.{◌≡◌, ℕ, ◌<◌, ◌+◌, length, Ok, Err, MatchResult, OnErr, OnOk, IfErr};
-ghost use Rattle.bpf_insn.specs.Program.{IsProgram};
-ghost use Rattle.call_shape.specs.Shape.{IsLawful};
-ghost use Rattle.verifier.specs.SlotPass.{LeadsInside, merge, flow_into, visit, visits, PassSucceeds, PassFails};
+ghost use Rattle.std.specs.Prelude.{◌≡◌, ◌<◌, ◌≤◌, ◌+◌, ◌∷◌, ◌-◌, length, Some, None, IfOk, IfErr, IsOk, IsOkAnd, List};
+ghost use Rattle.bpf_insn.specs.declared.program.Slot.{Slot};
+ghost use Rattle.bpf_insn.specs.declared.program.TheConstants.{MAX_SLOTS};
+ghost use Rattle.bpf_insn.specs.Program.{IsProgram, insn_at};
+ghost use Rattle.bpf_machine.specs.Reached.{Safe};
+ghost use Rattle.call_shape.specs.Shape.{IsLawful, target_in};
+ghost use Rattle.reg_domain.specs.Description.{DescribesEntries};
+ghost use Rattle.reg_domain.specs.Enough.{IsEntryKnown};
+ghost use Rattle.verifier.specs.Arrives.{AllArrive, Arrives, IsCheck, LacksMemoryOrMore, NeverLacks, goes_to};
+ghost use Rattle.verifier.specs.Table.{AreDone, HasJoined, HasLed, IsFirstTable};
 
-use crate::check::check;
-use crate::description::Description;
-use crate::flow::Flow;
-use crate::refusal::{Cause, Refusal, VerifyError};
-use bpf_insn::Program;
+use crate::refusal::{Refusal, VerifyError};
+use bpf_insn::{Insn, Program, jump_target};
 use call_shape::Shape;
 use helpers::HelperLimits;
 use or_memory::OrMemory;
-use std::alloc::Global;
+use reg_domain::{Cause, Description, Way};
+use std::alloc::{AllocError, Global};
 
 /// Describes each place of a program of lawful shape, and checks each instruction that something leads to, under these
 /// limits.
 /// It takes memory for one description a slot.
 pub fn pass(alloc: Global, limits: &HelperLimits, shape: &Shape<'_>) -> Result<(), VerifyError>
-    ensures passes { OnOk result (PassSucceeds limits.now shape.now) }
-    ensures fails { IfErr result (PassFails limits.now shape.now) }
+    ensures safe { IfOk result (λ _. Safe shape.now limits.now) }
+    ensures fails { IfErr result (LacksMemoryOrMore shape.now) }
 {
     let program = shape.program();
-    let len = program.len();
-    let mut table = Vec::with_capacity(alloc, len)?;
-    table.push_reserved(Some(Description::entry()));
-    for _ in 1..len {
-        table.push_reserved(None);
-    }
+    let mut table = first_table(alloc, program.len())?;
     match visit_all(limits, program, &mut table) {
         Ok(()) => Ok(()),
         Err(refusal) => Err(OrMemory::Fault(refusal)),
     }
 }
 
-// Checks all places in their order.
+// The table of so many places at the start: the entry alone is described.
+fn first_table(alloc: Global, len: usize) -> Result<Vec<Option<Description>>, AllocError>
+    requires some { 1 ≤ len }
+    ensures { IfOk result (λ table. IsFirstTable len table.items) }
+{
+    let mut table = Vec::with_capacity(alloc, len)?;
+    table.push_reserved(Some(Description::entry()));
+    for _ in 1..len {
+        table.push_reserved(None);
+    }
+    Ok(table)
+}
+
+// Visits all places in their order.
 fn visit_all(
     limits: &HelperLimits,
     program: &Program,
@@ -43,8 +57,10 @@ fn visit_all(
 ) -> Result<(), Refusal>
     requires program { IsProgram program.now }
     requires lawful { IsLawful program.now }
-    requires whole { length table.old ≡ length program.now }
-    ensures { MatchResult result (λ _. visits limits.now program.now table.old 0 (length program.now) ≡ Ok table.new) (λ refusal. visits limits.now program.now table.old 0 (length program.now) ≡ Err refusal) }
+    requires start { AreDone limits.now program.now table.old 0 }
+    ensures done { IfOk result (λ _. AreDone limits.now program.now table.new (length program.now)) }
+    ensures passes { NeverLacks program.now → AllArrive program.now table.old → IsOk result }
+    ensures check { IfErr result IsCheck }
 {
     for place in 0..program.len() {
         visit(limits, program, table, place)?;
@@ -52,7 +68,7 @@ fn visit_all(
     Ok(())
 }
 
-// Checks one place, where something leads to it.
+// Visits one place: where something leads to it, its instruction is checked, and leads on.
 fn visit(
     limits: &HelperLimits,
     program: &Program,
@@ -62,48 +78,88 @@ fn visit(
     requires program { IsProgram program.now }
     requires lawful { IsLawful program.now }
     requires place { place < length program.now }
-    requires whole { length table.old ≡ length program.now }
-    ensures { MatchResult result (λ _. visit limits.now program.now table.old place ≡ Ok table.new) (λ refusal. visit limits.now program.now table.old place ≡ Err refusal) }
+    requires before { AreDone limits.now program.now table.old place }
+    ensures done { IfOk result (λ _. AreDone limits.now program.now table.new (place + 1)) }
+    ensures passes { NeverLacks program.now → AllArrive program.now table.old → IsOkAnd result (λ _. AllArrive program.now table.new) }
+    ensures check { IfErr result IsCheck }
 {
-    let Some(description) = table[place] else {
-        return Ok(());
-    };
     // Nothing leads to the second slot of an instruction.
     let Some(insn) = program.fetch(place) else {
         return Ok(());
     };
-    match check(limits, place, insn, &description) {
-        Ok(flow) => follow(table, place + insn.slots(), &flow),
+    lead(
+        limits,
+        table,
+        place,
+        insn,
+        Way::FallThrough,
+        place + insn.slots(),
+    )?;
+    match target_of(place, insn) {
+        Some(target) => lead(limits, table, place, insn, Way::Taken, target),
+        None => Ok(()),
+    }
+}
+
+// Where the instruction at a place jumps to, if it is a jump.
+fn target_of(place: usize, insn: Insn) -> Option<usize>
+    requires { place < MAX_SLOTS }
+    ensures { result ≡ target_in place insn }
+{
+    match insn {
+        Insn::JumpIf { offset, .. } => Some(jump_target(place, i32::from(offset))),
+        Insn::Jump(distance) => Some(jump_target(place, distance.slots())),
+        _ => None,
+    }
+}
+
+// Where something leads to a place, checks its instruction, and joins what is known behind it one way into the table.
+// Nothing is behind the last exit.
+fn lead(
+    limits: &HelperLimits,
+    table: &mut [Option<Description>],
+    place: usize,
+    insn: Insn,
+    way: Way,
+    to: usize,
+) -> Result<(), Refusal>
+    requires place { place < length table.old }
+    ensures whole { length table.new ≡ length table.old }
+    ensures led { IfOk result (λ _. HasLed limits.now table.old place insn way to table.new) }
+    ensures passes { (program : List Slot) → NeverLacks program → AllArrive program table.old → length table.old ≡ length program → insn_at program place ≡ Some insn → goes_to place insn way ≡ Some to → IsOkAnd result (λ _. AllArrive program table.new) }
+    ensures check { IfErr result IsCheck }
+{
+    let Some(description) = &table[place] else {
+        return Ok(());
+    };
+    let mut there = *description;
+    match there.follow(limits, insn, way) {
+        Ok(is_open) => {
+            if is_open && to < table.len() {
+                join_into(table, to, &there)
+            } else {
+                Ok(())
+            }
+        }
         Err(cause) => Err(Refusal::Check(cause, place)),
     }
 }
 
-// Joins what holds where an instruction leads into what is known there.
-fn follow(table: &mut [Option<Description>], next_slot: usize, flow: &Flow) -> Result<(), Refusal>
-    requires { LeadsInside (length table.old) next_slot flow.now }
-    ensures { (place : ℕ) → MatchResult result (λ _. flow_into table.old place next_slot (Ok flow.now) ≡ Ok table.new) (λ refusal. flow_into table.old place next_slot (Ok flow.now) ≡ Err refusal) }
-{
-    if let Some(next) = &flow.next {
-        merge(table, next_slot, next)?;
-    }
-    if let Some((target, taken)) = &flow.jump {
-        merge(table, *target, taken)?;
-    }
-    Ok(())
-}
-
 // Something more leads to a place.
-fn merge(table: &mut [Option<Description>], place: usize, new: &Description) -> Result<(), Refusal>
-    requires { place < length table.old }
-    ensures { MatchResult result (λ _. merge table.old place new.now ≡ Ok table.new) (λ refusal. merge table.old place new.now ≡ Err refusal) }
+fn join_into(table: &mut [Option<Description>], to: usize, new: &Description) -> Result<(), Refusal>
+    requires to { to < length table.old }
+    ensures whole { length table.new ≡ length table.old }
+    ensures joined { IfOk result (λ _. HasJoined table.old to new.now table.new) }
+    ensures passes { (program : List Slot) → NeverLacks program → AllArrive program table.old → to < length program → Arrives program to new.now → IsOkAnd result (λ _. AllArrive program table.new) }
+    ensures check { IfErr result IsCheck }
 {
-    let joined = match &table[place] {
+    let joined = match &table[to] {
         None => *new,
         Some(old) => match old.join(new) {
             Some(joined) => joined,
-            None => return Err(Refusal::Check(Cause::PathsDisagree, place)),
+            None => return Err(Refusal::Check(Cause::PathsDisagree, to)),
         },
     };
-    table[place] = Some(joined);
+    table[to] = Some(joined);
     Ok(())
 }

@@ -1,23 +1,31 @@
-use Rattle.std.proofs.Common.{◌≡◌, ◌+◌, length, Some, Ok, Err, Result, subst, sym, ap, ◌∙◌, rules}
-use Rattle.std.specs.Prelude.{MatchResult}
+use Rattle.std.proofs.Common.{◌≡◌, ◌+◌, Some, None, rules, sym, subst, ap}
 use Rattle.bpf_insn.specs.Program.{insn_at}
-use Rattle.call_shape.specs.Shape.{behind}
-use Rattle.verifier.specs.declared.refusal.Refusal.{Refusal}
-use Rattle.verifier.specs.SlotPass.{Table, LeadsInside, described, flow_into}
-use Rattle.verifier.proofs.Visits.{visit_is}
-use Rattle.verifier.proofs.Passed.{leads_inside}
+use Rattle.call_shape.specs.Shape.{behind, target_in}
+use Rattle.verifier.proofs.Led.{if_ok}
+use Rattle.verifier.proofs.Done.{done_straight, done_jump, skipped}
+use Rattle.reg_domain.specs.declared.following.Way.TheVariants.{FallThrough}
+use Rattle.verifier.specs.Table.{HasLed}
 use Rattle.verifier.proofs.pass.visit.Goals as goal
 
-pub follow-requires : goal.follow-requires
-follow-requires c =
-    let at : insn_at c.args.program.now c.args.place ≡ Some c.in-Some-fetch.insn = sym c.in-Some-fetch.ensures.value in
-    let slot : behind c.args.place c.in-Some-fetch.insn ≡ c.args.place + c.slots.result = ap (λ n. c.args.place + n) (sym c.slots.ensures) in
-    subst (λ n. LeadsInside (length c.args.table.now) n c.in-Ok.flow) slot (leads_inside c.args.limits.now c.args.program.now c.args.table.now c.args.place c.in-Some-fetch.insn c.in-Some.description c.in-Ok.flow c.requires.program c.requires.lawful c.requires.whole at (sym c.in-Ok.ensures))
+pub returns-in_default-clause-done : goal.returns-in_default-clause-done
+returns-in_default-clause-done c =
+    let none : insn_at c.args.program.now c.args.place ≡ None = search rules in
+    skipped c.args.limits.now c.args.program.now c.args.table.now c.args.place none c.requires.before
 
-pub returns-in-Ok : goal.returns-in-Ok
-returns-in-Ok c =
-    let at : insn_at c.args.program.now c.args.place ≡ Some c.in-Some-fetch.insn = sym c.in-Some-fetch.ensures.value in
-    let here : described c.args.table.now c.args.place ≡ Some c.in-Some.description = search rules in
-    let is = visit_is c.args.limits.now c.args.program.now c.args.table.now c.args.place c.in-Some-fetch.insn c.in-Some.description (Ok c.in-Ok.flow) at here c.in-Ok.ensures in
-    let slot : c.args.place + c.slots.result ≡ behind c.args.place c.in-Some-fetch.insn = ap (λ n. c.args.place + n) c.slots.ensures in
-    subst (λ (x : Result Table Refusal). MatchResult c.follow.result (λ _. x ≡ Ok c.follow.new.table) (λ refusal. x ≡ Err refusal)) (ap (λ n. flow_into c.args.table.now c.args.place n (Ok c.in-Ok.flow)) slot ∙ sym is) (c.follow.ensures c.args.place)
+pub returns-in-Some-target_of-clause-done : goal.returns-in-Some-target_of-clause-done
+returns-in-Some-target_of-clause-done c =
+    let at : insn_at c.args.program.now c.args.place ≡ Some c.in-Some.insn = sym c.in-Some.ensures.value in
+    let slot : c.args.place + c.slots.result ≡ behind c.args.place c.in-Some.insn = ap (λ n. c.args.place + n) c.slots.ensures in
+    let first = subst (λ n. HasLed c.args.limits.now c.args.table.now c.args.place c.in-Some.insn FallThrough n c.lead.new.table) slot c.in_ok-lead.ensures.led in
+    let target_is : target_in c.args.place c.in-Some.insn ≡ Some c.in-Some-target_of.target = sym c.in-Some-target_of.ensures in
+    if_ok c.lead-in-Some-target_of.result
+    (λ second. done_jump c.args.limits.now c.args.program.now c.args.table.now c.lead.new.table c.lead-in-Some-target_of.new.table c.args.place c.in-Some-target_of.target c.in-Some.insn c.requires.program c.requires.lawful at target_is c.lead.ensures.whole c.lead-in-Some-target_of.ensures.whole first second c.requires.before)
+    c.lead-in-Some-target_of.ensures.led
+
+pub returns-in-None-clause-done : goal.returns-in-None-clause-done
+returns-in-None-clause-done c =
+    let at : insn_at c.args.program.now c.args.place ≡ Some c.in-Some.insn = sym c.in-Some.ensures.value in
+    let slot : c.args.place + c.slots.result ≡ behind c.args.place c.in-Some.insn = ap (λ n. c.args.place + n) c.slots.ensures in
+    let first = subst (λ n. HasLed c.args.limits.now c.args.table.now c.args.place c.in-Some.insn FallThrough n c.lead.new.table) slot c.in_ok-lead.ensures.led in
+    let none : target_in c.args.place c.in-Some.insn ≡ None = sym c.in-None.ensures in
+    done_straight c.args.limits.now c.args.program.now c.args.table.now c.lead.new.table c.args.place c.in-Some.insn c.requires.program c.requires.lawful at none c.lead.ensures.whole first c.requires.before

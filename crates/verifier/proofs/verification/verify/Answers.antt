@@ -4,18 +4,20 @@ use Rattle.bpf_insn.specs.Program.{IsProgram}
 use Rattle.bpf_machine.specs.Reached.{Safe}
 use Rattle.call_shape.specs.Shape.{IsLawful}
 use Rattle.call_shape.specs.StaticPath.{outermost, StaticPath}
-use Rattle.verifier.specs.SlotPass.{PassSucceeds, PassFails}
-use Rattle.verifier.proofs.Tables.{sound_safe, sound_within}
-use Rattle.verifier.proofs.Passed.{pass_sound}
-use Rattle.verifier.proofs.Told.{told_of_shape, plain_out_of_memory}
+use Rattle.verifier.specs.Arrives.{LacksMemoryOrMore}
+use Rattle.verifier.proofs.Told.{told_of_shape, only_memory}
+use Rattle.verifier.proofs.PlainGoes.{plain_never_lacks}
 use Rattle.verifier.proofs.PlainShape.{plain_lawful}
+use Rattle.verifier.specs.Plain.{IsPlain}
+use Rattle.or_memory.specs.declared.OrMemory.TheVariants.{OutOfMemory}
+use Rattle.verifier.proofs.Within.{safe_within}
 use Rattle.verifier.proofs.verification.verify.Goals as goal
 
 pub returns-in_err-pass-clause-shape : goal.returns-in_err-pass-clause-shape
 returns-in_err-pass-clause-shape c =
     let shape_is : c.in-Ok.shape ≡ c.args.program.now = c.in-Ok.ensures.value in
-    let fails = subst (λ (p : List Slot). PassFails c.args.limits.now p c.in_err-pass.field-0.0) shape_is c.in_err-pass.ensures.fails in
-    let told = told_of_shape c.args.limits.now c.args.program.now c.in_err-pass.field-0.0 c.in-Ok.ensures.lawful fails in
+    let fails = subst (λ (p : List Slot). LacksMemoryOrMore p c.in_err-pass.field-0.0) shape_is c.in_err-pass.ensures.fails in
+    let told = told_of_shape c.args.program.now c.in_err-pass.field-0.0 c.in-Ok.ensures.lawful fails in
     search (rules, told)
 
 pub returns-in-Err-clause-plain : goal.returns-in-Err-clause-plain
@@ -24,8 +26,8 @@ returns-in-Err-clause-plain c = λ plain. absurd (plain_lawful c.args.program.no
 pub returns-in_err-pass-clause-plain : goal.returns-in_err-pass-clause-plain
 returns-in_err-pass-clause-plain c =
     let shape_is : c.in-Ok.shape ≡ c.args.program.now = c.in-Ok.ensures.value in
-    let fails = subst (λ (p : List Slot). PassFails c.args.limits.now p c.in_err-pass.field-0.0) shape_is c.in_err-pass.ensures.fails in
-    let told = plain_out_of_memory c.args.limits.now c.args.program.now c.in_err-pass.field-0.0 fails in
+    let fails = subst (λ (p : List Slot). LacksMemoryOrMore p c.in_err-pass.field-0.0) shape_is c.in_err-pass.ensures.fails in
+    let told : IsPlain c.args.program.now → c.in_err-pass.field-0.0 ≡ OutOfMemory = λ is. only_memory c.args.program.now c.in_err-pass.field-0.0 (plain_never_lacks c.args.program.now is) fails in
     search (rules, told)
 
 pub new-requires : goal.new-requires
@@ -34,11 +36,10 @@ new-requires c =
     let same : c.in_ok-program.program ≡ c.args.program.now = c.in_ok-program.ensures in
     let is : IsProgram c.args.program.now = subst IsProgram same (rw (← c.program.view_is) c.program.invariant.0) in
     let lawful : IsLawful c.args.program.now = c.in-Ok.ensures.lawful in
-    let passes : PassSucceeds c.args.limits.now c.args.program.now = subst (PassSucceeds c.args.limits.now) shape_is c.in_ok-pass.ensures.passes in
-    let sound = pass_sound c.args.limits.now c.args.program.now passes.0 is lawful passes.1 in
+    let safe : Safe c.args.program.now c.args.limits.now = subst (λ (p : List Slot). Safe p c.args.limits.now) shape_is c.in_ok-pass.ensures.safe in
     let longest = subst (λ (p : List Slot). (n : ℕ) → StaticPath p (outermost 0) n → n ≤ c.in_ok-budget.budget) shape_is c.in_ok-budget.ensures.longest in
     rw same (record {
       is_program = is;
-      safe = subst (Safe c.args.program.now) (sym c.in_ok-limits.ensures) (sound_safe c.args.limits.now c.args.program.now passes.0 is sound);
-      within = sound_within c.args.limits.now c.args.program.now passes.0 c.in_ok-budget.budget is lawful sound longest;
+      safe = subst (Safe c.args.program.now) (sym c.in_ok-limits.ensures) safe;
+      within = safe_within c.args.limits.now c.args.program.now c.in_ok-budget.budget is lawful safe longest;
     })

@@ -1,0 +1,154 @@
+-- Where a machine stands after one instruction: at the slot behind it, or at the target where it jumps.
+use Rattle.std.proofs.Common.{◌≡◌, ℕ, ℤ, ◌+◌, Bool, true, false, cond, List, [], ◌∷◌, Option, Some, None, refl, ap, sym, subst, ◌∙◌, ◌⊎◌, inl, inr}
+use Rattle.std.specs.Option.{option_map, option_and_then}
+use Rattle.std.proofs.lemmas.Bool.{cases_Bool, cond-true, cond-false}
+use Rattle.bpf_insn.specs.declared.insn.Insn.{Insn}
+use Rattle.bpf_insn.specs.declared.insn.Insn.TheVariants.{Alu, InPlace, SignExtend, JumpIf, Jump, LoadImmediate, Load, Store, Call, Exit}
+use Rattle.bpf_insn.specs.declared.insn.Width.{Width}
+use Rattle.bpf_insn.specs.declared.insn.AluOp.{AluOp}
+use Rattle.bpf_insn.specs.declared.insn.Condition.{Condition}
+use Rattle.bpf_insn.specs.declared.insn.LoadForm.{LoadForm}
+use Rattle.bpf_insn.specs.declared.insn.StoreSize.{StoreSize}
+use Rattle.bpf_insn.specs.declared.reg.Reg.{Reg}
+use Rattle.bpf_insn.specs.declared.insn.Callee.TheVariants.{Helper, Local}
+use Rattle.bpf_insn.specs.Target.{target, distance_of}
+use Rattle.helpers.specs.declared.request.Request.{Request}
+use Rattle.helpers.specs.declared.request.Request.TheVariants.{Release, Requeue}
+use Rattle.helpers.specs.declared.request.Answer.{Answer}
+use Rattle.bpf_machine.specs.MachineState.{OpenCall, MachineState, register, with_register, moved_to}
+use Rattle.bpf_machine.specs.Memory.{address_of, load_width, loaded, word_from}
+use Rattle.bpf_machine.specs.Step.{Allowed, answered, compute, compute_one, does, first_operand, jump_if, operand, request_in, returned, store}
+use Rattle.bpf_machine.specs.Words.{holds_of, in_place, sign_extended}
+use Rattle.call_shape.specs.Shape.{behind, goes_on_behind, target_in}
+use Rattle.call_shape.specs.StaticPath.{outermost, LeadsTo}
+use Rattle.reg_domain.specs.declared.following.Way.TheVariants.{FallThrough, Taken}
+use Rattle.reg_domain.specs.Follows.{GoesBy, StepsBy, jumps_if}
+
+-- one of the two ways, the first only where something may go on behind the instruction
+abbrev pub GoesOn : MachineState → Insn → MachineState → Type 0
+GoesOn m insn m' =
+    (GoesBy m insn FallThrough × (m'.place ≡ behind m.place insn) × (goes_on_behind insn ≡ true))
+    ⊎ (GoesBy m insn Taken × (target_in m.place insn ≡ Some m'.place))
+
+pub record IsOnward (m : MachineState) (insn : Insn) (m' : MachineState) : Type 0 where
+  pub calls : m'.open_calls ≡ m.open_calls
+  pub goes : GoesOn m insn m'
+  pub leads : LeadsTo (outermost m.place) insn (outermost m'.place)
+
+some_is : (x y : MachineState) → Some x ≡ Some y → x ≡ y
+some_is x y e = cc
+
+none_is : (x : MachineState) → None ≡ Some x → ⊥
+none_is x e = absurd cc
+
+-- behind the instruction, and what else it changes is no call
+record IsNext (m : MachineState) (slots : ℕ) (m' : MachineState) : Type 0 where
+  calls : m'.open_calls ≡ m.open_calls
+  place : m'.place ≡ m.place + slots
+
+next_as : (m x m' : MachineState) (slots : ℕ) → IsNext m slots x → Some x ≡ Some m' → IsNext m slots m'
+next_as m x m' slots is e = subst (IsNext m slots) (some_is x m' e) is
+
+compute_next : (m m' : MachineState) (width : Width) (op : AluOp) (dst : Reg) (a b : Option ℕ) → compute m width op dst a b ≡ Some m' → IsNext m 1 m'
+compute_next m m' width op dst (Some a) (Some b) e = next_as m _ m' 1 (record { calls = refl; place = refl }) e
+compute_next m m' width op dst (Some a) None e = absurd (none_is m' e)
+compute_next m m' width op dst None b e = absurd (none_is m' e)
+
+one_next : (m m' : MachineState) (dst : Reg) (f : ℕ → ℕ) (word : Option ℕ) → compute_one m dst f word ≡ Some m' → IsNext m 1 m'
+one_next m m' dst f (Some word) e = next_as m _ m' 1 (record { calls = refl; place = refl }) e
+one_next m m' dst f None e = absurd (none_is m' e)
+
+loaded_next : (m m' : MachineState) (form : LoadForm) (dst : Reg) (word : Option ℕ) → option_map (λ word. moved_to (with_register m dst (loaded form word)) (m.place + 1)) word ≡ Some m' → IsNext m 1 m'
+loaded_next m m' form dst (Some word) e = next_as m _ m' 1 (record { calls = refl; place = refl }) e
+loaded_next m m' form dst None e = absurd (none_is m' e)
+
+written_next : (m m' : MachineState) (frames : Option (List (List (Option ℕ)))) → option_map (λ next. moved_to next (m.place + 1)) (option_map (λ frames. record m { frames = frames }) frames) ≡ Some m' → IsNext m 1 m'
+written_next m m' (Some frames) e = next_as m _ m' 1 (record { calls = refl; place = refl }) e
+written_next m m' None e = absurd (none_is m' e)
+
+store_next : (m m' : MachineState) (size : StoreSize) (address word : Option ℕ) → store m size address word ≡ Some m' → IsNext m 1 m'
+store_next m m' size (Some address) (Some word) e = written_next m m' _ e
+store_next m m' size (Some address) None e = absurd (none_is m' e)
+store_next m m' size None word e = absurd (none_is m' e)
+
+-- which way a conditional jump goes
+record IsJump (m : MachineState) (jumps : Bool) (offset : ℤ) (m' : MachineState) : Type 0 where
+  calls : m'.open_calls ≡ m.open_calls
+  goes : ((jumps ≡ false) × (m'.place ≡ m.place + 1)) ⊎ ((jumps ≡ true) × (m'.place ≡ target m.place offset))
+
+jump_goes : (m m' : MachineState) (width : Width) (condition : Condition) (offset : ℤ) (a b : Option ℕ) → jump_if m width condition offset a b ≡ Some m' → IsJump m (jumps_if width condition a b) offset m'
+jump_goes m m' width condition offset (Some a) (Some b) e =
+    let is : moved_to m (cond (holds_of width condition a b) (target m.place offset) (m.place + 1)) ≡ m' = some_is _ m' e in
+    record {
+      calls = sym (ap (λ (x : MachineState). x.open_calls) is);
+      goes = elim (cases_Bool (holds_of width condition a b)) [
+        | inl holds ↦ inr (holds, sym (ap (λ (x : MachineState). x.place) is) ∙ cond-true (holds_of width condition a b) _ _ holds)
+        | inr apart ↦ inl (apart, sym (ap (λ (x : MachineState). x.place) is) ∙ cond-false (holds_of width condition a b) _ _ apart)
+      ];
+    }
+jump_goes m m' width condition offset (Some a) None e = absurd (none_is m' e)
+jump_goes m m' width condition offset None b e = absurd (none_is m' e)
+
+-- no call is open, so that an exit is the run's end
+none_returned : (m m' : MachineState) (calls : List OpenCall) → calls ≡ [] → returned m calls ≡ Some m' → ⊥
+none_returned m m' [] none e = none_is m' e
+none_returned m m' (call ∷ calls) none e = absurd cc
+
+private_onward : (m m' : MachineState) (insn : Insn) → m.open_calls ≡ [] → does m insn ≡ Some m' → IsOnward m insn m'
+private_onward m m' (Alu width op dst src) none e =
+    let is = compute_next m m' width op dst (first_operand m op dst) (operand m src) e in
+    record { calls = is.calls; goes = inl (refl, is.place, refl); leads = ap outermost is.place }
+private_onward m m' (InPlace op dst) none e =
+    let is = one_next m m' dst (in_place op) (register m dst) e in
+    record { calls = is.calls; goes = inl (refl, is.place, refl); leads = ap outermost is.place }
+private_onward m m' (SignExtend extension dst src) none e =
+    let is = one_next m m' dst (sign_extended extension) (register m src) e in
+    record { calls = is.calls; goes = inl (refl, is.place, refl); leads = ap outermost is.place }
+private_onward m m' (JumpIf width condition dst src offset) none e =
+    let is = jump_goes m m' width condition offset (register m dst) (operand m src) e in
+    record {
+      calls = is.calls;
+      goes = elim is.goes [ inl next ↦ inl (next.0, next.1, refl) | inr taken ↦ inr (taken.0, ap Some (sym taken.1)) ];
+      leads = elim is.goes [ inl next ↦ inl (ap outermost next.1) | inr taken ↦ inr (ap outermost taken.1) ];
+    }
+private_onward m m' (Jump distance) none e =
+    let is : moved_to m (target m.place (distance_of distance)) ≡ m' = some_is _ m' e in
+    let place : target m.place (distance_of distance) ≡ m'.place = ap (λ (x : MachineState). x.place) is in
+    record { calls = sym (ap (λ (x : MachineState). x.open_calls) is); goes = inr (refl, ap Some place); leads = ap outermost (sym place) }
+private_onward m m' (LoadImmediate dst value) none e =
+    let is : IsNext m 2 m' = next_as m _ m' 2 (record { calls = refl; place = refl }) e in
+    record { calls = is.calls; goes = inl (refl, is.place, refl); leads = ap outermost is.place }
+private_onward m m' (Load form dst src offset) none e =
+    let is = loaded_next m m' form dst (option_and_then (word_from (load_width form) m) (address_of m src offset)) e in
+    record { calls = is.calls; goes = inl (refl, is.place, refl); leads = ap outermost is.place }
+private_onward m m' (Store size dst src offset) none e =
+    let is = store_next m m' size (address_of m dst offset) (operand m src) e in
+    record { calls = is.calls; goes = inl (refl, is.place, refl); leads = ap outermost is.place }
+private_onward m m' (Call callee) none e = absurd (none_is m' e)
+private_onward m m' Exit none e = absurd (none_returned m m' m.open_calls none e)
+
+answered_next : (request : Request) (answer : Answer) (m : MachineState) → IsNext m 1 (answered request answer m)
+answered_next (Release freeze) answer m = record { calls = refl; place = refl }
+answered_next (Requeue retries) answer m = record { calls = refl; place = refl }
+
+no_request : (request : Request) → None ≡ Some request → ⊥
+no_request request e = absurd cc
+
+called_onward : (m m' : MachineState) (insn : Insn) (request : Request) (answer : Answer) → request_in m insn ≡ Some request → Allowed request answer m m' → IsOnward m insn m'
+called_onward m m' (Call (Helper number)) request answer made allowed =
+    let is : IsNext m 1 m' = subst (IsNext m 1) (sym allowed.1) (answered_next request answer m) in
+    record { calls = is.calls; goes = inl (refl, is.place, refl); leads = ap outermost is.place }
+called_onward m m' (Call (Local distance)) request answer made allowed = absurd (no_request request made)
+called_onward m m' (Alu width op dst src) request answer made allowed = absurd (no_request request made)
+called_onward m m' (InPlace op dst) request answer made allowed = absurd (no_request request made)
+called_onward m m' (SignExtend extension dst src) request answer made allowed = absurd (no_request request made)
+called_onward m m' (JumpIf width condition dst src offset) request answer made allowed = absurd (no_request request made)
+called_onward m m' (Jump distance) request answer made allowed = absurd (no_request request made)
+called_onward m m' (LoadImmediate dst value) request answer made allowed = absurd (no_request request made)
+called_onward m m' (Load form dst src offset) request answer made allowed = absurd (no_request request made)
+called_onward m m' (Store size dst src offset) request answer made allowed = absurd (no_request request made)
+called_onward m m' Exit request answer made allowed = absurd (no_request request made)
+
+pub onward : (m m' : MachineState) (insn : Insn) → m.open_calls ≡ [] → StepsBy m insn m' → IsOnward m insn m'
+onward m m' insn none (inl step) = private_onward m m' insn none step
+onward m m' insn none (inr (request, answer, made, allowed)) = called_onward m m' insn request answer made allowed

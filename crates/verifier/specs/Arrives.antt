@@ -1,0 +1,47 @@
+-- What is known at each place of a program by the promises of descriptions alone, whatever the machine: a program of
+-- which that is enough everywhere is not refused.
+use Rattle.std.specs.Prelude.{◌≡◌, ℕ, ◌<◌, List, length, Option, Some}
+use Rattle.bpf_insn.specs.declared.insn.Insn.{Insn}
+use Rattle.bpf_insn.specs.declared.program.Slot.{Slot}
+use Rattle.bpf_insn.specs.Program.{insn_at}
+use Rattle.call_shape.specs.Shape.{behind, target_in}
+use Rattle.reg_domain.specs.declared.description.Description.{Description}
+use Rattle.reg_domain.specs.declared.following.Way.{Way}
+use Rattle.reg_domain.specs.declared.following.Way.TheVariants.{FallThrough, Taken}
+use Rattle.reg_domain.specs.Enough.{Enough, Leaves, IsEntryKnown, Agree, JoinsTo}
+use Rattle.or_memory.specs.declared.OrMemory.{OrMemory}
+use Rattle.or_memory.specs.declared.OrMemory.TheVariants.{OutOfMemory, Fault as refused}
+use Rattle.verifier.specs.declared.refusal.Refusal.{Refusal}
+use Rattle.verifier.specs.declared.refusal.Refusal.TheVariants.{Shape, Check}
+use Rattle.verifier.specs.Table.{Table, described}
+
+-- where one goes by an instruction
+abbrev pub goes_to : ℕ → Insn → Way → Option ℕ
+goes_to place insn FallThrough = Some (behind place insn)
+goes_to place insn Taken = target_in place insn
+
+-- What may be known where paths come to a place: at the entry, behind an instruction, and where two join.
+pub data Arrives (program : List Slot) : ℕ → Description → Type 0 where
+  enters : (d : Description) → IsEntryKnown d → Arrives program 0 d
+  follows : (place to : ℕ) (insn : Insn) (way : Way) (d there : Description) → Arrives program place d → insn_at program place ≡ Some insn → Enough insn d → goes_to place insn way ≡ Some to → Leaves insn way d there → Arrives program to there
+  joins : (place : ℕ) (a b joined : Description) → Arrives program place a → Arrives program place b → Agree a b → JoinsTo a b joined → Arrives program place joined
+
+-- It is enough for each instruction, and where paths join they agree.
+pub record NeverLacks (program : List Slot) : Type 0 where
+  pub enough : (place : ℕ) (insn : Insn) (d : Description) → Arrives program place d → insn_at program place ≡ Some insn → Enough insn d
+  pub agree : (place : ℕ) (a b : Description) → place < length program → Arrives program place a → Arrives program place b → Agree a b
+
+-- all that a table says arrives there
+abbrev pub AllArrive : List Slot → Table → Type 0
+AllArrive program table = (place : ℕ) (d : Description) → described table place ≡ Some d → Arrives program place d
+
+-- memory was refused, or what is known is somewhere not enough; the shape is at fault for neither
+abbrev pub LacksMemoryOrMore : List Slot → OrMemory Refusal → Type 0
+LacksMemoryOrMore program OutOfMemory = Unit {0}
+LacksMemoryOrMore program (refused (Shape fault)) = ⊥
+LacksMemoryOrMore program (refused (Check cause slot)) = NeverLacks program → ⊥
+
+-- the check of an instruction, or a join, fails
+abbrev pub IsCheck : Refusal → Type 0
+IsCheck (Shape fault) = ⊥
+IsCheck (Check cause slot) = Unit {0}

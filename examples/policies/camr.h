@@ -1,0 +1,29 @@
+/* What a policy sees: its context, and the helpers that it may call. Compile with
+   clang-14 -O2 -target bpf -mcpu=v3 -c policy.c -o policy.o
+   llvm-objcopy-14 -O binary --only-section=.text policy.o policy.bin */
+typedef unsigned char u8;
+typedef unsigned short u16;
+typedef unsigned int u32;
+typedef unsigned long long u64;
+typedef signed char s8;
+typedef short s16;
+typedef int s32;
+typedef long long s64;
+
+struct context {
+    u32 ccb;
+    u32 queue;
+    u32 status;
+    u8 scsi;
+    u8 key;
+    u8 asc;
+    u8 ascq;
+    u32 retries;
+    u32 sense_length;
+    u32 attempts;
+    u32 zero;
+    u8 sense[64];
+};
+
+static u64 (*const release)(u64 freeze) = (void *)2;
+static u64 (*const requeue)(u64 retries_used) = (void *)4;

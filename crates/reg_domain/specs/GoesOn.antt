@@ -2,10 +2,14 @@
 use Rattle.std.specs.Prelude.{◌≡◌, Bool, true, false}
 use Rattle.bpf_insn.specs.declared.insn.Insn.{Insn}
 use Rattle.bpf_insn.specs.declared.insn.Insn.TheVariants.{Alu, InPlace, SignExtend, JumpIf, Jump, LoadImmediate, Load, Store, Call, Exit}
+use Rattle.bpf_insn.specs.declared.insn.Operand.{Operand}
+use Rattle.bpf_insn.specs.declared.insn.Operand.TheVariants.{Immediate, Register}
 use Rattle.helpers.specs.declared.limits.HelperLimits.{HelperLimits}
 use Rattle.reg_domain.specs.declared.description.Description.{Description}
 use Rattle.reg_domain.specs.declared.following.Way.{Way}
 use Rattle.reg_domain.specs.declared.following.Way.TheVariants.{FallThrough, Taken}
+use Rattle.reg_domain.specs.declared.kind.Kind.TheVariants.{Unwritten}
+use Rattle.reg_domain.specs.Description.{kind_at}
 use Rattle.reg_domain.specs.Follows.{Follows, NeverStuck}
 
 -- the way is that of the jump
@@ -47,3 +51,8 @@ is_jump Exit = false
 abbrev pub HasWay : Insn → Way → Type 0
 HasWay insn FallThrough = falls_through insn ≡ true
 HasWay insn Taken = is_jump insn ≡ true
+
+-- the operand is a register that may be unwritten
+abbrev pub ReadsUnwritten : Description → Operand → Type 0
+ReadsUnwritten d (Immediate value) = ⊥
+ReadsUnwritten d (Register reg) = kind_at d reg ≡ Unwritten

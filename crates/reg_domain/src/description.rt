@@ -8,6 +8,7 @@ ghost use Rattle.bpf_machine.specs.Step.{operand as operand_of};
 ghost use Rattle.reg_domain.specs.declared.kind.Certainty.TheVariants as certainties;
 ghost use Rattle.reg_domain.specs.Description.{Covers, DescribesEntries, DescribesWith, HoldsFreeze, kind_at};
 ghost use Rattle.reg_domain.specs.Enough.{Agree, ChangesOnly, IsEntryKnown, IsFreeze, IsMoved, IsNumberOperand, JoinsTo, LeavesKnown};
+ghost use Rattle.reg_domain.specs.GoesOn.{ReadsUnwritten};
 ghost use Rattle.reg_domain.specs.Kinds.{HoldsKind, IsNumber};
 
 use crate::kind::Kind;
@@ -89,6 +90,7 @@ impl Description {
         ensures holds { (freeze : ℕ) (m : MachineState) → DescribesWith freeze self.now m → HoldsKind freeze result (operand_of m src) }
         ensures moved { IsMoved self.now src result }
         ensures number { IsNumberOperand self.now src → IsNumber result }
+        ensures unwritten { ReadsUnwritten self.now src → result ≡ Kind.Unwritten }
     {
         match src {
             Operand::Immediate(value) => Kind::exactly(i64::from(value).cast_unsigned()),

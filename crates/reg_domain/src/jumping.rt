@@ -1,7 +1,7 @@
 // Conditional jumps: what one way tells of the registers that are compared, or of the run's freeze. It relies on
 // `comparison` for what is found.
 
-ghost use Rattle.std.specs.Prelude.{◌≡◌, ℕ, ℤ, true, ◌⊎◌, IfOk, IsOkAnd, IsTrue, Some};
+ghost use Rattle.std.specs.Prelude.{◌≡◌, ℕ, ℤ, true, false, ◌⊎◌, IfOk, IsOkAnd, IsTrue, Some};
 ghost use Rattle.bpf_insn.specs.declared.insn.Insn.TheVariants.{JumpIf};
 ghost use Rattle.bpf_machine.specs.MachineState.{MachineState, register};
 ghost use Rattle.bpf_machine.specs.Step.{operand as operand_of};
@@ -11,7 +11,7 @@ ghost use Rattle.reg_domain.specs.Description.{DescribesWith, kind_at};
 ghost use Rattle.reg_domain.specs.Enough.{ComparesNumbers, IsFreeze, LeavesCompared, LeavesKnown, LeavesTested, TestsFreeze};
 ghost use Rattle.reg_domain.specs.Finds.{Found, IsOfFreeze, IsOfNumbers};
 ghost use Rattle.reg_domain.specs.Follows.{Follows, NeverStuck};
-ghost use Rattle.reg_domain.specs.GoesOn.{is_taken};
+ghost use Rattle.reg_domain.specs.GoesOn.{ReadsUnwritten, is_taken};
 
 use crate::cause::Cause;
 use crate::comparison::{Finding, compared};
@@ -34,6 +34,8 @@ impl Description {
         ensures unstuck { IfOk result (λ is_open. (limits : HelperLimits) (offset : ℤ) → NeverStuck limits (JumpIf width condition dst src offset) self.old) }
         ensures follows { IfOk result (λ is_open. (offset : ℤ) → Follows (JumpIf width condition dst src offset) way self.old is_open self.new) }
         ensures leaves { (ComparesNumbers self.old dst src ⊎ TestsFreeze self.old width condition dst src) → IsOkAnd result (λ is_open. IsTrue is_open → LeavesCompared self.old width condition dst src way self.new) }
+        ensures unwritten { ReadsUnwritten self.old src → result ≡ Err Cause.UnwrittenRegister }
+        ensures unwritten_first { kind_at self.old dst ≡ Kind.Unwritten → result ≡ Err Cause.UnwrittenRegister }
     {
         let first = self.kind(dst);
         let second = self.operand(src);
@@ -73,7 +75,8 @@ impl Description {
 
 // Whether an operand is the instruction's own constant.
 fn is_constant(src: Operand) -> bool
-    ensures { (value : ℤ) → src ≡ Operand.Immediate value → result ≡ true }
+    ensures constant { (value : ℤ) → src ≡ Operand.Immediate value → result ≡ true }
+    ensures register { (reg : Reg) → src ≡ Operand.Register reg → result ≡ false }
 {
     matches!(src, Operand::Immediate(_))
 }

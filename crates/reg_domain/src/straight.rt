@@ -1,13 +1,14 @@
 // The instructions behind which a machine goes on at the next one, but for helper calls. It relies on `arithmetic` for
 // what is computed, and on `memory` for loads and stores.
 
-ghost use Rattle.std.specs.Prelude.{◌≡◌, ◌⊎◌, IfOk, IsOkAnd};
+ghost use Rattle.std.specs.Prelude.{◌≡◌, true, ◌⊎◌, IfOk, IsOkAnd};
 ghost use Rattle.std.specs.Int.{byte_len};
 ghost use Rattle.bpf_insn.specs.declared.insn.Insn.TheVariants.{Alu, InPlace, SignExtend, LoadImmediate, Load, Store};
 ghost use Rattle.bpf_machine.specs.Memory.{load_width, store_width};
+ghost use Rattle.bpf_machine.specs.Words.{reads_dst};
 ghost use Rattle.reg_domain.specs.Description.{kind_at};
 ghost use Rattle.reg_domain.specs.Enough.{EnoughToCompute, IsNumberOperand, LeavesComputed, LeavesNumber, LeavesStored, LiesInContext, LiesInFrame, LiesWritten};
-ghost use Rattle.reg_domain.specs.GoesOn.{GoesOn};
+ghost use Rattle.reg_domain.specs.GoesOn.{GoesOn, ReadsUnwritten};
 ghost use Rattle.reg_domain.specs.Kinds.{IsNumber};
 
 use crate::arithmetic::{changed, computed, extended};
@@ -27,6 +28,8 @@ impl Description {
     ) -> Result<(), Cause>
         ensures goes { IfOk result (λ _. GoesOn (Alu width op dst src) self.old self.new) }
         ensures leaves { EnoughToCompute self.old width op dst src → IsOkAnd result (λ _. LeavesComputed self.old width op dst src self.new) }
+        ensures unwritten { ReadsUnwritten self.old src → result ≡ Err Cause.UnwrittenRegister }
+        ensures unwritten_first { reads_dst op ≡ true → kind_at self.old dst ≡ Kind.Unwritten → result ≡ Err Cause.UnwrittenRegister }
     {
         let kind = computed(width, op, self.kind(dst), self.operand(src))?;
         self.set(dst, kind);
@@ -37,6 +40,7 @@ impl Description {
     pub(crate) fn change(&mut self, op: InPlaceOp, dst: Reg) -> Result<(), Cause>
         ensures goes { IfOk result (λ _. GoesOn (InPlace op dst) self.old self.new) }
         ensures leaves { IsNumber (kind_at self.old dst) → IsOkAnd result (λ _. LeavesNumber dst self.old self.new) }
+        ensures unwritten { kind_at self.old dst ≡ Kind.Unwritten → result ≡ Err Cause.UnwrittenRegister }
     {
         let kind = changed(op, self.kind(dst))?;
         self.set(dst, kind);
@@ -52,6 +56,7 @@ impl Description {
     ) -> Result<(), Cause>
         ensures goes { IfOk result (λ _. GoesOn (SignExtend extension dst src) self.old self.new) }
         ensures leaves { IsNumber (kind_at self.old src) → IsOkAnd result (λ _. LeavesNumber dst self.old self.new) }
+        ensures unwritten { kind_at self.old src ≡ Kind.Unwritten → result ≡ Err Cause.UnwrittenRegister }
     {
         let kind = extended(extension, self.kind(src))?;
         self.set(dst, kind);

@@ -22,7 +22,7 @@ returns-clause-leaves c = λ enough goes. elim enough [
       }
   | inr tests ↦
       let zero_is : IsKnown 0 c.operand-second.result = subst (λ (s : Operand). IsMoved c.args.self.now s c.operand-second.result) tests.zero_constant c.operand-second.ensures.moved in
-      let found : IsOfFreeze (is_taken c.args.way) c.in_ok-finding.finding = rw c.is_taken-taken.ensures at (c.in_ok-finding.ensures.equal tests.freeze.0 (c.kind-first.ensures ∙ tests.freeze.1) tests.all (c.is_constant.ensures (pos 0) tests.zero_constant) zero_is tests.equal) in record {
+      let found : IsOfFreeze (is_taken c.args.way) c.in_ok-finding.finding = rw c.is_taken-taken.ensures at (c.in_ok-finding.ensures.equal tests.freeze.0 (c.kind-first.ensures ∙ tests.freeze.1) tests.all (c.is_constant.ensures.constant (pos 0) tests.zero_constant) zero_is tests.equal) in record {
         known = c.learn.ensures.freeze c.args.way found;
         numbers = λ compares. absurd (number_or_freeze _ compares.first tests.freeze);
         tested = λ _ held. c.learn.ensures.tested c.args.way found tests.freeze held goes;

@@ -153,13 +153,12 @@ fn join_into(table: &mut [Option<Description>], to: usize, new: &Description) ->
     ensures passes { (program : List Slot) → NeverLacks program → AllArrive program table.old → to < length program → Arrives program to new.now → IsOkAnd result (λ _. AllArrive program table.new) }
     ensures check { IfErr result IsCheck }
 {
-    let joined = match &table[to] {
-        None => *new,
+    match &table[to] {
+        None => table[to] = Some(*new),
         Some(old) => match old.join(new) {
-            Some(joined) => joined,
+            Some(joined) => table[to] = Some(joined),
             None => return Err(Refusal::Check(Cause::PathsDisagree, to)),
         },
-    };
-    table[to] = Some(joined);
+    }
     Ok(())
 }

@@ -4,7 +4,7 @@ use Rattle.std.specs.Prelude.{slice_set}
 use Rattle.std.proofs.lemmas.Bool.{cases_eq}
 use Rattle.bpf_insn.specs.declared.program.Slot.{Slot}
 use Rattle.reg_domain.specs.declared.description.Description.{Description}
-use Rattle.reg_domain.specs.Description.{Describes, Covers}
+use Rattle.reg_domain.specs.Description.{Covers}
 use Rattle.verifier.specs.Table.{Table, described, HasJoined}
 use Rattle.verifier.specs.Arrives.{Arrives, AllArrive}
 
@@ -32,10 +32,9 @@ joined_in before to d joined lt covers keeps =
       here = λ m is. record { description = joined; there = here; holds = covers m is };
     }
 
-pub first_in : (before : Table) (to : ℕ) (d joined : Description) → to < length before → described before to ≡ None → joined ≡ d → HasJoined before to d (slice_set before to (Some joined))
-first_in before to d joined lt none is =
-    joined_in before to d joined lt (λ m holds. subst (λ (x : Description). Describes x m) (sym is) holds)
-    (λ old there. absurd (let bad : None ≡ Some old = sym none ∙ there in cc))
+pub first_in : (before : Table) (to : ℕ) (d : Description) → to < length before → described before to ≡ None → HasJoined before to d (slice_set before to (Some d))
+first_in before to d lt none =
+    joined_in before to d d lt (λ m holds. holds) (λ old there. absurd (let bad : None ≡ Some old = sym none ∙ there in cc))
 
 pub both_in : (before : Table) (to : ℕ) (d old joined : Description) → to < length before → described before to ≡ Some old → Covers old joined → Covers d joined → HasJoined before to d (slice_set before to (Some joined))
 both_in before to d old joined lt is keeps covers =

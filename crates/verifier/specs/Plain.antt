@@ -89,7 +89,7 @@ ReadsRegister (Load form dst src offset) reg = src ≡ reg
 ReadsRegister (Store size dst src offset) reg = (dst ≡ reg) ⊎ (src ≡ Register reg)
 ReadsRegister insn reg = ⊥
 
--- and one of the loads or of the list writes it
+-- and one of the loads or of the list writes it; what a call leaves in R0 does not count
 abbrev pub writes_register : Reg → Insn → Bool
 writes_register reg (Alu width op dst src) = number_of dst == number_of reg
 writes_register reg (InPlace op dst) = number_of dst == number_of reg

@@ -2,14 +2,12 @@
 // there. It relies on `reg_domain` for what is known and what an instruction makes of it, and on the shape for that
 // jumps lead forward.
 
-ghost use Rattle.std.specs.Prelude.{◌≡◌, ◌<◌, ◌≤◌, ◌+◌, ◌∷◌, ◌-◌, length, Some, None, IfOk, IfErr, IsOk, IsOkAnd, List};
+ghost use Rattle.std.specs.Prelude.{◌≡◌, ◌<◌, ◌≤◌, ◌+◌, List, length, Some, IfOk, IfErr, IsOk, IsOkAnd};
 ghost use Rattle.bpf_insn.specs.declared.program.Slot.{Slot};
 ghost use Rattle.bpf_insn.specs.declared.program.TheConstants.{MAX_SLOTS};
 ghost use Rattle.bpf_insn.specs.Program.{IsProgram, insn_at};
 ghost use Rattle.bpf_machine.specs.Reached.{Safe};
 ghost use Rattle.call_shape.specs.Shape.{IsLawful, target_in};
-ghost use Rattle.reg_domain.specs.Description.{DescribesEntries};
-ghost use Rattle.reg_domain.specs.Enough.{IsEntryKnown};
 ghost use Rattle.verifier.specs.Arrives.{AllArrive, Arrives, IsCheck, LacksMemoryOrMore, NeverLacks, goes_to};
 ghost use Rattle.verifier.specs.Table.{AreDone, HasJoined, HasLed, IsFirstTable};
 
@@ -22,8 +20,7 @@ use reg_domain::{Cause, Description, Way};
 use std::alloc::{AllocError, Global};
 
 /// Describes each place of a program of lawful shape, and checks each instruction that something leads to, under these
-/// limits.
-/// It takes memory for one description a slot.
+/// limits. It takes memory for one description a slot.
 pub fn pass(alloc: Global, limits: &HelperLimits, shape: &Shape<'_>) -> Result<(), VerifyError>
     ensures safe { IfOk result (λ _. Safe shape.now limits.now) }
     ensures fails { IfErr result (LacksMemoryOrMore shape.now) }
@@ -153,13 +150,12 @@ fn join_into(table: &mut [Option<Description>], to: usize, new: &Description) ->
     ensures passes { (program : List Slot) → NeverLacks program → AllArrive program table.old → to < length program → Arrives program to new.now → IsOkAnd result (λ _. AllArrive program table.new) }
     ensures check { IfErr result IsCheck }
 {
-    let joined = match &table[to] {
-        None => *new,
+    match &table[to] {
+        None => table[to] = Some(*new),
         Some(old) => match old.join(new) {
-            Some(joined) => joined,
+            Some(joined) => table[to] = Some(joined),
             None => return Err(Refusal::Check(Cause::PathsDisagree, to)),
         },
-    };
-    table[to] = Some(joined);
+    }
     Ok(())
 }

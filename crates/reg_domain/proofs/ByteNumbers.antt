@@ -1,12 +1,12 @@
 -- Bytes as numbers: what is read is below 2 to its bits, and what is stored are bytes.
-use Rattle.std.proofs.Common.{◌≡◌, ℕ, zero, suc, ◌+◌, ◌*◌, ◌^◌, ◌<◌, ◌≤◌, Bool, true, false, List, [], ◌∷◌, Option, Some, None, length, refl, ap, sym, subst, ◌∙◌, arith, inl, inr}
-use Rattle.std.specs.Prelude.{All, is_some, slice_index, slice_index_or, ◌&&◌}
+use Rattle.std.proofs.Common.{◌≡◌, ℕ, zero, suc, ◌^◌, ◌<◌, true, false, List, [], ◌∷◌, Option, Some, None, length, refl, ap, arith, inl, inr}
+use Rattle.std.specs.Prelude.{All, is_some, slice_index, slice_index_or}
 use Rattle.std.specs.List.{list_all}
 use Rattle.std.specs.Option.{option_map}
-use Rattle.std.proofs.lemmas.Bool.{and_parts, cases_lt}
+use Rattle.std.proofs.lemmas.Bool.{cases_lt}
 use Rattle.std.proofs.lemmas.List.{get_or_past}
 use Rattle.std.specs.Int.{byte_at, bytes_low_first}
-use Rattle.byteorder.specs.Endian.{little_from, little_bytes}
+use Rattle.byteorder.specs.Endian.{little_from}
 use Rattle.bpf_machine.specs.Frames.{all_written}
 
 byte_below : (xs : List ℕ) (i : ℕ) → All (λ byte. byte < 256) xs → slice_index xs i < 256

@@ -1,6 +1,6 @@
 -- What becomes of a described machine by a helper call, and that the call meets its rule.
-use Rattle.std.proofs.Common.{◌≡◌, ℕ, ℤ, ◌+◌, ◌-◌, ◌<◌, ◌≤◌, ◌^◌, Bool, true, false, not, ◌&&◌, eqb, cond, List, [], ◌∷◌, ◌++◌, Option, Some, None, Result, Ok, Err, IfOk, length, drop, refl, ap, sym, subst, ◌∙◌, arith, length-drop}
-use Rattle.std.specs.Prelude.{filter, replicate, slice_index_or}
+use Rattle.std.proofs.Common.{◌≡◌, ℕ, ℤ, ◌+◌, Bool, true, false, not, eqb, cond, List, [], ◌∷◌, Option, Some, None, Result, Ok, Err, IfOk, length, drop, refl, ap, sym, subst, ◌∙◌, arith, length-drop}
+use Rattle.std.specs.Prelude.{filter, slice_index_or}
 use Rattle.std.specs.Option.{option_and_then}
 use Rattle.std.proofs.lemmas.Bool.{and_from, eq-eqb}
 use Rattle.std.proofs.lemmas.List.{get_or-drop}
@@ -17,7 +17,7 @@ use Rattle.helpers.specs.declared.request.Arguments.{Arguments}
 use Rattle.helpers.specs.declared.request.Request.{Request}
 use Rattle.helpers.specs.declared.request.Request.TheVariants.{Release, Requeue}
 use Rattle.helpers.specs.Table.{asks, helper_of, request_of}
-use Rattle.bpf_machine.specs.Calls.{all_written, argument, arguments_at, meets, obeys, request_by, run_may}
+use Rattle.bpf_machine.specs.Calls.{all_written, argument, meets, request_by, run_may}
 use Rattle.bpf_machine.specs.MachineState.{MachineState}
 use Rattle.bpf_machine.specs.Step.{Allowed, after_call, answered}
 use Rattle.reg_domain.specs.declared.arguments.Known.{Known}

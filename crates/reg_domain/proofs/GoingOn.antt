@@ -1,7 +1,7 @@
 -- Instructions behind which a machine goes on at the next one: none is stuck, and what becomes of it is described.
-use Rattle.std.proofs.Common.{◌≡◌, ℕ, ℤ, ◌+◌, true, false, not, ◌||◌, Option, Some, None, Result, Ok, Err, IfOk, refl, ap, sym, subst, ◌∙◌, inl, inr}
+use Rattle.std.proofs.Common.{◌≡◌, ℕ, ℤ, ◌+◌, true, not, ◌||◌, Some, None, Result, Ok, Err, IfOk, refl, ap, sym, subst, ◌∙◌, inl, inr}
 use Rattle.std.specs.Prelude.{is_none}
-use Rattle.std.specs.Option.{option_map, option_and_then}
+use Rattle.std.specs.Option.{option_map}
 use Rattle.bpf_insn.specs.declared.insn.Insn.{Insn}
 use Rattle.bpf_insn.specs.declared.insn.Insn.TheVariants.{Alu, InPlace, SignExtend, LoadImmediate, Load, Store}
 use Rattle.bpf_insn.specs.declared.insn.AluOp.{AluOp}
@@ -13,7 +13,7 @@ use Rattle.bpf_insn.specs.declared.insn.StoreSize.{StoreSize}
 use Rattle.bpf_insn.specs.declared.insn.Width.{Width}
 use Rattle.bpf_insn.specs.declared.reg.Reg.{Reg}
 use Rattle.bpf_machine.specs.MachineState.{MachineState, moved_to, register, with_register}
-use Rattle.bpf_machine.specs.Memory.{address_of, load_width, loaded, store_width, word_from}
+use Rattle.bpf_machine.specs.Memory.{address_of, load_width, loaded, store_width}
 use Rattle.bpf_machine.specs.Step.{compute, compute_one, does, load, operand, request_in, store}
 use Rattle.bpf_machine.specs.Stuck.{load_is_stuck, store_is_stuck}
 use Rattle.bpf_machine.specs.Words.{in_place, sign_extended}
@@ -28,7 +28,7 @@ use Rattle.reg_domain.specs.Enough.{ChangesOnly}
 use Rattle.reg_domain.specs.Follows.{Follows}
 use Rattle.reg_domain.specs.GoesOn.{GoesOn}
 use Rattle.reg_domain.specs.Kinds.{HoldsKind}
-use Rattle.reg_domain.specs.Memory.{IsLoaded, IsStored, Loads, Stores}
+use Rattle.reg_domain.specs.Memory.{Loads, Stores}
 use Rattle.reg_domain.proofs.Accessible.{word_read, word_stored}
 use Rattle.reg_domain.proofs.Described.{moved_described, set_described}
 

@@ -1,5 +1,5 @@
 -- A conditional jump: no machine is stuck, and what goes one way is described by what that way tells.
-use Rattle.std.proofs.Common.{◌≡◌, ℕ, ℤ, true, Bool, Option, Some, None, refl, ap, sym, subst, ◌∙◌, inl, inr}
+use Rattle.std.proofs.Common.{◌≡◌, ℕ, ℤ, true, Bool, Some, ap, sym, subst, ◌∙◌, inl, inr}
 use Rattle.bpf_insn.specs.declared.insn.Condition.{Condition}
 use Rattle.bpf_insn.specs.declared.insn.Insn.{Insn}
 use Rattle.bpf_insn.specs.declared.insn.Insn.TheVariants.{JumpIf}
@@ -7,7 +7,7 @@ use Rattle.bpf_insn.specs.declared.insn.Operand.{Operand}
 use Rattle.bpf_insn.specs.declared.insn.Width.{Width}
 use Rattle.bpf_insn.specs.declared.reg.Reg.{Reg}
 use Rattle.bpf_machine.specs.MachineState.{MachineState, register}
-use Rattle.bpf_machine.specs.Step.{does, jump_if, operand}
+use Rattle.bpf_machine.specs.Step.{jump_if, operand}
 use Rattle.bpf_machine.specs.Words.{holds_of}
 use Rattle.reg_domain.specs.declared.comparison.Finding.{Finding}
 use Rattle.reg_domain.specs.declared.description.Description.{Description}

@@ -1,12 +1,12 @@
 -- What a load gives where a machine is described.
-use Rattle.std.proofs.Common.{◌≡◌, ℕ, ℤ, ◌+◌, ◌^◌, ◌<◌, List, Option, Some, refl, ap, ◌∙◌}
+use Rattle.std.proofs.Common.{◌≡◌, ℕ, ℤ, ◌^◌, ◌<◌, Some, refl, ap}
 use Rattle.std.specs.Option.{option_map}
 use Rattle.std.specs.Int.{byte_len}
 use Rattle.byteorder.specs.Endian.{little_number}
 use Rattle.bpf_insn.specs.declared.insn.LoadForm.{LoadForm}
 use Rattle.bpf_insn.specs.declared.reg.Reg.{Reg}
 use Rattle.bpf_machine.specs.MachineState.{MachineState, register}
-use Rattle.bpf_machine.specs.Memory.{address_at, address_of, load_width, loaded, read}
+use Rattle.bpf_machine.specs.Memory.{address_at, load_width, loaded}
 use Rattle.scalar_domain.specs.declared.scalars.Scalar.{Scalar}
 use Rattle.scalar_domain.specs.Scalar.{Has}
 use Rattle.reg_domain.specs.declared.kind.Kind.TheVariants.{Number}

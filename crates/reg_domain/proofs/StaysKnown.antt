@@ -1,7 +1,6 @@
 -- What is known of the registers stays known where more is found of a number.
-use Rattle.std.proofs.Common.{◌≡◌, get_or, refl, ap, sym, subst, ◌∙◌, inl, inr, ne_eqb}
+use Rattle.std.proofs.Common.{◌≡◌, get_or, ap, sym, subst, ◌∙◌, inl, inr, ne_eqb}
 use Rattle.std.proofs.lemmas.Bool.{cases_eq}
-use Rattle.bpf_insn.specs.declared.insn.Operand.{Operand}
 use Rattle.bpf_insn.specs.declared.reg.Reg.{Reg}
 use Rattle.bpf_insn.specs.Reg.{number_of}
 use Rattle.reg_domain.specs.declared.description.Description.{Description}

@@ -1,5 +1,5 @@
 -- A store of a word, by the bytes that it writes.
-use Rattle.std.proofs.Common.{◌≡◌, ℕ, ℤ, ◌+◌, ◌<◌, ◌≤◌, Option, Some, Result, Ok, Err, IfOk, IsOkAnd, length, refl, ap, sym, subst, ◌∙◌, arith}
+use Rattle.std.proofs.Common.{◌≡◌, ℕ, ℤ, ◌+◌, ◌<◌, ◌≤◌, Option, Some, Result, Ok, Err, IfOk, IsOkAnd, length, ap, sym, subst, ◌∙◌}
 use Rattle.std.specs.Option.{option_map}
 use Rattle.std.specs.Int.{byte_len}
 use Rattle.byteorder.specs.Endian.{little_bytes}
@@ -19,7 +19,7 @@ use Rattle.reg_domain.specs.Accesses.{BeginsAt}
 use Rattle.reg_domain.specs.Description.{kind_at}
 use Rattle.reg_domain.specs.Enough.{AreKnown, IsAt, LeavesStored, LiesInFrame}
 use Rattle.reg_domain.specs.Kinds.{HoldsKind, IsNumber, LiesAt, size_of}
-use Rattle.reg_domain.specs.Memory.{IsStored, LeavesMarked, Stores, Writes}
+use Rattle.reg_domain.specs.Memory.{LeavesMarked, Stores, Writes}
 use Rattle.reg_domain.proofs.ByteNumbers.{bytes_below, length-low_bytes}
 
 -- where the bytes of an access begin

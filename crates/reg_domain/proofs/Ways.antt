@@ -1,5 +1,5 @@
 -- Which way an instruction leads that is no jump, and what an exit asks.
-use Rattle.std.proofs.Common.{◌≡◌, ℕ, ℤ, true, false, Bool, not, ◌||◌, List, [], Option, Some, Result, Ok, Err, IfOk, refl, ap, sym, subst, ◌∙◌, inl, inr}
+use Rattle.std.proofs.Common.{◌≡◌, ℕ, ℤ, true, false, Bool, not, ◌||◌, [], Option, Result, Ok, Err, IfOk, refl, ap, sym, subst, ◌∙◌, inl, inr}
 use Rattle.std.specs.Prelude.{is_none}
 use Rattle.bpf_insn.specs.declared.insn.Insn.{Insn}
 use Rattle.bpf_insn.specs.declared.insn.Callee.TheVariants.{Helper}

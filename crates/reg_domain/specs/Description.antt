@@ -1,6 +1,6 @@
 -- What a description says of a machine. The freeze of the run's start is a number that only the run knows: a machine is
 -- described where all holds of it for some such number, which is 0 where the run got none.
-use Rattle.std.specs.Prelude.{◌≡◌, ℕ, ◌+◌, ◌<◌, ◌^◌, ◌==◌, Bool, List, [], ◌∷◌, length, Option, Some, None, All, if◌then◌else◌, slice_index_or}
+use Rattle.std.specs.Prelude.{◌≡◌, ℕ, ◌<◌, ◌^◌, ◌==◌, List, [], ◌∷◌, length, Some, None, All, if◌then◌else◌, slice_index_or}
 use Rattle.bpf_insn.specs.declared.reg.Reg.{Reg}
 use Rattle.bpf_insn.specs.Reg.{number_of}
 use Rattle.bpf_machine.specs.MachineState.{MachineState, register}

@@ -4,7 +4,6 @@ use Rattle.std.specs.Prelude.{◌≡◌, ℕ, ℤ, pos, ◌+◌, ◌<◌, ◌≤
 use Rattle.std.specs.Int.{w64, byte_len, cast_unsigned}
 use Rattle.bpf_insn.specs.declared.insn.AluOp.{AluOp}
 use Rattle.bpf_insn.specs.declared.insn.AluOp.TheVariants.{Mov}
-use Rattle.bpf_insn.specs.declared.insn.Callee.{Callee}
 use Rattle.bpf_insn.specs.declared.insn.Callee.TheVariants.{Helper, Local}
 use Rattle.bpf_insn.specs.declared.insn.Condition.{Condition}
 use Rattle.bpf_insn.specs.declared.insn.Condition.TheVariants.{Equal}
@@ -15,7 +14,7 @@ use Rattle.bpf_insn.specs.declared.insn.Operand.TheVariants.{Immediate, Register
 use Rattle.bpf_insn.specs.declared.insn.Width.{Width}
 use Rattle.bpf_insn.specs.declared.insn.Width.TheVariants.{Bits64}
 use Rattle.bpf_insn.specs.declared.reg.Reg.{Reg}
-use Rattle.bpf_insn.specs.declared.reg.Reg.TheVariants.{R0, R1, R2, R6, R10}
+use Rattle.bpf_insn.specs.declared.reg.Reg.TheVariants.{R0, R1, R2, R10}
 use Rattle.bpf_insn.specs.Reg.{number_of}
 use Rattle.bpf_machine.specs.Memory.{address_at, load_width, store_width}
 use Rattle.bpf_machine.specs.Words.{reads_dst}
@@ -31,7 +30,7 @@ use Rattle.reg_domain.specs.declared.kind.Kind.TheVariants.{Unwritten, Number, A
 use Rattle.reg_domain.specs.declared.region.Region.{Region}
 use Rattle.reg_domain.specs.declared.region.Region.TheVariants.{Context, Frame}
 use Rattle.reg_domain.specs.Description.{kind_at}
-use Rattle.reg_domain.specs.Kinds.{IsAtMost, IsKnown, IsNumber, size_of}
+use Rattle.reg_domain.specs.Kinds.{IsAtMost, IsKnown, IsNumber}
 
 -- the address of one byte of a region
 abbrev pub IsAt : Region → ℕ → Kind → Type 0

@@ -1,5 +1,5 @@
 -- What a load or a store makes of the machines that are described, and that none of them is stuck there.
-use Rattle.std.specs.Prelude.{◌≡◌, ℕ, ℤ, ◌+◌, ◌<◌, ◌≤◌, List, length, Option, Some, All}
+use Rattle.std.specs.Prelude.{◌≡◌, ℕ, ℤ, ◌<◌, List, length, Option, Some, All}
 use Rattle.bpf_insn.specs.declared.insn.LoadForm.{LoadForm}
 use Rattle.bpf_insn.specs.declared.insn.StoreSize.{StoreSize}
 use Rattle.bpf_insn.specs.declared.reg.Reg.{Reg}

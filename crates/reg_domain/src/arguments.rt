@@ -220,7 +220,10 @@ impl Description {
         }
         let least = usize::from(offsets.least);
         let most = usize::from(offsets.most);
-        if self.stack.is_written(usize::from(frame), least, most, bytes as usize) {
+        if self
+            .stack
+            .is_written(usize::from(frame), least, most, bytes as usize)
+        {
             Ok(())
         } else {
             Err(Cause::UnwrittenByte)

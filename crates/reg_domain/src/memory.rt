@@ -60,7 +60,10 @@ impl Description {
         }
         let least = usize::from(offsets.least);
         let most = usize::from(offsets.most);
-        if self.stack.is_written(frame, least, most, usize::from(bytes)) {
+        if self
+            .stack
+            .is_written(frame, least, most, usize::from(bytes))
+        {
             Ok(())
         } else {
             Err(Cause::UnwrittenByte)
@@ -94,13 +97,7 @@ impl Description {
     }
 
     // Stores a word of that kind in a frame.
-    fn store_in(
-        &mut self,
-        frame: u8,
-        offsets: Offsets,
-        bytes: u16,
-        word: Kind,
-    ) -> Result<(), Cause>
+    fn store_in(&mut self, frame: u8, offsets: Offsets, bytes: u16, word: Kind) -> Result<(), Cause>
         requires inside { offsets.most + bytes ≤ 512 }
         requires few { bytes ≤ 8 }
         ensures writes { IfOk result (λ _. Writes self.old frame offsets bytes self.new) }
@@ -115,7 +112,8 @@ impl Description {
         }
         if offsets.least == offsets.most {
             let offset = usize::from(offsets.least);
-            self.stack.mark(usize::from(frame), offset, usize::from(bytes));
+            self.stack
+                .mark(usize::from(frame), offset, usize::from(bytes));
         }
         Ok(())
     }

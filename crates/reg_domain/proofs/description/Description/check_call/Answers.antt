@@ -1,4 +1,3 @@
-use Rattle.std.proofs.Common.{sym}
 use Rattle.reg_domain.proofs.Calling.{obeys_ok}
 use Rattle.reg_domain.proofs.description.Description.check_call.Goals as goal
 

@@ -11,5 +11,5 @@ returns-then-is_written-clause-reads c = λ freeze m address is lies.
     (omega (arith, live, c.from-frame.ensures, c.depth.ensures.frames))
     lies c.requires.inside
     (λ frames covers at from to.
-        subst (λ (k : ℕ). IsWritten frames k at) c.from-frame.ensures
-        (are frames covers at (omega (arith, from, c.from-least.ensures)) (omega (arith, to, c.from-most.ensures, c.from.ensures))))
+    subst (λ (k : ℕ). IsWritten frames k at) c.from-frame.ensures
+    (are frames covers at (omega (arith, from, c.from-least.ensures)) (omega (arith, to, c.from-most.ensures, c.from.ensures))))

@@ -14,7 +14,7 @@ returns-then-is_written c = λ freeze m address bytes is holds counts.
     let are = c.is_written.ensures.0 c.if-is_written.true in
     let fits : c.args.offsets.most + bytes ≤ 512 = omega (arith, inside, count, few) in
     let found = in_frame freeze c.args.self.now m c.args.frame c.args.offsets holds.0 bytes is (c.if-not-lies_in.ensures.live refl) holds.2 fits
-        (λ frames covers at from to.
-            subst (λ (k : ℕ). IsWritten frames k at) c.from.ensures
-            (are frames covers at (omega (arith, from, c.from-least.ensures)) (omega (arith, to, c.from-most.ensures, count, few)))) in
+    (λ frames covers at from to.
+    subst (λ (k : ℕ). IsWritten frames k at) c.from.ensures
+    (are frames covers at (omega (arith, from, c.from-least.ensures)) (omega (arith, to, c.from-most.ensures, count, few)))) in
     subst (λ (a : ℕ). has_written 0 m.frames a bytes ≡ true) (sym here) (ap is_some found.are)

@@ -1,8 +1,9 @@
 // Conditional jumps: what one way tells of the registers that are compared, or of the run's freeze. It relies on
 // `comparison` for what is found.
 
-ghost use Rattle.std.specs.Prelude.{◌≡◌, ℕ, ℤ, true, false, ◌⊎◌, IfOk, IsOkAnd, IsTrue, Some};
+ghost use Rattle.std.specs.Prelude.{◌≡◌, ℕ, ℤ, ◌==◌, true, false, ◌⊎◌, IfOk, IsOkAnd, IsTrue, Some};
 ghost use Rattle.bpf_insn.specs.declared.insn.Insn.TheVariants.{JumpIf};
+ghost use Rattle.bpf_insn.specs.Reg.{number_of};
 ghost use Rattle.bpf_machine.specs.MachineState.{MachineState, register};
 ghost use Rattle.bpf_machine.specs.Step.{operand as operand_of};
 ghost use Rattle.helpers.specs.declared.limits.HelperLimits.{HelperLimits};
@@ -47,6 +48,8 @@ impl Description {
     // Takes in what is found of the operands: the answer is whether any machine goes that way.
     fn learn(&mut self, dst: Reg, src: Operand, finding: Finding) -> bool
         ensures means { (freeze a b : ℕ) (m : MachineState) → DescribesWith freeze self.old m → register m dst ≡ Some a → operand_of m src ≡ Some b → Found freeze a b finding → (result ≡ true) × DescribesWith freeze self.new m }
+        ensures constant { (value : ℤ) (left right : Scalar) → finding ≡ Finding.Numbers left right → src ≡ Operand.Immediate value → kind_at self.new dst ≡ Kind.Number left }
+        ensures right { (reg : Reg) (left right : Scalar) → finding ≡ Finding.Numbers left right → src ≡ Operand.Register reg → kind_at self.new reg ≡ Kind.Number right }
         ensures numbers { ComparesNumbers self.old dst src → IsOfNumbers finding → LeavesKnown self.old self.new × (self.new.held ≡ self.old.held) }
         ensures freeze { (way : Way) → IsOfFreeze (is_taken way) finding → LeavesKnown self.old self.new }
         ensures tested { (way : Way) → IsOfFreeze (is_taken way) finding → IsFreeze (kind_at self.old dst) → self.old.held ≡ Held.Open → result ≡ true → LeavesTested way dst self.new }
@@ -63,6 +66,9 @@ impl Description {
     // The registers that are compared hold one of these numbers each.
     fn narrow(&mut self, dst: Reg, src: Operand, left: Scalar, right: Scalar)
         ensures means { (freeze a b : ℕ) (m : MachineState) → DescribesWith freeze self.old m → register m dst ≡ Some a → operand_of m src ≡ Some b → Has left a → Has right b → DescribesWith freeze self.new m }
+        ensures constant { (value : ℤ) → src ≡ Operand.Immediate value → kind_at self.new dst ≡ Kind.Number left }
+        ensures left { (reg : Reg) → src ≡ Operand.Register reg → (number_of dst == number_of reg) ≡ false → kind_at self.new dst ≡ Kind.Number left }
+        ensures right { (reg : Reg) → src ≡ Operand.Register reg → kind_at self.new reg ≡ Kind.Number right }
         ensures known { ComparesNumbers self.old dst src → LeavesKnown self.old self.new }
         ensures held { self.new.held ≡ self.old.held }
     {

@@ -96,6 +96,7 @@ impl Machine {
 
     /// Executes private instructions until there is none, and tells how many. None of them is tested for being stuck,
     /// so the machine may be stuck nowhere on its way, and the way has to be shorter than the budget.
+    #[inline(never)]
     pub fn execute(&mut self, program: &Program, budget: u32) -> u32
         requires { GoesOnWithin program.now self.old budget }
         ensures steps { PrivateSteps program.now result self.old self.new }

@@ -87,6 +87,18 @@ impl Machine {
             && self.disposed == other.disposed
     }
 
+    /// Makes this machine the other one, in its place. A frame of which no byte is written is not copied.
+    pub fn copy_from(&mut self, other: &Self)
+        ensures { self.new ≡ other.now }
+    {
+        self.place = other.place;
+        self.registers = other.registers;
+        self.context = other.context;
+        self.frame.copy_from(&other.frame);
+        self.held = other.held;
+        self.disposed = other.disposed;
+    }
+
     /// What a register holds, where it is written.
     pub fn register(&self, reg: Reg) -> Option<u64>
         ensures { result ≡ register self.now reg }

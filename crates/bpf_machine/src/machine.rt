@@ -87,6 +87,18 @@ impl Machine {
             && self.disposed == other.disposed
     }
 
+    /// Makes this machine the other one, in its place. A frame of which no byte is written is not copied.
+    pub fn copy_from(&mut self, other: &Self)
+        ensures { self.new ≡ other.now }
+    {
+        self.place = other.place;
+        self.registers = other.registers;
+        self.context = other.context;
+        self.frame.copy_from(&other.frame);
+        self.held = other.held;
+        self.disposed = other.disposed;
+    }
+
     /// What a register holds, where it is written.
     pub fn register(&self, reg: Reg) -> Option<u64>
         ensures { result ≡ register self.now reg }
@@ -96,6 +108,7 @@ impl Machine {
 
     /// Executes private instructions until there is none, and tells how many. None of them is tested for being stuck,
     /// so the machine may be stuck nowhere on its way, and the way has to be shorter than the budget.
+    #[inline(never)]
     pub fn execute(&mut self, program: &Program, budget: u32) -> u32
         requires { GoesOnWithin program.now self.old budget }
         ensures steps { PrivateSteps program.now result self.old self.new }

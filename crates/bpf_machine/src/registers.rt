@@ -11,6 +11,9 @@ ghost use Rattle.bpf_machine.specs.Unchecked.{word_at, word_for, with_word};
 use bpf_insn::{Operand, Reg, Row};
 use std::marker::Model;
 
+/// Where the word stands that is always 0.
+const ZERO: usize = 11;
+
 /// The registers R0 to R10. Contracts see the list, in which an unwritten register is `None`.
 #[derive(Clone, Copy, Debug, PartialEq, Eq)]
 pub struct Registers {
@@ -100,6 +103,15 @@ impl Registers {
         let index = usize::from(reg.number());
         self.words[index] = word;
         self.written[index] = true;
+    }
+
+    /// Writes the word behind the registers, which is 0 already, so nothing changes. It is for a jump that is taken: what
+    /// writes is not done ahead, so the processor guesses the jump and does not wait for what it compares.
+    #[inline(always)]
+    pub fn write_zero(&mut self)
+        ensures { self.new ≡ self.old }
+    {
+        self.words[ZERO] = 0;
     }
 
     /// Makes a register an unwritten one.

@@ -85,7 +85,7 @@ impl Run {
             program,
             machine: mut held,
         } = self;
-        *held = *machine;
+        held.copy_from(machine);
         Run {
             number,
             program,

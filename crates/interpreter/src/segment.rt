@@ -14,11 +14,18 @@ use verifier::Accepted;
 /// outermost exit at which the other stands.
 #[derive(Debug, Drop)]
 pub struct Segment {
+    pub(crate) stretch: Stretch,
+}
+
+/// What a segment keeps, which is changed in its place until it is one. Behind `steps` is the only gap, so that its
+/// place need not be cleared before.
+#[derive(Debug, Drop)]
+pub(crate) struct Stretch {
     pub(crate) program: Arc<Accepted>,
     pub(crate) from: Machine,
     pub(crate) to: Machine,
-    pub(crate) steps: u32,
     pub(crate) stop: Stop,
+    pub(crate) steps: u32,
 }
 
 impl Model for Segment {
@@ -28,19 +35,19 @@ impl Model for Segment {
     ghost Value = { SegmentState };
 
     ghost view = { λ s. record {
-      program = arc_value s.program;
-      from = s.from;
-      to = s.to;
-      steps = s.steps;
-      stop = s.stop;
+      program = arc_value s.stretch.program;
+      from = s.stretch.from;
+      to = s.stretch.to;
+      steps = s.stretch.steps;
+      stop = s.stretch.stop;
     } };
 
     ghost invariant = { λ s. IsSegment (record {
-      program = arc_value s.program;
-      from = s.from;
-      to = s.to;
-      steps = s.steps;
-      stop = s.stop;
+      program = arc_value s.stretch.program;
+      from = s.stretch.from;
+      to = s.stretch.to;
+      steps = s.stretch.steps;
+      stop = s.stretch.stop;
     }) };
 }
 
@@ -50,7 +57,7 @@ impl Segment {
         ensures value { arc_value result.now ≡ self.now.program }
         ensures segment { IsSegment self.now }
     {
-        &self.program
+        &self.stretch.program
     }
 
     /// The machine before the first instruction.
@@ -58,7 +65,7 @@ impl Segment {
         ensures value { result.now ≡ self.now.from }
         ensures segment { IsSegment self.now }
     {
-        &self.from
+        &self.stretch.from
     }
 
     /// The machine that stands at the stop: the helper call or exit there is its next instruction.
@@ -66,7 +73,7 @@ impl Segment {
         ensures value { result.now ≡ self.now.to }
         ensures segment { IsSegment self.now }
     {
-        &self.to
+        &self.stretch.to
     }
 
     /// How many instructions the segment has, from 1: the private ones, and the helper call or exit at its end.
@@ -75,7 +82,7 @@ impl Segment {
         ensures segment { IsSegment self.now }
         ensures budget { IsWithinBudget self.now }
     {
-        self.steps
+        self.stretch.steps
     }
 
     /// Where the run comes to the engine.
@@ -83,6 +90,6 @@ impl Segment {
         ensures value { result ≡ self.now.stop }
         ensures segment { IsSegment self.now }
     {
-        self.stop
+        self.stretch.stop
     }
 }

@@ -268,7 +268,7 @@ impl Recoveries {
             HasRunAt self.new.runs place (record it { machine = answered request.now answer.now to.now }) }
     {
         let machine = &mut self.runs[place].machine;
-        *machine = *to;
+        machine.copy_from(to);
         pass(machine, request, answer);
     }
 

@@ -126,3 +126,21 @@ put_mid_is bytes new offset =
     ap (λ (n : ℕ). take offset bytes ++ (new ++ drop n (drop offset bytes))) many
     ∙ ap (λ (l : List ℕ). take offset bytes ++ (new ++ l)) (drop-drop (length new) offset bytes)
     ∙ sym (append_assoc (take offset bytes) new (drop (offset + length new) bytes))
+
+none_written : (bytes : List ℕ) → frame_of bytes (replicate (length bytes) false) ≡ replicate (length bytes) None
+none_written [] = refl
+none_written (byte ∷ bytes) = ap (λ (l : List (Option ℕ)). None ∷ l) (none_written bytes)
+
+written_of-none : (n : ℕ) → written_of (replicate n None) ≡ replicate n false
+written_of-none zero = refl
+written_of-none (suc n) = ap (λ (l : List Bool). false ∷ l) (written_of-none n)
+
+-- a frame is unwritten exactly where the set of the written bytes is empty
+pub unwritten_is : (bytes : List ℕ) (written : List Bool) → AreFrame bytes written → written ≡ replicate 512 false → frame_of bytes written ≡ replicate 512 None
+unwritten_is bytes written are none =
+    ap (frame_of bytes) (none ∙ ap (λ (n : ℕ). replicate n false) (sym are.count.0))
+    ∙ none_written bytes
+    ∙ ap (λ (n : ℕ). replicate n None) are.count.0
+
+pub unwritten_has : (bytes : List ℕ) (written : List Bool) → AreFrame bytes written → frame_of bytes written ≡ replicate 512 None → written ≡ replicate 512 false
+unwritten_has bytes written are none = sym are.same_written ∙ ap written_of none ∙ written_of-none 512

@@ -59,6 +59,13 @@ impl ByteSet {
         self.words == other.words
     }
 
+    /// Whether no byte is in the set.
+    pub fn is_empty(&self) -> bool
+        ensures { IsTrue result ↔ (self.now ≡ replicate 512 false) }
+    {
+        self.is_same(&ByteSet::empty())
+    }
+
     /// Whether the byte at that offset, from 0 to 511, is in the set.
     pub fn contains(&self, offset: usize) -> bool
         requires { offset < 512 }

@@ -43,11 +43,38 @@ impl Frame {
         }
     }
 
-    /// Whether both are one frame.
+    /// Whether no byte is written.
+    pub fn is_unwritten(&self) -> bool
+        ensures { IsTrue result ↔ (self.now ≡ replicate 512 None) }
+    {
+        self.written.is_empty()
+    }
+
+    /// Whether both are one frame. Of two that are unwritten no byte is looked at.
     pub fn is_same(&self, other: &Self) -> bool
         ensures { IsTrue result ↔ (self.now ≡ other.now) }
     {
+        if self.is_unwritten() {
+            other.is_unwritten()
+        } else {
+            self.has_same_bytes(other)
+        }
+    }
+
+    fn has_same_bytes(&self, other: &Self) -> bool
+        ensures { IsTrue result ↔ (self.now ≡ other.now) }
+    {
         self.written.is_same(&other.written) && self.bytes == other.bytes
+    }
+
+    /// Makes this frame the other one. Where both are unwritten no byte is copied.
+    pub fn copy_from(&mut self, other: &Self)
+        ensures { self.new ≡ other.now }
+    {
+        if self.is_unwritten() && other.is_unwritten() {
+            return;
+        }
+        *self = *other;
     }
 
     /// The byte at that offset, as 0 where it is unwritten.

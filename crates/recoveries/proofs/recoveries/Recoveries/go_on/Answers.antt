@@ -20,7 +20,7 @@ here c it at = run_at c.self.inside.runs.items c.args.place it c.index_mut.resul
 goes_on : (c : goal.After-self-1) (it : LiveRun) → HasRunAt (lives_of c.self.inside.runs.items) c.args.place it → live_of (record c.index_mut.result.now { machine = c.pass.new.machine }) ≡ record it { machine = answered c.args.request.now c.args.answer.now c.args.to.now }
 goes_on c it at =
     ap (λ (x : LiveRun). record x { machine = c.pass.new.machine }) (here c it at).1
-    ∙ ap (λ (m : MachineState). record it { machine = m }) c.pass.ensures.machine
+    ∙ ap (λ (m : MachineState). record it { machine = m }) (c.pass.ensures.machine ∙ ap (answered c.args.request.now c.args.answer.now) c.copy_from.ensures)
 
 pub invariant_of-self : goal.invariant_of-self
 invariant_of-self c =

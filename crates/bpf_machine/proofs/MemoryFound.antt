@@ -4,10 +4,10 @@ use Rattle.std.specs.Prelude.{◌||◌, is_some, take, drop}
 use Rattle.std.specs.Option.{option_map, option_and_then}
 use Rattle.std.specs.Int.{Width, byte_len, bytes_low_first}
 use Rattle.byteorder.specs.Endian.{little_bytes}
-use Rattle.stack_frame.specs.Frame.{written_at}
+use Rattle.stack_frame.specs.Frame.{all_written, written_at}
 use Rattle.std.proofs.lemmas.Bool.{cases_Bool, cond-true, cond-false}
 use Rattle.bpf_machine.specs.MachineState.{MachineState, context_address}
-use Rattle.bpf_machine.specs.Frames.{frame_start, is_inside, frame_bytes, all_written, has_room, has_written, frames_with}
+use Rattle.bpf_machine.specs.Frames.{frame_start, is_inside, frame_bytes, has_room, has_written, frames_with}
 use Rattle.bpf_machine.specs.Memory.{in_context, read, can_read, with_word_at}
 
 some_there : {X : Type 0} → (o : Option X) → is_some o ≡ true → (x : X) × (o ≡ Some x)

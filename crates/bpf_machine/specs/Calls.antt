@@ -1,7 +1,7 @@
 -- The call of a helper: with which arguments it is made, and by which rule. The rule is that each argument is as the
 -- helper's row asks, and what the helper asks of the run.
-use Rattle.std.specs.Prelude.{ℕ, Bool, true, not, ◌&&◌, ◌==◌, nat_le, nat_lt, List, length, Option, Some, None, slice_index_or}
-use Rattle.std.specs.Option.{option_and_then}
+use Rattle.std.specs.Prelude.{ℕ, Bool, true, not, ◌&&◌, ◌==◌, nat_le, nat_lt, List, length, Option, Some, None, if◌then◌else◌, slice_index_or}
+use Rattle.std.specs.Option.{option_map, option_and_then}
 use Rattle.std.specs.List.{list_any}
 use Rattle.bpf_insn.specs.declared.reg.Reg.{Reg}
 use Rattle.bpf_insn.specs.declared.reg.Reg.TheVariants.{R1, R2, R3}
@@ -12,10 +12,12 @@ use Rattle.helpers.specs.declared.helper.Asked.{Asked}
 use Rattle.helpers.specs.declared.helper.Asked.TheVariants.{Queue, HeldFreeze, Within, Table, Index, Word, Room, Bytes}
 use Rattle.helpers.specs.declared.request.Arguments.{Arguments}
 use Rattle.helpers.specs.declared.request.Request.{Request}
+use Rattle.helpers.specs.declared.request.Request.TheVariants as requests
 use Rattle.helpers.specs.Table.{asks, request_of, helper_in, arguments_in}
 use Rattle.bpf_machine.specs.declared.held_freezes.TheConstants.{MAX_HELD}
 use Rattle.bpf_machine.specs.MachineState.{MachineState, register}
-use Rattle.bpf_machine.specs.Frames.{has_room, has_written}
+use Rattle.stack_frame.specs.Frame.{all_written as written_bytes}
+use Rattle.bpf_machine.specs.Frames.{frame_bytes, has_room, has_written}
 
 -- what an argument is; a register that the helper does not read counts as 0
 abbrev pub argument : MachineState → Option Asked → Reg → Option ℕ
@@ -32,9 +34,19 @@ all_written None second third = None
 abbrev pub arguments_at : MachineState → Helper → Option Arguments
 arguments_at m helper = all_written (argument m (asks helper).first R1) (argument m (asks helper).second R2) (argument m (asks helper).third R3)
 
+-- the bytes that a trace call puts into the history: 1 to 64 that lie in one live frame and are all written
+abbrev pub traced : MachineState → ℕ → ℕ → Option (List ℕ)
+traced m address bytes =
+    if nat_le 1 bytes && nat_le bytes 64 then option_and_then written_bytes (frame_bytes 0 m.frames address bytes) else None
+
+-- the machine's call of a helper with these arguments
+abbrev pub request_with : MachineState → Helper → Arguments → Option Request
+request_with m helpers.Trace arguments = option_map (requests.Trace arguments.first) (traced m arguments.first arguments.second)
+request_with m helper arguments = request_of helper arguments
+
 -- the machine's call of a helper
 abbrev pub request_by : MachineState → Helper → Option Request
-request_by m helper = option_and_then (request_of helper) (arguments_at m helper)
+request_by m helper = option_and_then (request_with m helper) (arguments_at m helper)
 
 -- the freeze is among those held
 abbrev pub is_held : List ℕ → ℕ → Bool

@@ -5,19 +5,21 @@
 ghost use Rattle.std.specs.Prelude.{◌≡◌, ◌+◌, ◌<◌, ◌↔◌, true, None, IsTrue};
 ghost use Rattle.bpf_insn.specs.declared.program.TheConstants.{MAX_SLOTS};
 ghost use Rattle.bpf_machine.specs.MachineState.{entry, register};
-ghost use Rattle.bpf_machine.specs.Calls.{argument, request_by};
-ghost use Rattle.bpf_machine.specs.Step.{private_step, request_at, exit_at, after_call, answered};
+ghost use Rattle.bpf_machine.specs.Calls.{argument, request_by, request_with, traced};
+ghost use Rattle.helpers.specs.declared.helper.Helper.TheVariants as helpers;
+ghost use Rattle.bpf_machine.specs.Step.{private_step, request_at, exit_at, after_call, answered, frames_after};
 ghost use Rattle.bpf_machine.specs.Stops.{stop_at};
 ghost use Rattle.bpf_machine.specs.Reached.{IsEntry, PrivateSteps};
 ghost use Rattle.bpf_machine.specs.Able.{GoesOnWithin};
 
 use crate::held_freezes::HeldFreezes;
-use crate::memory::{CONTEXT_ADDRESS, FRAME_ADDRESS, FRAME_BYTES};
+use crate::memory::{CONTEXT_ADDRESS, FRAME_ADDRESS, FRAME_BYTES, in_frame};
 use crate::registers::Registers;
 use crate::stepping::advance;
 use crate::stop::Stop;
 use bpf_insn::{Callee, Insn, Program, Reg};
-use helpers::{Answer, Arguments, Asked, Helper, Request};
+use helpers::{Answer, Arguments, Asked, Helper, Request, Written};
+use short_bytes::ShortBytes;
 use stack_frame::Frame;
 use std::marker::Model;
 
@@ -164,7 +166,35 @@ impl Machine {
             second: self.argument(asks.second, Reg::R2)?,
             third: self.argument(asks.third, Reg::R3)?,
         };
-        Request::new(helper, &arguments)
+        match helper {
+            Helper::Trace => self.trace_call(&arguments),
+            helper => Request::new(helper, &arguments),
+        }
+    }
+
+    // The call that puts the bytes which its arguments name into the history.
+    fn trace_call(&self, arguments: &Arguments) -> Option<Request>
+        ensures { result ≡ request_with self.now helpers.Trace arguments.now }
+    {
+        let bytes = self.traced(arguments.first, arguments.second)?;
+        Some(Request::Trace {
+            address: arguments.first,
+            bytes,
+        })
+    }
+
+    // So many bytes from an address on, 1 to 64, where they lie in the frame and are all written.
+    fn traced(&self, address: u64, bytes: u64) -> Option<ShortBytes>
+        ensures { result ≡ traced self.now address bytes }
+    {
+        if bytes < 1 || bytes > 64 {
+            return None;
+        }
+        let offset = in_frame(address, bytes)?;
+        if !self.frame.has_written(offset, bytes as usize) {
+            return None;
+        }
+        ShortBytes::new(self.frame.bytes(offset, bytes as usize))
     }
 
     // What an argument is; a register that the helper does not read counts as 0.
@@ -207,8 +237,8 @@ impl Machine {
     }
 
     /// Passes a helper call that was answered, where the machine stands at a slot of a program: R0 is the answer
-    /// and R1 to R5 are unwritten. A freeze that was released is held no more, and a CCB that waits again is
-    /// disposed of.
+    /// and R1 to R5 are unwritten. A freeze that was released is held no more, a CCB that waits again is disposed of,
+    /// and what the call wrote stands in its frame.
     pub fn pass(&mut self, request: &Request, answer: &Answer)
         requires { self.old.place < MAX_SLOTS }
         ensures { self.new ≡ answered request.now answer.now self.old }
@@ -217,6 +247,22 @@ impl Machine {
         match *request {
             Request::Release { freeze } => self.held = self.held.without(freeze),
             Request::Requeue { retries: _ } => self.disposed = true,
+            Request::QueueInfo { address: _ } => self.write(&answer.written),
+            Request::Trace {
+                address: _,
+                bytes: _,
+            } => {}
+        }
+    }
+
+    // What a call wrote stands in the frame.
+    fn write(&mut self, written: &Option<Written>)
+        ensures { self.new ≡ record self.old { frames = frames_after self.old.frames written.now } }
+    {
+        if let Some(written) = written {
+            if let Some(offset) = in_frame(written.address, 16) {
+                self.frame.write_bytes(offset, &written.bytes);
+            }
         }
     }
 

@@ -78,10 +78,10 @@ fn in_context(address: u64, bytes: u64) -> Option<usize>
     }
 }
 
-// How far behind the frame's start so many bytes begin, where they lie in it.
+/// How far behind the frame's start so many bytes begin, at most 64, where they lie in it.
 #[inline(always)]
-fn in_frame(address: u64, bytes: u64) -> Option<usize>
-    requires { bytes ≤ 8 }
+pub fn in_frame(address: u64, bytes: u64) -> Option<usize>
+    requires { bytes ≤ 64 }
     ensures value { result ≡ frame_offset address bytes }
     ensures within { IfSome result (λ offset. offset + bytes ≤ 512) }
 {

@@ -9,7 +9,7 @@ use Rattle.std.proofs.lemmas.List.Elements.{All-nil, All-cons, All-append, All-r
 use Rattle.byteorder.specs.Endian.{little_bytes}
 use Rattle.sense_record.specs.Sense.{Format, Fixed, Descriptor, Unknown, format_of, response_code, sense_in, sense_of}
 use Rattle.ccb.specs.declared.ccb.Ccb.{Ccb}
-use Rattle.ccb.specs.SenseBytes.{padded_sense}
+use Rattle.short_bytes.specs.ShortBytes.{padded_bytes}
 use Rattle.ccb.specs.Context.{context_of}
 use Rattle.ccb.specs.Ccb.{status_word_of}
 
@@ -41,7 +41,7 @@ word w =
           (All-cons (λ (x : ℕ). x < 256) (byte_at 3 w) [] (low _) (All-nil (λ (x : ℕ). x < 256)))));
     }
 
-padded : (sense : List ℕ) → length sense ≤ 64 → All (λ byte. byte < 256) sense → IsBytes 64 (padded_sense sense)
+padded : (sense : List ℕ) → length sense ≤ 64 → All (λ byte. byte < 256) sense → IsBytes 64 (padded_bytes sense)
 padded sense few each =
     record {
       size = omega (arith, length-append sense (replicate (64 - length sense) 0), length-replicate {A = ℕ} (64 - length sense) 0);

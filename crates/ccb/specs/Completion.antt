@@ -3,7 +3,7 @@ use Rattle.std.specs.Prelude.{◌≢◌, ◌<◌, ◌≤◌, ℕ, List, length, 
 use Rattle.ccb.specs.declared.CcbId.{CcbId}
 use Rattle.ccb.specs.declared.cam_status.CamStatus.{CamStatus}
 use Rattle.ccb.specs.declared.cam_status.CamStatus.TheVariants.{RequestInProgress}
-use Rattle.ccb.specs.SenseBytes.{most_sense_bytes}
+use Rattle.short_bytes.specs.ShortBytes.{most_bytes}
 
 -- the answer of a device to a CCB: the CCB's number, its CAM status, the SCSI status byte, and the
 -- sense bytes
@@ -17,5 +17,5 @@ pub record Outcome : Type 0 where
 pub record IsCompletion (c : Outcome) : Type 0 where
   pub finished : c.status ≢ RequestInProgress
   pub scsi_byte : c.scsi < 256
-  pub few : length c.sense ≤ most_sense_bytes
+  pub few : length c.sense ≤ most_bytes
   pub sense_bytes : All (λ byte. byte < 256) c.sense

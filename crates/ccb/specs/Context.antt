@@ -5,7 +5,7 @@ use Rattle.byteorder.specs.Endian.{little_bytes}
 use Rattle.sense_record.specs.Sense.{sense_of}
 use Rattle.ccb.specs.declared.ccb.Ccb.{Ccb}
 use Rattle.ccb.specs.Ccb.{status_word_of}
-use Rattle.ccb.specs.SenseBytes.{padded_sense}
+use Rattle.short_bytes.specs.ShortBytes.{padded_bytes}
 
 -- one field: a byte, a word of four bytes with the lowest first, or bytes as they are
 pub data Field : Type 0 where
@@ -25,7 +25,7 @@ context_fields ccb =
     Word ccb.number.0 ∷ Word ccb.queue.0 ∷ Word (status_word_of ccb)
     ∷ Byte ccb.scsi ∷ Byte sense.key ∷ Byte sense.asc ∷ Byte sense.ascq
     ∷ Word ccb.retries ∷ Word sense.len ∷ Word ccb.attempts ∷ Word 0
-    ∷ Bytes (padded_sense ccb.sense) ∷ []
+    ∷ Bytes (padded_bytes ccb.sense) ∷ []
 
 -- the fields, one after another
 abbrev pub context_of : Ccb → List ℕ

@@ -1,6 +1,5 @@
 pub mod Status
 pub mod Flags
-pub mod SenseBytes
 pub mod Completion
 pub mod Ccb
 pub mod Context

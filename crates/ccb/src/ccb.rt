@@ -6,7 +6,7 @@ ghost use Rattle.ccb.specs.Ccb.{completed, flags_of, requeued, started, status_w
 use crate::cam_status::CamStatus;
 use crate::ccb_flags::CcbFlags;
 use crate::completion::Completion;
-use crate::sense_bytes::SenseBytes;
+use short_bytes::ShortBytes;
 use crate::{CcbId, QueueId};
 use bitflags::Flags;
 
@@ -29,7 +29,7 @@ pub struct Ccb {
     /// The SCSI status byte of the last completion, or 0.
     pub scsi: u8,
     /// The sense bytes of the last completion, or none.
-    pub sense: SenseBytes,
+    pub sense: ShortBytes,
     /// Whether a freeze of the queue was taken for the last completion.
     pub freeze_taken: bool,
 }
@@ -47,7 +47,7 @@ impl Ccb {
             attempts: 0,
             status: CamStatus::RequestInProgress,
             scsi: 0,
-            sense: SenseBytes::none(),
+            sense: ShortBytes::none(),
             freeze_taken: false,
         }
     }
@@ -77,7 +77,7 @@ impl Ccb {
         self.retries = self.retries.saturating_sub(used);
         self.status = CamStatus::RequestInProgress;
         self.scsi = 0;
-        self.sense = SenseBytes::none();
+        self.sense = ShortBytes::none();
         self.freeze_taken = false;
     }
 

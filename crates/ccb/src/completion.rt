@@ -5,7 +5,7 @@ ghost use Rattle.ccb.specs.Completion.{Outcome, IsCompletion};
 
 use crate::CcbId;
 use crate::cam_status::CamStatus;
-use crate::sense_bytes::SenseBytes;
+use short_bytes::ShortBytes;
 use std::marker::Model;
 
 /// The completion of a CCB: which CCB, its CAM status (never that it is in progress), its SCSI
@@ -15,7 +15,7 @@ pub struct Completion {
     ccb: CcbId,
     status: CamStatus,
     scsi: u8,
-    sense: SenseBytes,
+    sense: ShortBytes,
 }
 
 impl Model for Completion {
@@ -40,7 +40,7 @@ impl Completion {
         if status == CamStatus::RequestInProgress {
             return None;
         }
-        let sense = SenseBytes::new(sense)?;
+        let sense = ShortBytes::new(sense)?;
         Some(Completion {
             ccb,
             status,
@@ -72,7 +72,7 @@ impl Completion {
     }
 
     /// The sense bytes that came, from 0 to 64.
-    pub fn sense(&self) -> SenseBytes
+    pub fn sense(&self) -> ShortBytes
         ensures { result ≡ self.now.sense }
     {
         self.sense

@@ -8,14 +8,12 @@ mod ccb;
 mod ccb_flags;
 mod completion;
 mod context_bytes;
-mod sense_bytes;
 
 pub use crate::cam_status::CamStatus;
 pub use crate::ccb::Ccb;
 pub use crate::ccb_flags::CcbFlags;
 pub use crate::completion::Completion;
 pub use crate::context_bytes::{CONTEXT_BYTES, context};
-pub use crate::sense_bytes::{MAX_SENSE_BYTES, SenseBytes};
 
 /// The number of a CCB. Numbers are given from 1 upward and never used again.
 #[derive(Clone, Copy, Debug, PartialEq, Eq, Hash, PartialOrd, Ord)]

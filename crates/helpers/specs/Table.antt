@@ -1,5 +1,5 @@
 -- The table of the helper functions: the number of each, and what it asks of its arguments, which stand in R1, R2 and R3.
-use Rattle.std.specs.Prelude.{ℕ, ℤ, pos, ◌+◌, ◌==◌, Bool, Option, Some, None, if◌then◌else◌}
+use Rattle.std.specs.Prelude.{ℕ, ℤ, pos, length, ◌+◌, ◌==◌, Bool, Option, Some, None, if◌then◌else◌}
 use Rattle.std.specs.Ordering.{int_eq}
 use Rattle.helpers.specs.declared.helper.Helper.{Helper}
 use Rattle.helpers.specs.declared.helper.Helper.TheVariants as helpers
@@ -8,7 +8,8 @@ use Rattle.helpers.specs.declared.helper.Asked.TheVariants.{Queue, HeldFreeze, W
 use Rattle.helpers.specs.declared.helper.Asks.{Asks}
 use Rattle.helpers.specs.declared.request.Arguments.{Arguments}
 use Rattle.helpers.specs.declared.request.Request.{Request}
-use Rattle.helpers.specs.declared.request.Request.TheVariants.{Release, Requeue}
+use Rattle.helpers.specs.declared.request.Request.TheVariants.{Release, Requeue, QueueInfo, Trace}
+use Rattle.helpers.specs.declared.request.Answer.{Answer}
 
 abbrev pub nothing : Asks
 nothing = record { first = None; second = None; third = None }
@@ -79,18 +80,28 @@ helper_of number =
 abbrev pub is_helper : Helper → Helper → Bool
 is_helper a b = number_of a == number_of b
 
--- the call of a helper with these arguments, if it is answered
+-- the call of a helper with these arguments, if it is answered and they tell all of it: not what a trace call puts into
+-- the history
 abbrev pub request_of : Helper → Arguments → Option Request
 request_of helpers.Release arguments = Some (Release arguments.first)
 request_of helpers.Requeue arguments = Some (Requeue arguments.first)
+request_of helpers.QueueInfo arguments = Some (QueueInfo arguments.first)
 request_of helper arguments = None
 
 -- the helper that is called
 abbrev pub helper_in : Request → Helper
 helper_in (Release freeze) = helpers.Release
 helper_in (Requeue retries) = helpers.Requeue
+helper_in (QueueInfo address) = helpers.QueueInfo
+helper_in (Trace address bytes) = helpers.Trace
 
 -- the arguments with which it is called
 abbrev pub arguments_in : Request → Arguments
 arguments_in (Release freeze) = record { first = freeze; second = 0; third = 0 }
 arguments_in (Requeue retries) = record { first = retries; second = 0; third = 0 }
+arguments_in (QueueInfo address) = record { first = address; second = 0; third = 0 }
+arguments_in (Trace address bytes) = record { first = address; second = length bytes; third = 0 }
+
+-- an answer that is a number alone
+abbrev pub answer_number : ℕ → Answer
+answer_number r0 = record { r0 = r0; written = None }

@@ -1,5 +1,5 @@
 // The helper functions that a recovery program may call: their table, what is asked and answered, and the limits of
-// what a call may name. It relies on nothing.
+// what a call may name. It relies on `short_bytes` for the bytes that a call names.
 #![tactic(auto)]
 
 mod helper;
@@ -8,4 +8,4 @@ mod request;
 
 pub use helper::{Asked, Asks, Helper};
 pub use limits::{HelperLimits, TableLengths};
-pub use request::{Answer, Arguments, Request};
+pub use request::{Answer, Arguments, Request, Written};

@@ -1,9 +1,11 @@
-// A helper call with its arguments, and its answer. It relies on `helper`.
+// A helper call with its arguments, and its answer. It relies on `helper`, and on `short_bytes` for the bytes of a trace
+// call.
 
 ghost use Rattle.std.specs.Prelude.{◌≡◌};
-ghost use Rattle.helpers.specs.Table.{helper_in, request_of};
+ghost use Rattle.helpers.specs.Table.{answer_number, helper_in, request_of};
 
 use crate::helper::Helper;
+use short_bytes::ShortBytes;
 
 /// The arguments of a helper call, as they stand in R1, R2 and R3; 0 for one that the helper does not take.
 #[derive(Clone, Copy, Debug, PartialEq, Eq)]
@@ -20,10 +22,15 @@ pub enum Request {
     Release { freeze: u64 },
     /// Makes the run's CCB wait again, with so many retries fewer: 0 or 1. The answer is 0.
     Requeue { retries: u64 },
+    /// Writes what the run's queue has to the 16 bytes from an address on. The answer is 0.
+    QueueInfo { address: u64 },
+    /// Puts the bytes that stand from an address on into the history, 1 to 64 of them. The answer is 0.
+    Trace { address: u64, bytes: ShortBytes },
 }
 
 impl Request {
-    /// The call of a helper; None exactly where the helper is not answered.
+    /// The call of a helper; None exactly where the helper is not answered, and of a trace call, whose bytes no argument
+    /// tells.
     pub fn new(helper: Helper, arguments: &Arguments) -> Option<Self>
         ensures { result ≡ request_of helper arguments.now }
     {
@@ -34,13 +41,15 @@ impl Request {
             Helper::Requeue => Some(Request::Requeue {
                 retries: arguments.first,
             }),
+            Helper::QueueInfo => Some(Request::QueueInfo {
+                address: arguments.first,
+            }),
             Helper::Freeze
             | Helper::ReleaseAfter
             | Helper::Finish
             | Helper::TableGet
             | Helper::TablePut
             | Helper::TableAdd
-            | Helper::QueueInfo
             | Helper::Trace
             | Helper::Now
             | Helper::SetOpenings => None,
@@ -54,8 +63,19 @@ impl Request {
         match self {
             Request::Release { .. } => Helper::Release,
             Request::Requeue { .. } => Helper::Requeue,
+            Request::QueueInfo { .. } => Helper::QueueInfo,
+            Request::Trace { .. } => Helper::Trace,
         }
     }
+}
+
+/// Bytes that a helper call wrote.
+#[derive(Clone, Copy, Debug, PartialEq, Eq)]
+pub struct Written {
+    /// The address of the first of them.
+    pub address: u64,
+    /// The bytes, in the order of their addresses.
+    pub bytes: [u8; 16],
 }
 
 /// What a helper call answers.
@@ -63,4 +83,15 @@ impl Request {
 pub struct Answer {
     /// What R0 gets.
     pub r0: u64,
+    /// What the call wrote, which is asked of `QueueInfo` alone.
+    pub written: Option<Written>,
+}
+
+impl Answer {
+    /// A number alone.
+    pub fn number(r0: u64) -> Self
+        ensures { result ≡ answer_number r0 }
+    {
+        Answer { r0, written: None }
+    }
 }

@@ -5,7 +5,8 @@ use Rattle.std.specs.Option.{option_map, option_and_then}
 use Rattle.std.specs.Int.{Width, byte_len}
 use Rattle.std.proofs.lemmas.Bool.{cases_Bool, cond-true, cond-false}
 use Rattle.bpf_machine.specs.MachineState.{MachineState, context_address}
-use Rattle.bpf_machine.specs.Frames.{all_written, frame_bytes, frame_start, frames_with, has_room, has_written, is_inside}
+use Rattle.stack_frame.specs.Frame.{all_written}
+use Rattle.bpf_machine.specs.Frames.{frame_bytes, frame_start, frames_with, has_room, has_written, is_inside}
 use Rattle.bpf_machine.specs.Memory.{can_read, in_context, read, with_memory, with_word_at, word_from}
 use Rattle.bpf_machine.proofs.MemoryFound.{bytes_length}
 

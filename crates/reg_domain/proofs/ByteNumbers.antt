@@ -7,7 +7,7 @@ use Rattle.std.proofs.lemmas.Bool.{cases_lt}
 use Rattle.std.proofs.lemmas.List.{get_or_past}
 use Rattle.std.specs.Int.{byte_at, bytes_low_first}
 use Rattle.byteorder.specs.Endian.{little_from}
-use Rattle.bpf_machine.specs.Frames.{all_written}
+use Rattle.stack_frame.specs.Frame.{all_written}
 
 byte_below : (xs : List ℕ) (i : ℕ) → All (λ byte. byte < 256) xs → slice_index xs i < 256
 byte_below xs i each = elim (cases_lt i (length xs)) [

@@ -7,7 +7,8 @@ use Rattle.std.proofs.lemmas.List.{get_or-take, get_or-drop, length-take}
 use Rattle.stack_domain.specs.Stack.{Covers as CoversFrames, AreWritten}
 use Rattle.stack_domain.proofs.Loads as loads
 use Rattle.bpf_machine.specs.MachineState.{MachineState, context_address}
-use Rattle.bpf_machine.specs.Frames.{all_written, frame_bytes, has_room}
+use Rattle.stack_frame.specs.Frame.{all_written}
+use Rattle.bpf_machine.specs.Frames.{frame_bytes, has_room}
 use Rattle.bpf_machine.specs.Memory.{in_context}
 use Rattle.reg_domain.specs.declared.description.Description.{Description}
 use Rattle.reg_domain.specs.declared.region.Offsets.{Offsets}

@@ -1,9 +1,9 @@
 // A stack frame: 512 bytes, and which of them are written. A load or a store of a word has no loop. It relies on
 // `byte_set` for what is written, and on `byteorder` for words in memory.
 
-ghost use Rattle.std.specs.Prelude.{◌≡◌, ◌≤◌, ◌+◌, ◌↔◌, IsTrue, length, replicate, None, map, take, drop};
+ghost use Rattle.std.specs.Prelude.{◌≡◌, ◌≤◌, ◌+◌, ◌↔◌, IsTrue, length, replicate, None, is_some, map, take, drop};
 ghost use Rattle.byteorder.specs.Endian.{little_bytes};
-ghost use Rattle.stack_frame.specs.Frame.{byte_of, word_at, written_at};
+ghost use Rattle.stack_frame.specs.Frame.{all_written, byte_of, word_at, written_at};
 
 use crate::byte_set::{ByteSet, MOST_BYTES};
 use byteorder::{ByteOrder, LittleEndian};
@@ -119,6 +119,14 @@ impl Frame {
         ensures { result.now ≡ map byte_of (take count (drop offset self.now)) }
     {
         &self.bytes[offset..offset + count]
+    }
+
+    /// Whether `count` bytes from that offset on are all written.
+    pub fn has_written(&self, offset: usize, count: usize) -> bool
+        requires { offset + count ≤ 512 }
+        ensures { result ≡ is_some (all_written (take count (drop offset self.now))) }
+    {
+        self.written.contains_all(offset, count)
     }
 
     /// Writes bytes, at most `MOST_BYTES`, from that offset on.

@@ -5,7 +5,7 @@ use Rattle.ccb.specs.declared.ccb.Ccb.{Ccb}
 use Rattle.ccb.specs.declared.cam_status.CamStatus.{CamStatus}
 use Rattle.ccb.specs.declared.cam_status.CamStatus.TheVariants.{RequestInProgress, RequestCompleted}
 use Rattle.ccb.specs.Status.{code_of}
-use Rattle.ccb.specs.SenseBytes.{most_sense_bytes}
+use Rattle.short_bytes.specs.ShortBytes.{most_bytes}
 use Rattle.ccb.specs.Completion.{Outcome}
 use Rattle.ccb.specs.Ccb.{submitted, started, completed}
 use Rattle.ccb.specs.Context.{context_of}
@@ -119,7 +119,7 @@ completes setup world outcome (Some live) =
 abbrev pub is_completion : Outcome → Bool
 is_completion outcome =
     not (code_of outcome.status == code_of RequestInProgress) && nat_lt outcome.scsi 256
-    && nat_le (length outcome.sense) most_sense_bytes && list_all (λ byte. nat_lt byte 256) outcome.sense
+    && nat_le (length outcome.sense) most_bytes && list_all (λ byte. nat_lt byte 256) outcome.sense
 
 -- no event unless it is such a completion
 abbrev pub step_complete : Setup → World → Outcome → Option (Reply × World)

@@ -7,7 +7,7 @@ use Rattle.std.proofs.lemmas.List.Elements.{All-weaker}
 use Rattle.std.proofs.lemmas.List.Sums.{AllPass-from_list_all}
 use Rattle.ccb.specs.declared.cam_status.CamStatus.TheVariants.{RequestInProgress}
 use Rattle.ccb.specs.Status.{code_of}
-use Rattle.ccb.specs.SenseBytes.{most_sense_bytes}
+use Rattle.short_bytes.specs.ShortBytes.{most_bytes}
 use Rattle.ccb.specs.Completion.{Outcome}
 use Rattle.ccb.specs.Ccb.{completed}
 use Rattle.ccb.specs.Context.{context_of}
@@ -75,7 +75,7 @@ record Brought (outcome : Outcome) : Type 0 where
 brought : (outcome : Outcome) → is_completion outcome ≡ true → Brought outcome
 brought outcome good =
     let first = and_parts _ (list_all (λ (byte : ℕ). nat_lt byte 256) outcome.sense) good in
-    let second = and_parts _ (nat_le (length outcome.sense) most_sense_bytes) first.0 in
+    let second = and_parts _ (nat_le (length outcome.sense) most_bytes) first.0 in
     let third = and_parts (not (code_of outcome.status == code_of RequestInProgress)) (nat_lt outcome.scsi 256) second.0 in
     record {
       scsi = ltb-true _ _ third.1;

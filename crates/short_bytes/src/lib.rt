@@ -1,0 +1,6 @@
+// At most 64 bytes in a place of fixed size. It relies on nothing.
+#![tactic(auto)]
+
+mod short_bytes;
+
+pub use short_bytes::{MAX_BYTES, ShortBytes};

@@ -1,12 +1,13 @@
 -- A frame as bytes and the set of the written ones: what a read sees and what a write leaves.
 use Rattle.std.proofs.Common.{◌≡◌, ℕ, zero, suc, ◌+◌, ◌-◌, ◌≤◌, Bool, true, false, List, [], ◌∷◌, ◌++◌, Option, Some, None, is_some, length, map, take, drop, replicate, refl, ap, sym, ◌∙◌, arith, add-zero, append_assoc, length-append, length-drop}
 use Rattle.std.proofs.lemmas.List.{map-append, take-map, drop-map, length-take-le, length-replicate, take_all, get_or-drop, drop-drop}
-use Rattle.std.specs.Prelude.{slice_index}
+use Rattle.std.specs.Prelude.{slice_index, slice_index_or}
+use Rattle.std.specs.Option.{option_map}
 use borrow.Rule.Slice.PartMut.{put_mid, mid_of}
 use Rattle.byteorder.specs.Endian.{little_number}
 use Rattle.stack_frame.proofs.Sets.{length-with_all}
-use Rattle.stack_frame.specs.ByteSet.{with_all}
-use Rattle.stack_frame.specs.Frame.{byte_of, word_at, written_at}
+use Rattle.stack_frame.specs.ByteSet.{HasAll, with_all}
+use Rattle.stack_frame.specs.Frame.{all_written, byte_of, word_at, written_at}
 use Rattle.stack_frame.specs.FrameBytes.{written_byte, frame_of, bytes_of, written_of, AreFrame}
 
 frame_of-append : (xs ys : List ℕ) (s t : List Bool) → length xs ≡ length s → frame_of (xs ++ ys) (s ++ t) ≡ frame_of xs s ++ frame_of ys t
@@ -144,3 +145,48 @@ unwritten_is bytes written are none =
 
 pub unwritten_has : (bytes : List ℕ) (written : List Bool) → AreFrame bytes written → frame_of bytes written ≡ replicate 512 None → written ≡ replicate 512 false
 unwritten_has bytes written are none = sym are.same_written ∙ ap written_of none ∙ written_of-none 512
+
+some_kept : {X Y : Type 0} (f : X → Y) (o : Option X) → is_some (option_map f o) ≡ is_some o
+some_kept f None = refl
+some_kept f (Some x) = refl
+
+-- so many first bytes are all written exactly where the set has them
+first_written : (count : ℕ) (bytes : List ℕ) (written : List Bool) → count ≤ length bytes → length bytes ≡ length written → HasAll written 0 count → is_some (all_written (take count (frame_of bytes written))) ≡ true
+first_written zero bytes written few same has = refl
+first_written (suc n) [] written few same has = absurd (omega arith)
+first_written (suc n) (b ∷ bytes) [] few same has = absurd (omega arith)
+first_written (suc n) (b ∷ bytes) (false ∷ written) few same has = absurd (let bad : false ≡ true = has 0 (omega arith) (omega arith) in cc)
+first_written (suc n) (b ∷ bytes) (true ∷ written) few same has =
+    some_kept (λ rest. b ∷ rest) (all_written (take n (frame_of bytes written)))
+    ∙ first_written n bytes written (omega arith) (omega arith) (λ k from to. has (suc k) (omega arith) (omega arith))
+
+first_has : (count : ℕ) (bytes : List ℕ) (written : List Bool) → count ≤ length bytes → length bytes ≡ length written → is_some (all_written (take count (frame_of bytes written))) ≡ true → HasAll written 0 count
+first_has zero bytes written few same all = λ k from to. absurd (omega arith)
+first_has (suc n) [] written few same all = absurd (omega arith)
+first_has (suc n) (b ∷ bytes) [] few same all = absurd (omega arith)
+first_has (suc n) (b ∷ bytes) (false ∷ written) few same all = absurd (let bad : false ≡ true = all in cc)
+first_has (suc n) (b ∷ bytes) (true ∷ written) few same all =
+    each (first_has n bytes written (omega arith) (omega arith) (sym (some_kept (λ rest. b ∷ rest) (all_written (take n (frame_of bytes written)))) ∙ all))
+  where
+    each : HasAll written 0 n → HasAll (true ∷ written) 0 (suc n)
+    each has zero from to = refl
+    each has (suc k) from to = has k (omega arith) (omega arith)
+
+-- and so from an offset on
+module _ (bytes : List ℕ) (written : List Bool) (offset count : ℕ) (are : AreFrame bytes written) (inside : offset + count ≤ 512) where
+  few : count ≤ length (drop offset bytes)
+  few = omega (arith, length-drop offset bytes, are.count.0)
+
+  same : length (drop offset bytes) ≡ length (drop offset written)
+  same = omega (arith, length-drop offset bytes, length-drop offset written, are.count.0, are.count.1)
+
+  pub all_written_from : HasAll written offset count → is_some (all_written (take count (drop offset (frame_of bytes written)))) ≡ true
+  all_written_from has =
+      ap (λ (frame : List (Option ℕ)). is_some (all_written (take count frame))) (drop-frame_of offset bytes written)
+      ∙ first_written count (drop offset bytes) (drop offset written) few same (λ k from to. get_or-drop offset written k false ∙ has (offset + k) (omega arith) (omega arith))
+
+  pub has_all_from : is_some (all_written (take count (drop offset (frame_of bytes written)))) ≡ true → HasAll written offset count
+  has_all_from all = λ k from to.
+      let place : offset + (k - offset) ≡ k = omega arith in
+      let there = first_has count (drop offset bytes) (drop offset written) few same (ap (λ (frame : List (Option ℕ)). is_some (all_written (take count frame))) (sym (drop-frame_of offset bytes written)) ∙ all) (k - offset) (omega arith) (omega arith) in
+      ap (λ (n : ℕ). slice_index_or written n false) (sym place) ∙ sym (get_or-drop offset written (k - offset) false) ∙ there

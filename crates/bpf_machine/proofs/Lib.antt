@@ -1,5 +1,6 @@
 pub mod ByRows
 mod Entries
+pub mod FrameCalls
 pub mod Held
 pub mod MemoryFound
 mod MemoryRows

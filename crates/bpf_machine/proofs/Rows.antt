@@ -1,6 +1,6 @@
 -- Worked rows, computed by the definitions themselves. The program is that of the two paths: with a freeze it gives
 -- the freeze back first, and without one it jumps to the requeue.
-use Rattle.std.proofs.Common.{◌≡◌, ℕ, ℤ, pos, negsuc, Bool, true, false, List, [], ◌∷◌, ◌++◌, Some, None, refl, replicate}
+use Rattle.std.proofs.Common.{◌≡◌, ℕ, ℤ, pos, negsuc, Bool, true, false, List, [], ◌∷◌, ◌++◌, Option, Some, None, refl, replicate}
 use Rattle.bpf_insn.specs.declared.insn.Insn.{Insn}
 use Rattle.bpf_insn.specs.declared.insn.Insn.TheVariants.{Alu, InPlace, SignExtend, JumpIf, Call, Exit}
 use Rattle.bpf_insn.specs.declared.insn.Callee.TheVariants.{Helper}
@@ -19,7 +19,11 @@ use Rattle.bpf_insn.specs.Program.{layout}
 use Rattle.helpers.specs.declared.limits.HelperLimits.{HelperLimits}
 use Rattle.helpers.specs.declared.helper.Helper.{Helper as TheHelper}
 use Rattle.helpers.specs.declared.helper.Helper.TheVariants as helpers
-use Rattle.helpers.specs.declared.request.Request.TheVariants.{Release, Requeue}
+use Rattle.helpers.specs.declared.request.Answer.{Answer}
+use Rattle.helpers.specs.declared.request.Request.{Request}
+use Rattle.helpers.specs.declared.request.Request.TheVariants.{Release, Requeue, QueueInfo, Trace}
+use Rattle.helpers.specs.Table.{answer_number}
+use Rattle.stack_frame.specs.Frame.{written_at}
 use Rattle.bpf_machine.specs.declared.stop.Stop.TheVariants.{Helper as AtHelper, Exit as AtExit}
 use Rattle.bpf_machine.specs.MachineState.{MachineState, entry, register, with_register, moved_to}
 use Rattle.bpf_machine.specs.Calls.{arguments_at, obeys}
@@ -229,12 +233,24 @@ stops_nowhere_else = refl
 
 -- A release with a count of 2 as its answer: R0 is the count, R1 to R5 are unwritten, R6 to R10 are as they were, and
 -- the freeze is held no more.
-answered_release : answered (Release 7) (record { r0 = 2 }) (with_register with_freeze R1 7) ≡ record with_freeze { place = 1; registers = Some 2 ∷ None ∷ None ∷ None ∷ None ∷ None ∷ None ∷ None ∷ None ∷ None ∷ Some 0x20000200 ∷ []; held = [] }
+answered_release : answered (Release 7) (answer_number 2) (with_register with_freeze R1 7) ≡ record with_freeze { place = 1; registers = Some 2 ∷ None ∷ None ∷ None ∷ None ∷ None ∷ None ∷ None ∷ None ∷ None ∷ Some 0x20000200 ∷ []; held = [] }
 answered_release = refl
 
 -- a requeue disposes of the CCB and leaves the freezes
-answered_requeue : answered (Requeue 1) (record { r0 = 0 }) (with_register with_freeze R1 1) ≡ record with_freeze { place = 1; registers = Some 0 ∷ None ∷ None ∷ None ∷ None ∷ None ∷ None ∷ None ∷ None ∷ None ∷ Some 0x20000200 ∷ []; disposed = true }
+answered_requeue : answered (Requeue 1) (answer_number 0) (with_register with_freeze R1 1) ≡ record with_freeze { place = 1; registers = Some 0 ∷ None ∷ None ∷ None ∷ None ∷ None ∷ None ∷ None ∷ None ∷ None ∷ Some 0x20000200 ∷ []; disposed = true }
 answered_requeue = refl
+
+-- What a queue has is written where the call asked for it: the frame's last 16 bytes. R0 is 0, and nothing else changes.
+abbrev information : Answer
+information = record { r0 = 0; written = Some (record { address = 0x200001f0; bytes = 2 ∷ replicate 15 0 }) }
+
+answered_information : answered (QueueInfo 0x200001f0) information (with_register with_freeze R1 0x200001f0) ≡ record with_freeze { place = 1; registers = Some 0 ∷ None ∷ None ∷ None ∷ None ∷ None ∷ None ∷ None ∷ None ∷ None ∷ Some 0x20000200 ∷ []; frames = (replicate 496 None ++ Some 2 ∷ replicate 15 (Some 0)) ∷ [] }
+unfolding written_at
+answered_information = refl
+
+-- a trace call leaves all but the registers
+answered_trace : answered (Trace 0x200001ff (3 ∷ [])) (answer_number 0) with_freeze ≡ record with_freeze { place = 1; registers = Some 0 ∷ None ∷ None ∷ None ∷ None ∷ None ∷ None ∷ None ∷ None ∷ None ∷ Some 0x20000200 ∷ [] }
+answered_trace = refl
 
 -- a helper without arguments reads no register, and one with two reads R1 and R2
 nothing_read : arguments_at (record with_freeze { registers = replicate 11 None }) helpers.Now ≡ Some (record { first = 0; second = 0; third = 0 })
@@ -282,6 +298,23 @@ last_written = record with_freeze { frames = (replicate 511 None ++ Some 3 ∷ [
 traces : (obeys_with last_written helpers.Trace 0x200001ff 1 ≡ true) × (obeys_with last_written helpers.Trace 0x200001fe 2 ≡ false)
     × (obeys_with last_written helpers.Trace 0x200001ff 0 ≡ false)
 traces = (refl, refl, refl)
+
+-- a trace call tells the bytes that stand at its address, and is none where one of them is unwritten, where there is none
+-- of them or more than 64, and where they do not lie in a frame
+abbrev traced_from : MachineState → ℕ → ℕ → Option Request
+traced_from m address bytes = request_at (one (call (pos 10))) (with_register (with_register m R1 address) R2 bytes)
+
+abbrev all_sevens : MachineState
+all_sevens = record with_freeze { frames = replicate 512 (Some 7) ∷ [] }
+
+traced_bytes : (traced_from last_written 0x200001ff 1 ≡ Some (Trace 0x200001ff (3 ∷ []))) × (traced_from last_written 0x200001fe 2 ≡ None)
+    × (traced_from all_sevens 0x20000000 64 ≡ Some (Trace 0x20000000 (replicate 64 7))) × (traced_from all_sevens 0x20000000 65 ≡ None)
+    × (traced_from all_sevens 0x20000000 0 ≡ None) × (traced_from all_sevens 0x200001ff 2 ≡ None) × (traced_from all_sevens 0x10000000 8 ≡ None)
+traced_bytes = (refl, refl, refl, refl, refl, refl, refl)
+
+-- the queue's information is asked for by its address alone
+information_request : request_at (one (call (pos 9))) (with_register with_freeze R1 0x200001f0) ≡ Some (QueueInfo 0x200001f0)
+information_request = refl
 
 sets_openings : (obeys_with with_freeze helpers.SetOpenings 255 0 ≡ true) × (obeys_with with_freeze helpers.SetOpenings 0 0 ≡ false)
     × (obeys_with with_freeze helpers.SetOpenings 256 0 ≡ false)

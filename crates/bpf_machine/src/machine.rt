@@ -137,7 +137,7 @@ impl Machine {
     }
 
     /// The helper call at which the machine stands, where its arguments are written and a helper that is answered has
-    /// its number.
+    /// its number; of a trace call only where the bytes that it names, 1 to 64, lie in the frame and are written.
     pub fn request(&self, program: &Program) -> Option<Request>
         ensures { result ≡ request_at program.now self.now }
     {
@@ -187,14 +187,15 @@ impl Machine {
     fn traced(&self, address: u64, bytes: u64) -> Option<ShortBytes>
         ensures { result ≡ traced self.now address bytes }
     {
+        let frame = &self.frame;
         if bytes < 1 || bytes > 64 {
             return None;
         }
         let offset = in_frame(address, bytes)?;
-        if !self.frame.has_written(offset, bytes as usize) {
+        if !frame.has_written(offset, bytes as usize) {
             return None;
         }
-        ShortBytes::new(self.frame.bytes(offset, bytes as usize))
+        ShortBytes::new(frame.bytes(offset, bytes as usize))
     }
 
     // What an argument is; a register that the helper does not read counts as 0.
@@ -260,8 +261,9 @@ impl Machine {
         ensures { self.new ≡ record self.old { frames = frames_after self.old.frames written.now } }
     {
         if let Some(written) = written {
-            if let Some(offset) = in_frame(written.address, 16) {
-                self.frame.write_bytes(offset, &written.bytes);
+            let bytes: &[u8] = &written.bytes;
+            if let Some(offset) = in_frame(written.address, bytes.len() as u64) {
+                self.frame.write_bytes(offset, bytes);
             }
         }
     }

@@ -1,4 +1,4 @@
-use Rattle.std.proofs.Common.{◌≡◌, ℕ, List, ap, sym, subst, ◌∙◌}
+use Rattle.std.proofs.Common.{ℕ, List, ap, sym, subst, ◌∙◌}
 use Rattle.bpf_machine.specs.RegisterWords.{registers_of, AreRegisters}
 use Rattle.bpf_machine.proofs.RegisterLists.{zero_kept}
 use Rattle.bpf_machine.proofs.registers.Registers.write_zero.Goals as goal

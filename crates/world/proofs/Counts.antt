@@ -9,7 +9,7 @@ use Rattle.world.specs.Event.{Event, Reply, run_started}
 use Rattle.world.specs.Limits.{KeepsLimits}
 use Rattle.world.specs.FreezeLaws.{OneFewer, MovesCounts, CountsAreEntries}
 use Rattle.world.proofs.Lists.Entries.{frozen_push, frozen_without, entry_bounds}
-use Rattle.world.proofs.Steps.Cases.{Case, case_of, refuses, submits, dispatches, finishes_one, recovers_one, recovers_unfrozen, freezes_one, releases_one, goes_on_one, gives_back, requeues_one, exits}
+use Rattle.world.proofs.Steps.Cases.{Case, case_of, refuses, submits, dispatches, finishes_one, recovers_one, recovers_unfrozen, freezes_one, releases_one, goes_on_one, gives_back, requeues_one, asks_one, exits}
 use Rattle.world.proofs.Leads.{limits_are_kept}
 
 -- the count after the freeze of this number went
@@ -50,6 +50,7 @@ case_moves setup before event reply after kept (goes_on_one it) = rw it.it.event
 case_moves setup before event reply after kept (gives_back it) =
     rw it.it.event_is (it.number, _, (it.it.run, it.it.found, it.call_is), ap (λ (x : Reply × World). x.0) it.answer, goes setup before after it.number it.freeze kept it.entry (ap (λ (x : Reply × World). x.1.freezes) it.answer))
 case_moves setup before event reply after kept (requeues_one it) = rw it.it.event_is (ap (λ (x : Reply × World). x.1.freezes) it.answer)
+case_moves setup before event reply after kept (asks_one it) = rw it.it.event_is it.moves
 case_moves setup before event reply after kept (exits it) = rw it.it.event_is (ap (λ (w : World). w.freezes) it.after_is)
 
 pub counts_are_entries : CountsAreEntries

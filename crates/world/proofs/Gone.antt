@@ -7,6 +7,7 @@ use Rattle.helpers.specs.declared.request.Request.TheVariants.{Release}
 use Rattle.bpf_machine.specs.Step.{request_at}
 use Rattle.world.specs.World.{Setup, LiveRun, World, opening}
 use Rattle.world.specs.Lookups.{run_of}
+use Rattle.world.specs.Told.{plain}
 use Rattle.world.specs.Event.{call, Event, Reply, guest_release, executes}
 use Rattle.world.specs.Step.{WorldStep}
 use Rattle.world.specs.WorldRun.{Leads}
@@ -93,11 +94,11 @@ given_up_by_run_stays_given_up setup xs ys run number reply before world first a
     let after : World = second.0 in
     let kept = limits_are_kept setup xs before first in
     let it = release_parts setup before run reply after second.1 in
-    let named : it.it.number ≡ run = let e : executes run (call helpers.Release) ≡ executes it.it.number (call helpers.Release) = it.it.event_is in cc in
+    let named : it.it.number ≡ run = let e : executes run (call (plain helpers.Release)) ≡ executes it.it.number (call (plain helpers.Release)) = it.it.event_is in cc in
     let same : it.number ≡ number = same_request before run number it.number it.it.run (subst (λ (n : ℕ). run_of n before.runs ≡ Some it.it.run) named it.it.found) it.call_is asks in
     let past = removed_past setup before after number it.freeze kept (subst (λ (n : ℕ). entry_of n before.freezes ≡ Some it.freeze) same it.entry)
     (ap (λ (x : Reply × World). x.1.freezes) it.answer) (ap (λ (x : Reply × World). x.1.greatest_freeze) it.answer) in
-    none_held number world (leads_past setup after ys world number (step_keeps setup before (executes run (call helpers.Release)) reply after second.1 kept) second.2 past).none held
+    none_held number world (leads_past setup after ys world number (step_keeps setup before (executes run (call (plain helpers.Release))) reply after second.1 kept) second.2 past).none held
 
 pub gone_stays_gone : GoneStaysGone
 gone_stays_gone setup xs ys zs number held gone later first was second not_there third is_there =

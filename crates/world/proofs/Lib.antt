@@ -1,3 +1,4 @@
+pub mod Telling
 pub mod Rows
 pub mod Lists
 pub mod Steps

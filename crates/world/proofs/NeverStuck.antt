@@ -1,12 +1,9 @@
 -- No live run is stuck, and each that is out has exactly one step.
-use Rattle.std.proofs.Common.{◌≡◌, ℕ, List, true, false, not, leb, Option, Some, None, inl, inr, refl, ap, sym, subst, ◌∙◌}
-use Rattle.std.specs.Prelude.{◌&&◌}
+use Rattle.std.proofs.Common.{◌≡◌, ℕ, List, true, false, not, Option, Some, None, inl, inr, refl, ap, sym, subst, ◌∙◌}
 use Rattle.std.specs.Option.{option_map, option_and_then}
 use Rattle.std.proofs.lemmas.Bool.{cond-true, and_from, and_parts, not-true}
-use Rattle.helpers.specs.declared.helper.Helper.TheVariants as helpers
-use Rattle.helpers.specs.Table.{helper_in}
 use Rattle.helpers.specs.declared.request.Request.{Request}
-use Rattle.helpers.specs.declared.request.Request.TheVariants.{Release, Requeue}
+use Rattle.helpers.specs.declared.request.Request.TheVariants.{Release, Requeue, QueueInfo, Trace}
 use Rattle.bpf_machine.specs.Calls.{is_held, meets_rule}
 use Rattle.bpf_machine.specs.MachineState.{MachineState}
 use Rattle.bpf_machine.specs.Step.{private_step, request_at, exit_at}
@@ -14,12 +11,14 @@ use Rattle.bpf_machine.specs.Stuck.{is_stuck}
 use Rattle.bpf_machine.specs.Progress.{HasStep, AtLawfulExit}
 use Rattle.bpf_machine.proofs.Progress.{progress_lem}
 use Rattle.world.specs.World.{Setup, LiveRun, World}
-use Rattle.world.specs.Lookups.{ccb_of, run_of}
+use Rattle.world.specs.Lookups.{run_of}
+use Rattle.world.specs.Told.{told_of}
 use Rattle.world.specs.Event.{Instruction, private, call, exit, executes, Reply}
-use Rattle.world.specs.RunSteps.{is_run, step_call, step_run, step_executes, releases, requeues}
+use Rattle.world.specs.RunSteps.{is_run, may_call, step_request, step_call, step_run, step_executes, releases, requeues}
 use Rattle.world.specs.Step.{WorldStep}
 use Rattle.world.specs.Headline.{HasOneStep, NeverStuck}
 use Rattle.world.proofs.Lists.Found.{found_key}
+use Rattle.world.proofs.Telling.{told_itself}
 use Rattle.world.proofs.Steps.Cases.{some_is, Executes, private_parts, call_parts, exit_parts}
 use Rattle.world.proofs.Steps.Moves.{run_key}
 use Rattle.world.proofs.Steps.Fates.{same_run}
@@ -30,7 +29,7 @@ use Rattle.world.proofs.Sound.{IsSound, run_sound}
 -- the machine of the run stands at such an instruction
 abbrev StandsAt : LiveRun → Instruction → Type 0
 StandsAt run private = (m : MachineState) × (private_step run.program run.machine ≡ Some m)
-StandsAt run (call helper) = (request : Request) × (request_at run.program run.machine ≡ Some request) × (helper ≡ helper_in request)
+StandsAt run (call told) = (request : Request) × (request_at run.program run.machine ≡ Some request) × (told ≡ told_of request)
 StandsAt run exit = (r0 : ℕ) × (exit_at run.program run.machine ≡ Some r0)
 
 its_run : (world : World) (number : ℕ) (run : LiveRun) (instruction : Instruction) → run_of number world.runs ≡ Some run → (it : Executes world (executes number instruction) instruction) → it.run ≡ run
@@ -44,9 +43,9 @@ stands_at : (setup : Setup) (world : World) (number : ℕ) (run : LiveRun) (inst
 stands_at setup world number run private reply after found e =
     let it = private_parts setup world number reply after e in
     (it.machine, subst (λ (r : LiveRun). private_step r.program r.machine ≡ Some it.machine) (its_run world number run private found it.it) it.step)
-stands_at setup world number run (call helper) reply after found e =
-    let it = call_parts setup world number helper reply after e in
-    (it.request, subst (λ (r : LiveRun). request_at r.program r.machine ≡ Some it.request) (its_run world number run (call helper) found it.it) it.call_is, it.named)
+stands_at setup world number run (call told) reply after found e =
+    let it = call_parts setup world number told reply after e in
+    (it.request, subst (λ (r : LiveRun). request_at r.program r.machine ≡ Some it.request) (its_run world number run (call told) found it.it) it.call_is, it.told_is)
 stands_at setup world number run exit reply after found e =
     let it = exit_parts setup world number reply after e in
     (it.r0, subst (λ (r : LiveRun). exit_at r.program r.machine ≡ Some it.r0) (its_run world number run exit found it.it) it.exit_is)
@@ -77,45 +76,43 @@ at_private setup world number run found out it =
   where
     only : (other : Instruction) → StandsAt run other → other ≡ private
     only private at = refl
-    only (call helper) at = absurd (absent _ _ it.no_call at.1)
+    only (call told) at = absurd (absent _ _ it.no_call at.1)
     only exit at = absurd (absent _ _ it.no_exit at.1)
 
 same_call : (a b : Request) → Some a ≡ Some b → a ≡ b
 same_call a b e = cc
 
--- a release whose freeze the run holds is the one
-at_release : (setup : Setup) (world : World) (number : ℕ) (run : LiveRun) → IsSound setup world → run_of number world.runs ≡ Some run → run.out ≡ true → (f : ℕ) → request_at run.program run.machine ≡ Some (Release f) → meets_rule setup.limits run.machine (Release f) ≡ true → private_step run.program run.machine ≡ None → exit_at run.program run.machine ≡ None → HasOneStep setup world number
-at_release setup world number run sound found out f call_is rule no_step no_exit =
+-- a call by its rule that leads somewhere is the one
+at_this_call : (setup : Setup) (world : World) (number : ℕ) (run : LiveRun) → run_of number world.runs ≡ Some run → run.out ≡ true → (request : Request) → request_at run.program run.machine ≡ Some request → meets_rule setup.limits run.machine request ≡ true → private_step run.program run.machine ≡ None → exit_at run.program run.machine ≡ None → (p : Reply × World) → step_request world run request ≡ Some p → HasOneStep setup world number
+at_this_call setup world number run found out request call_is rule no_step no_exit p leads =
+    one_step setup world number run found out (call (told_of request)) p
+    (ap (option_and_then (step_call setup.limits world run (told_of request))) call_is
+    ∙ (cond-true (may_call setup.limits run (told_of request) request) (step_request world run request) None (and_from _ _ (told_itself (told_of request)) rule) ∙ leads))
+    only
+  where
+    only : (other : Instruction) → StandsAt run other → other ≡ call (told_of request)
+    only private at = absurd (absent _ _ no_step at.1)
+    only (call told) at = ap call (at.2 ∙ ap told_of (same_call _ _ (sym at.1 ∙ call_is)))
+    only exit at = absurd (absent _ _ no_exit at.1)
+
+-- each call leads somewhere: a freeze that is given back is there and is the run's, and so is a CCB that waits again
+leads_on : (setup : Setup) (world : World) (number : ℕ) (run : LiveRun) → IsSound setup world → run_of number world.runs ≡ Some run → (request : Request) → meets_rule setup.limits run.machine request ≡ true → (p : Reply × World) × (step_request world run request ≡ Some p)
+leads_on setup world number run sound found (Release f) rule =
     let among = among_is number f 0 world.freezes world.greatest_freeze sound.kept.freezes.numbered
     (sym (ap (λ (ns : List ℕ). is_held ns f) (sound.held.machines number run found)) ∙ (and_parts _ _ rule).0) in
     let named : run.number ≡ number = found_key run_key number world.runs run found in
     let its : is_run run.number among.0.holder ≡ true = subst (λ (n : ℕ). is_run n among.0.holder ≡ true) (sym named) among.2 in
-    one_step setup world number run found out (call helpers.Release) _
-    (ap (option_and_then (step_call setup.limits world run helpers.Release)) call_is ∙ (cond-true (meets_rule setup.limits run.machine (Release f)) _ None rule ∙ (ap (releases world run) among.1 ∙ cond-true (is_run run.number among.0.holder) _ None its)))
-    only
-  where
-    only : (other : Instruction) → StandsAt run other → other ≡ call helpers.Release
-    only private at = absurd (absent _ _ no_step at.1)
-    only (call helper) at = ap call (at.2 ∙ ap helper_in (same_call _ _ (sym at.1 ∙ call_is)))
-    only exit at = absurd (absent _ _ no_exit at.1)
-
--- a requeue of a CCB that is not disposed of is the one
-at_requeue : (setup : Setup) (world : World) (number : ℕ) (run : LiveRun) → IsSound setup world → run_of number world.runs ≡ Some run → run.out ≡ true → (n : ℕ) → request_at run.program run.machine ≡ Some (Requeue n) → meets_rule setup.limits run.machine (Requeue n) ≡ true → private_step run.program run.machine ≡ None → exit_at run.program run.machine ≡ None → HasOneStep setup world number
-at_requeue setup world number run sound found out n call_is rule no_step no_exit =
+    (_, ap (releases world run) among.1 ∙ cond-true (is_run run.number among.0.holder) _ None its)
+leads_on setup world number run sound found (Requeue n) rule =
     let recovery = sound.recovering.ccbs number run found (not-true _ (and_parts (not run.machine.disposed) _ rule).0) in
-    one_step setup world number run found out (call helpers.Requeue) _
-    (ap (option_and_then (step_call setup.limits world run helpers.Requeue)) call_is
-    ∙ (cond-true (meets_rule setup.limits run.machine (Requeue n)) (requeues world run n (ccb_of run.ccb world.live)) None rule ∙ ap (requeues world run n) recovery.found))
-    only
-  where
-    only : (other : Instruction) → StandsAt run other → other ≡ call helpers.Requeue
-    only private at = absurd (absent _ _ no_step at.1)
-    only (call helper) at = ap call (at.2 ∙ ap helper_in (same_call _ _ (sym at.1 ∙ call_is)))
-    only exit at = absurd (absent _ _ no_exit at.1)
+    (_, ap (requeues world run n) recovery.found)
+leads_on setup world number run sound found (QueueInfo address) rule = (_, refl)
+leads_on setup world number run sound found (Trace address bytes) rule = (_, refl)
 
 at_call : (setup : Setup) (world : World) (number : ℕ) (run : LiveRun) → IsSound setup world → run_of number world.runs ≡ Some run → run.out ≡ true → (request : Request) → request_at run.program run.machine ≡ Some request → meets_rule setup.limits run.machine request ≡ true → private_step run.program run.machine ≡ None → exit_at run.program run.machine ≡ None → HasOneStep setup world number
-at_call setup world number run sound found out (Release f) call_is rule no_step no_exit = at_release setup world number run sound found out f call_is rule no_step no_exit
-at_call setup world number run sound found out (Requeue n) call_is rule no_step no_exit = at_requeue setup world number run sound found out n call_is rule no_step no_exit
+at_call setup world number run sound found out request call_is rule no_step no_exit =
+    let leads = leads_on setup world number run sound found request rule in
+    at_this_call setup world number run found out request call_is rule no_step no_exit leads.0 leads.1
 
 -- the lawful exit is the one
 at_exit : (setup : Setup) (world : World) (number : ℕ) (run : LiveRun) → run_of number world.runs ≡ Some run → run.out ≡ true → AtLawfulExit run.program run.machine → HasOneStep setup world number
@@ -124,7 +121,7 @@ at_exit setup world number run found out it =
   where
     only : (other : Instruction) → StandsAt run other → other ≡ exit
     only private at = absurd (absent _ _ it.no_step at.1)
-    only (call helper) at = absurd (absent _ _ it.no_call at.1)
+    only (call told) at = absurd (absent _ _ it.no_call at.1)
     only exit at = refl
 
 has_one_step : (setup : Setup) (world : World) (number : ℕ) (run : LiveRun) → IsSound setup world → run_of number world.runs ≡ Some run → is_stuck run.program setup.limits run.machine ≡ false → run.out ≡ true → HasOneStep setup world number

@@ -4,3 +4,4 @@ pub mod Guests
 pub mod Ccbs
 pub mod Runs
 pub mod Lawful
+pub mod Telling

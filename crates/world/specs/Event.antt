@@ -1,13 +1,13 @@
 -- What may happen in the world, and what is answered. One instruction of one run is one event.
 use Rattle.std.specs.Prelude.{ℕ, ◌==◌, Option, Some, None, if◌then◌else◌}
 use Rattle.ccb.specs.Completion.{Outcome}
-use Rattle.helpers.specs.declared.helper.Helper.{Helper}
 use Rattle.world.specs.declared.refusal.Refusal.{Refusal}
+use Rattle.world.specs.Told.{Told}
 
--- what one instruction of a run is: private to the run, a call of a helper, or the outermost exit
+-- what one instruction of a run is: private to the run, a call of a helper with what is told of it, or the outermost exit
 pub data Instruction : Type 0 where
   private : Instruction
-  call : Helper → Instruction
+  call : Told → Instruction
   exit : Instruction
 
 pub data Event : Type 0 where

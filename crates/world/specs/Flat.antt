@@ -6,10 +6,11 @@ use Rattle.world.specs.declared.refusal.Refusal.{Refusal}
 use Rattle.world.specs.declared.record.Completed.{Completed}
 use Rattle.world.specs.declared.record.Completed.TheVariants.{Done, Started}
 use Rattle.world.specs.declared.record.StoppedAt.{StoppedAt}
-use Rattle.world.specs.declared.record.StoppedAt.TheVariants.{Helper, Exit}
+use Rattle.world.specs.declared.record.StoppedAt.TheVariants.{Helper, Trace, Exit}
 use Rattle.world.specs.declared.record.Record.{Record}
 use Rattle.world.specs.declared.record.Record.TheVariants.{Submit, Dispatch, Complete, Advance, GuestFreeze, GuestRelease}
 use Rattle.world.specs.World.{Setup, World}
+use Rattle.world.specs.Told.{plain, traces}
 use Rattle.world.specs.Event.{Instruction, private, call, exit, Event, submit, dispatch, complete, guest_freeze, guest_release, executes, Reply, ccb_given, done, run_started, freeze_given, count_left, went_on, result, refused}
 use Rattle.world.specs.WorldRun.{Leads}
 
@@ -31,7 +32,8 @@ freeze_reply (Err refusal) = refused refusal
 
 -- the instruction at which a run stopped
 abbrev pub stop_of : StoppedAt → Instruction
-stop_of (Helper helper) = call helper
+stop_of (Helper helper) = call (plain helper)
+stop_of (Trace bytes) = call (traces bytes)
 stop_of Exit = exit
 
 -- An advance by so many instructions: all but the last are private. One by no instruction is none: it claims a helper

@@ -9,6 +9,7 @@ use Rattle.bpf_machine.specs.Step.{request_at}
 use Rattle.world.specs.World.{Setup, LiveCcb, LiveRun, World}
 use Rattle.world.specs.Lawful.{IsLawful}
 use Rattle.world.specs.Lookups.{ccb_of, run_of}
+use Rattle.world.specs.Told.{plain}
 use Rattle.world.specs.Event.{call, Event, complete, guest_freeze, guest_release, executes, Reply, done, run_started, freeze_given, count_left, result, refused}
 use Rattle.world.specs.FreezeSteps.{frozen_with}
 use Rattle.world.specs.RunSteps.{is_run}
@@ -66,7 +67,7 @@ MovesCounts before (guest_freeze queue guest) reply after = MovesByFreeze before
 MovesCounts before (complete outcome) reply after = MovesByCompletion before outcome reply after
 MovesCounts before (guest_release number) reply after =
     (count : ℕ) × (reply ≡ count_left count) × OneFewer before number count after
-MovesCounts before (executes run (call helpers.Release)) reply after =
+MovesCounts before (executes run (call (plain helpers.Release))) reply after =
     (number count : ℕ) × AsksFor before run number × (reply ≡ result count) × OneFewer before number count after
 MovesCounts before event reply after = KeepsFreezes before after
 
@@ -87,7 +88,7 @@ abbrev pub GivenUpByRunStaysGivenUp : Type 0
 GivenUpByRunStaysGivenUp =
     (setup : Setup) (xs ys : List (Event × Reply)) (run number : ℕ) (reply : Reply) (before world : World) →
     WorldRun setup xs before → AsksFor before run number →
-    Leads setup before ((executes run (call helpers.Release), reply) ∷ ys) world → IsHeld number world → ⊥
+    Leads setup before ((executes run (call (plain helpers.Release)), reply) ∷ ys) world → IsHeld number world → ⊥
 
 -- a number whose freeze is gone never has one again
 abbrev pub GoneStaysGone : Type 0

@@ -1,7 +1,6 @@
 -- The headline of runs: what holds of every run of a recovery program, in every run of the world of every lawful setup.
 use Rattle.std.specs.Prelude.{◌≡◌, ℕ, ◌+◌, ◌<◌, ◌≤◌, ◌==◌, Bool, true, false, List, ◌∷◌, Option, Some, None, is_some, count_by}
 use Rattle.ccb.specs.Completion.{Outcome}
-use Rattle.helpers.specs.declared.helper.Helper.{Helper}
 use Rattle.helpers.specs.declared.helper.Helper.TheVariants as helpers
 use Rattle.bpf_machine.specs.Stuck.{is_stuck}
 use Rattle.bpf_machine.specs.Reached.{Reached}
@@ -9,6 +8,7 @@ use Rattle.world.specs.declared.ccb_state.CcbState.TheVariants.{InRecovery}
 use Rattle.world.specs.World.{Setup, queue_setup, LiveCcb, LiveRun, World}
 use Rattle.world.specs.Lawful.{IsLawful}
 use Rattle.world.specs.Lookups.{ccb_of, run_of}
+use Rattle.world.specs.Told.{Told, plain, traces}
 use Rattle.world.specs.Event.{Instruction, private, call, exit, Event, complete, executes, instruction_of, Reply, run_started}
 use Rattle.world.specs.Step.{WorldStep}
 use Rattle.world.specs.WorldRun.{Leads, WorldRun}
@@ -19,24 +19,25 @@ use Rattle.world.specs.FreezeLaws.{entries_of}
 abbrev pub is_step_of : ℕ → Event → Bool
 is_step_of run event = is_some (instruction_of run event)
 
--- the helper disposes of the run's CCB: it makes it wait again, or finishes it
-abbrev pub is_disposing : Helper → Bool
-is_disposing helpers.Requeue = true
-is_disposing helpers.Finish = true
-is_disposing helper = false
+-- the call disposes of the run's CCB: it makes it wait again, or finishes it
+abbrev pub is_disposing : Told → Bool
+is_disposing (plain helpers.Requeue) = true
+is_disposing (plain helpers.Finish) = true
+is_disposing (plain helper) = false
+is_disposing (traces bytes) = false
 
 -- the instruction disposes of the run's CCB
 abbrev pub is_disposal : Option Instruction → Bool
 is_disposal None = false
 is_disposal (Some private) = false
-is_disposal (Some (call helper)) = is_disposing helper
+is_disposal (Some (call told)) = is_disposing told
 is_disposal (Some exit) = false
 
 -- it is the exit
 abbrev pub is_exit : Option Instruction → Bool
 is_exit None = false
 is_exit (Some private) = false
-is_exit (Some (call helper)) = false
+is_exit (Some (call told)) = false
 is_exit (Some exit) = true
 
 -- the event is one by which this run disposes of its CCB

@@ -3,6 +3,8 @@ pub mod Capacities
 pub mod World
 pub mod Lawful
 pub mod Lookups
+pub mod QueueInfo
+pub mod Told
 pub mod Event
 pub mod FreezeSteps
 pub mod CcbSteps
@@ -10,6 +12,7 @@ pub mod RunSteps
 pub mod Step
 pub mod WorldRun
 pub mod TookGave
+pub mod Kept
 pub mod Flat
 pub mod TotalsOf
 pub mod Limits

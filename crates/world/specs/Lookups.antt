@@ -28,6 +28,10 @@ live_count queue ccbs = count_by (is_of queue) ccbs
 abbrev pub active_count : ℕ → List LiveCcb → ℕ
 active_count queue ccbs = count_by (λ live. is_of queue live && is_active live.state) ccbs
 
+-- how many of them wait
+abbrev pub waiting_count : ℕ → List LiveCcb → ℕ
+waiting_count queue ccbs = count_by (λ live. is_of queue live && is_waiting live.state) ccbs
+
 -- the live CCB of this number
 abbrev pub ccb_of : ℕ → List LiveCcb → Option LiveCcb
 ccb_of number ccbs = find (λ live. live.ccb.number.0 == number) ccbs

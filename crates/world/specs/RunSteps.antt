@@ -6,17 +6,19 @@ use Rattle.freeze_ledger.specs.declared.freeze.Holder.{Holder}
 use Rattle.freeze_ledger.specs.declared.freeze.Holder.TheVariants.{Run, Timer, Guest}
 use Rattle.freeze_ledger.specs.declared.freeze.Freeze.{Freeze}
 use Rattle.freeze_ledger.specs.Freezes.{entry_of}
-use Rattle.helpers.specs.declared.helper.Helper.{Helper}
 use Rattle.helpers.specs.declared.limits.HelperLimits.{HelperLimits}
 use Rattle.helpers.specs.declared.request.Request.{Request}
-use Rattle.helpers.specs.declared.request.Request.TheVariants.{Release, Requeue}
-use Rattle.helpers.specs.Table.{helper_in, is_helper}
+use Rattle.helpers.specs.declared.request.Request.TheVariants.{Release, Requeue, QueueInfo, Trace}
+use Rattle.helpers.specs.declared.request.Answer.{Answer}
+use Rattle.helpers.specs.Table.{answer_number}
 use Rattle.bpf_machine.specs.MachineState.{MachineState}
 use Rattle.bpf_machine.specs.Calls.{meets_rule}
 use Rattle.bpf_machine.specs.Step.{private_step, request_at, exit_at, answered}
 use Rattle.world.specs.declared.ccb_state.CcbState.TheVariants.{Waiting}
 use Rattle.world.specs.World.{LiveCcb, LiveRun, World}
 use Rattle.world.specs.Lookups.{ccb_of, with_ccb, with_run}
+use Rattle.world.specs.Told.{Told, told_of, is_told}
+use Rattle.world.specs.QueueInfo.{queue_info, info_bytes}
 use Rattle.world.specs.Event.{Instruction, private, call, exit, Reply, went_on, result}
 use Rattle.world.specs.FreezeSteps.{frozen_with, thawed}
 
@@ -30,9 +32,9 @@ is_run number (Guest guest) = false
 abbrev pub goes_on : World → LiveRun → MachineState → World
 goes_on world run machine = record world { runs = with_run (record run { machine = machine }) world.runs }
 
--- the run's call is answered by a number in R0
-abbrev pub answers : World → LiveRun → Request → ℕ → Reply × World
-answers world run request r0 = (result r0, goes_on world run (answered request (record { r0 = r0 }) run.machine))
+-- the run's call is answered
+abbrev pub answers : World → LiveRun → Request → Answer → Reply × World
+answers world run request answer = (result answer.r0, goes_on world run (answered request answer run.machine))
 
 -- no event unless the run holds the freeze; it goes, and the answer is how many its queue has then
 abbrev pub releases : World → LiveRun → Option Freeze → Option (Reply × World)
@@ -40,7 +42,7 @@ releases world run None = None
 releases world run (Some freeze) =
     let after = thawed world freeze.number in
     if is_run run.number freeze.holder
-    then Some (answers after run (Release freeze.number) (frozen_with freeze after.freezes))
+    then Some (answers after run (Release freeze.number) (answer_number (frozen_with freeze after.freezes)))
     else None
 
 -- the run's CCB waits again with so many retries fewer
@@ -48,20 +50,27 @@ abbrev pub requeues : World → LiveRun → ℕ → Option LiveCcb → Option (R
 requeues world run retries None = None
 requeues world run retries (Some live) =
     let after = record world { live = with_ccb (record { ccb = requeued live.ccb retries; state = Waiting }) world.live } in
-    Some (answers after run (Requeue retries) 0)
+    Some (answers after run (Requeue retries) (answer_number 0))
+
+-- what the run's queue has, as 16 bytes from the address on
+abbrev pub info_answer : World → LiveRun → ℕ → Answer
+info_answer world run address =
+    record { r0 = 0; written = Some (record { address = address; bytes = info_bytes (queue_info world run.queue) }) }
 
 -- what a call does
 abbrev pub step_request : World → LiveRun → Request → Option (Reply × World)
 step_request world run (Release freeze) = releases world run (entry_of freeze world.freezes)
 step_request world run (Requeue retries) = requeues world run retries (ccb_of run.ccb world.live)
+step_request world run (QueueInfo address) = Some (answers world run (QueueInfo address) (info_answer world run address))
+step_request world run (Trace address bytes) = Some (answers world run (Trace address bytes) (answer_number 0))
 
--- it is a call of this very helper, by the helper's rule
-abbrev pub may_call : HelperLimits → LiveRun → Helper → Request → Bool
-may_call limits run helper request = is_helper helper (helper_in request) && meets_rule limits run.machine request
+-- it is the very call that is told, by the helper's rule
+abbrev pub may_call : HelperLimits → LiveRun → Told → Request → Bool
+may_call limits run told request = is_told told (told_of request) && meets_rule limits run.machine request
 
 -- and else no event
-abbrev pub step_call : HelperLimits → World → LiveRun → Helper → Request → Option (Reply × World)
-step_call limits world run helper request = if may_call limits run helper request then step_request world run request else None
+abbrev pub step_call : HelperLimits → World → LiveRun → Told → Request → Option (Reply × World)
+step_call limits world run told request = if may_call limits run told request then step_request world run request else None
 
 -- the run is gone
 abbrev pub ends : World → LiveRun → World
@@ -70,7 +79,7 @@ ends world run = record world { runs = filter (λ other. not (other.number == ru
 -- no event unless the machine stands at such an instruction
 abbrev pub step_run : HelperLimits → World → LiveRun → Instruction → Option (Reply × World)
 step_run limits world run private = option_map (λ machine. (went_on, goes_on world run machine)) (private_step run.program run.machine)
-step_run limits world run (call helper) = option_and_then (step_call limits world run helper) (request_at run.program run.machine)
+step_run limits world run (call told) = option_and_then (step_call limits world run told) (request_at run.program run.machine)
 step_run limits world run exit = option_map (λ r0. (result r0, ends world run)) (exit_at run.program run.machine)
 
 -- no event unless the run is live and out

@@ -1,7 +1,7 @@
 -- The freezes that a run got and gave up, read along a run of the world.
 use Rattle.std.specs.Prelude.{ℕ, ◌==◌, ◌&&◌, not, if◌then◌else◌, List, [], ◌∷◌, ◌++◌, Option, Some, None}
 use Rattle.helpers.specs.declared.request.Request.{Request}
-use Rattle.helpers.specs.declared.request.Request.TheVariants.{Release, Requeue}
+use Rattle.helpers.specs.declared.request.Request.TheVariants.{Release, Requeue, QueueInfo, Trace}
 use Rattle.bpf_machine.specs.Step.{request_at}
 use Rattle.world.specs.World.{Setup, LiveRun, World}
 use Rattle.world.specs.Lookups.{run_of}
@@ -18,6 +18,8 @@ abbrev pub asked : Option Request → List ℕ
 asked None = []
 asked (Some (Release freeze)) = freeze ∷ []
 asked (Some (Requeue retries)) = []
+asked (Some (QueueInfo address)) = []
+asked (Some (Trace address bytes)) = []
 
 -- the request at which the run stands
 abbrev pub request_of_run : Option LiveRun → Option Request
@@ -28,7 +30,7 @@ request_of_run (Some run) = request_at run.program run.machine
 abbrev pub given_up : Option Instruction → Option Request → List ℕ
 given_up None request = []
 given_up (Some private) request = []
-given_up (Some (call helper)) request = asked request
+given_up (Some (call told)) request = asked request
 given_up (Some exit) request = []
 
 -- the freeze that an event takes from this run

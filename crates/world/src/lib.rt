@@ -4,13 +4,19 @@
 #![tactic(auto)]
 
 mod ccb_state;
+mod completion_record;
+mod queue_info;
 mod record;
 mod refusal;
 mod totals;
 mod trace;
+mod traced_bytes;
 
 pub use ccb_state::CcbState;
+pub use completion_record::CompletionRecord;
+pub use queue_info::QueueInfo;
 pub use record::{Completed, Record, StoppedAt};
 pub use refusal::Refusal;
 pub use totals::Totals;
 pub use trace::Trace;
+pub use traced_bytes::TracedBytes;

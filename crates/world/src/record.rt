@@ -1,9 +1,13 @@
-// What an engine's history is made of: one record for each answered call. It relies on `ccb` for names and
-// completions, on `helpers` for where a run stops, and on `refusal` for what a refused call answers.
+// What an engine's history is made of: one record for each answered call. It relies on `completion_record` and
+// `traced_bytes` for what stands apart, on `helpers` for where a run stops, and on `refusal` for what a refused call
+// answers.
 
+use crate::completion_record::CompletionRecord;
 use crate::refusal::Refusal;
-use ccb::{CcbId, Completion, QueueId};
+use crate::traced_bytes::TracedBytes;
+use ccb::{CcbId, QueueId};
 use helpers::Helper;
+use std::mem::size_of;
 
 /// What a completion led to.
 #[derive(Clone, Copy, Debug, PartialEq, Eq)]
@@ -14,17 +18,19 @@ pub enum Completed {
     Started { run: u32, freeze: u32 },
 }
 
-/// Where a run stopped.
-#[derive(Clone, Copy, Debug, PartialEq, Eq)]
+/// Where a run stopped, as the history tells it.
+#[derive(Debug, Drop)]
 pub enum StoppedAt {
-    /// A call of this helper.
+    /// A call of this helper, which is not the trace helper.
     Helper(Helper),
+    /// A call of the trace helper, which put these bytes into the history.
+    Trace(TracedBytes),
     /// The outermost exit.
     Exit,
 }
 
 /// One call with its answer.
-#[derive(Clone, Copy, Debug, PartialEq, Eq)]
+#[derive(Debug, Drop)]
 pub enum Record {
     /// A CCB was submitted to a queue: its number, from 1.
     Submit {
@@ -40,7 +46,7 @@ pub enum Record {
     },
     /// A device was done with a CCB.
     Complete {
-        completion: Completion,
+        completion: CompletionRecord,
         answer: Result<Completed, Refusal>,
     },
     /// A run went on by so many instructions, 1 to 65,536: private ones, and as the last of them the helper call
@@ -63,3 +69,6 @@ pub enum Record {
         count: u32,
     },
 }
+
+// A history has many records: what is large stands apart.
+const _: () = prove!(size_of::<Record>() == 40);

@@ -6,7 +6,7 @@ use Rattle.std.proofs.lemmas.List.Elements.{All-nil, All-cons}
 use Rattle.std.proofs.lemmas.Bool.{cases_Bool, cond-false, eq-eqb, not_from_true}
 use Rattle.helpers.specs.declared.limits.HelperLimits.{HelperLimits}
 use Rattle.helpers.specs.declared.request.Request.{Request}
-use Rattle.helpers.specs.declared.request.Request.TheVariants.{Release, Requeue}
+use Rattle.helpers.specs.declared.request.Request.TheVariants.{Release, Requeue, QueueInfo, Trace}
 use Rattle.helpers.specs.declared.request.Answer.{Answer}
 use Rattle.bpf_machine.specs.MachineState.{MachineState, entry, unwritten_frame, context_address, frame_pointer}
 use Rattle.bpf_machine.specs.Step.{private_step, request_at, Allowed}
@@ -68,9 +68,13 @@ released n context freeze m' (Release number) answer third e allowed =
     (allowed.1 ∙ ap (λ (held : List ℕ). machine 3 (Some answer.r0 ∷ None ∷ None ∷ None ∷ None ∷ None ∷ None ∷ None ∷ None ∷ None ∷ Some (frame_pointer 0) ∷ []) context held false)
     (cond-false (not (eqb freeze number)) (freeze ∷ []) [] (not_from_true _ (eq-eqb _ _ same))))
 released n context freeze m' (Requeue retries) answer third e allowed = absurd (let bad : Some (Release freeze) ≡ Some (Requeue retries) = e in cc)
+released n context freeze m' (QueueInfo address) answer third e allowed = absurd (let bad : Some (Release freeze) ≡ Some (QueueInfo address) = e in cc)
+released n context freeze m' (Trace address bytes) answer third e allowed = absurd (let bad : Some (Release freeze) ≡ Some (Trace address bytes) = e in cc)
 
 requeued : (n : ℕ) (context : List ℕ) (r0 : Option ℕ) (rest : List (Option ℕ)) (m' : MachineState) (request : Request) (answer : Answer) → n ≤ 4 → Some (Requeue 1) ≡ Some request → Allowed request answer (machine 4 (r0 ∷ Some 1 ∷ rest) context [] false) m' → Known (suc n) m'
 requeued n context r0 rest m' (Release number) answer few e allowed = absurd (let bad : Some (Requeue 1) ≡ Some (Release number) = e in cc)
+requeued n context r0 rest m' (QueueInfo address) answer few e allowed = absurd (let bad : Some (Requeue 1) ≡ Some (QueueInfo address) = e in cc)
+requeued n context r0 rest m' (Trace address bytes) answer few e allowed = absurd (let bad : Some (Requeue 1) ≡ Some (Trace address bytes) = e in cc)
 requeued n context r0 rest m' (Requeue retries) answer few e allowed = at_result context (Some answer.r0) _ (omega (arith, few)) allowed.1
 
 -- one instruction on

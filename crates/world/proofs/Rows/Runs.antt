@@ -12,6 +12,7 @@ use Rattle.world.specs.declared.record.Record.TheVariants.{Submit, Dispatch, Com
 use Rattle.world.specs.declared.refusal.Refusal.TheVariants.{NotActive, Frozen}
 use Rattle.world.specs.declared.ccb_state.CcbState.TheVariants.{Waiting}
 use Rattle.world.specs.World.{LiveRun, World, opening}
+use Rattle.world.specs.Told.{plain}
 use Rattle.world.specs.Event.{private, call, exit, Event, submit, dispatch, complete, executes, Reply, ccb_given, run_started, went_on, result, refused}
 use Rattle.world.specs.Step.{step}
 use Rattle.world.specs.WorldRun.{WorldRun, world_after}
@@ -35,13 +36,13 @@ abbrev at_release : HelperLimits → World
 at_release l = next (one_queue l) (next (one_queue l) (failed l) (executes 1 private)) (executes 1 private)
 
 abbrev released : HelperLimits → World
-released l = next (one_queue l) (at_release l) (executes 1 (call helpers.Release))
+released l = next (one_queue l) (at_release l) (executes 1 (call (plain helpers.Release)))
 
 abbrev at_requeue : HelperLimits → World
 at_requeue l = next (one_queue l) (released l) (executes 1 private)
 
 abbrev requeued_one : HelperLimits → World
-requeued_one l = next (one_queue l) (at_requeue l) (executes 1 (call helpers.Requeue))
+requeued_one l = next (one_queue l) (at_requeue l) (executes 1 (call (plain helpers.Requeue)))
 
 abbrev at_exit : HelperLimits → World
 at_exit l = next (one_queue l) (requeued_one l) (executes 1 private)
@@ -87,8 +88,8 @@ events =
     (submit 0 10 3, ccb_given 1)
     ∷ (dispatch 0, ccb_given 1)
     ∷ (complete (outcome_of 1 CommandTimeout), run_started 1 1)
-    ∷ (executes 1 private, went_on) ∷ (executes 1 private, went_on) ∷ (executes 1 (call helpers.Release), result 0)
-    ∷ (executes 1 private, went_on) ∷ (executes 1 (call helpers.Requeue), result 0)
+    ∷ (executes 1 private, went_on) ∷ (executes 1 private, went_on) ∷ (executes 1 (call (plain helpers.Release)), result 0)
+    ∷ (executes 1 private, went_on) ∷ (executes 1 (call (plain helpers.Requeue)), result 0)
     ∷ (executes 1 private, went_on) ∷ (executes 1 exit, result 0) ∷ []
 
 what_they_stand_for : flat records ≡ events
@@ -183,13 +184,13 @@ completed_again l = refl
 no_private : (l : HelperLimits) → step (one_queue l) (at_release l) (executes 1 private) ≡ None
 no_private l = refl
 
-no_requeue : (l : HelperLimits) → step (one_queue l) (at_release l) (executes 1 (call helpers.Requeue)) ≡ None
+no_requeue : (l : HelperLimits) → step (one_queue l) (at_release l) (executes 1 (call (plain helpers.Requeue))) ≡ None
 no_requeue l = refl
 
 no_exit : (l : HelperLimits) → step (one_queue l) (at_release l) (executes 1 exit) ≡ None
 no_exit l = refl
 
-no_other_run : (l : HelperLimits) → step (one_queue l) (at_release l) (executes 2 (call helpers.Release)) ≡ None
+no_other_run : (l : HelperLimits) → step (one_queue l) (at_release l) (executes 2 (call (plain helpers.Release))) ≡ None
 no_other_run l = refl
 
 -- a run that is not out executes nothing

@@ -5,31 +5,34 @@ use Rattle.std.specs.Option.{option_map, option_and_then}
 use Rattle.std.proofs.lemmas.Bool.{cases_Bool, cond-true, cond-false, leb-true, leb-false, ltb-false, and_parts, not-true, not-false}
 use Rattle.ccb.specs.Completion.{Outcome}
 use Rattle.ccb.specs.Ccb.{submitted, started, completed, requeued}
-use Rattle.helpers.specs.declared.helper.Helper.{Helper}
 use Rattle.helpers.specs.declared.helper.Helper.TheVariants as helpers
 use Rattle.helpers.specs.declared.limits.HelperLimits.{HelperLimits}
-use Rattle.helpers.specs.Table.{helper_in, is_helper}
-use Rattle.helpers.proofs.Numbers.{same_helper}
+use Rattle.helpers.specs.declared.request.Answer.{Answer}
+use Rattle.helpers.specs.Table.{answer_number}
 use Rattle.freeze_ledger.specs.declared.freeze.Holder.TheVariants.{Run, Guest}
 use Rattle.freeze_ledger.specs.declared.freeze.Freeze.{Freeze}
 use Rattle.freeze_ledger.specs.Freezes.{frozen, meets_limit, entry_of, without}
 use Rattle.helpers.specs.declared.request.Request.{Request}
-use Rattle.helpers.specs.declared.request.Request.TheVariants.{Release, Requeue}
+use Rattle.helpers.specs.declared.request.Request.TheVariants.{Release, Requeue, QueueInfo, Trace}
 use Rattle.bpf_machine.specs.MachineState.{MachineState}
 use Rattle.bpf_machine.specs.Calls.{meets_rule}
-use Rattle.bpf_machine.specs.Step.{private_step, request_at, exit_at}
+use Rattle.bpf_machine.specs.Step.{private_step, request_at, exit_at, answered, IsAnswer}
 use Rattle.world.specs.declared.refusal.Refusal.{Refusal}
 use Rattle.world.specs.declared.refusal.Refusal.TheVariants.{Unknown, Limit, NotActive, Frozen, NoOpening, NothingWaits}
 use Rattle.world.specs.declared.ccb_state.CcbState.TheVariants.{Waiting, Active}
 use Rattle.world.specs.World.{Setup, queue_count, LiveCcb, LiveRun, World}
 use Rattle.world.specs.Lookups.{is_active, active_count, ccb_of, with_ccb, next_waiting, run_of}
+use Rattle.world.specs.Told.{Told, plain, traces, told_of, is_told}
 use Rattle.world.specs.Event.{Instruction, private, call, exit, Event, instruction_of, submit, dispatch, complete, guest_freeze, guest_release, executes, Reply, ccb_given, done, freeze_given, count_left, went_on, result, refused}
 use Rattle.world.specs.FreezeSteps.{frozen_with, is_guest, froze, thawed, step_guest_release}
 use Rattle.world.specs.CcbSteps.{ccb_meets_limit, starts, is_success, run_meets_limit, finishes, run_starts, completes, is_completion}
-use Rattle.world.specs.RunSteps.{is_run, goes_on, answers, releases, requeues, step_request, may_call, step_call, ends, step_run, step_executes}
+use Rattle.world.specs.RunSteps.{is_run, goes_on, answers, releases, requeues, step_request, may_call, step_call, ends, step_run, step_executes, info_answer}
 use Rattle.world.specs.Step.{WorldStep}
 use Rattle.world.specs.FreezeLaws.{MovesCounts}
 use Rattle.world.specs.CcbLaws.{finished_by}
+use Rattle.world.specs.TookGave.{asked}
+use Rattle.world.specs.Headline.{is_disposing}
+use Rattle.world.proofs.Telling.{same_told, info_wrote}
 
 -- the call is refused: it is no run's step, changes no count and finishes nothing
 pub record Refuses (before : World) (event : Event) (reply : Reply) (after : World) : Type 0 where
@@ -138,24 +141,39 @@ pub record GoesOn (before : World) (event : Event) (reply : Reply) (after : Worl
 
 -- a call of helper 2
 pub record GivesBack (before : World) (event : Event) (reply : Reply) (after : World) : Type 0 where
-  pub it : Executes before event (call helpers.Release)
+  pub it : Executes before event (call (plain helpers.Release))
   pub number : ℕ
   pub call_is : request_at it.run.program it.run.machine ≡ Some (Release number)
   pub freeze : Freeze
   pub entry : entry_of number before.freezes ≡ Some freeze
   pub held : is_run it.run.number freeze.holder ≡ true
-  pub answer : (reply, after) ≡ answers (thawed before freeze.number) it.run (Release freeze.number) (frozen_with freeze (without freeze.number before.freezes))
+  pub answer : (reply, after) ≡ answers (thawed before freeze.number) it.run (Release freeze.number) (answer_number (frozen_with freeze (without freeze.number before.freezes)))
 
 -- a call of helper 4
 pub record Requeues (before : World) (event : Event) (reply : Reply) (after : World) : Type 0 where
-  pub it : Executes before event (call helpers.Requeue)
+  pub it : Executes before event (call (plain helpers.Requeue))
   pub retries : ℕ
   pub call_is : request_at it.run.program it.run.machine ≡ Some (Requeue retries)
   pub few : retries ≤ 1
   pub fresh : it.run.machine.disposed ≡ false
   pub live : LiveCcb
   pub found : ccb_of it.run.ccb before.live ≡ Some live
-  pub answer : (reply, after) ≡ answers (record before { live = with_ccb (record { ccb = requeued live.ccb retries; state = Waiting }) before.live }) it.run (Requeue retries) 0
+  pub answer : (reply, after) ≡ answers (record before { live = with_ccb (record { ccb = requeued live.ccb retries; state = Waiting }) before.live }) it.run (Requeue retries) (answer_number 0)
+
+-- a call that is answered and does nothing else, to which no freeze and no CCB is given up
+pub record Asks (before : World) (event : Event) (reply : Reply) (after : World) : Type 0 where
+  pub told : Told
+  pub it : Executes before event (call told)
+  pub request : Request
+  pub call_is : request_at it.run.program it.run.machine ≡ Some request
+  pub keeps : asked (Some request) ≡ []
+  pub calm : is_disposing told ≡ false
+  pub given : Answer
+  pub allowed : IsAnswer it.run.machine request given
+  pub held : (answered request given it.run.machine).held ≡ it.run.machine.held
+  pub disposed : (answered request given it.run.machine).disposed ≡ it.run.machine.disposed
+  pub moves : MovesCounts before (executes it.number (call told)) reply after
+  pub answer : (reply, after) ≡ answers before it.run request given
 
 -- the exit
 pub record Exits (before : World) (event : Event) (reply : Reply) (after : World) : Type 0 where
@@ -178,6 +196,7 @@ pub data Case (setup : Setup) (before : World) (event : Event) (reply : Reply) (
   goes_on_one : GoesOn before event reply after → Case setup before event reply after
   gives_back : GivesBack before event reply after → Case setup before event reply after
   requeues_one : Requeues before event reply after → Case setup before event reply after
+  asks_one : Asks before event reply after → Case setup before event reply after
   exits : Exits before event reply after → Case setup before event reply after
 
 pub some_is : (p q : Reply × World) → Some p ≡ Some q → q ≡ p
@@ -347,7 +366,7 @@ private_found before event reply after it (Some machine) step e =
     let last = some_is _ _ e in
     record { it = it; machine = machine; step = step; reply_is = ap (λ (x : Reply × World). x.0) last; after_is = ap (λ (x : Reply × World). x.1) last }
 
-release_found : (before : World) (event : Event) (reply : Reply) (after : World) (it : Executes before event (call helpers.Release)) (number : ℕ) → request_at it.run.program it.run.machine ≡ Some (Release number) → (o : Option Freeze) → entry_of number before.freezes ≡ o → releases before it.run o ≡ Some (reply, after) → GivesBack before event reply after
+release_found : (before : World) (event : Event) (reply : Reply) (after : World) (it : Executes before event (call (plain helpers.Release))) (number : ℕ) → request_at it.run.program it.run.machine ≡ Some (Release number) → (o : Option Freeze) → entry_of number before.freezes ≡ o → releases before it.run o ≡ Some (reply, after) → GivesBack before event reply after
 release_found before event reply after it number call_is None entry e = absurd cc
 release_found before event reply after it number call_is (Some f) entry e =
     elim (cases_Bool (is_run it.run.number f.holder)) [
@@ -363,34 +382,34 @@ release_found before event reply after it number call_is (Some f) entry e =
       | inr other ↦ let none = sym (cond-false (is_run it.run.number f.holder) _ _ other) ∙ e in absurd cc
     ]
 
-requeue_found : (before : World) (event : Event) (reply : Reply) (after : World) (it : Executes before event (call helpers.Requeue)) (retries : ℕ) → request_at it.run.program it.run.machine ≡ Some (Requeue retries) → retries ≤ 1 → it.run.machine.disposed ≡ false → (o : Option LiveCcb) → ccb_of it.run.ccb before.live ≡ o → requeues before it.run retries o ≡ Some (reply, after) → Requeues before event reply after
+requeue_found : (before : World) (event : Event) (reply : Reply) (after : World) (it : Executes before event (call (plain helpers.Requeue))) (retries : ℕ) → request_at it.run.program it.run.machine ≡ Some (Requeue retries) → retries ≤ 1 → it.run.machine.disposed ≡ false → (o : Option LiveCcb) → ccb_of it.run.ccb before.live ≡ o → requeues before it.run retries o ≡ Some (reply, after) → Requeues before event reply after
 requeue_found before event reply after it retries call_is few fresh None found e = absurd cc
 requeue_found before event reply after it retries call_is few fresh (Some live) found e =
     record { it = it; retries = retries; call_is = call_is; few = few; fresh = fresh; live = live; found = found; answer = some_is _ _ e }
 
--- a call that is an event is one by its rule
-called : (limits : HelperLimits) (world : World) (run : LiveRun) (helper : Helper) (request : Request) (step : Reply × World) → step_call limits world run helper request ≡ Some step → (is_helper helper (helper_in request) ≡ true) × (meets_rule limits run.machine request ≡ true) × (step_request world run request ≡ Some step)
-called limits world run helper request step e = elim (cases_Bool (may_call limits run helper request)) [
+-- a call that is an event is the one that is told, by its rule
+called : (limits : HelperLimits) (world : World) (run : LiveRun) (told : Told) (request : Request) (step : Reply × World) → step_call limits world run told request ≡ Some step → (told ≡ told_of request) × (meets_rule limits run.machine request ≡ true) × (step_request world run request ≡ Some step)
+called limits world run told request step e = elim (cases_Bool (may_call limits run told request)) [
   | inl may ↦
-      let parts = and_parts (is_helper helper (helper_in request)) (meets_rule limits run.machine request) may in
-      (parts.0, parts.1, sym (cond-true (may_call limits run helper request) _ _ may) ∙ e)
-  | inr broken ↦ let none = sym (cond-false (may_call limits run helper request) _ _ broken) ∙ e in absurd cc
+      let parts = and_parts (is_told told (told_of request)) (meets_rule limits run.machine request) may in
+      (same_told told (told_of request) parts.0, parts.1, sym (cond-true (may_call limits run told request) _ _ may) ∙ e)
+  | inr broken ↦ let none = sym (cond-false (may_call limits run told request) _ _ broken) ∙ e in absurd cc
 ]
 
-call_release_found : (limits : HelperLimits) (before : World) (event : Event) (reply : Reply) (after : World) (it : Executes before event (call helpers.Release)) (o : Option Request) → request_at it.run.program it.run.machine ≡ o → option_and_then (step_call limits before it.run helpers.Release) o ≡ Some (reply, after) → GivesBack before event reply after
-call_release_found limits before event reply after it None call_is e = absurd cc
-call_release_found limits before event reply after it (Some (Release number)) call_is e =
-    release_found before event reply after it number call_is (entry_of number before.freezes) refl (called limits before it.run helpers.Release (Release number) (reply, after) e).2
-call_release_found limits before event reply after it (Some (Requeue retries)) call_is e = absurd cc
+-- a call, with what the history tells of it
+pub record IsCall (limits : HelperLimits) (before : World) (event : Event) (told : Told) (reply : Reply) (after : World) : Type 0 where
+  pub it : Executes before event (call told)
+  pub request : Request
+  pub call_is : request_at it.run.program it.run.machine ≡ Some request
+  pub told_is : told ≡ told_of request
+  pub rule : meets_rule limits it.run.machine request ≡ true
+  pub step : step_request before it.run request ≡ Some (reply, after)
 
-call_requeue_found : (limits : HelperLimits) (before : World) (event : Event) (reply : Reply) (after : World) (it : Executes before event (call helpers.Requeue)) (o : Option Request) → request_at it.run.program it.run.machine ≡ o → option_and_then (step_call limits before it.run helpers.Requeue) o ≡ Some (reply, after) → Requeues before event reply after
-call_requeue_found limits before event reply after it None call_is e = absurd cc
-call_requeue_found limits before event reply after it (Some (Release number)) call_is e = absurd cc
-call_requeue_found limits before event reply after it (Some (Requeue retries)) call_is e =
-    let may = called limits before it.run helpers.Requeue (Requeue retries) (reply, after) e in
-    let parts = and_parts (not it.run.machine.disposed) _ may.1 in
-    let few = (and_parts _ _ (and_parts _ _ parts.1).0).1 in
-    requeue_found before event reply after it retries call_is (leb-true _ _ few) (not-true _ parts.0) (ccb_of it.run.ccb before.live) refl may.2
+call_found : (limits : HelperLimits) (before : World) (event : Event) (told : Told) (reply : Reply) (after : World) (it : Executes before event (call told)) (o : Option Request) → request_at it.run.program it.run.machine ≡ o → option_and_then (step_call limits before it.run told) o ≡ Some (reply, after) → IsCall limits before event told reply after
+call_found limits before event told reply after it None call_is e = absurd cc
+call_found limits before event told reply after it (Some request) call_is e =
+    let may = called limits before it.run told request (reply, after) e in
+    record { it = it; request = request; call_is = call_is; told_is = may.0; rule = may.1; step = may.2 }
 
 exit_found : (before : World) (event : Event) (reply : Reply) (after : World) (it : Executes before event exit) (o : Option ℕ) → exit_at it.run.program it.run.machine ≡ o → option_map (λ (r0 : ℕ). let x : Reply × World = (result r0, ends before it.run) in x) o ≡ Some (reply, after) → Exits before event reply after
 exit_found before event reply after it None exit_is e = absurd cc
@@ -422,48 +441,71 @@ private_parts setup before number reply after e =
     let i = executes_parts setup before number private reply after e in
     private_found before (executes number private) reply after i.it (private_step i.it.run.program i.it.run.machine) refl i.step
 
-pub release_parts : (setup : Setup) (before : World) (number : ℕ) (reply : Reply) (after : World) → WorldStep setup before (executes number (call helpers.Release)) reply after → GivesBack before (executes number (call helpers.Release)) reply after
-release_parts setup before number reply after e =
-    let i = executes_parts setup before number (call helpers.Release) reply after e in
-    call_release_found setup.limits before (executes number (call helpers.Release)) reply after i.it (request_at i.it.run.program i.it.run.machine) refl i.step
+pub call_parts : (setup : Setup) (before : World) (number : ℕ) (told : Told) (reply : Reply) (after : World) → WorldStep setup before (executes number (call told)) reply after → IsCall setup.limits before (executes number (call told)) told reply after
+call_parts setup before number told reply after e =
+    let i = executes_parts setup before number (call told) reply after e in
+    call_found setup.limits before (executes number (call told)) told reply after i.it (request_at i.it.run.program i.it.run.machine) refl i.step
 
-pub requeue_parts : (setup : Setup) (before : World) (number : ℕ) (reply : Reply) (after : World) → WorldStep setup before (executes number (call helpers.Requeue)) reply after → Requeues before (executes number (call helpers.Requeue)) reply after
-requeue_parts setup before number reply after e =
-    let i = executes_parts setup before number (call helpers.Requeue) reply after e in
-    call_requeue_found setup.limits before (executes number (call helpers.Requeue)) reply after i.it (request_at i.it.run.program i.it.run.machine) refl i.step
+release_case : (limits : HelperLimits) (before : World) (event : Event) (reply : Reply) (after : World) → (c : IsCall limits before event (plain helpers.Release) reply after) → (request : Request) → c.request ≡ request → GivesBack before event reply after
+release_case limits before event reply after c (Release number) is =
+    release_found before event reply after c.it number (c.call_is ∙ ap Some is) (entry_of number before.freezes) refl (sym (ap (step_request before c.it.run) is) ∙ c.step)
+release_case limits before event reply after c (Requeue retries) is = absurd (let bad : plain helpers.Release ≡ plain helpers.Requeue = c.told_is ∙ ap told_of is in cc)
+release_case limits before event reply after c (QueueInfo address) is = absurd (let bad : plain helpers.Release ≡ plain helpers.QueueInfo = c.told_is ∙ ap told_of is in cc)
+release_case limits before event reply after c (Trace address bytes) is = absurd (let bad : plain helpers.Release ≡ traces bytes = c.told_is ∙ ap told_of is in cc)
+
+pub release_parts : (setup : Setup) (before : World) (number : ℕ) (reply : Reply) (after : World) → WorldStep setup before (executes number (call (plain helpers.Release))) reply after → GivesBack before (executes number (call (plain helpers.Release))) reply after
+release_parts setup before number reply after e =
+    let c = call_parts setup before number (plain helpers.Release) reply after e in
+    release_case setup.limits before (executes number (call (plain helpers.Release))) reply after c c.request refl
 
 pub exit_parts : (setup : Setup) (before : World) (number : ℕ) (reply : Reply) (after : World) → WorldStep setup before (executes number exit) reply after → Exits before (executes number exit) reply after
 exit_parts setup before number reply after e =
     let i = executes_parts setup before number exit reply after e in
     exit_found before (executes number exit) reply after i.it (exit_at i.it.run.program i.it.run.machine) refl i.step
 
--- a call is that of the helper which its request names
-pub record IsCall (before : World) (number : ℕ) (helper : Helper) : Type 0 where
-  pub it : Executes before (executes number (call helper)) (call helper)
-  pub request : Request
-  pub call_is : request_at it.run.program it.run.machine ≡ Some request
-  pub named : helper ≡ helper_in request
+-- a call, by its request
+by_request : (setup : Setup) (before : World) (event : Event) (reply : Reply) (after : World) (request : Request) (it : Executes before event (call (told_of request))) → request_at it.run.program it.run.machine ≡ Some request → meets_rule setup.limits it.run.machine request ≡ true → step_request before it.run request ≡ Some (reply, after) → Case setup before event reply after
+by_request setup before event reply after (Release number) it call_is rule e =
+    gives_back (release_found before event reply after it number call_is (entry_of number before.freezes) refl e)
+by_request setup before event reply after (Requeue retries) it call_is rule e =
+    let parts = and_parts (not it.run.machine.disposed) _ rule in
+    let few = (and_parts _ _ (and_parts _ _ parts.1).0).1 in
+    requeues_one (requeue_found before event reply after it retries call_is (leb-true _ _ few) (not-true _ parts.0) (ccb_of it.run.ccb before.live) refl e)
+by_request setup before event reply after (QueueInfo address) it call_is rule e =
+    asks_one (record {
+      told = plain helpers.QueueInfo;
+      it = it;
+      request = QueueInfo address;
+      call_is = call_is;
+      keeps = refl;
+      calm = refl;
+      given = info_answer before it.run address;
+      allowed = (refl, info_wrote before it.run address);
+      held = refl;
+      disposed = refl;
+      moves = ap (λ (x : Reply × World). x.1.freezes) (some_is _ _ e);
+      answer = some_is _ _ e;
+    })
+by_request setup before event reply after (Trace address bytes) it call_is rule e =
+    asks_one (record {
+      told = traces bytes;
+      it = it;
+      request = Trace address bytes;
+      call_is = call_is;
+      keeps = refl;
+      calm = refl;
+      given = answer_number 0;
+      allowed = refl;
+      held = refl;
+      disposed = refl;
+      moves = ap (λ (x : Reply × World). x.1.freezes) (some_is _ _ e);
+      answer = some_is _ _ e;
+    })
 
-call_found : (limits : HelperLimits) (before : World) (number : ℕ) (helper : Helper) (reply : Reply) (after : World) (it : Executes before (executes number (call helper)) (call helper)) (o : Option Request) → request_at it.run.program it.run.machine ≡ o → option_and_then (step_call limits before it.run helper) o ≡ Some (reply, after) → IsCall before number helper
-call_found limits before number helper reply after it None call_is e = absurd cc
-call_found limits before number helper reply after it (Some request) call_is e =
-    let may = called limits before it.run helper request (reply, after) e in
-    record { it = it; request = request; call_is = call_is; named = same_helper helper (helper_in request) may.0 }
-
-pub call_parts : (setup : Setup) (before : World) (number : ℕ) (helper : Helper) (reply : Reply) (after : World) → WorldStep setup before (executes number (call helper)) reply after → IsCall before number helper
-call_parts setup before number helper reply after e =
-    let i = executes_parts setup before number (call helper) reply after e in
-    call_found setup.limits before number helper reply after i.it (request_at i.it.run.program i.it.run.machine) refl i.step
-
-by_request : (setup : Setup) (before : World) (number : ℕ) (reply : Reply) (after : World) (request : Request) → WorldStep setup before (executes number (call (helper_in request))) reply after → Case setup before (executes number (call (helper_in request))) reply after
-by_request setup before number reply after (Release freeze) e = gives_back (release_parts setup before number reply after e)
-by_request setup before number reply after (Requeue retries) e = requeues_one (requeue_parts setup before number reply after e)
-
-called_case : (setup : Setup) (before : World) (number : ℕ) (helper : Helper) (reply : Reply) (after : World) → WorldStep setup before (executes number (call helper)) reply after → Case setup before (executes number (call helper)) reply after
-called_case setup before number helper reply after e =
-    let i = call_parts setup before number helper reply after e in
-    subst (λ (h : Helper). Case setup before (executes number (call h)) reply after) (sym i.named)
-    (by_request setup before number reply after i.request (subst (λ (h : Helper). WorldStep setup before (executes number (call h)) reply after) i.named e))
+called_case : (setup : Setup) (before : World) (event : Event) (told : Told) (reply : Reply) (after : World) → IsCall setup.limits before event told reply after → Case setup before event reply after
+called_case setup before event told reply after c =
+    subst (λ (t : Told). (it : Executes before event (call t)) → request_at it.run.program it.run.machine ≡ Some c.request → meets_rule setup.limits it.run.machine c.request ≡ true → step_request before it.run c.request ≡ Some (reply, after) → Case setup before event reply after)
+    (sym c.told_is) (by_request setup before event reply after c.request) c.it c.call_is c.rule c.step
 
 pub case_of : (setup : Setup) (before : World) (event : Event) (reply : Reply) (after : World) → WorldStep setup before event reply after → Case setup before event reply after
 case_of setup before (submit queue priority retries) reply after e = submit_case setup before queue priority retries reply after e
@@ -478,5 +520,5 @@ case_of setup before (complete outcome) reply after e =
 case_of setup before (guest_freeze queue guest) reply after e = guest_freeze_case setup before queue guest reply after e
 case_of setup before (guest_release number) reply after e = releases_one (guest_release_parts setup before number reply after e)
 case_of setup before (executes number private) reply after e = goes_on_one (private_parts setup before number reply after e)
-case_of setup before (executes number (call helper)) reply after e = called_case setup before number helper reply after e
+case_of setup before (executes number (call told)) reply after e = called_case setup before (executes number (call told)) told reply after (call_parts setup before number told reply after e)
 case_of setup before (executes number exit) reply after e = exits (exit_parts setup before number reply after e)

@@ -24,7 +24,7 @@ use Rattle.world.proofs.Lists.Found.{found_key, missing_push, at_head}
 use Rattle.world.proofs.Lists.Rising.{missing_high}
 use Rattle.world.proofs.Lists.Each.{all_found}
 use Rattle.world.proofs.Lists.Entries.{freeze_key}
-use Rattle.world.proofs.Steps.Cases.{Recovers, RecoversUnfrozen, Executes, Case, refuses, submits, dispatches, finishes_one, recovers_one, recovers_unfrozen, freezes_one, releases_one, goes_on_one, gives_back, requeues_one, exits, pair_parts}
+use Rattle.world.proofs.Steps.Cases.{Recovers, RecoversUnfrozen, Executes, Case, refuses, submits, dispatches, finishes_one, recovers_one, recovers_unfrozen, freezes_one, releases_one, goes_on_one, gives_back, requeues_one, asks_one, exits, pair_parts}
 use Rattle.world.proofs.Steps.Moves.{ccb_key, run_key, ccb_found, run_found, next_found, ccbs_stay, ccb_enters, ccb_changes, ccb_leaves, Comes, freezes_stay, freeze_enters, freezes_leave, Begins, tells_start, runs_stay, run_enters, run_changes, run_leaves, Effect}
 
 -- the queue of a live CCB exists
@@ -309,6 +309,18 @@ effect_of setup before event reply after kept (requeues_one it) =
             fresh = it.fresh;
           }))
           (ap (λ (w : World). w.live) parts.1) (ap (λ (w : World). w.greatest_ccb) parts.1) none;
+      ended = none_ended before after event reply none (ap (λ (w : World). w.ended) parts.1);
+      freezes = freezes_stay (ap (λ (w : World). w.freezes) parts.1) (ap (λ (w : World). w.greatest_freeze) parts.1);
+      runs = run_changes it.it.run _ (run_found _ before.runs it.it.run it.it.found) (ap (λ (w : World). w.runs) parts.1) (ap (λ (w : World). w.greatest_run) parts.1) (ap tells_start parts.0);
+      openings = ap (λ (w : World). w.openings) parts.1;
+      taken = λ run given. ap (taken_by run event) parts.0;
+      acts = executes_acts before event _ it.it;
+    }
+effect_of setup before event reply after kept (asks_one it) =
+    let none : finished_by before event reply ≡ [] = ap (λ (x : Event). finished_by before x reply) it.it.event_is in
+    let parts = pair_parts _ _ it.answer in
+    record {
+      ccbs = ccbs_stay (ap (λ (w : World). w.live) parts.1) (ap (λ (w : World). w.greatest_ccb) parts.1) none;
       ended = none_ended before after event reply none (ap (λ (w : World). w.ended) parts.1);
       freezes = freezes_stay (ap (λ (w : World). w.freezes) parts.1) (ap (λ (w : World). w.greatest_freeze) parts.1);
       runs = run_changes it.it.run _ (run_found _ before.runs it.it.run it.it.found) (ap (λ (w : World). w.runs) parts.1) (ap (λ (w : World). w.greatest_run) parts.1) (ap tells_start parts.0);

@@ -6,12 +6,14 @@ use Rattle.helpers.specs.declared.helper.Helper.TheVariants as helpers
 use Rattle.freeze_ledger.specs.declared.freeze.Freeze.{Freeze}
 use Rattle.freeze_ledger.specs.Freezes.{entry_of, without}
 use Rattle.helpers.specs.declared.request.Request.TheVariants.{Release, Requeue}
+use Rattle.helpers.specs.Table.{answer_number}
 use Rattle.bpf_machine.specs.MachineState.{MachineState}
 use Rattle.bpf_machine.specs.Step.{request_at, exit_at, answered}
 use Rattle.bpf_machine.specs.Reached.{Steps}
 use Rattle.world.specs.FreezeSteps.{frozen_with}
 use Rattle.world.specs.World.{Setup, LiveRun, World}
 use Rattle.world.specs.Lookups.{run_of, with_run}
+use Rattle.world.specs.Told.{plain}
 use Rattle.world.specs.Event.{Instruction, private, call, exit, Event, instruction_of, Reply}
 use Rattle.world.specs.RunSteps.{is_run}
 use Rattle.world.specs.TookGave.{asked, given_up}
@@ -19,7 +21,7 @@ use Rattle.world.specs.Headline.{is_disposal, is_exit}
 use Rattle.world.specs.Limits.{FreezeLimits}
 use Rattle.world.proofs.Lists.Found.{leave, found_key, found_push, put_same, put_other, leave_same, leave_other}
 use Rattle.world.proofs.Lists.Entries.{frozen_without, entry_bounds}
-use Rattle.world.proofs.Steps.Cases.{Executes, Case, refuses, submits, dispatches, finishes_one, recovers_one, recovers_unfrozen, freezes_one, releases_one, goes_on_one, gives_back, requeues_one, exits, pair_parts}
+use Rattle.world.proofs.Steps.Cases.{Executes, Case, refuses, submits, dispatches, finishes_one, recovers_one, recovers_unfrozen, freezes_one, releases_one, goes_on_one, gives_back, requeues_one, asks_one, exits, pair_parts}
 use Rattle.world.proofs.Steps.Moves.{run_key, run_found, Begins}
 use Rattle.world.proofs.Steps.Effects.{its_instruction, not_others}
 use Rattle.world.proofs.Steps.Private.{private_keeps}
@@ -64,18 +66,18 @@ count_after setup before number freeze kept entry =
     omega (arith, fewer, one, kept.a_queue freeze.queue.0)
 
 -- an answered call is one instruction of the machine
-release_steps : (setup : Setup) (before : World) (run : LiveRun) (wanted : ℕ) (freeze : Freeze) → FreezeLimits setup before → request_at run.program run.machine ≡ Some (Release wanted) → entry_of wanted before.freezes ≡ Some freeze → Steps run.program run.machine (answered (Release freeze.number) (record { r0 = frozen_with freeze (without freeze.number before.freezes) }) run.machine)
+release_steps : (setup : Setup) (before : World) (run : LiveRun) (wanted : ℕ) (freeze : Freeze) → FreezeLimits setup before → request_at run.program run.machine ≡ Some (Release wanted) → entry_of wanted before.freezes ≡ Some freeze → Steps run.program run.machine (answered (Release freeze.number) (answer_number (frozen_with freeze (without freeze.number before.freezes))) run.machine)
 release_steps setup before run wanted freeze kept call_is entry =
     let named = entry_bounds 0 before.freezes before.greatest_freeze wanted freeze kept.numbered entry in
     inr (
       Release freeze.number,
-      record { r0 = frozen_with freeze (without freeze.number before.freezes) },
+      answer_number (frozen_with freeze (without freeze.number before.freezes)),
       subst (λ (n : ℕ). request_at run.program run.machine ≡ Some (Release n)) (sym named.0) call_is,
       (count_after setup before wanted freeze kept entry, refl),
     )
 
-requeue_steps : (run : LiveRun) (retries : ℕ) → request_at run.program run.machine ≡ Some (Requeue retries) → Steps run.program run.machine (answered (Requeue retries) (record { r0 = 0 }) run.machine)
-requeue_steps run retries call_is = inr (Requeue retries, record { r0 = 0 }, call_is, (refl, refl))
+requeue_steps : (run : LiveRun) (retries : ℕ) → request_at run.program run.machine ≡ Some (Requeue retries) → Steps run.program run.machine (answered (Requeue retries) (answer_number 0) run.machine)
+requeue_steps run retries call_is = inr (Requeue retries, answer_number 0, call_is, (refl, refl))
 
 -- the runs are as they were
 unchanged : (before : World) (event : Event) (after : World) (number : ℕ) (run : LiveRun) → run_of number before.runs ≡ Some run → instruction_of number event ≡ None → after.runs ≡ before.runs → Fate before event after number run
@@ -115,13 +117,18 @@ fate_of setup before event reply after number run kept found (goes_on_one it) =
 fate_of setup before event reply after number run kept found (gives_back it) =
     let parts = pair_parts _ _ it.answer in
     let named : it.it.run.number ≡ it.it.number = found_key run_key it.it.number before.runs it.it.run it.it.found in
-    one_goes before event after (call helpers.Release) it.it _ (ap (λ (w : World). w.runs) parts.1) refl (release_steps setup before it.it.run it.number it.freeze kept it.call_is it.entry)
+    one_goes before event after (call (plain helpers.Release)) it.it _ (ap (λ (w : World). w.runs) parts.1) refl (release_steps setup before it.it.run it.number it.freeze kept it.call_is it.entry)
     (gives_one_back it.number it.freeze it.entry (subst (λ (n : ℕ). is_run n it.freeze.holder ≡ true) named it.held) refl refl (ap (λ (w : World). w.freezes) parts.1) (ap (λ (w : World). w.live) parts.1) (ap asked it.call_is) refl)
     number run found
 fate_of setup before event reply after number run kept found (requeues_one it) =
     let parts = pair_parts _ _ it.answer in
-    one_goes before event after (call helpers.Requeue) it.it _ (ap (λ (w : World). w.runs) parts.1) refl (requeue_steps it.it.run it.retries it.call_is)
+    one_goes before event after (call (plain helpers.Requeue)) it.it _ (ap (λ (w : World). w.runs) parts.1) refl (requeue_steps it.it.run it.retries it.call_is)
     (disposes_of_it refl it.fresh refl (ap (λ (w : World). w.freezes) parts.1) (ap asked it.call_is) refl)
+    number run found
+fate_of setup before event reply after number run kept found (asks_one it) =
+    let parts = pair_parts _ _ it.answer in
+    one_goes before event after (call it.told) it.it _ (ap (λ (w : World). w.runs) parts.1) refl (inr (it.request, it.given, it.call_is, (it.allowed, refl)))
+    (touches_nothing it.held it.disposed (ap (λ (w : World). w.freezes) parts.1) (ap (λ (w : World). w.live) parts.1) (ap asked it.call_is ∙ it.keeps) it.calm)
     number run found
 fate_of setup before event reply after number run kept found (exits it) =
     let named : it.it.run.number ≡ it.it.number = found_key run_key it.it.number before.runs it.it.run it.it.found in

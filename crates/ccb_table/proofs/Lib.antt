@@ -5,3 +5,4 @@ pub mod Next
 pub mod Kept
 pub mod Steps
 pub mod Replies
+pub mod Info

@@ -9,6 +9,7 @@ ghost use Rattle.world.specs.World.{Setup, World, queue_count, LiveCcb as WorldC
 ghost use Rattle.world.specs.Capacities.{most_queues, most_ccbs};
 ghost use Rattle.world.specs.Lookups.{is_active, ccb_of, with_ccb};
 ghost use Rattle.world.specs.CcbSteps.{step_submit, step_dispatch};
+ghost use Rattle.world.specs.QueueInfo.{queue_info};
 ghost use Rattle.world.specs.Flat.{ccb_reply};
 ghost use Rattle.ccb_table.specs.CcbsState.{CcbsState, no_ccbs, with_ccbs};
 
@@ -19,7 +20,7 @@ use ccb::{Ccb, CcbId, QueueId};
 use freeze_ledger::Ledger;
 use std::alloc::{AllocError, Global};
 use std::marker::Model;
-use world::{CcbState, Refusal};
+use world::{CcbState, QueueInfo, Refusal};
 
 /// The live CCBs of all device queues, at most 4096 and 256 a queue, of at most 64 queues. Contracts see the CCBs in
 /// the order of their numbers, the openings of each queue, and the greatest number that was given.
@@ -155,6 +156,22 @@ impl CcbTable {
         self.queues
             .put_back(again.queue, again.number, again.priority);
         self.ccbs.change(LiveCcb::new(again, CcbState::Waiting));
+    }
+
+    /// What a queue that there is has: its freezes, its active CCBs, those that wait, and its openings.
+    pub fn queue_info(&self, queue: QueueId, ledger: &Ledger) -> QueueInfo
+        requires known { queue.0 < length self.now.openings }
+        requires queues { ledger.now.queues ≡ length self.now.openings }
+        ensures { (world : World) → world.freezes ≡ ledger.now.freezes → result ≡ queue_info (with_ccbs self.now world) queue.0 }
+    {
+        let own = self.queues.get(queue);
+        let (waiting, active, _) = own.counts();
+        QueueInfo {
+            frozen: ledger.count(queue),
+            active,
+            waiting,
+            openings: u32::from(own.openings()),
+        }
     }
 
     /// How many CCBs are active, at most 4096. It is a stored number.

@@ -70,6 +70,14 @@ impl QueueList {
         self.queues.len()
     }
 
+    /// The queue of that number.
+    pub(crate) fn get(&self, queue: QueueId) -> &DevQueue
+        requires { queue.0 < length self.now }
+        ensures { result.now ≡ queue_at self.now queue.0 }
+    {
+        &self.queues[queue.0 as usize]
+    }
+
     /// One queue more, without CCBs, with so many openings. Where memory is refused, nothing changes.
     pub(crate) fn add(&mut self, openings: u8) -> Result<(), AllocError>
         requires { 1 ≤ openings }

@@ -228,6 +228,14 @@ impl Recoveries {
         self.runs[place].ccb
     }
 
+    /// The queue of the CCB for which the run at this place is.
+    pub fn queue(&self, place: usize) -> QueueId
+        requires { (it : LiveRun) × HasRunAt self.now.runs place it }
+        ensures { (it : LiveRun) → HasRunAt self.now.runs place it → result.0 ≡ it.queue }
+    {
+        self.runs[place].queue
+    }
+
     /// The machine in which the run at this place goes on.
     pub fn machine(&self, place: usize) -> &Machine
         requires { (it : LiveRun) × HasRunAt self.now.runs place it }

@@ -1,16 +1,17 @@
--- What a ledger keeps is kept by a freeze at the end and by a removal.
+-- What a ledger keeps is kept by a freeze at the end, by a removal and by a change of a holder.
 use Rattle.std.proofs.Common.{◌≡◌, ℕ, suc, ◌+◌, ◌-◌, ◌<◌, ◌≤◌, List, [], ◌∷◌, ◌++◌, length, take, drop, get_or, set, refl, arith, length-append, eqb, cond, inl, inr, ◌∙◌, ap, sym, subst}
-use Rattle.std.proofs.lemmas.Grind.{common_steps}
 use Rattle.std.proofs.lemmas.Bool.{cases_eq, eq-eqb, ne_eqb}
-use Rattle.std.proofs.lemmas.List.Elements.{All-push, All-append, All-take, All-drop}
-use Rattle.std.proofs.lemmas.List.Sums.{sum_by-append, sum_by-remove}
+use Rattle.std.proofs.lemmas.List.Elements.{All-push, All-set, All-append, All-take, All-drop}
+use Rattle.std.proofs.lemmas.List.Sums.{sum_by-append, sum_by-remove, sum_by-set}
 use Rattle.std.proofs.lemmas.List.Edits.{length-remove}
 use Rattle.std.proofs.lemmas.List.{get_or-set_same, get_or-set_other}
 use Rattle.std.proofs.Math.ListN.{length-set}
-use Rattle.std.specs.List.{remove, All}
+use Rattle.std.proofs.Math.Seq.{map-set_same}
+use Rattle.std.specs.List.{remove}
 use Rattle.std.specs.Vec.{vec_capacity}
 use Rattle.std.specs.declared.vec.Vec.{Vec}
 use Rattle.std.specs.declared.alloc.Global.{Global}
+use Rattle.ccb.specs.declared.QueueId.{QueueId}
 use Rattle.freeze_ledger.specs.declared.freeze.Freeze.{Freeze}
 use Rattle.freeze_ledger.specs.Freezes.{frozen}
 use Rattle.freeze_ledger.specs.Invariant.{IsKept}
@@ -91,4 +92,22 @@ kept_remove v w counts greatest k f kept within at items capacity =
       within = rw items (omega (arith, length-remove v.items k within, kept.within));
       room = rw capacity kept.room;
       few = rw n kept.few;
+    }
+
+-- the count of a queue does not ask who holds its freezes
+frozen_set : (q : ℕ) (fs : List Freeze) (f : Freeze) (k : ℕ) → k < length fs → (get_or fs k f).queue ≡ f.queue → frozen q (set fs k f) ≡ frozen q fs
+frozen_set q fs f k within same =
+    let one : cond {A = ℕ} (eqb (get_or fs k f).queue.0 q) 1 0 ≡ cond (eqb f.queue.0 q) 1 0 = ap (λ (x : QueueId). cond {A = ℕ} (eqb x.0 q) 1 0) same in
+    omega (arith, sum_by-set (λ (x : Freeze). cond (eqb x.queue.0 q) 1 0) fs k f f within, one)
+
+pub kept_set : (v w : Vec Freeze Global) (counts : List ℕ) (greatest k : ℕ) (f : Freeze) → IsKept v counts greatest → k < length v.items → (get_or v.items k f).number ≡ f.number → (get_or v.items k f).queue ≡ f.queue → w.items ≡ set v.items k f → vec_capacity w ≡ vec_capacity v → IsKept w counts greatest
+kept_set v w counts greatest k f kept within number queue items capacity =
+    let known : f.queue.0 < length counts = subst (λ (x : QueueId). x.0 < length counts) queue (kept.known k f within) in
+    record {
+      counted = λ q below. rw items (kept.counted q below ∙ sym (frozen_set q v.items f k within queue));
+      numbered = rw (items, map-set_same (λ (x : Freeze). x.number) v.items k f f (sym number)) kept.numbered;
+      known = rw items (All-set (λ (x : Freeze). x.queue.0 < length counts) v.items k f known kept.known);
+      within = rw (items, length-set {A = Freeze}) kept.within;
+      room = rw capacity kept.room;
+      few = kept.few;
     }

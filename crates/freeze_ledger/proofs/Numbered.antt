@@ -1,11 +1,12 @@
 -- Lists of freezes whose numbers rise: what a freeze at the end and a removal leave.
-use Rattle.std.proofs.Common.{◌≡◌, ℕ, zero, suc, ◌+◌, ◌<◌, ◌≤◌, List, [], ◌∷◌, ◌++◌, length, map, get_or, Bool, true, false, not, cond, eqb, Some, refl, ap, sym, ◌∙◌, arith}
+use Rattle.std.proofs.Common.{◌≡◌, ◌≢◌, ℕ, zero, suc, ◌+◌, ◌<◌, ◌≤◌, List, [], ◌∷◌, ◌++◌, length, map, get_or, set, not, cond, eqb, Some, None, refl, ap, sym, ◌∙◌, arith}
 use Rattle.std.proofs.lemmas.Bool.{eq-eqb, ne_eqb, cond-true, cond-false, cond_both, not_from_true, not_from_false}
-use Rattle.std.specs.List.{remove, find, filter}
+use Rattle.std.specs.List.{remove, All}
 use Rattle.ccb.specs.Rising.{AreRising}
 use Rattle.freeze_ledger.specs.declared.freeze.Freeze.{Freeze}
 use Rattle.freeze_ledger.specs.declared.freeze.Holder.{Holder}
-use Rattle.freeze_ledger.specs.Freezes.{entry_of, holders_of, names, without}
+use Rattle.freeze_ledger.specs.declared.freeze.Holder.TheVariants.{Timer}
+use Rattle.freeze_ledger.specs.Freezes.{entry_of, handed_over, holders_of, names, without}
 use Rattle.freeze_ledger.specs.Invariant.{AreNumbered}
 
 -- above a lower number, too
@@ -57,6 +58,34 @@ remove_at low (g ∷ fs) high (suc k) f l h e =
     let same = ap (λ (x : Freeze). x.number) e in
     ap (λ gs. g ∷ gs) (remove_at g.number fs high k f (omega arith) h.1 e)
     ∙ sym (cond-true (not (eqb g.number f.number)) _ _ (not_from_false _ (ne_eqb _ _ (λ q. omega (arith, up, same, q)))))
+
+-- what has a number that all are above is handed over nowhere
+handed_lower : (n due low : ℕ) (fs : List Freeze) (high : ℕ) → n ≤ low → AreNumbered low fs high → handed_over n due fs ≡ fs
+handed_lower n due low [] high le h = refl
+handed_lower n due low (g ∷ fs) high le h =
+    let lower : n ≤ g.number = omega (arith, h.0) in
+    let kept : cond {A = Freeze} (eqb g.number n) (record g { holder = Timer due }) g ≡ g = cond-false (eqb g.number n) _ _ (ne_eqb g.number n (λ e. omega (arith, h.0, e))) in
+    λ i. kept i ∷ handed_lower n due g.number fs high lower h.1 i
+
+-- and a change of the holder by place is one by number
+pub hand_over_at : (due low : ℕ) (fs : List Freeze) (high k : ℕ) (f : Freeze) → k < length fs → AreNumbered low fs high → get_or fs k f ≡ f → set fs k (record f { holder = Timer due }) ≡ handed_over f.number due fs
+hand_over_at due low [] high k f l h e = absurd (omega arith)
+hand_over_at due low (g ∷ fs) high zero f l h e =
+    let changed : cond {A = Freeze} (eqb g.number f.number) (record g { holder = Timer due }) g ≡ record g { holder = Timer due } = cond-true (eqb g.number f.number) _ _ (eq-eqb _ _ (ap (λ (x : Freeze). x.number) e)) in
+    let same : g.number ≡ f.number = ap (λ (x : Freeze). x.number) e in
+    let others = handed_lower f.number due g.number fs high (omega arith) h.1 in
+    sym ((λ i. changed i ∷ others i) ∙ ap (λ (x : Freeze). record x { holder = Timer due } ∷ fs) e)
+hand_over_at due low (g ∷ fs) high (suc k) f l h e =
+    let up : g.number < (get_or fs k f).number = above g.number fs high k f (omega arith) h.1 in
+    let same = ap (λ (x : Freeze). x.number) e in
+    let kept : cond {A = Freeze} (eqb g.number f.number) (record g { holder = Timer due }) g ≡ g = cond-false (eqb g.number f.number) _ _ (ne_eqb _ _ (λ q. omega (arith, up, same, q))) in
+    let rest = hand_over_at due g.number fs high k f (omega arith) h.1 e in
+    λ i. sym kept i ∷ rest i
+
+-- no freeze has a number that none bears
+pub entry_of_none : (n : ℕ) (fs : List Freeze) → All (λ (freeze : Freeze). freeze.number ≢ n) fs → entry_of n fs ≡ None
+entry_of_none n [] h = refl
+entry_of_none n (g ∷ fs) h = cond-false (eqb g.number n) _ _ (ne_eqb g.number n (h zero g (omega arith))) ∙ entry_of_none n fs (λ k d l. h (suc k) d (omega (arith, l)))
 
 -- rising numbers rise from a lower one, too
 rising_lower : (low lower : ℕ) (ns : List ℕ) (high : ℕ) → lower ≤ low → AreRising low ns high → AreRising lower ns high

@@ -1,7 +1,9 @@
 -- What a list of freezes says: how often a queue is frozen, by whom, and when a further freeze meets a limit.
-use Rattle.std.specs.Prelude.{ℕ, Bool, not, ◌==◌, ◌||◌, nat_le, List, map, filter, length, Option, count_by}
+use Rattle.std.specs.Prelude.{◌≡◌, ℕ, Bool, false, not, ◌==◌, ◌||◌, nat_le, List, map, filter, length, Option, Some, count_by, if◌then◌else◌}
 use Rattle.std.specs.List.{find}
+use Rattle.ccb.specs.declared.QueueId.{QueueId}
 use Rattle.freeze_ledger.specs.declared.freeze.Holder.{Holder}
+use Rattle.freeze_ledger.specs.declared.freeze.Holder.TheVariants.{Run, Timer, Guest}
 use Rattle.freeze_ledger.specs.declared.freeze.Freeze.{Freeze}
 use Rattle.freeze_ledger.specs.declared.ledger.TheConstants.{MAX_FREEZES, MAX_FREEZE_NUMBER, MAX_QUEUE_FREEZES}
 
@@ -26,6 +28,22 @@ entry_of number freezes = find (λ freeze. freeze.number == number) freezes
 -- all freezes but that of this number
 abbrev pub without : ℕ → List Freeze → List Freeze
 without number freezes = filter (λ freeze. not (freeze.number == number)) freezes
+
+-- the freezes, with a timer that is due then as the holder of that of this number
+abbrev pub handed_over : ℕ → ℕ → List Freeze → List Freeze
+handed_over number due freezes =
+    map {A = Freeze} (λ freeze. if freeze.number == number then record freeze { holder = Timer due } else freeze) freezes
+
+-- a timer holds the freeze of this number
+abbrev pub HasTimer : ℕ → List Freeze → Type 0
+HasTimer number freezes =
+    (queue : QueueId) × (due : ℕ) × (entry_of number freezes ≡ Some (record { number = number; queue = queue; holder = Timer due }))
+
+-- the holder is a timer, and it is due: its time is not after the clock's reading
+abbrev pub is_due : ℕ → Holder → Bool
+is_due reading (Run run) = false
+is_due reading (Timer due) = nat_le due reading
+is_due reading (Guest guest) = false
 
 -- the number and the holder of each freeze of the queue
 abbrev pub holders_of : ℕ → List Freeze → List (ℕ × Holder)

@@ -7,7 +7,7 @@ use ccb::QueueId;
 use std::marker::Model;
 
 /// Stands for one freeze that was taken. It is neither copied nor dropped: it is given back to a
-/// ledger, or forfeited. Contracts see it as its freeze.
+/// ledger, handed over to a timer, or forfeited. Contracts see it as its freeze.
 pub struct FreezeToken {
     freeze: Freeze,
 }

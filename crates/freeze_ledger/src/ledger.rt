@@ -1,9 +1,9 @@
 // The ledger as a plain list of entries in the order of their numbers, beside a stored count a queue.
 // It relies on `freeze` for what an entry is and on `freeze_token` for the right to give one back.
 
-ghost use Rattle.std.specs.Prelude.{◌≡◌, ◌+◌, ◌<◌, ◌≤◌, ◌^◌, ◌++◌, ◌∷◌, ◌↔◌, [], length, map, IsTrue, IsSome, IsOk, IsNone, IfSome, IfNone, IfOk, IfErr, OnOk, Contains, slice_index_or};
+ghost use Rattle.std.specs.Prelude.{◌≡◌, ◌≢◌, ◌+◌, ◌<◌, ◌≤◌, ◌^◌, ◌++◌, ◌∷◌, ◌↔◌, [], length, map, IsTrue, IsSome, IsOk, Some, IsNone, IfSome, IfNone, IfOk, IfErr, OnOk, All, Contains, slice_index_or};
 ghost use Rattle.ccb.specs.Rising.{AreRising};
-ghost use Rattle.freeze_ledger.specs.Freezes.{frozen, meets_limit, entry_of, without, holders_of};
+ghost use Rattle.freeze_ledger.specs.Freezes.{frozen, meets_limit, entry_of, without, handed_over, HasTimer, holders_of};
 ghost use Rattle.freeze_ledger.specs.State.{LedgerState, empty_ledger, next_freeze, with_entry, with_freezes};
 
 use crate::freeze::{Freeze, Holder};
@@ -51,6 +51,15 @@ fn place_of(freezes: &[Freeze], freeze: Freeze) -> Option<usize>
     ensures held { IsSome result ↔ Contains freezes.now freeze }
 {
     freezes.iter().position(|held| *held == freeze)
+}
+
+// Where the freeze of this number stands.
+fn place_of_number(freezes: &[Freeze], number: u32) -> Option<usize>
+    ensures within { IfSome result (λ place. place < length freezes.now) }
+    ensures found { IfSome result (λ place. (other : Freeze) → (slice_index_or freezes.now place other).number ≡ number) }
+    ensures none { IfNone result (All (λ freeze. freeze.number ≢ number) freezes.now) }
+{
+    freezes.iter().position(|held| held.number == number)
 }
 
 impl Ledger {
@@ -111,11 +120,50 @@ impl Ledger {
             return Err(token);
         };
         token.forfeit();
-        self.freezes.remove(entry);
+        self.remove_at(entry);
+        Ok(self.count(freeze.queue))
+    }
+
+    /// Makes a timer the holder of the token's entry, due at the clock reading `due`, any number of milliseconds, and
+    /// spends the token. No other entry changes, and no count. The token comes back, and nothing changes, exactly
+    /// where no entry has its number, queue and holder.
+    pub fn hand_over(&mut self, token: FreezeToken, due: u64) -> Result<(), FreezeToken>
+        ensures held { IsOk result ↔ Contains self.old.freezes token }
+        ensures number { OnOk result (entry_of token.number self.old.freezes ≡ Some token) }
+        ensures handed { OnOk result (self.new ≡ with_freezes self.old (handed_over token.number due self.old.freezes)) }
+        ensures refused { IfErr result (λ back. (back ≡ token) × (self.new ≡ self.old)) }
+    {
+        let freeze = token.freeze();
+        let Some(entry) = place_of(&self.freezes, freeze) else {
+            return Err(token);
+        };
+        token.forfeit();
+        let holder = Holder::Timer(due);
+        self.freezes[entry] = Freeze { holder, ..freeze };
+        Ok(())
+    }
+
+    /// Removes the entry of this number, and one from its queue's count. It asks for an entry of that number that a
+    /// timer holds. No other entry changes.
+    pub fn expire(&mut self, number: u32)
+        requires { HasTimer number self.old.freezes }
+        ensures { self.new ≡ with_freezes self.old (without number self.old.freezes) }
+    {
+        let Some(entry) = place_of_number(&self.freezes, number) else {
+            unreachable!()
+        };
+        self.remove_at(entry);
+    }
+
+    // Removes the entry that stands there: its queue has one freeze fewer.
+    fn remove_at(&mut self, entry: usize)
+        requires { entry < length self.old.freezes }
+        ensures { (other : Freeze) → self.new ≡ with_freezes self.old (without (slice_index_or self.old.freezes entry other).number self.old.freezes) }
+    {
+        let freeze = self.freezes.remove(entry);
         let place = freeze.queue.0 as usize;
         let count = self.counts[place] - 1;
         self.counts[place] = count;
-        Ok(u32::from(count))
     }
 
     /// Whether an entry has the token's number, queue and holder.
@@ -154,6 +202,14 @@ impl Ledger {
         ensures { result ≡ self.now.queues }
     {
         self.counts.len() as u32
+    }
+
+    /// All entries, by rising number.
+    pub fn entries(&self) -> &[Freeze]
+        ensures entries { result.now ≡ self.now.freezes }
+        ensures rising { AreRising 0 (map (λ freeze. freeze.number) result.now) self.now.greatest }
+    {
+        &self.freezes
     }
 
     /// The number and the holder of each freeze of the queue, by rising number.

@@ -10,5 +10,6 @@ mod policies;
 mod recovery;
 mod structure;
 mod tables;
+mod timers;
 mod tokens;
 mod verdicts;

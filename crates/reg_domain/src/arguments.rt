@@ -6,7 +6,7 @@ ghost use Rattle.bpf_insn.specs.declared.reg.Reg.TheVariants.{R1, R2, R3};
 ghost use Rattle.bpf_machine.specs.Calls.{argument};
 ghost use Rattle.bpf_machine.specs.MachineState.{MachineState};
 ghost use Rattle.reg_domain.specs.declared.kind.Certainty.TheVariants.{Sure};
-ghost use Rattle.reg_domain.specs.Arguments.{AllFit, Fits, FitsAny, HasBytes, HasRoom, HasWords, LiesBelow, LiesWithin};
+ghost use Rattle.reg_domain.specs.Arguments.{AllFit, Fits, FitsAny, HasBytes, HasRoom, HasWords, IsPlace, LiesBelow, LiesWithin};
 ghost use Rattle.reg_domain.specs.Description.{DescribesWith, kind_at};
 ghost use Rattle.reg_domain.specs.declared.region.Region.TheVariants.{Frame};
 ghost use Rattle.reg_domain.specs.Kinds.{HoldsKind, IsAtMost, IsWritten};
@@ -73,6 +73,7 @@ impl Description {
         ensures fit { IfOk result (λ _. AllFit limits.now self.now asks known.now) }
         ensures freeze { IfOk result (λ _. asks.first ≡ Some Asked.HeldFreeze → (known.now.first ≡ Kind.Freeze Sure) × (self.now.held ≡ Held.Sure)) }
         ensures gives_back { asks.first ≡ Some Asked.HeldFreeze → asks.second ≡ None → asks.third ≡ None → known.now.first ≡ Kind.Freeze Sure → self.now.held ≡ Held.Sure → IsWritten known.now.second → IsWritten known.now.third → IsOk result }
+        ensures place { IfOk result (λ _. (bytes : ℕ) → asks.first ≡ Some (Asked.Room bytes) → IsPlace self.now bytes known.now.first) }
         ensures requeues { (most : ℕ) → asks.first ≡ Some (Asked.Within 0 most) → asks.second ≡ None → asks.third ≡ None → IsAtMost most known.now.first → IsWritten known.now.second → IsWritten known.now.third → IsOk result }
     {
         if !(known.first.is_written() && known.second.is_written() && known.third.is_written()) {
@@ -93,6 +94,7 @@ impl Description {
     ) -> Result<(), Cause>
         ensures fits { IfOk result (λ _. FitsAny limits.now self.now known.now asked kind) }
         ensures freeze { IfOk result (λ _. asked ≡ Some Asked.HeldFreeze → (kind ≡ Kind.Freeze Sure) × (self.now.held ≡ Held.Sure)) }
+        ensures place { IfOk result (λ _. (bytes : ℕ) → asked ≡ Some (Asked.Room bytes) → IsPlace self.now bytes kind) }
         ensures not_taken { asked ≡ None → IsOk result }
         ensures sure { asked ≡ Some Asked.HeldFreeze → kind ≡ Kind.Freeze Sure → self.now.held ≡ Held.Sure → IsOk result }
         ensures within { (most : ℕ) → asked ≡ Some (Asked.Within 0 most) → IsAtMost most kind → IsOk result }
@@ -113,6 +115,7 @@ impl Description {
     ) -> Result<(), Cause>
         ensures fits { IfOk result (λ _. Fits limits.now self.now known.now asked kind) }
         ensures freeze { IfOk result (λ _. asked ≡ Asked.HeldFreeze → (kind ≡ Kind.Freeze Sure) × (self.now.held ≡ Held.Sure)) }
+        ensures place { IfOk result (λ _. (bytes : ℕ) → asked ≡ Asked.Room bytes → IsPlace self.now bytes kind) }
         ensures sure { asked ≡ Asked.HeldFreeze → kind ≡ Kind.Freeze Sure → self.now.held ≡ Held.Sure → IsOk result }
         ensures within { (most : ℕ) → asked ≡ Asked.Within 0 most → IsAtMost most kind → IsOk result }
     {
@@ -126,6 +129,7 @@ impl Description {
     fn is_fit(&self, limits: &HelperLimits, known: &Known, asked: Asked, kind: Kind) -> bool
         ensures fits { IsTrue result → Fits limits.now self.now known.now asked kind }
         ensures freeze { IsTrue result → asked ≡ Asked.HeldFreeze → (kind ≡ Kind.Freeze Sure) × (self.now.held ≡ Held.Sure) }
+        ensures place { IsTrue result → (bytes : ℕ) → asked ≡ Asked.Room bytes → IsPlace self.now bytes kind }
         ensures sure { asked ≡ Asked.HeldFreeze → kind ≡ Kind.Freeze Sure → self.now.held ≡ Held.Sure → IsTrue result }
         ensures within { (most : ℕ) → asked ≡ Asked.Within 0 most → IsAtMost most kind → IsTrue result }
     {
@@ -150,7 +154,8 @@ impl Description {
 
     // Whether so many bytes lie in one live frame, wherever the address is.
     fn has_room(&self, kind: Kind, bytes: u64) -> bool
-        ensures { IsTrue result → HasRoom self.now kind bytes }
+        ensures room { IsTrue result → HasRoom self.now kind bytes }
+        ensures place { IsTrue result → IsPlace self.now bytes kind }
     {
         match kind {
             Kind::Address(region, offsets) => self.region_has_room(region, offsets, bytes),
@@ -160,7 +165,8 @@ impl Description {
 
     // Whether so many bytes lie in one live frame, wherever in its region an address is.
     fn region_has_room(&self, region: Region, offsets: Offsets, bytes: u64) -> bool
-        ensures { IsTrue result → HasRoom self.now (Kind.Address region offsets) bytes }
+        ensures room { IsTrue result → HasRoom self.now (Kind.Address region offsets) bytes }
+        ensures place { IsTrue result → IsPlace self.now bytes (Kind.Address region offsets) }
     {
         match region {
             Region::Context => false,

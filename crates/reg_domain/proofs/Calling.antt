@@ -1,5 +1,5 @@
 -- What becomes of a described machine by a helper call, and that the call meets its rule.
-use Rattle.std.proofs.Common.{◌≡◌, ℕ, ℤ, ◌+◌, Bool, true, false, not, eqb, cond, List, [], ◌∷◌, Option, Some, None, Result, Ok, Err, IfOk, length, drop, refl, ap, sym, subst, ◌∙◌, arith, length-drop}
+use Rattle.std.proofs.Common.{◌≡◌, ℕ, ℤ, pos, ◌+◌, Bool, true, false, not, eqb, cond, List, [], ◌∷◌, Option, Some, None, Result, Ok, Err, IfOk, length, drop, refl, ap, sym, subst, ◌∙◌, arith, length-drop}
 use Rattle.std.specs.Prelude.{◌<◌, ◌≤◌, All, filter, slice_index_or, unwrap_or}
 use Rattle.std.specs.Option.{option_map, option_and_then}
 use Rattle.std.proofs.lemmas.Bool.{and_from, eq-eqb}
@@ -34,12 +34,12 @@ use Rattle.reg_domain.specs.declared.kind.Kind.{Kind}
 use Rattle.reg_domain.specs.declared.kind.Kind.TheVariants.{Unwritten, Number, Address, Freeze}
 use Rattle.reg_domain.specs.declared.kind.Certainty.TheVariants as certainties
 use Rattle.reg_domain.specs.Arguments.{AllFit, AreArguments, FitsAny}
-use Rattle.reg_domain.specs.declared.region.Region.TheVariants.{Frame}
-use Rattle.reg_domain.specs.Calls.{CallIsNeverStuck, IsAnswered, IsLawfulCall, IsReleased, LeavesInformation, LeavesZero, Obeys, Passes, after_call_kinds}
+use Rattle.reg_domain.specs.Calls.{CallIsNeverStuck, IsAnswered, IsLawfulCall, IsReleased, LeavesOverCall, LeavesWritten, Obeys, Passes, after_call_kinds}
 use Rattle.reg_domain.specs.Description.{Describes, DescribesWith, HoldsFreeze, kind_at}
-use Rattle.reg_domain.specs.Enough.{AreKnown, IsAt}
+use Rattle.reg_domain.specs.Enough.{LeavesCalled, LeavesInformation, LeavesZero}
 use Rattle.reg_domain.specs.Kinds.{HoldsKind, IsKnown, IsWritten}
 use Rattle.reg_domain.specs.Memory.{AreWritten, ChangesStack}
+use Rattle.reg_domain.proofs.StaysKnown.{same_stays}
 use Rattle.reg_domain.proofs.Tracing.{some_same, traced_unstuck}
 
 -- what lists of kinds say of lists of registers
@@ -138,8 +138,8 @@ informed freeze address r0 between there m (Some written) wrote writes passes =
     (subst (DescribesWith freeze between) (sym (written_is m are.with_bytes address written wrote.place are.does)) are.describes)
 
 -- and what is known of it
-pub information_left : (d between there : Description) → ChangesStack d between → LeavesZero between there → there.stack ≡ between.stack → ((frame at : ℕ) → IsAt (Frame frame) at (kind_at d R1) → AreKnown between frame at 16)
-    → LeavesZero d there × LeavesInformation d there
+pub information_left : (d between there : Description) → ChangesStack d between → LeavesZero between there → there.stack ≡ between.stack → LeavesInformation d between
+    → LeavesZero d there × LeavesWritten d there
 information_left d between there only zero stack written = (
   record {
     r0 = zero.r0;
@@ -149,7 +149,7 @@ information_left d between there only zero stack written = (
   },
   record {
     depth = ap length stack ∙ only.depth;
-    written = λ frame at is k from to. subst (λ (s : List (List Bool)). Knows s frame k) (sym stack) (written frame at is k from to);
+    information = λ frame at is k from to. subst (λ (s : List (List Bool)). Knows s frame k) (sym stack) (written frame at is k from to);
     known = λ frame at was. subst (λ (s : List (List Bool)). Knows s frame at) (sym stack) (only.known frame at was);
   },
 )
@@ -315,3 +315,53 @@ unstuck limits d number helper named known obeys m (freeze, is) =
     goes_on limits m helpers.TableAdd arguments known whole rule = absurd known
     goes_on limits m helpers.Now arguments known whole rule = absurd known
     goes_on limits m helpers.SetOpenings arguments known whole rule = absurd known
+
+-- what is known behind a call, by its helper
+other_helper : (number other : ℤ) (helper called : Helper) → helper_of number ≡ Some helper → number ≡ other → helper_of other ≡ Some called → helper ≡ called
+other_helper number other helper called named same is = some_same helper called (sym named ∙ (ap helper_of same ∙ is))
+
+pub left : (number : ℤ) (helper : Helper) (d there : Description) → helper_of number ≡ Some helper → IsAnswered helper → LeavesOverCall helper d there → LeavesCalled d number there
+left number helpers.Release d there named known leaves = record {
+  registers = leaves.0.registers;
+  depth = ap length leaves.0.stack;
+  known = λ frame at was. subst (λ (s : List (List Bool)). Knows s frame at) (sym leaves.0.stack) was;
+  released = λ asked. (leaves.1, leaves.2);
+  requeued = λ asked. absurd (let bad : helpers.Release ≡ helpers.Requeue = other_helper number (pos 4) helpers.Release helpers.Requeue named asked.requeue refl in cc);
+  informed = λ asked. absurd (let bad : helpers.Release ≡ helpers.QueueInfo = other_helper number (pos 9) helpers.Release helpers.QueueInfo named asked.queue_info refl in cc);
+  traced = λ asked. absurd (let bad : helpers.Release ≡ helpers.Trace = other_helper number (pos 10) helpers.Release helpers.Trace named asked.trace refl in cc);
+}
+left number helpers.Requeue d there named known leaves = record {
+  registers = leaves.0.registers;
+  depth = ap length leaves.0.stack;
+  known = λ frame at was. subst (λ (s : List (List Bool)). Knows s frame at) (sym leaves.0.stack) was;
+  released = λ asked. absurd (let bad : helpers.Requeue ≡ helpers.Release = other_helper number (pos 2) helpers.Requeue helpers.Release named asked.release refl in cc);
+  requeued = λ asked. (leaves.1, leaves.2);
+  informed = λ asked. absurd (let bad : helpers.Requeue ≡ helpers.QueueInfo = other_helper number (pos 9) helpers.Requeue helpers.QueueInfo named asked.queue_info refl in cc);
+  traced = λ asked. absurd (let bad : helpers.Requeue ≡ helpers.Trace = other_helper number (pos 10) helpers.Requeue helpers.Trace named asked.trace refl in cc);
+}
+left number helpers.QueueInfo d there named known leaves = record {
+  registers = λ reg late. same_stays (kind_at d reg) (kind_at there reg) (leaves.0.registers reg late);
+  depth = leaves.1.depth;
+  known = leaves.1.known;
+  released = λ asked. absurd (let bad : helpers.QueueInfo ≡ helpers.Release = other_helper number (pos 2) helpers.QueueInfo helpers.Release named asked.release refl in cc);
+  requeued = λ asked. absurd (let bad : helpers.QueueInfo ≡ helpers.Requeue = other_helper number (pos 4) helpers.QueueInfo helpers.Requeue named asked.requeue refl in cc);
+  informed = λ asked. (leaves.0, leaves.1.information);
+  traced = λ asked. absurd (let bad : helpers.QueueInfo ≡ helpers.Trace = other_helper number (pos 10) helpers.QueueInfo helpers.Trace named asked.trace refl in cc);
+}
+left number helpers.Trace d there named known leaves = record {
+  registers = λ reg late. same_stays (kind_at d reg) (kind_at there reg) (leaves.0.registers reg late);
+  depth = ap length leaves.1;
+  known = λ frame at was. subst (λ (s : List (List Bool)). Knows s frame at) (sym leaves.1) was;
+  released = λ asked. absurd (let bad : helpers.Trace ≡ helpers.Release = other_helper number (pos 2) helpers.Trace helpers.Release named asked.release refl in cc);
+  requeued = λ asked. absurd (let bad : helpers.Trace ≡ helpers.Requeue = other_helper number (pos 4) helpers.Trace helpers.Requeue named asked.requeue refl in cc);
+  informed = λ asked. absurd (let bad : helpers.Trace ≡ helpers.QueueInfo = other_helper number (pos 9) helpers.Trace helpers.QueueInfo named asked.queue_info refl in cc);
+  traced = λ asked. leaves.0;
+}
+left number helpers.Freeze d there named known leaves = absurd known
+left number helpers.ReleaseAfter d there named known leaves = absurd known
+left number helpers.Finish d there named known leaves = absurd known
+left number helpers.TableGet d there named known leaves = absurd known
+left number helpers.TablePut d there named known leaves = absurd known
+left number helpers.TableAdd d there named known leaves = absurd known
+left number helpers.Now d there named known leaves = absurd known
+left number helpers.SetOpenings d there named known leaves = absurd known

@@ -1,5 +1,5 @@
 -- What is known of the arguments of a helper call, and when each is sure to be as the helper asks.
-use Rattle.std.specs.Prelude.{◌≡◌, ℕ, ◌+◌, ◌<◌, ◌≤◌, true, List, length, Option, Some, None, slice_index_or}
+use Rattle.std.specs.Prelude.{◌≡◌, ℕ, ◌<◌, ◌≤◌, true, List, Option, Some, None, slice_index_or}
 use Rattle.helpers.specs.declared.helper.Asked.{Asked}
 use Rattle.helpers.specs.declared.helper.Asks.{Asks}
 use Rattle.helpers.specs.declared.limits.HelperLimits.{HelperLimits}
@@ -10,8 +10,6 @@ use Rattle.bpf_machine.specs.MachineState.{MachineState}
 use Rattle.reg_domain.specs.declared.arguments.Known.{Known}
 use Rattle.reg_domain.specs.declared.description.Description.{Description}
 use Rattle.reg_domain.specs.declared.kind.Kind.{Kind}
-use Rattle.reg_domain.specs.declared.kind.Kind.TheVariants.{Unwritten, Number, Address, Freeze}
-use Rattle.reg_domain.specs.declared.region.Region.TheVariants.{Context, Frame}
 use Rattle.reg_domain.specs.Description.{DescribesWith}
 use Rattle.reg_domain.specs.Kinds.{HoldsKind, IsWritten}
 
@@ -36,14 +34,6 @@ abbrev pub HasBytes : Description → Kind → Kind → Type 0
 HasBytes d kind count =
     (freeze : ℕ) (m : MachineState) (address bytes : ℕ) → DescribesWith freeze d m → HoldsKind freeze kind (Some address) →
     HoldsKind freeze count (Some bytes) → has_written 0 m.frames address bytes ≡ true
-
--- the address of so many bytes of one live frame
-abbrev pub IsPlace : Description → ℕ → Kind → Type 0
-IsPlace d bytes Unwritten = ⊥
-IsPlace d bytes (Number scalar) = ⊥
-IsPlace d bytes (Address Context offsets) = ⊥
-IsPlace d bytes (Address (Frame frame) offsets) = (frame < length d.stack) × (offsets.least ≤ offsets.most) × (offsets.most + bytes ≤ 512)
-IsPlace d bytes (Freeze certainty) = ⊥
 
 -- arguments of these kinds
 pub record AreArguments (freeze : ℕ) (known : Known) (arguments : Arguments) : Type 0 where

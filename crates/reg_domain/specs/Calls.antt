@@ -3,7 +3,7 @@ use Rattle.std.specs.Prelude.{◌≡◌, ℕ, ℤ, ◌<◌, ◌≤◌, ◌^◌, 
 use Rattle.bpf_insn.specs.declared.insn.Callee.TheVariants.{Helper as helper_call}
 use Rattle.bpf_insn.specs.declared.insn.Insn.TheVariants.{Call}
 use Rattle.bpf_insn.specs.declared.reg.Reg.{Reg}
-use Rattle.bpf_insn.specs.declared.reg.Reg.TheVariants.{R0, R1}
+use Rattle.bpf_insn.specs.declared.reg.Reg.TheVariants.{R1}
 use Rattle.bpf_insn.specs.Reg.{number_of}
 use Rattle.helpers.specs.declared.helper.Helper.{Helper}
 use Rattle.helpers.specs.declared.helper.Helper.TheVariants as helpers
@@ -21,10 +21,9 @@ use Rattle.reg_domain.specs.declared.description.Description.{Description}
 use Rattle.reg_domain.specs.declared.description.Held.TheVariants.{Nothing}
 use Rattle.reg_domain.specs.declared.kind.Kind.{Kind}
 use Rattle.reg_domain.specs.declared.kind.Kind.TheVariants.{Unwritten}
-use Rattle.reg_domain.specs.declared.region.Region.TheVariants.{Frame}
 use Rattle.reg_domain.specs.Description.{Describes, DescribesWith, kind_at}
-use Rattle.reg_domain.specs.Enough.{AreKnown, IsAt, StaysKnown}
-use Rattle.reg_domain.specs.Kinds.{HoldsKind, IsKnown}
+use Rattle.reg_domain.specs.Enough.{LeavesInformation, LeavesZero, StaysKnown}
+use Rattle.reg_domain.specs.Kinds.{HoldsKind}
 
 abbrev pub CallIsNeverStuck : HelperLimits → ℤ → Description → Type 0
 CallIsNeverStuck limits number d = (m : MachineState) → Describes d m → call_is_stuck limits m (request_in m (Call (helper_call number))) ≡ false
@@ -79,22 +78,15 @@ pub record LeavesRegisters (d there : Description) : Type 0 where
   pub registers : (reg : Reg) → 6 ≤ number_of reg → StaysKnown (kind_at d reg) (kind_at there reg)
   pub stack : there.stack ≡ d.stack
 
--- R0 is 0, and R6 to R10, the freeze and the CCB are as before
-pub record LeavesZero (d there : Description) : Type 0 where
-  pub r0 : IsKnown 0 (kind_at there R0)
-  pub registers : (reg : Reg) → 6 ≤ number_of reg → kind_at there reg ≡ kind_at d reg
-  pub held : there.held ≡ d.held
-  pub disposal : there.disposed ≡ d.disposed
-
--- 16 bytes are written from R1's address on, where it is one address, and what was written is
-pub record LeavesInformation (d there : Description) : Type 0 where
+-- and where stack bytes are written
+pub record LeavesWritten (d there : Description) : Type 0 where
   pub depth : length there.stack ≡ length d.stack
-  pub written : (frame at : ℕ) → IsAt (Frame frame) at (kind_at d R1) → AreKnown there frame at 16
   pub known : (frame at : ℕ) → Knows d.stack frame at → Knows there.stack frame at
+  pub information : LeavesInformation d there
 
 abbrev pub LeavesOverCall : Helper → Description → Description → Type 0
 LeavesOverCall helpers.Release d there = LeavesRegisters d there × (there.held ≡ Nothing) × (there.disposed ≡ d.disposed)
 LeavesOverCall helpers.Requeue d there = LeavesRegisters d there × (there.held ≡ d.held) × (there.disposed ≡ true)
-LeavesOverCall helpers.QueueInfo d there = LeavesZero d there × LeavesInformation d there
+LeavesOverCall helpers.QueueInfo d there = LeavesZero d there × LeavesWritten d there
 LeavesOverCall helpers.Trace d there = LeavesZero d there × (there.stack ≡ d.stack)
 LeavesOverCall helper d there = Unit {0}

@@ -3,18 +3,16 @@
 
 ghost use Rattle.std.specs.Prelude.{◌≡◌, ◌↔◌, ℕ, false, IfOk, IsOk, IsOkAnd, IsTrue, slice_index_or};
 ghost use Rattle.bpf_insn.specs.declared.reg.Reg.{Reg};
-ghost use Rattle.bpf_insn.specs.declared.reg.Reg.TheVariants.{R1};
+ghost use Rattle.bpf_insn.specs.declared.reg.Reg.TheVariants.{R1, R2};
 ghost use Rattle.bpf_insn.specs.Reg.{number_of};
 ghost use Rattle.bpf_machine.specs.MachineState.{MachineState};
 ghost use Rattle.bpf_machine.specs.Step.{after_call as called};
 ghost use Rattle.helpers.specs.declared.helper.Helper.TheVariants as helpers;
 ghost use Rattle.reg_domain.specs.declared.kind.Certainty.TheVariants.{Sure};
-ghost use Rattle.reg_domain.specs.Arguments.{IsPlace};
-ghost use Rattle.reg_domain.specs.Calls.{CallFollows, CallIsNeverStuck, IsAnswered, IsReleased, LeavesOverCall, LeavesZero, Obeys, Passes, after_call_kinds};
-ghost use Rattle.reg_domain.specs.declared.region.Region.TheVariants.{Frame};
+ghost use Rattle.reg_domain.specs.Calls.{CallFollows, CallIsNeverStuck, IsAnswered, IsReleased, LeavesOverCall, Obeys, Passes, after_call_kinds};
 ghost use Rattle.reg_domain.specs.Description.{DescribesWith, kind_at};
-ghost use Rattle.reg_domain.specs.Enough.{AreKnown, GivesBack, IsAt, LeavesCalled, Requeues};
-ghost use Rattle.reg_domain.specs.Kinds.{IsAtMost};
+ghost use Rattle.reg_domain.specs.Enough.{AreToldBytes, AsksQueue, GivesBack, IsPlace, LeavesCalled, LeavesInformation, LeavesZero, Requeues, Traces};
+ghost use Rattle.reg_domain.specs.Kinds.{IsAtMost, IsBetween};
 ghost use Rattle.reg_domain.specs.Memory.{ChangesStack, WritesFrom};
 
 use crate::cause::Cause;
@@ -42,6 +40,8 @@ impl Description {
         ensures follows { IfOk result (λ _. CallFollows number self.old self.new) }
         ensures gives_back { GivesBack self.old number → IsOkAnd result (λ _. LeavesCalled self.old number self.new) }
         ensures requeues { Requeues self.old number → IsOkAnd result (λ _. LeavesCalled self.old number self.new) }
+        ensures informs { AsksQueue self.old number → IsOkAnd result (λ _. LeavesCalled self.old number self.new) }
+        ensures traces { Traces self.old number → IsOkAnd result (λ _. LeavesCalled self.old number self.new) }
     {
         let Some(helper) = Helper::with_number(number) else {
             return Err(Cause::UnknownHelper);
@@ -61,6 +61,8 @@ impl Description {
         ensures place { IfOk result (λ _. helper ≡ helpers.QueueInfo → IsPlace self.now INFORMATION_BYTES (kind_at self.now R1)) }
         ensures gives_back { helper ≡ helpers.Release → kind_at self.now R1 ≡ Kind.Freeze Sure → self.now.held ≡ Held.Sure → IsOk result }
         ensures requeues { helper ≡ helpers.Requeue → IsAtMost 1 (kind_at self.now R1) → self.now.disposed ≡ false → IsOk result }
+        ensures informs { helper ≡ helpers.QueueInfo → IsPlace self.now INFORMATION_BYTES (kind_at self.now R1) → IsOk result }
+        ensures traces { helper ≡ helpers.Trace → IsBetween 1 64 (kind_at self.now R2) → AreToldBytes self.now (kind_at self.now R1) (kind_at self.now R2) → IsOk result }
     {
         let asks = helper.asks();
         let known = self.arguments(asks);
@@ -72,6 +74,8 @@ impl Description {
     fn check_run(&self, helper: Helper) -> Result<(), Cause>
         ensures may { IfOk result (λ _. (helper ≡ helpers.Requeue → self.now.disposed ≡ false) × (helper ≡ helpers.Finish → self.now.disposed ≡ false)) }
         ensures release { helper ≡ helpers.Release → IsOk result }
+        ensures queue_info { helper ≡ helpers.QueueInfo → IsOk result }
+        ensures trace { helper ≡ helpers.Trace → IsOk result }
         ensures requeue { self.now.disposed ≡ false → IsOk result }
     {
         match helper {
@@ -138,7 +142,7 @@ impl Description {
     fn write_information(&mut self)
         requires { IsPlace self.old INFORMATION_BYTES (kind_at self.old R1) }
         ensures writes { WritesFrom R1 INFORMATION_BYTES self.old self.new }
-        ensures written { (frame at : ℕ) → IsAt (Frame frame) at (kind_at self.old R1) → AreKnown self.new frame at INFORMATION_BYTES }
+        ensures written { LeavesInformation self.old self.new }
         ensures only { ChangesStack self.old self.new }
     {
         match self.kind(Reg::R1) {

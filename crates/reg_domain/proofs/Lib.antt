@@ -8,6 +8,7 @@ pub mod Reading
 pub mod Loading
 pub mod Writing
 pub mod Storing
+pub mod Tracing
 pub mod Calling
 pub mod AtEntry
 pub mod RegisterPlaces

@@ -10,7 +10,7 @@ use Rattle.reg_domain.specs.Description.{kind_at}
 use Rattle.reg_domain.specs.Enough.{ChangesOnly, IsFreeze, LeavesKnown, StaysKnown}
 use Rattle.reg_domain.specs.Kinds.{IsNumber}
 
-same_stays : (before after : Kind) → after ≡ before → StaysKnown before after
+pub same_stays : (before after : Kind) → after ≡ before → StaysKnown before after
 same_stays Unwritten after e = tt
 same_stays (Number scalar) after e = subst IsNumber (sym e) tt
 same_stays (Address region offsets) after e = e

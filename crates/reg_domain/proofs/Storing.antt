@@ -19,7 +19,7 @@ use Rattle.reg_domain.specs.Accesses.{BeginsAt}
 use Rattle.reg_domain.specs.Description.{kind_at}
 use Rattle.reg_domain.specs.Enough.{AreKnown, IsAt, LeavesStored, LiesInFrame}
 use Rattle.reg_domain.specs.Kinds.{HoldsKind, IsNumber, LiesAt, size_of}
-use Rattle.reg_domain.specs.Memory.{LeavesMarked, Stores, Writes}
+use Rattle.reg_domain.specs.Memory.{LeavesMarked, Stores, Writes, WritesFrom}
 use Rattle.reg_domain.proofs.ByteNumbers.{bytes_below, length-low_bytes}
 
 -- where the bytes of an access begin
@@ -105,3 +105,20 @@ known_leaves r d there dst offset given word base access frame count bytes of_ds
     (subst (λ (n : ℕ). IsOkAnd r (λ x. LeavesMarked d lies.frame (address_at lies.at offset) n there)) is_count
     (subst (λ (z : ℤ). IsOkAnd r (λ x. LeavesMarked d lies.frame (address_at lies.at z) count there)) is_offset
     (subst (λ (k : ℕ). IsOkAnd r (λ x. LeavesMarked d k from count there)) (sym same.0) marked)))
+
+-- bytes that are written from the address on that a register holds
+same_number : (a b : ℕ) → Some a ≡ Some b → a ≡ b
+same_number a b e = cc
+
+pub writes_from : (d there : Description) (reg : Reg) (frame : ℕ) (offsets : Offsets) (count : ℕ) → kind_at d reg ≡ Address (Frame frame) offsets → Writes d frame offsets count there → WritesFrom reg count d there
+writes_from d there reg frame offsets count in_frame writes freeze m address bytes is at size each =
+    let holds = subst (λ (kind : Kind). HoldsKind freeze kind (register m reg)) in_frame (is.registers reg) in
+    writes freeze m address bytes is (subst (LiesAt (Frame frame) offsets) (same_number holds.0 address (sym holds.1 ∙ at)) holds.2) size each
+
+pub known_from : (d there : Description) (reg : Reg) (frame : ℕ) (offsets : Offsets) (count : ℕ) → kind_at d reg ≡ Address (Frame frame) offsets
+    → ((from : ℕ) → offsets ≡ record { least = from; most = from } → LeavesMarked d frame from count there) → (k at : ℕ) → IsAt (Frame k) at (kind_at d reg) → AreKnown there k at count
+known_from d there reg frame offsets count in_frame marks k at is =
+    let same : Address (Frame frame) offsets ≡ Address (Frame k) (record { least = at; most = at }) = sym in_frame ∙ is in
+    let frames : Frame frame ≡ Frame k = cc in
+    let offset : offsets ≡ record { least = at; most = at } = cc in
+    subst (λ (j : ℕ). AreKnown there j at count) (frame_is frame k frames) (marks at offset).written

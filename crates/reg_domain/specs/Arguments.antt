@@ -31,9 +31,9 @@ HasRoom d kind bytes = (freeze : ℕ) (m : MachineState) (address : ℕ) → Des
 
 -- and are written, as many as a number says
 abbrev pub HasBytes : Description → Kind → Kind → Type 0
-HasBytes d kind length =
+HasBytes d kind count =
     (freeze : ℕ) (m : MachineState) (address bytes : ℕ) → DescribesWith freeze d m → HoldsKind freeze kind (Some address) →
-    HoldsKind freeze length (Some bytes) → has_written 0 m.frames address bytes ≡ true
+    HoldsKind freeze count (Some bytes) → has_written 0 m.frames address bytes ≡ true
 
 -- arguments of these kinds
 pub record AreArguments (freeze : ℕ) (known : Known) (arguments : Arguments) : Type 0 where

@@ -30,7 +30,7 @@ use Rattle.reg_domain.specs.declared.kind.Kind.TheVariants.{Unwritten, Number, A
 use Rattle.reg_domain.specs.declared.region.Region.{Region}
 use Rattle.reg_domain.specs.declared.region.Region.TheVariants.{Context, Frame}
 use Rattle.reg_domain.specs.Description.{kind_at}
-use Rattle.reg_domain.specs.Kinds.{IsAtMost, IsKnown, IsNumber}
+use Rattle.reg_domain.specs.Kinds.{IsAtMost, IsBetween, IsKnown, IsNumber}
 
 -- the address of one byte of a region
 abbrev pub IsAt : Region → ℕ → Kind → Type 0
@@ -90,6 +90,41 @@ pub record Requeues (d : Description) (number : ℤ) : Type 0 where
   pub retries : IsAtMost 1 (kind_at d R1)
   pub waits_not : d.disposed ≡ false
 
+-- the address of so many bytes of one live frame
+abbrev pub IsPlace : Description → ℕ → Kind → Type 0
+IsPlace d bytes Unwritten = ⊥
+IsPlace d bytes (Number scalar) = ⊥
+IsPlace d bytes (Address Context offsets) = ⊥
+IsPlace d bytes (Address (Frame frame) offsets) = (frame < length d.stack) × (offsets.least ≤ offsets.most) × (offsets.most + bytes ≤ 512)
+IsPlace d bytes (Freeze certainty) = ⊥
+
+-- the address of bytes of one live frame that are known to be written, at most so many
+abbrev pub IsWrittenPlace : Description → ℕ → Kind → Type 0
+IsWrittenPlace d bytes Unwritten = ⊥
+IsWrittenPlace d bytes (Number scalar) = ⊥
+IsWrittenPlace d bytes (Address Context offsets) = ⊥
+IsWrittenPlace d bytes (Address (Frame frame) offsets) =
+    IsPlace d bytes (Address (Frame frame) offsets) × ((at : ℕ) → offsets.least ≤ at → at < offsets.most + bytes → Knows d.stack frame at)
+IsWrittenPlace d bytes (Freeze certainty) = ⊥
+
+-- and as many as a number says
+abbrev pub AreToldBytes : Description → Kind → Kind → Type 0
+AreToldBytes d place Unwritten = ⊥
+AreToldBytes d place (Number count) = IsWrittenPlace d count.unsigned.most place
+AreToldBytes d place (Address region offsets) = ⊥
+AreToldBytes d place (Freeze certainty) = ⊥
+
+-- what the queue has is asked for, to be written to 16 bytes of a live frame
+pub record AsksQueue (d : Description) (number : ℤ) : Type 0 where
+  pub queue_info : number ≡ pos 9
+  pub room : IsPlace d 16 (kind_at d R1)
+
+-- bytes that are known to be written are put into the history, 1 to 64 of them
+pub record Traces (d : Description) (number : ℤ) : Type 0 where
+  pub trace : number ≡ pos 10
+  pub count : IsBetween 1 64 (kind_at d R2)
+  pub bytes : AreToldBytes d (kind_at d R1) (kind_at d R2)
+
 -- a register is copied, or numbers are computed with
 abbrev pub EnoughToCompute : Description → Width → AluOp → Reg → Operand → Type 0
 EnoughToCompute d width op dst src =
@@ -107,7 +142,7 @@ Enough (LoadImmediate dst value) d = Unit {0}
 Enough (Load form dst src offset) d = LiesInContext d src offset (byte_len (load_width form)) ⊎ LiesWritten d src offset (byte_len (load_width form))
 Enough (Store size dst src offset) d = IsNumberOperand d src × LiesInFrame d dst offset (byte_len (store_width size))
 Enough (Call (Local distance)) d = ⊥
-Enough (Call (Helper number)) d = GivesBack d number ⊎ Requeues d number
+Enough (Call (Helper number)) d = GivesBack d number ⊎ (Requeues d number ⊎ (AsksQueue d number ⊎ Traces d number))
 Enough Exit d = (d.held ≡ Nothing) × (d.disposed ≡ true) × IsNumber (kind_at d R0)
 
 -- behind an instruction that writes one register: all else is known as before
@@ -163,11 +198,25 @@ pub record LeavesCompared (d : Description) (width : Width) (condition : Conditi
   pub numbers : ComparesNumbers d dst src → there.held ≡ d.held
   pub tested : TestsFreeze d width condition dst src → d.held ≡ Open → LeavesTested way dst there
 
+-- R0 is 0, and R6 to R10, the freeze and the CCB are as before
+pub record LeavesZero (d there : Description) : Type 0 where
+  pub r0 : IsKnown 0 (kind_at there R0)
+  pub registers : (reg : Reg) → 6 ≤ number_of reg → kind_at there reg ≡ kind_at d reg
+  pub held : there.held ≡ d.held
+  pub disposal : there.disposed ≡ d.disposed
+
+-- 16 bytes are written from R1's address on, where it is one address
+abbrev pub LeavesInformation : Description → Description → Type 0
+LeavesInformation d there = (frame at : ℕ) → IsAt (Frame frame) at (kind_at d R1) → AreKnown there frame at 16
+
 pub record LeavesCalled (d : Description) (number : ℤ) (there : Description) : Type 0 where
   pub registers : (reg : Reg) → 6 ≤ number_of reg → StaysKnown (kind_at d reg) (kind_at there reg)
-  pub stack : there.stack ≡ d.stack
+  pub depth : length there.stack ≡ length d.stack
+  pub known : (frame at : ℕ) → Knows d.stack frame at → Knows there.stack frame at
   pub released : GivesBack d number → (there.held ≡ Nothing) × (there.disposed ≡ d.disposed)
   pub requeued : Requeues d number → (there.held ≡ d.held) × (there.disposed ≡ true)
+  pub informed : AsksQueue d number → LeavesZero d there × LeavesInformation d there
+  pub traced : Traces d number → LeavesZero d there
 
 -- what is known behind an instruction of which enough was known, where the way is open
 abbrev pub Leaves : Insn → Way → Description → Description → Type 0

@@ -72,6 +72,13 @@ IsAtMost n (Number scalar) = scalar.unsigned.most ≤ n
 IsAtMost n (Address region offsets) = ⊥
 IsAtMost n (Freeze certainty) = ⊥
 
+-- a number, and none below the one or above the other is possible
+abbrev pub IsBetween : ℕ → ℕ → Kind → Type 0
+IsBetween least most Unwritten = ⊥
+IsBetween least most (Number scalar) = (least ≤ scalar.unsigned.least) × (scalar.unsigned.most ≤ most)
+IsBetween least most (Address region offsets) = ⊥
+IsBetween least most (Freeze certainty) = ⊥
+
 -- an address at these offsets is in its region, or behind its last byte, where one of these numbers is added; the ends
 -- of a signed range are places in the order of signed words, where 0 is at 2 ^ 63
 pub record StaysAhead (region : Region) (offsets : Offsets) (by : Scalar) : Type 0 where

@@ -3,7 +3,7 @@ use Rattle.std.specs.Prelude.{◌≡◌, ℕ, ℤ, ◌<◌, List, length, Option
 use Rattle.bpf_insn.specs.declared.insn.LoadForm.{LoadForm}
 use Rattle.bpf_insn.specs.declared.insn.StoreSize.{StoreSize}
 use Rattle.bpf_insn.specs.declared.reg.Reg.{Reg}
-use Rattle.bpf_machine.specs.MachineState.{MachineState}
+use Rattle.bpf_machine.specs.MachineState.{MachineState, register}
 use Rattle.bpf_machine.specs.Memory.{address_of, load_width, loaded, read, store_width, with_memory, with_word_at, word_from}
 use Rattle.stack_domain.specs.Stack.{Knows}
 use Rattle.reg_domain.specs.declared.access.Access.{Access}
@@ -50,6 +50,20 @@ abbrev pub Writes : Description → ℕ → Offsets → ℕ → Description → 
 Writes d frame offsets count there =
     (freeze : ℕ) (m : MachineState) (address : ℕ) (bytes : List ℕ) → DescribesWith freeze d m → LiesAt (Frame frame) offsets address →
     length bytes ≡ count → All (λ byte. byte < 256) bytes → AreWritten freeze m address bytes there
+
+-- from the address on that a register holds
+abbrev pub WritesFrom : Reg → ℕ → Description → Description → Type 0
+WritesFrom reg count d there =
+    (freeze : ℕ) (m : MachineState) (address : ℕ) (bytes : List ℕ) → DescribesWith freeze d m → register m reg ≡ Some address →
+    length bytes ≡ count → All (λ byte. byte < 256) bytes → AreWritten freeze m address bytes there
+
+-- what was known to be written still is, and nothing else is changed
+pub record ChangesStack (d there : Description) : Type 0 where
+  pub registers : there.registers ≡ d.registers
+  pub depth : length there.stack ≡ length d.stack
+  pub known : (k at : ℕ) → Knows d.stack k at → Knows there.stack k at
+  pub held : there.held ≡ d.held
+  pub disposal : there.disposed ≡ d.disposed
 
 -- the word is there, and there is room for it; the machine with it is described
 pub record IsStored (freeze : ℕ) (m : MachineState) (size : StoreSize) (dst : Reg) (offset : ℤ) (stored : Option ℕ) (there : Description) : Type 0 where

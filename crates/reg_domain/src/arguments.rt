@@ -9,7 +9,8 @@ ghost use Rattle.reg_domain.specs.declared.kind.Certainty.TheVariants.{Sure};
 ghost use Rattle.reg_domain.specs.Arguments.{AllFit, Fits, FitsAny, HasBytes, HasRoom, HasWords, LiesBelow, LiesWithin};
 ghost use Rattle.reg_domain.specs.Description.{DescribesWith, kind_at};
 ghost use Rattle.reg_domain.specs.declared.region.Region.TheVariants.{Frame};
-ghost use Rattle.reg_domain.specs.Kinds.{HoldsKind, IsAtMost, IsWritten};
+ghost use Rattle.reg_domain.specs.Enough.{AreToldBytes, IsPlace, IsWrittenPlace};
+ghost use Rattle.reg_domain.specs.Kinds.{HoldsKind, IsAtMost, IsBetween, IsWritten};
 
 use crate::cause::Cause;
 use crate::description::{Description, Held};
@@ -38,6 +39,7 @@ impl Description {
         ensures third { (freeze : ℕ) (m : MachineState) → DescribesWith freeze self.now m → HoldsKind freeze result.third (argument m asks.third R3) }
         ensures asked { asks.first ≡ None → IsWritten result.first }
         ensures is_first { (asked : Asked) → asks.first ≡ Some asked → result.first ≡ kind_at self.now R1 }
+        ensures is_second { (asked : Asked) → asks.second ≡ Some asked → result.second ≡ kind_at self.now R2 }
         ensures no_second { asks.second ≡ None → IsWritten result.second }
         ensures no_third { asks.third ≡ None → IsWritten result.third }
     {
@@ -73,6 +75,9 @@ impl Description {
         ensures fit { IfOk result (λ _. AllFit limits.now self.now asks known.now) }
         ensures freeze { IfOk result (λ _. asks.first ≡ Some Asked.HeldFreeze → (known.now.first ≡ Kind.Freeze Sure) × (self.now.held ≡ Held.Sure)) }
         ensures gives_back { asks.first ≡ Some Asked.HeldFreeze → asks.second ≡ None → asks.third ≡ None → known.now.first ≡ Kind.Freeze Sure → self.now.held ≡ Held.Sure → IsWritten known.now.second → IsWritten known.now.third → IsOk result }
+        ensures place { IfOk result (λ _. (bytes : ℕ) → asks.first ≡ Some (Asked.Room bytes) → IsPlace self.now bytes known.now.first) }
+        ensures informs { (bytes : ℕ) → asks.first ≡ Some (Asked.Room bytes) → asks.second ≡ None → asks.third ≡ None → IsPlace self.now bytes known.now.first → IsWritten known.now.second → IsWritten known.now.third → IsOk result }
+        ensures traces { (least most : ℕ) → asks.first ≡ Some Asked.Bytes → asks.second ≡ Some (Asked.Within least most) → asks.third ≡ None → AreToldBytes self.now known.now.first known.now.second → IsBetween least most known.now.second → IsWritten known.now.third → IsOk result }
         ensures requeues { (most : ℕ) → asks.first ≡ Some (Asked.Within 0 most) → asks.second ≡ None → asks.third ≡ None → IsAtMost most known.now.first → IsWritten known.now.second → IsWritten known.now.third → IsOk result }
     {
         if !(known.first.is_written() && known.second.is_written() && known.third.is_written()) {
@@ -93,6 +98,10 @@ impl Description {
     ) -> Result<(), Cause>
         ensures fits { IfOk result (λ _. FitsAny limits.now self.now known.now asked kind) }
         ensures freeze { IfOk result (λ _. asked ≡ Some Asked.HeldFreeze → (kind ≡ Kind.Freeze Sure) × (self.now.held ≡ Held.Sure)) }
+        ensures place { IfOk result (λ _. (bytes : ℕ) → asked ≡ Some (Asked.Room bytes) → IsPlace self.now bytes kind) }
+        ensures room { (bytes : ℕ) → asked ≡ Some (Asked.Room bytes) → IsPlace self.now bytes kind → IsOk result }
+        ensures between { (least most : ℕ) → asked ≡ Some (Asked.Within least most) → IsBetween least most kind → IsOk result }
+        ensures told { asked ≡ Some Asked.Bytes → AreToldBytes self.now kind known.now.second → IsOk result }
         ensures not_taken { asked ≡ None → IsOk result }
         ensures sure { asked ≡ Some Asked.HeldFreeze → kind ≡ Kind.Freeze Sure → self.now.held ≡ Held.Sure → IsOk result }
         ensures within { (most : ℕ) → asked ≡ Some (Asked.Within 0 most) → IsAtMost most kind → IsOk result }
@@ -113,6 +122,10 @@ impl Description {
     ) -> Result<(), Cause>
         ensures fits { IfOk result (λ _. Fits limits.now self.now known.now asked kind) }
         ensures freeze { IfOk result (λ _. asked ≡ Asked.HeldFreeze → (kind ≡ Kind.Freeze Sure) × (self.now.held ≡ Held.Sure)) }
+        ensures place { IfOk result (λ _. (bytes : ℕ) → asked ≡ Asked.Room bytes → IsPlace self.now bytes kind) }
+        ensures room { (bytes : ℕ) → asked ≡ Asked.Room bytes → IsPlace self.now bytes kind → IsOk result }
+        ensures between { (least most : ℕ) → asked ≡ Asked.Within least most → IsBetween least most kind → IsOk result }
+        ensures told { asked ≡ Asked.Bytes → AreToldBytes self.now kind known.now.second → IsOk result }
         ensures sure { asked ≡ Asked.HeldFreeze → kind ≡ Kind.Freeze Sure → self.now.held ≡ Held.Sure → IsOk result }
         ensures within { (most : ℕ) → asked ≡ Asked.Within 0 most → IsAtMost most kind → IsOk result }
     {
@@ -126,6 +139,9 @@ impl Description {
     fn is_fit(&self, limits: &HelperLimits, known: &Known, asked: Asked, kind: Kind) -> bool
         ensures fits { IsTrue result → Fits limits.now self.now known.now asked kind }
         ensures freeze { IsTrue result → asked ≡ Asked.HeldFreeze → (kind ≡ Kind.Freeze Sure) × (self.now.held ≡ Held.Sure) }
+        ensures place { IsTrue result → (bytes : ℕ) → asked ≡ Asked.Room bytes → IsPlace self.now bytes kind }
+        ensures room { (bytes : ℕ) → asked ≡ Asked.Room bytes → IsPlace self.now bytes kind → IsTrue result }
+        ensures between { (least most : ℕ) → asked ≡ Asked.Within least most → IsBetween least most kind → IsTrue result }
         ensures sure { asked ≡ Asked.HeldFreeze → kind ≡ Kind.Freeze Sure → self.now.held ≡ Held.Sure → IsTrue result }
         ensures within { (most : ℕ) → asked ≡ Asked.Within 0 most → IsAtMost most kind → IsTrue result }
     {
@@ -150,7 +166,8 @@ impl Description {
 
     // Whether so many bytes lie in one live frame, wherever the address is.
     fn has_room(&self, kind: Kind, bytes: u64) -> bool
-        ensures { IsTrue result → HasRoom self.now kind bytes }
+        ensures room { IsTrue result → HasRoom self.now kind bytes }
+        ensures place { IsTrue result ↔ IsPlace self.now bytes kind }
     {
         match kind {
             Kind::Address(region, offsets) => self.region_has_room(region, offsets, bytes),
@@ -160,7 +177,8 @@ impl Description {
 
     // Whether so many bytes lie in one live frame, wherever in its region an address is.
     fn region_has_room(&self, region: Region, offsets: Offsets, bytes: u64) -> bool
-        ensures { IsTrue result → HasRoom self.now (Kind.Address region offsets) bytes }
+        ensures room { IsTrue result → HasRoom self.now (Kind.Address region offsets) bytes }
+        ensures place { IsTrue result ↔ IsPlace self.now bytes (Kind.Address region offsets) }
     {
         match region {
             Region::Context => false,
@@ -173,6 +191,7 @@ impl Description {
         ensures live { IsTrue result → frame < length self.now.stack }
         ensures order { IsTrue result → offsets.least ≤ offsets.most }
         ensures inside { IsTrue result → offsets.most + bytes ≤ 512 }
+        ensures fits { frame < length self.now.stack → offsets.least ≤ offsets.most → offsets.most + bytes ≤ 512 → IsTrue result }
     {
         usize::from(frame) < self.stack.depth()
             && offsets.least <= offsets.most
@@ -182,7 +201,8 @@ impl Description {
 
     // Whether bytes are written, as many as the length may say, wherever the address is.
     fn check_bytes(&self, kind: Kind, length: Kind) -> Result<(), Cause>
-        ensures { IfOk result (λ _. HasBytes self.now kind length) }
+        ensures bytes { IfOk result (λ _. HasBytes self.now kind length) }
+        ensures told { AreToldBytes self.now kind length → IsOk result }
     {
         match length {
             Kind::Number(scalar) => self.check_most(kind, scalar),
@@ -192,7 +212,8 @@ impl Description {
 
     // Whether so many bytes are written, wherever the address is.
     fn check_most(&self, kind: Kind, length: Scalar) -> Result<(), Cause>
-        ensures { IfOk result (λ _. HasBytes self.now kind (Kind.Number length)) }
+        ensures bytes { IfOk result (λ _. HasBytes self.now kind (Kind.Number length)) }
+        ensures told { IsWrittenPlace self.now length.unsigned.most kind → IsOk result }
     {
         match kind {
             Kind::Address(region, offsets) => self.check_region(region, offsets, length),
@@ -202,7 +223,8 @@ impl Description {
 
     // Whether so many bytes are written, wherever in its region an address is.
     fn check_region(&self, region: Region, offsets: Offsets, length: Scalar) -> Result<(), Cause>
-        ensures { IfOk result (λ _. HasBytes self.now (Kind.Address region offsets) (Kind.Number length)) }
+        ensures bytes { IfOk result (λ _. HasBytes self.now (Kind.Address region offsets) (Kind.Number length)) }
+        ensures told { IsWrittenPlace self.now length.unsigned.most (Kind.Address region offsets) → IsOk result }
     {
         match region {
             Region::Context => Err(Cause::ArgumentAgainstRule),
@@ -212,7 +234,8 @@ impl Description {
 
     // Whether so many bytes of a frame are written.
     fn check_written(&self, frame: u8, offsets: Offsets, length: Scalar) -> Result<(), Cause>
-        ensures { IfOk result (λ _. HasBytes self.now (Kind.Address (Frame frame) offsets) (Kind.Number length)) }
+        ensures bytes { IfOk result (λ _. HasBytes self.now (Kind.Address (Frame frame) offsets) (Kind.Number length)) }
+        ensures told { IsWrittenPlace self.now length.unsigned.most (Kind.Address (Frame frame) offsets) → IsOk result }
     {
         let bytes = length.most();
         if !self.lies_in(frame, offsets, bytes) {
@@ -236,6 +259,7 @@ impl Kind {
     fn lies_within(self, least: u64, most: u64) -> bool
         ensures means { IsTrue result → LiesWithin least most self }
         ensures from_0 { least ≡ 0 → IsAtMost most self → IsTrue result }
+        ensures between { IsBetween least most self → IsTrue result }
     {
         match self {
             Kind::Number(scalar) => least <= scalar.least() && scalar.most() <= most,

@@ -8,7 +8,7 @@ ghost use Rattle.scalar_domain.specs.Scalar.{Has};
 ghost use Rattle.reg_domain.specs.declared.region.Region.TheVariants.{Context, Frame};
 ghost use Rattle.reg_domain.specs.Enough.{AreKnown, LeavesStored, LiesInContext, LiesInFrame, LiesWritten};
 ghost use Rattle.reg_domain.specs.Kinds.{IsNumber, size_of};
-ghost use Rattle.reg_domain.specs.Memory.{Loads, Reads, ReadsFrame, LeavesMarked, Stores, Writes};
+ghost use Rattle.reg_domain.specs.Memory.{ChangesStack, Loads, Reads, ReadsFrame, LeavesMarked, Stores, Writes};
 
 use crate::access::{Access, accessed};
 use crate::cause::Cause;
@@ -110,12 +110,24 @@ impl Description {
         if !word.is_number() {
             return Err(Cause::AddressStored);
         }
+        self.write_in(frame, offsets, bytes);
+        Ok(())
+    }
+
+    /// Writes bytes, at most 16, to a live frame. They are known to be written where they begin at one offset.
+    pub(crate) fn write_in(&mut self, frame: u8, offsets: Offsets, bytes: u16)
+        requires live { frame < length self.old.stack }
+        requires inside { offsets.most + bytes ≤ 512 }
+        requires few { bytes ≤ 16 }
+        ensures writes { Writes self.old frame offsets bytes self.new }
+        ensures leaves { (from : ℕ) → offsets ≡ record { least = from; most = from } → LeavesMarked self.old frame from bytes self.new }
+        ensures only { ChangesStack self.old self.new }
+    {
         if offsets.least == offsets.most {
             let offset = usize::from(offsets.least);
             self.stack
                 .mark(usize::from(frame), offset, usize::from(bytes));
         }
-        Ok(())
     }
 }
 

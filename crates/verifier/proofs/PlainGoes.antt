@@ -195,7 +195,7 @@ requeue_follows program first size place to FallThrough d there here goes leaves
     answer_fits program first size to there (omega (arith, same, here)) (record {
       held = requeued.0 ∙ is.held;
       done = requeued.1;
-      depth = ap length leaves.stack ∙ is.depth;
+      depth = leaves.depth ∙ is.depth;
     })
 
 answer_follows : (program : List Slot) (first size place to : ℕ) (k : ℤ) (way : Way) (d there : Description) → place ≡ first + 5 + size → goes_to place (Alu Bits64 Mov R0 (Immediate k)) way ≡ Some to → Leaves (Alu Bits64 Mov R0 (Immediate k)) way d there → AtAnswer d → PlainAt program first size to there
@@ -240,7 +240,7 @@ enough_by program is place insn d fits (lists i e lt there) =
     let listed : IsListed place end insn = subst (λ (p : ℕ). IsListed p end insn) (sym e) (is.listed i insn there) in
     list_enough program place end insn d listed (reads_written program is place i insn e there) (fits.in_list (omega (arith, e)) (omega (arith, e, lt)))
 enough_by program is place insn d fits (sets_retries e it) = subst (λ (i : Insn). Enough i d) (sym it) (inl ((λ reads. absurd (let bad : false ≡ true = reads in cc)), tt))
-enough_by program is place insn d fits (requeues_there e it) = subst (λ (i : Insn). Enough i d) (sym it) (inr (requeues_ccb d (fits.at_requeue e)))
+enough_by program is place insn d fits (requeues_there e it) = subst (λ (i : Insn). Enough i d) (sym it) (inr (inl (requeues_ccb d (fits.at_requeue e))))
 enough_by program is place insn d fits (sets_answer e it) = subst (λ (i : Insn). Enough i d) (sym it) (inl ((λ reads. absurd (let bad : false ≡ true = reads in cc)), tt))
 enough_by program is place insn d fits (exits e it) =
     let last = fits.at_exit e in

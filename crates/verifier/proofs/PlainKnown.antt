@@ -141,7 +141,7 @@ pub called_on : (program : List Slot) (place to : ℕ) (number : ℤ) (d there :
     → ((reg : Reg) → is_free reg ≡ true → number_of reg < 6 → Comes (writes_register reg) program place) → IsCommon program place d → IsCommon program to there
 called_on program place to number d there step leaves same low is = record {
   frame = stays_address (Frame 0) 512 (kind_at d R10) (kind_at there R10) (leaves.registers R10 (omega arith)) is.frame;
-  depth = ap length leaves.stack ∙ is.depth;
+  depth = leaves.depth ∙ is.depth;
   waits = same ∙ is.waits;
   registers = λ reg free. elim (cases_lt (number_of reg) 6) [
     | inl lt ↦ inr (comes_on (writes_register reg) program place to (Call (Helper number)) step refl (low reg free lt))
@@ -151,7 +151,7 @@ called_on program place to number d there step leaves same low is = record {
     ]
   ];
   bytes = λ at. elim (is.bytes at) [
-    | inl known ↦ inl (same_bytes d there at leaves.stack known)
+    | inl known ↦ inl (λ k from to. leaves.known 0 k (known k from to))
     | inr way ↦ inr (comes_on (writes_byte at) program place to (Call (Helper number)) step refl way)
   ];
 }

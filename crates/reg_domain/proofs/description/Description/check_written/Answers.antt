@@ -5,8 +5,8 @@ use Rattle.bpf_machine.specs.Frames.{has_written}
 use Rattle.reg_domain.proofs.Reading.{in_frame, some_same}
 use Rattle.reg_domain.proofs.description.Description.check_written.Goals as goal
 
-pub returns-then-is_written : goal.returns-then-is_written
-returns-then-is_written c = λ freeze m address bytes is holds counts.
+pub returns-then-is_written-clause-bytes : goal.returns-then-is_written-clause-bytes
+returns-then-is_written-clause-bytes c = λ freeze m address bytes is holds counts.
     let inside = c.if-not-lies_in.ensures.inside refl in
     let here = some_same address holds.0 holds.1 in
     let count = some_same bytes counts.0 counts.1 in

@@ -1,9 +1,7 @@
-use Rattle.std.proofs.Common.{Option, ℕ, Some, subst, sym, ap}
-use Rattle.reg_domain.specs.Kinds.{HoldsKind}
-use Rattle.reg_domain.proofs.Calling.{requeued}
+use Rattle.bpf_machine.specs.Step.{after_call}
+use Rattle.reg_domain.proofs.Calling.{disposed_of}
 use Rattle.reg_domain.proofs.description.Description.requeue.Goals as goal
 
 pub returns-clause-passes : goal.returns-clause-passes
-returns-clause-passes c = λ freeze retries m answer is zero_is.
-    requeued freeze retries c.args.self.now c.after_call-self.result c.exactly.result m answer c.after_call-self.ensures
-    (subst (λ (o : Option ℕ). HoldsKind freeze c.exactly.result o) (ap Some (sym zero_is)) (c.exactly.ensures.has freeze)) is
+returns-clause-passes c = λ freeze retries m answer is zero.
+    disposed_of freeze c.answer_zero.new.self (after_call m answer.r0) (c.answer_zero.ensures.passes freeze answer.r0 m is zero)

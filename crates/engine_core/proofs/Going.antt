@@ -11,8 +11,9 @@ use Rattle.recoveries.specs.Admits.{IsOutAs}
 use Rattle.world.specs.declared.record.Record.{Record}
 use Rattle.world.specs.declared.record.Record.TheVariants.{Advance}
 use Rattle.world.specs.declared.record.StoppedAt.{StoppedAt}
-use Rattle.world.specs.declared.record.StoppedAt.TheVariants.{Helper}
-use Rattle.helpers.specs.declared.helper.Helper.{Helper as TheHelper}
+use Rattle.helpers.specs.declared.request.Request.{Request}
+use Rattle.bpf_machine.specs.declared.stop.Stop.{Stop}
+use Rattle.bpf_machine.specs.declared.stop.Stop.TheVariants.{Helper}
 use Rattle.world.specs.World.{Setup, LiveRun, World, queue_setup}
 use Rattle.world.specs.Lookups.{run_of}
 use Rattle.engine_core.specs.RunState.{RunState, IsOut, IsOutUnder, IsReached}
@@ -48,8 +49,8 @@ taken_over setup history later ccbs more recoveries after number place program s
     (leads number (is_admitted setup history ccbs recoveries number place program segment kept out at) setup history kept)
 
 -- it goes on unless it exited
-went_on : (stop : StoppedAt) (r0 : ℕ) (recoveries after : RecoveryState) (place : ℕ) (segment : SegmentState) → (helper : TheHelper) → stop ≡ Helper helper → GoesBy stop r0 recoveries after place segment → GoesOn recoveries after place
-went_on stop r0 recoveries after place segment helper is goes = subst (λ (s : StoppedAt). GoesBy s r0 recoveries after place segment) is goes
+went_on : (stop : Stop) (r0 : ℕ) (recoveries after : RecoveryState) (place : ℕ) (request : Request) → stop ≡ Helper request → GoesBy stop r0 recoveries after place → GoesOn recoveries after place
+went_on stop r0 recoveries after place request is goes = subst (λ (s : Stop). GoesBy s r0 recoveries after place) is goes
 
 -- a run that goes on with this machine
 pub record GoesFurther (runs later : List LiveRun) (number : ℕ) (program : List Slot) (machine : MachineState) : Type 0 where
@@ -59,9 +60,9 @@ pub record GoesFurther (runs later : List LiveRun) (number : ℕ) (program : Lis
   pub program_is : it.program ≡ program
   pub moved : run_of number later ≡ Some (with_machine it machine)
 
-pub goes_further : (recoveries after : RecoveryState) (number place : ℕ) (program : List Slot) (segment : SegmentState) (stop : StoppedAt) (r0 : ℕ) (machine : MachineState) → IsOutAs recoveries.runs number program segment → IsPlaced recoveries.runs number place → (helper : TheHelper) → stop ≡ Helper helper → GoesBy stop r0 recoveries after place segment → ((it : LiveRun) → HasRunAt after.runs place it → machine ≡ it.machine) → GoesFurther recoveries.runs after.runs number program machine
-goes_further recoveries after number place program segment stop r0 machine out at helper is goes read =
-    let on = went_on stop r0 recoveries after place segment helper is goes in
+pub goes_further : (recoveries after : RecoveryState) (number place : ℕ) (program : List Slot) (segment : SegmentState) (stop : Stop) (r0 : ℕ) (machine : MachineState) → IsOutAs recoveries.runs number program segment → IsPlaced recoveries.runs number place → (request : Request) → stop ≡ Helper request → GoesBy stop r0 recoveries after place → ((it : LiveRun) → HasRunAt after.runs place it → machine ≡ it.machine) → GoesFurther recoveries.runs after.runs number program machine
+goes_further recoveries after number place program segment stop r0 machine out at request is goes read =
+    let on = went_on stop r0 recoveries after place request is goes in
     let here = there recoveries.runs number place program segment out at in
     let same : machine ≡ on.machine = read (with_machine out.it on.machine) (on.stands out.it here) in
     record {

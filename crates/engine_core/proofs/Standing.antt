@@ -1,11 +1,11 @@
 -- Where a run stands at a stop: at a helper call whose rule holds, or at its lawful exit; and what the world has for it.
-use Rattle.std.proofs.Common.{◌≡◌, ℕ, ◌≤◌, List, [], ◌∷◌, map, true, not, leb, Option, Some, None, inl, inr, refl, ap, sym, ◌∙◌}
-use Rattle.std.specs.Prelude.{◌&&◌}
+use Rattle.std.proofs.Common.{◌≡◌, ℕ, ◌≤◌, List, [], ◌∷◌, map, true, Option, Some, None, inl, inr, refl, ap, sym, ◌∙◌}
 use Rattle.std.specs.Option.{option_map, option_and_then}
-use Rattle.std.proofs.lemmas.Bool.{cond-true}
+use Rattle.std.proofs.lemmas.Bool.{cond-true, and_from}
 use Rattle.freeze_ledger.specs.declared.freeze.Freeze.{Freeze}
 use Rattle.freeze_ledger.specs.Freezes.{entry_of, without}
 use Rattle.helpers.specs.declared.limits.HelperLimits.{HelperLimits}
+use Rattle.helpers.specs.Table.{answer_number}
 use Rattle.helpers.specs.declared.request.Request.{Request}
 use Rattle.helpers.specs.declared.helper.Helper.TheVariants as helpers
 use Rattle.helpers.specs.declared.request.Request.TheVariants.{Release, Requeue}
@@ -20,14 +20,16 @@ use Rattle.world.specs.declared.ccb_state.CcbState.TheVariants.{Waiting}
 use Rattle.world.specs.World.{Setup, LiveCcb, LiveRun, World}
 use Rattle.world.specs.Lawful.{IsLawful}
 use Rattle.world.specs.Lookups.{ccb_of, with_ccb, run_of}
-use Rattle.world.specs.Event.{call, exit, executes, result}
+use Rattle.world.specs.Told.{plain, told_of}
+use Rattle.world.specs.Event.{call, exit, executes, Reply, result}
 use Rattle.world.specs.FreezeSteps.{frozen_with, thawed}
-use Rattle.world.specs.RunSteps.{is_run, answers, releases, requeues, ends, step_call, step_run, step_executes}
+use Rattle.world.specs.RunSteps.{is_run, answers, releases, requeues, ends, step_request, may_call, step_call, step_run, step_executes}
 use Rattle.world.specs.Step.{WorldStep}
 use Rattle.world.specs.FreezeLaws.{entries_of}
 use Rattle.world.proofs.Lists.Entries.{entry_bounds}
 use Rattle.world.proofs.Lists.HeldBy.{among_is}
 use Rattle.world.proofs.Reaching.{reached_goes}
+use Rattle.world.proofs.Telling.{told_itself}
 use Rattle.world.proofs.Sound.{IsSound}
 
 -- the machine stands at this stop, and may go on there
@@ -68,25 +70,27 @@ gives_back setup world run freeze sound found held =
     let bounds = entry_bounds 0 world.freezes world.greatest_freeze freeze among.0 sound.kept.freezes.numbered among.1 in
     record { entry = among.0; found = among.1; number_is = bounds.0; bound = bounds.2; its = among.2 }
 
--- its call of helper 2 is a step
-pub release_step : (setup : Setup) (world : World) (run : LiveRun) (freeze count : ℕ) → run_of run.number world.runs ≡ Some run → run.out ≡ true → request_at run.program run.machine ≡ Some (Release freeze) → meets_rule setup.limits run.machine (Release freeze) ≡ true → (it : GivesBack world run freeze) → count ≡ frozen_with it.entry (without freeze world.freezes) → WorldStep setup world (executes run.number (call helpers.Release)) (result count) (answers (thawed world freeze) run (Release freeze) count).1
-release_step setup world run freeze count found out call_is rule it count_is =
-    let given : releases world run (Some it.entry) ≡ Some (answers (thawed world it.entry.number) run (Release it.entry.number) (frozen_with it.entry (thawed world it.entry.number).freezes)) = cond-true (is_run run.number it.entry.holder) _ None it.its in
-    let named : releases world run (Some it.entry) ≡ Some (answers (thawed world freeze) run (Release freeze) count) =
-    given ∙ (ap (λ (n : ℕ). Some (answers (thawed world n) run (Release n) (frozen_with it.entry (thawed world n).freezes))) it.number_is
-    ∙ ap (λ (k : ℕ). Some (answers (thawed world freeze) run (Release freeze) k)) (sym count_is)) in
-    ap (step_executes setup.limits world (call helpers.Release)) found
-    ∙ (cond-true run.out (step_run setup.limits world run (call helpers.Release)) None out
-    ∙ (ap (option_and_then (step_call setup.limits world run helpers.Release)) call_is
-    ∙ (cond-true (meets_rule setup.limits run.machine (Release freeze)) _ None rule ∙ (ap (releases world run) it.found ∙ named))))
+-- its call is a step, where it leads somewhere
+pub call_step : (setup : Setup) (world : World) (run : LiveRun) (request : Request) (p : Reply × World) → run_of run.number world.runs ≡ Some run → run.out ≡ true → request_at run.program run.machine ≡ Some request → meets_rule setup.limits run.machine request ≡ true → step_request world run request ≡ Some p → WorldStep setup world (executes run.number (call (told_of request))) p.0 p.1
+call_step setup world run request p found out call_is rule leads =
+    ap (step_executes setup.limits world (call (told_of request))) found
+    ∙ (cond-true run.out (step_run setup.limits world run (call (told_of request))) None out
+    ∙ (ap (option_and_then (step_call setup.limits world run (told_of request))) call_is
+    ∙ (cond-true (may_call setup.limits run (told_of request) request) (step_request world run request) None (and_from _ _ (told_itself (told_of request)) rule) ∙ leads)))
 
--- its call of helper 4 is a step
-pub requeue_step : (setup : Setup) (world : World) (run : LiveRun) (retries : ℕ) (live : LiveCcb) → run_of run.number world.runs ≡ Some run → run.out ≡ true → request_at run.program run.machine ≡ Some (Requeue retries) → meets_rule setup.limits run.machine (Requeue retries) ≡ true → ccb_of run.ccb world.live ≡ Some live → WorldStep setup world (executes run.number (call helpers.Requeue)) (result 0) (answers (record world { live = with_ccb (record { ccb = requeued live.ccb retries; state = Waiting }) world.live }) run (Requeue retries) 0).1
+-- so is its call of helper 2
+pub release_step : (setup : Setup) (world : World) (run : LiveRun) (freeze count : ℕ) → run_of run.number world.runs ≡ Some run → run.out ≡ true → request_at run.program run.machine ≡ Some (Release freeze) → meets_rule setup.limits run.machine (Release freeze) ≡ true → (it : GivesBack world run freeze) → count ≡ frozen_with it.entry (without freeze world.freezes) → WorldStep setup world (executes run.number (call (plain helpers.Release))) (result count) (answers (thawed world freeze) run (Release freeze) (answer_number count)).1
+release_step setup world run freeze count found out call_is rule it count_is =
+    let given : releases world run (Some it.entry) ≡ Some (answers (thawed world it.entry.number) run (Release it.entry.number) (answer_number (frozen_with it.entry (thawed world it.entry.number).freezes))) = cond-true (is_run run.number it.entry.holder) _ None it.its in
+    let named : releases world run (Some it.entry) ≡ Some (answers (thawed world freeze) run (Release freeze) (answer_number count)) =
+    given ∙ (ap (λ (n : ℕ). Some (answers (thawed world n) run (Release n) (answer_number (frozen_with it.entry (thawed world n).freezes)))) it.number_is
+    ∙ ap (λ (k : ℕ). Some (answers (thawed world freeze) run (Release freeze) (answer_number k))) (sym count_is)) in
+    call_step setup world run (Release freeze) (answers (thawed world freeze) run (Release freeze) (answer_number count)) found out call_is rule (ap (releases world run) it.found ∙ named)
+
+-- and that of helper 4
+pub requeue_step : (setup : Setup) (world : World) (run : LiveRun) (retries : ℕ) (live : LiveCcb) → run_of run.number world.runs ≡ Some run → run.out ≡ true → request_at run.program run.machine ≡ Some (Requeue retries) → meets_rule setup.limits run.machine (Requeue retries) ≡ true → ccb_of run.ccb world.live ≡ Some live → WorldStep setup world (executes run.number (call (plain helpers.Requeue))) (result 0) (answers (record world { live = with_ccb (record { ccb = requeued live.ccb retries; state = Waiting }) world.live }) run (Requeue retries) (answer_number 0)).1
 requeue_step setup world run retries live found out call_is rule there =
-    ap (step_executes setup.limits world (call helpers.Requeue)) found
-    ∙ (cond-true run.out (step_run setup.limits world run (call helpers.Requeue)) None out
-    ∙ (ap (option_and_then (step_call setup.limits world run helpers.Requeue)) call_is
-    ∙ (cond-true (meets_rule setup.limits run.machine (Requeue retries)) (requeues world run retries (ccb_of run.ccb world.live)) None rule ∙ ap (requeues world run retries) there)))
+    call_step setup world run (Requeue retries) (answers (record world { live = with_ccb (record { ccb = requeued live.ccb retries; state = Waiting }) world.live }) run (Requeue retries) (answer_number 0)) found out call_is rule (ap (requeues world run retries) there)
 
 -- its exit is a step
 pub exit_step : (setup : Setup) (world : World) (run : LiveRun) (r0 : ℕ) → run_of run.number world.runs ≡ Some run → run.out ≡ true → exit_at run.program run.machine ≡ Some r0 → WorldStep setup world (executes run.number exit) (result r0) (ends world run)

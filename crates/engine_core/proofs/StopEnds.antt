@@ -1,5 +1,5 @@
 -- The stops of admitted segments, as the tables of CCBs and of runs carry them out.
-use Rattle.std.proofs.Common.{◌≡◌, ℕ, ◌≤◌, List, [], true, Some, ap, sym, subst, ◌∙◌, arith}
+use Rattle.std.proofs.Common.{◌≡◌, ℕ, ◌<◌, ◌≤◌, List, [], length, true, Some, ap, sym, subst, ◌∙◌, arith}
 use Rattle.freeze_ledger.specs.declared.freeze.Freeze.{Freeze}
 use Rattle.freeze_ledger.specs.Freezes.{entry_of, without}
 use Rattle.ccb.specs.Ccb.{requeued}
@@ -7,8 +7,11 @@ use Rattle.ccb_table.specs.CcbsState.{CcbsState}
 use Rattle.recoveries.specs.RecoveryState.{RecoveryState}
 use Rattle.recoveries.specs.RunPlaces.{HasRunAt}
 use Rattle.recoveries.specs.Admits.{IsOutAs}
+use Rattle.helpers.specs.declared.request.Request.{Request}
+use Rattle.helpers.specs.declared.request.Answer.{Answer}
+use Rattle.helpers.specs.Table.{answer_number}
 use Rattle.helpers.specs.declared.helper.Helper.TheVariants as helpers
-use Rattle.helpers.specs.declared.request.Request.TheVariants.{Release, Requeue}
+use Rattle.helpers.specs.declared.request.Request.TheVariants.{Release, Requeue, QueueInfo}
 use Rattle.bpf_insn.specs.declared.program.Slot.{Slot}
 use Rattle.bpf_machine.specs.declared.stop.Stop.TheVariants.{Helper, Exit}
 use Rattle.bpf_machine.specs.MachineState.{MachineState}
@@ -18,24 +21,29 @@ use Rattle.world.specs.declared.record.Record.{Record}
 use Rattle.world.specs.declared.record.Record.TheVariants.{Advance}
 use Rattle.world.specs.declared.record.StoppedAt.TheVariants.{Helper as at_helper_stop, Exit as at_exit_stop}
 use Rattle.world.specs.declared.ccb_state.CcbState.TheVariants.{Waiting, InRecovery}
-use Rattle.world.specs.World.{Setup, LiveCcb, LiveRun, World}
+use Rattle.world.specs.declared.queue_info.QueueInfo.{QueueInfo as Info}
+use Rattle.world.specs.QueueInfo.{queue_info, info_bytes}
+use Rattle.world.specs.Told.{told_of}
+use Rattle.world.specs.World.{Setup, queue_count, LiveCcb, LiveRun, World}
 use Rattle.world.specs.Lookups.{ccb_of, with_ccb, run_of, with_run}
 use Rattle.world.specs.FreezeSteps.{frozen_with}
-use Rattle.world.specs.RunSteps.{is_run}
+use Rattle.world.specs.RunSteps.{is_run, answers, step_request, info_answer}
 use Rattle.world.specs.WorldRun.{Leads}
 use Rattle.world.specs.Flat.{events_of}
 use Rattle.world.specs.FreezeLaws.{entries_of}
 use Rattle.world.proofs.Lists.Found.{leave, put_same, found_key}
+use Rattle.world.proofs.Lists.Each.{all_found}
 use Rattle.world.proofs.Steps.Moves.{run_key}
 use Rattle.world.proofs.Reaching.{same_found}
 use Rattle.world.proofs.Steps.Fates.{count_after}
 use Rattle.engine_core.specs.EngineState.{world_of}
+use Rattle.engine_core.specs.Answers.{recorded}
 use Rattle.engine_core.specs.Invariant.{KeepsEngine}
 use Rattle.engine_core.specs.TakingOver.{IsAdmitted, GoesOn}
 use Rattle.engine_core.proofs.PrivateWays.{with_machine}
-use Rattle.engine_core.proofs.Recording.{kept_sound}
+use Rattle.engine_core.proofs.Recording.{kept_sound, opening_count}
 use Rattle.engine_core.proofs.Standing.{GivesBack}
-use Rattle.engine_core.proofs.Stops.{Arrives, arrives, asked_freeze, release_leads, Requeuing, asked_requeue, requeue_leads, nothing_held, exit_leads}
+use Rattle.engine_core.proofs.Stops.{Arrives, arrives, asked_freeze, release_leads, Requeuing, asked_requeue, requeue_leads, alone_leads, nothing_held, exit_leads}
 
 -- an engine to which an admitted segment of the run at this place is handed
 pub record Admitted (setup : Setup) (history : List Record) (ccbs : CcbsState) (recoveries : RecoveryState) (number place : ℕ) (segment : SegmentState) : Type 0 where
@@ -112,10 +120,10 @@ releasing setup history ccbs recoveries number place segment freeze it stop =
       bound = omega (arith, asked.bound, here.sound.kept.freezes.numbers);
     }
 
-pub release_ends : (setup : Setup) (history : List Record) (ccbs : CcbsState) (old released after : RecoveryState) (number place : ℕ) (segment : SegmentState) (freeze count : ℕ) → Admitted setup history ccbs old number place segment → segment.stop ≡ Helper (Release freeze) → released ≡ record old { freezes = without freeze old.freezes } → ((entry : Freeze) → entry_of freeze old.freezes ≡ Some entry → count ≡ frozen_with entry released.freezes) → Goes released after place (answered (Release freeze) (record { r0 = count }) segment.to) → Leads setup (world_of setup history ccbs old) (events_of (Advance number segment.steps (at_helper_stop helpers.Release) count)) (world_of setup history ccbs after)
+pub release_ends : (setup : Setup) (history : List Record) (ccbs : CcbsState) (old released after : RecoveryState) (number place : ℕ) (segment : SegmentState) (freeze count : ℕ) → Admitted setup history ccbs old number place segment → segment.stop ≡ Helper (Release freeze) → released ≡ record old { freezes = without freeze old.freezes } → ((entry : Freeze) → entry_of freeze old.freezes ≡ Some entry → count ≡ frozen_with entry released.freezes) → Goes released after place (answered (Release freeze) (answer_number count) segment.to) → Leads setup (world_of setup history ccbs old) (events_of (Advance number segment.steps (at_helper_stop helpers.Release) count)) (world_of setup history ccbs after)
 release_ends setup history ccbs old released after number place segment freeze count it stop given counted goes =
     let world : World = world_of setup history ccbs old in
-    let machine : MachineState = answered (Release freeze) (record { r0 = count }) segment.to in
+    let machine : MachineState = answered (Release freeze) (answer_number count) segment.to in
     let here : Arrives setup world number segment = arrival setup history ccbs old number place segment it in
     let asked : GivesBack here.between (with_machine here.run segment.to) freeze = asked_freeze setup world number segment freeze here stop in
     let there : entry_of freeze old.freezes ≡ Some asked.entry = ap (λ (w : World). entry_of freeze w.freezes) (sym here.between_is) ∙ asked.found in
@@ -147,10 +155,10 @@ requeuing setup history ccbs recoveries number place segment retries it stop =
     let same = same_run setup history ccbs recoveries number place segment it in
     record { run = it.out.it; there = it.there; few = asked.few; live = asked.live; live_found = ap (λ (r : LiveRun). ccb_of r.ccb ccbs.live) (sym same) ∙ asked.found; state = asked.state }
 
-pub requeue_ends : (setup : Setup) (history : List Record) (ccbs more : CcbsState) (old after : RecoveryState) (number place : ℕ) (segment : SegmentState) (retries ccb : ℕ) → Admitted setup history ccbs old number place segment → segment.stop ≡ Helper (Requeue retries) → ((it : LiveRun) → HasRunAt old.runs place it → ccb ≡ it.ccb) → ((it : LiveCcb) → ccb_of ccb ccbs.live ≡ Some it → more ≡ record ccbs { live = with_ccb (record { ccb = requeued it.ccb retries; state = Waiting }) ccbs.live }) → Goes old after place (answered (Requeue retries) (record { r0 = 0 }) segment.to) → Leads setup (world_of setup history ccbs old) (events_of (Advance number segment.steps (at_helper_stop helpers.Requeue) 0)) (world_of setup history more after)
+pub requeue_ends : (setup : Setup) (history : List Record) (ccbs more : CcbsState) (old after : RecoveryState) (number place : ℕ) (segment : SegmentState) (retries ccb : ℕ) → Admitted setup history ccbs old number place segment → segment.stop ≡ Helper (Requeue retries) → ((it : LiveRun) → HasRunAt old.runs place it → ccb ≡ it.ccb) → ((it : LiveCcb) → ccb_of ccb ccbs.live ≡ Some it → more ≡ record ccbs { live = with_ccb (record { ccb = requeued it.ccb retries; state = Waiting }) ccbs.live }) → Goes old after place (answered (Requeue retries) (answer_number 0) segment.to) → Leads setup (world_of setup history ccbs old) (events_of (Advance number segment.steps (at_helper_stop helpers.Requeue) 0)) (world_of setup history more after)
 requeue_ends setup history ccbs more old after number place segment retries ccb it stop ccb_is waits_again goes =
     let world : World = world_of setup history ccbs old in
-    let machine : MachineState = answered (Requeue retries) (record { r0 = 0 }) segment.to in
+    let machine : MachineState = answered (Requeue retries) (answer_number 0) segment.to in
     let here : Arrives setup world number segment = arrival setup history ccbs old number place segment it in
     let asked : Requeuing world here.run retries = asked_requeue setup world number segment retries here stop in
     let same = same_run setup history ccbs old number place segment it in
@@ -162,6 +170,44 @@ requeue_ends setup history ccbs more old after number place segment retries ccb 
     subst (λ (r : RecoveryState). Leads setup world (events_of (Advance number segment.steps (at_helper_stop helpers.Requeue) 0)) (world_of setup history more r)) (sym after_is)
     (subst (λ (t : CcbsState). Leads setup world (events_of (Advance number segment.steps (at_helper_stop helpers.Requeue) 0)) (world_of setup history t (record old { runs = with_run (with_machine here.run machine) old.runs }))) (sym more_is)
     (requeue_leads setup world number segment retries asked.live here stop asked.found))
+
+-- helpers 9 and 10
+
+pub alone_ends : (setup : Setup) (history : List Record) (ccbs : CcbsState) (old after : RecoveryState) (number place : ℕ) (segment : SegmentState) (request : Request) (given : Answer) → (it : Admitted setup history ccbs old number place segment) → segment.stop ≡ Helper request → (let here = arrival setup history ccbs old number place segment it in step_request here.between (with_machine here.run segment.to) request ≡ Some (answers here.between (with_machine here.run segment.to) request given)) → Goes old after place (answered request given segment.to) → Leads setup (world_of setup history ccbs old) (events_of (Advance number segment.steps (recorded (told_of request)) given.r0)) (world_of setup history ccbs after)
+alone_ends setup history ccbs old after number place segment request given it stop leads goes =
+    let world : World = world_of setup history ccbs old in
+    let machine : MachineState = answered request given segment.to in
+    let here : Arrives setup world number segment = arrival setup history ccbs old number place segment it in
+    let same = same_run setup history ccbs old number place segment it in
+    let after_is : after ≡ record old { runs = with_run (with_machine here.run machine) old.runs } =
+    goes it.out.it it.there ∙ ap (λ (run : LiveRun). record old { runs = with_run (with_machine run machine) old.runs }) (sym same) in
+    subst (λ (r : RecoveryState). Leads setup world (events_of (Advance number segment.steps (recorded (told_of request)) given.r0)) (world_of setup history ccbs r)) (sym after_is)
+    (alone_leads setup world number segment request given here stop leads)
+
+-- the run's queue is there
+pub queue_there : (setup : Setup) (history : List Record) (ccbs : CcbsState) (recoveries : RecoveryState) (number place : ℕ) (segment : SegmentState) (queue : ℕ) → Admitted setup history ccbs recoveries number place segment → ((it : LiveRun) → HasRunAt recoveries.runs place it → queue ≡ it.queue) → queue < length ccbs.openings
+queue_there setup history ccbs recoveries number place segment queue it queue_is =
+    let sound = kept_sound setup history ccbs recoveries it.kept in
+    let known = all_found run_key (λ (r : LiveRun). r.queue < queue_count setup) number recoveries.runs it.out.it sound.kept.runs.queues it.out.found in
+    omega (arith, known, queue_is it.out.it it.there, opening_count setup history ccbs recoveries it.kept)
+
+-- what its queue has is what the world tells at the stop
+pub info_given : (setup : Setup) (history : List Record) (ccbs : CcbsState) (recoveries : RecoveryState) (number place : ℕ) (segment : SegmentState) (queue address : ℕ) (info : Info) (bytes : List ℕ) → (it : Admitted setup history ccbs recoveries number place segment) → ((it : LiveRun) → HasRunAt recoveries.runs place it → queue ≡ it.queue) → info ≡ queue_info (world_of setup history ccbs recoveries) queue → bytes ≡ info_bytes info → (let here = arrival setup history ccbs recoveries number place segment it in info_answer here.between (with_machine here.run segment.to) address ≡ record { r0 = 0; written = Some (record { address = address; bytes = bytes }) })
+info_given setup history ccbs recoveries number place segment queue address info bytes it queue_is info_is bytes_is =
+    let world : World = world_of setup history ccbs recoveries in
+    let here : Arrives setup world number segment = arrival setup history ccbs recoveries number place segment it in
+    let same = same_run setup history ccbs recoveries number place segment it in
+    let its : queue ≡ here.run.queue = queue_is it.out.it it.there ∙ ap (λ (r : LiveRun). r.queue) (sym same) in
+    let told : queue_info here.between here.run.queue ≡ info = ap (λ (w : World). queue_info w here.run.queue) here.between_is ∙ (ap (queue_info world) (sym its) ∙ sym info_is) in
+    ap (λ (bs : List ℕ). record { r0 = 0; written = Some (record { address = address; bytes = bs }) }) (ap info_bytes told ∙ sym bytes_is)
+
+pub info_ends : (setup : Setup) (history : List Record) (ccbs : CcbsState) (old after : RecoveryState) (number place : ℕ) (segment : SegmentState) (queue address : ℕ) (info : Info) (bytes : List ℕ) → Admitted setup history ccbs old number place segment → segment.stop ≡ Helper (QueueInfo address) → ((it : LiveRun) → HasRunAt old.runs place it → queue ≡ it.queue) → info ≡ queue_info (world_of setup history ccbs old) queue → bytes ≡ info_bytes info → Goes old after place (answered (QueueInfo address) (record { r0 = 0; written = Some (record { address = address; bytes = bytes }) }) segment.to) → Leads setup (world_of setup history ccbs old) (events_of (Advance number segment.steps (at_helper_stop helpers.QueueInfo) 0)) (world_of setup history ccbs after)
+info_ends setup history ccbs old after number place segment queue address info bytes it stop queue_is info_is bytes_is goes =
+    let here : Arrives setup (world_of setup history ccbs old) number segment = arrival setup history ccbs old number place segment it in
+    alone_ends setup history ccbs old after number place segment (QueueInfo address) (record { r0 = 0; written = Some (record { address = address; bytes = bytes }) }) it stop
+    (ap (λ (given : Answer). Some (answers here.between (with_machine here.run segment.to) (QueueInfo address) given))
+    (info_given setup history ccbs old number place segment queue address info bytes it queue_is info_is bytes_is))
+    goes
 
 -- the exit
 

@@ -1,10 +1,12 @@
 -- What an admitted segment leads to: the world of its record, by the kind of its stop.
-use Rattle.std.proofs.Common.{◌≡◌, ◌&&◌, ℕ, ◌≤◌, List, [], true, not, leb, Some, refl, ap, sym, subst, ◌∙◌}
-use Rattle.std.proofs.lemmas.Bool.{and_from, and_parts, not-true, leb-true}
+use Rattle.std.proofs.Common.{◌≡◌, ℕ, ◌≤◌, List, [], true, not, Some, refl, ap, sym, subst, ◌∙◌}
+use Rattle.std.proofs.lemmas.Bool.{and_parts, not-true, leb-true}
 use Rattle.freeze_ledger.specs.declared.freeze.Freeze.{Freeze}
 use Rattle.freeze_ledger.specs.Freezes.{frozen, without}
 use Rattle.helpers.specs.declared.limits.HelperLimits.{HelperLimits}
 use Rattle.helpers.specs.declared.request.Request.{Request}
+use Rattle.helpers.specs.declared.request.Answer.{Answer}
+use Rattle.helpers.specs.Table.{answer_number}
 use Rattle.helpers.specs.declared.helper.Helper.TheVariants as helpers
 use Rattle.helpers.specs.declared.request.Request.TheVariants.{Release, Requeue}
 use Rattle.bpf_machine.specs.Calls.{meets_rule}
@@ -25,8 +27,9 @@ use Rattle.world.specs.declared.ccb_state.CcbState.TheVariants.{Waiting, InRecov
 use Rattle.world.specs.World.{Setup, LiveCcb, LiveRun, World}
 use Rattle.world.specs.Lawful.{IsLawful}
 use Rattle.world.specs.Lookups.{ccb_of, with_ccb, run_of, with_run}
-use Rattle.world.specs.Event.{executes, result}
-use Rattle.world.specs.RunSteps.{goes_on, answers, ends}
+use Rattle.world.specs.Told.{Told, plain, traces, told_of}
+use Rattle.world.specs.Event.{Instruction, call, executes, result}
+use Rattle.world.specs.RunSteps.{goes_on, answers, ends, step_request}
 use Rattle.world.specs.FreezeSteps.{frozen_with, thawed}
 use Rattle.world.specs.WorldRun.{Leads}
 use Rattle.world.specs.Flat.{events_of, stop_of}
@@ -35,8 +38,9 @@ use Rattle.world.specs.FreezeLaws.{entries_of}
 use Rattle.world.proofs.Lists.Found.{leave, put_same, put_put, leave_put, found_key}
 use Rattle.world.proofs.Steps.Moves.{run_key}
 use Rattle.world.proofs.Sound.{IsSound, leads_sound}
+use Rattle.engine_core.specs.Answers.{recorded}
 use Rattle.engine_core.proofs.PrivateWays.{with_machine, private_leads, advance_leads}
-use Rattle.engine_core.proofs.Standing.{StandsLawfully, at_call, at_exit, stands_lawfully, GivesBack, gives_back, release_step, requeue_step, exit_step, holds_nothing}
+use Rattle.engine_core.proofs.Standing.{StandsLawfully, at_call, at_exit, stands_lawfully, GivesBack, gives_back, call_step, release_step, requeue_step, exit_step, holds_nothing}
 
 -- A segment of a live run that is out: where its private instructions lead, and that all the world's laws hold there.
 pub record Arrives (setup : Setup) (world : World) (number : ℕ) (segment : SegmentState) : Type 0 where
@@ -101,19 +105,19 @@ asked_freeze setup world number segment freeze it stop =
     let stands = call_stop (with_machine it.run segment.to) setup.limits segment.stop (Release freeze) stop it.stands in
     gives_back setup it.between (with_machine it.run segment.to) freeze it.sound it.there (and_parts _ _ stands.1).0
 
-pub release_leads : (setup : Setup) (world : World) (number : ℕ) (segment : SegmentState) (freeze count : ℕ) → (it : Arrives setup world number segment) → (stop : segment.stop ≡ Helper (Release freeze)) → count ≡ frozen (asked_freeze setup world number segment freeze it stop).entry.queue.0 (without freeze world.freezes) → Leads setup world (events_of (Advance number segment.steps (at_helper_stop helpers.Release) count)) (record world { freezes = without freeze world.freezes; runs = with_run (with_machine it.run (answered (Release freeze) (record { r0 = count }) segment.to)) world.runs })
+pub release_leads : (setup : Setup) (world : World) (number : ℕ) (segment : SegmentState) (freeze count : ℕ) → (it : Arrives setup world number segment) → (stop : segment.stop ≡ Helper (Release freeze)) → count ≡ frozen (asked_freeze setup world number segment freeze it stop).entry.queue.0 (without freeze world.freezes) → Leads setup world (events_of (Advance number segment.steps (at_helper_stop helpers.Release) count)) (record world { freezes = without freeze world.freezes; runs = with_run (with_machine it.run (answered (Release freeze) (answer_number count) segment.to)) world.runs })
 release_leads setup world number segment freeze count it stop count_is =
     let run : LiveRun = with_machine it.run segment.to in
-    let made : LiveRun = with_machine it.run (answered (Release freeze) (record { r0 = count }) segment.to) in
+    let made : LiveRun = with_machine it.run (answered (Release freeze) (answer_number count) segment.to) in
     let asked = asked_freeze setup world number segment freeze it stop in
     let stands = call_stop run setup.limits segment.stop (Release freeze) stop it.stands in
     let same_freezes : it.between.freezes ≡ world.freezes = ap (λ (w : World). w.freezes) it.between_is in
     let counted : count ≡ frozen_with asked.entry (without freeze it.between.freezes) = count_is ∙ ap (λ (fs : List Freeze). frozen_with asked.entry (without freeze fs)) (sym same_freezes) in
     let step = release_step setup it.between run freeze count it.there it.out stands.0 stands.1 asked counted in
-    let end : (answers (thawed it.between freeze) run (Release freeze) count).1 ≡ record world { freezes = without freeze world.freezes; runs = with_run made world.runs } =
-    ap (λ (w : World). (answers (thawed w freeze) run (Release freeze) count).1) it.between_is
+    let end : (answers (thawed it.between freeze) run (Release freeze) (answer_number count)).1 ≡ record world { freezes = without freeze world.freezes; runs = with_run made world.runs } =
+    ap (λ (w : World). (answers (thawed w freeze) run (Release freeze) (answer_number count)).1) it.between_is
     ∙ ap (λ (runs : List LiveRun). record world { freezes = without freeze world.freezes; runs = runs }) (put_put run_key run made world.runs refl) in
-    subst (Leads setup world (events_of (Advance number segment.steps (at_helper_stop helpers.Release) count))) end (it.further (answers (thawed it.between freeze) run (Release freeze) count).1 (at_helper_stop helpers.Release) count step)
+    subst (Leads setup world (events_of (Advance number segment.steps (at_helper_stop helpers.Release) count))) end (it.further (answers (thawed it.between freeze) run (Release freeze) (answer_number count)).1 (at_helper_stop helpers.Release) count step)
 
 -- helper 4: the run's CCB is in recovery
 pub record Requeuing (world : World) (run : LiveRun) (retries : ℕ) : Type 0 where
@@ -137,18 +141,36 @@ asked_requeue setup world number segment retries it stop =
       state = recovery.state;
     }
 
-pub requeue_leads : (setup : Setup) (world : World) (number : ℕ) (segment : SegmentState) (retries : ℕ) (live : LiveCcb) → (it : Arrives setup world number segment) → segment.stop ≡ Helper (Requeue retries) → ccb_of it.run.ccb world.live ≡ Some live → Leads setup world (events_of (Advance number segment.steps (at_helper_stop helpers.Requeue) 0)) (record world { live = with_ccb (record { ccb = requeued live.ccb retries; state = Waiting }) world.live; runs = with_run (with_machine it.run (answered (Requeue retries) (record { r0 = 0 }) segment.to)) world.runs })
+pub requeue_leads : (setup : Setup) (world : World) (number : ℕ) (segment : SegmentState) (retries : ℕ) (live : LiveCcb) → (it : Arrives setup world number segment) → segment.stop ≡ Helper (Requeue retries) → ccb_of it.run.ccb world.live ≡ Some live → Leads setup world (events_of (Advance number segment.steps (at_helper_stop helpers.Requeue) 0)) (record world { live = with_ccb (record { ccb = requeued live.ccb retries; state = Waiting }) world.live; runs = with_run (with_machine it.run (answered (Requeue retries) (answer_number 0) segment.to)) world.runs })
 requeue_leads setup world number segment retries live it stop found =
     let run : LiveRun = with_machine it.run segment.to in
-    let made : LiveRun = with_machine it.run (answered (Requeue retries) (record { r0 = 0 }) segment.to) in
+    let made : LiveRun = with_machine it.run (answered (Requeue retries) (answer_number 0) segment.to) in
     let again : LiveCcb = record { ccb = requeued live.ccb retries; state = Waiting } in
     let stands = call_stop run setup.limits segment.stop (Requeue retries) stop it.stands in
     let same_live : it.between.live ≡ world.live = ap (λ (w : World). w.live) it.between_is in
     let step = requeue_step setup it.between run retries live it.there it.out stands.0 stands.1 (ap (ccb_of it.run.ccb) same_live ∙ found) in
-    let end : (answers (record it.between { live = with_ccb again it.between.live }) run (Requeue retries) 0).1 ≡ record world { live = with_ccb again world.live; runs = with_run made world.runs } =
-    ap (λ (w : World). (answers (record w { live = with_ccb again w.live }) run (Requeue retries) 0).1) it.between_is
+    let end : (answers (record it.between { live = with_ccb again it.between.live }) run (Requeue retries) (answer_number 0)).1 ≡ record world { live = with_ccb again world.live; runs = with_run made world.runs } =
+    ap (λ (w : World). (answers (record w { live = with_ccb again w.live }) run (Requeue retries) (answer_number 0)).1) it.between_is
     ∙ ap (λ (runs : List LiveRun). record world { live = with_ccb again world.live; runs = runs }) (put_put run_key run made world.runs refl) in
-    subst (Leads setup world (events_of (Advance number segment.steps (at_helper_stop helpers.Requeue) 0))) end (it.further (answers (record it.between { live = with_ccb again it.between.live }) run (Requeue retries) 0).1 (at_helper_stop helpers.Requeue) 0 step)
+    subst (Leads setup world (events_of (Advance number segment.steps (at_helper_stop helpers.Requeue) 0))) end (it.further (answers (record it.between { live = with_ccb again it.between.live }) run (Requeue retries) (answer_number 0)).1 (at_helper_stop helpers.Requeue) 0 step)
+
+-- a call that is answered and does nothing else
+told_is : (told : Told) → stop_of (recorded told) ≡ call told
+told_is (plain helper) = refl
+told_is (traces bytes) = refl
+
+pub alone_leads : (setup : Setup) (world : World) (number : ℕ) (segment : SegmentState) (request : Request) (given : Answer) → (it : Arrives setup world number segment) → segment.stop ≡ Helper request → step_request it.between (with_machine it.run segment.to) request ≡ Some (answers it.between (with_machine it.run segment.to) request given) → Leads setup world (events_of (Advance number segment.steps (recorded (told_of request)) given.r0)) (record world { runs = with_run (with_machine it.run (answered request given segment.to)) world.runs })
+alone_leads setup world number segment request given it stop leads =
+    let run : LiveRun = with_machine it.run segment.to in
+    let made : LiveRun = with_machine it.run (answered request given segment.to) in
+    let stands = call_stop run setup.limits segment.stop request stop it.stands in
+    let step = call_step setup it.between run request (answers it.between run request given) it.there it.out stands.0 stands.1 leads in
+    let as_told : WorldStep setup it.between (executes run.number (stop_of (recorded (told_of request)))) (result given.r0) (answers it.between run request given).1 =
+    subst (λ (i : Instruction). WorldStep setup it.between (executes run.number i) (result given.r0) (answers it.between run request given).1) (sym (told_is (told_of request))) step in
+    let end : (answers it.between run request given).1 ≡ record world { runs = with_run made world.runs } =
+    ap (λ (w : World). (answers w run request given).1) it.between_is
+    ∙ ap (λ (runs : List LiveRun). record world { runs = runs }) (put_put run_key run made world.runs refl) in
+    subst (Leads setup world (events_of (Advance number segment.steps (recorded (told_of request)) given.r0))) end (it.further (answers it.between run request given).1 (recorded (told_of request)) given.r0 as_told)
 
 -- the exit: no entry names the run
 pub nothing_held : (setup : Setup) (world : World) (number : ℕ) (segment : SegmentState) (r0 : ℕ) → Arrives setup world number segment → segment.stop ≡ Exit r0 → entries_of number world.freezes ≡ []

@@ -1,13 +1,13 @@
 -- What the answers of a completion and of an advance say.
 use Rattle.std.specs.Prelude.{◌≡◌, ℕ}
-use Rattle.helpers.specs.Table.{helper_in}
 use Rattle.bpf_machine.specs.declared.stop.Stop.{Stop}
 use Rattle.bpf_machine.specs.declared.stop.Stop.TheVariants.{Helper as at_helper, Exit as at_exit}
 use Rattle.interpreter.specs.Segments.{SegmentState}
 use Rattle.world.specs.declared.record.Completed.{Completed}
 use Rattle.world.specs.declared.record.Completed.TheVariants.{Done as is_done, Started as is_started}
 use Rattle.world.specs.declared.record.StoppedAt.{StoppedAt}
-use Rattle.world.specs.declared.record.StoppedAt.TheVariants.{Helper, Exit}
+use Rattle.world.specs.declared.record.StoppedAt.TheVariants.{Helper, Trace, Exit}
+use Rattle.world.specs.Told.{Told, plain, traces, told_of}
 use Rattle.world.specs.World.{Setup, World}
 use Rattle.engine_core.specs.declared.answers.CompleteAnswer.{CompleteAnswer}
 use Rattle.engine_core.specs.declared.answers.CompleteAnswer.TheVariants.{Done, Started}
@@ -25,9 +25,14 @@ abbrev pub StartsOut : Setup → World → CompleteAnswer → Type 0
 StartsOut setup world Done = Unit {0}
 StartsOut setup world (Started run freeze) = IsOutUnder setup world run
 
+-- what is recorded of a call of which this is told
+abbrev pub recorded : Told → StoppedAt
+recorded (plain helper) = Helper helper
+recorded (traces bytes) = Trace bytes
+
 -- the helper call or exit at which a run stopped
 abbrev pub stopped_at : Stop → StoppedAt
-stopped_at (at_helper request) = Helper (helper_in request)
+stopped_at (at_helper request) = recorded (told_of request)
 stopped_at (at_exit r0) = Exit
 
 -- R0 after the stop

@@ -2,14 +2,14 @@
 use Rattle.std.specs.Prelude.{◌≡◌, ℕ, List, Some}
 use Rattle.bpf_insn.specs.declared.program.Slot.{Slot}
 use Rattle.bpf_machine.specs.MachineState.{MachineState}
-use Rattle.bpf_machine.specs.declared.stop.Stop.TheVariants.{Exit as at_exit}
+use Rattle.bpf_machine.specs.declared.stop.Stop.{Stop}
+use Rattle.bpf_machine.specs.declared.stop.Stop.TheVariants.{Helper as at_helper, Exit as at_exit}
 use Rattle.interpreter.specs.Segments.{SegmentState}
 use Rattle.ccb_table.specs.CcbsState.{CcbsState}
 use Rattle.recoveries.specs.RecoveryState.{RecoveryState}
 use Rattle.recoveries.specs.RunPlaces.{HasRunAt}
 use Rattle.recoveries.specs.Admits.{IsOutAs}
 use Rattle.world.specs.declared.record.StoppedAt.{StoppedAt}
-use Rattle.world.specs.declared.record.StoppedAt.TheVariants.{Helper, Exit}
 use Rattle.world.specs.declared.record.Record.{Record}
 use Rattle.world.specs.declared.record.Record.TheVariants.{Advance}
 use Rattle.world.specs.World.{Setup, LiveRun}
@@ -42,7 +42,7 @@ pub record GoesOn (recoveries after : RecoveryState) (place : ℕ) : Type 0 wher
   pub stands : (it : LiveRun) → HasRunAt recoveries.runs place it → HasRunAt after.runs place (record it { machine = machine })
   pub found : (number : ℕ) (it : LiveRun) → HasRunAt recoveries.runs place it → run_of number recoveries.runs ≡ Some it → run_of number after.runs ≡ Some (record it { machine = machine })
 
--- what becomes of the run, by the kind of its stop
-abbrev pub GoesBy : StoppedAt → ℕ → RecoveryState → RecoveryState → ℕ → SegmentState → Type 0
-GoesBy (Helper helper) r0 recoveries after place segment = GoesOn recoveries after place
-GoesBy Exit r0 recoveries after place segment = segment.stop ≡ at_exit r0
+-- what becomes of the run, by the kind of its stop: it goes on, or it exited with this R0
+abbrev pub GoesBy : Stop → ℕ → RecoveryState → RecoveryState → ℕ → Type 0
+GoesBy (at_helper request) r0 recoveries after place = GoesOn recoveries after place
+GoesBy (at_exit value) r0 recoveries after place = r0 ≡ value

@@ -17,7 +17,8 @@ ghost use Rattle.engine_core.specs.Faults.{FaultIs, HoldsUnlessTold, AdmitsUnles
 use crate::answers::{AdvanceAnswer, AdvanceFault, CallFault, CompleteAnswer, ReleaseFault};
 use crate::course::{Course, decide, recover};
 use crate::run::Run;
-use crate::taking_over::take_over;
+use crate::taking_over::{recorded, take_over};
+use bpf_machine::Stop;
 use ccb::{CcbId, Completion, QueueId};
 use ccb_table::CcbTable;
 use engine_config::Config;
@@ -26,7 +27,7 @@ use interpreter::Segment;
 use recoveries::Recoveries;
 use std::alloc::{AllocError, Global};
 use std::marker::Model;
-use world::{Completed, Record, Refusal, StoppedAt, Totals, Trace};
+use world::{Completed, CompletionRecord, Record, Totals, Trace};
 
 /// Device queues with their CCBs, freezes and recovery runs, and the whole history of the calls made on them.
 /// Contracts see the setup, the history and the world that it leads to.
@@ -143,13 +144,16 @@ impl Engine {
         ensures back { IfErr result (λ fault. fault.1 ≡ completion) }
         ensures run { IsRun self.new }
     {
+        let Ok(told) = CompletionRecord::new(*self.history.allocator(), &completion) else {
+            return Err((CallFault::OutOfMemory, completion));
+        };
         if self.history.reserve(1).is_err() {
             return Err((CallFault::OutOfMemory, completion));
         }
         match decide(&self.ccbs, &self.recoveries, &completion) {
             Course::Refuse(refusal) => {
                 self.history.push_reserved(Record::Complete {
-                    completion,
+                    completion: told,
                     answer: Err(refusal),
                 });
                 Err((CallFault::Refused(refusal), completion))
@@ -157,7 +161,7 @@ impl Engine {
             Course::Finish(ccb) => {
                 self.ccbs.finish(ccb.number);
                 self.history.push_reserved(Record::Complete {
-                    completion,
+                    completion: told,
                     answer: Ok(Completed::Done),
                 });
                 Ok(CompleteAnswer::Done)
@@ -172,7 +176,7 @@ impl Engine {
                 ) {
                     Ok((run, freeze)) => {
                         self.history.push_reserved(Record::Complete {
-                            completion,
+                            completion: told,
                             answer: Ok(Completed::Started {
                                 run: run.number(),
                                 freeze,
@@ -207,22 +211,26 @@ impl Engine {
         let Some(place) = self.recoveries.admit(number, run.program(), &segment) else {
             return Err((AdvanceFault::NotOut, run, segment));
         };
+        let stop = segment.stop();
+        let Ok(told) = recorded(*self.history.allocator(), &stop) else {
+            return Err((AdvanceFault::OutOfMemory, run, segment));
+        };
         if self.history.reserve(1).is_err() {
             return Err((AdvanceFault::OutOfMemory, run, segment));
         }
-        let (stop, r0) = take_over(&mut self.ccbs, &mut self.recoveries, place, &segment);
+        let r0 = take_over(&mut self.ccbs, &mut self.recoveries, place, &segment);
         self.history.push_reserved(Record::Advance {
             run: number,
             instructions: segment.steps(),
-            stop,
+            stop: told,
             r0,
         });
         match stop {
-            StoppedAt::Helper(_) => {
+            Stop::Helper(_) => {
                 let machine = self.recoveries.machine(place);
                 Ok(AdvanceAnswer::Goes(run.moved(machine), r0))
             }
-            StoppedAt::Exit => {
+            Stop::Exit(_) => {
                 run.forfeit();
                 Ok(AdvanceAnswer::Ended(r0))
             }

@@ -10,8 +10,7 @@ use Rattle.helpers.specs.Table.{number_of}
 use Rattle.helpers.proofs.Numbers.{same_helper}
 use Rattle.bpf_machine.specs.Step.{Wrote}
 use Rattle.world.specs.declared.queue_info.QueueInfo.{QueueInfo}
-use Rattle.world.specs.World.{LiveRun, World}
-use Rattle.world.specs.QueueInfo.{queue_info, info_bytes}
+use Rattle.world.specs.QueueInfo.{info_bytes}
 use Rattle.world.specs.Told.{Told, plain, traces, is_told}
 
 pub same_told : (a b : Told) → is_told a b ≡ true → a ≡ b
@@ -45,5 +44,6 @@ info_bytes_all info =
     (word_first info.waiting openings
     (word_first info.openings [] (All-nil (λ (x : ℕ). x < 256)))))
 
-pub info_wrote : (world : World) (run : LiveRun) (address : ℕ) → Wrote address (record { address = address; bytes = info_bytes (queue_info world run.queue) })
-info_wrote world run address = record { place = refl; size = refl; bytes = info_bytes_all (queue_info world run.queue) }
+-- what helper 9 writes is an answer that it may get
+pub info_wrote : (address : ℕ) (info : QueueInfo) → Wrote address (record { address = address; bytes = info_bytes info })
+info_wrote address info = record { place = refl; size = refl; bytes = info_bytes_all info }

@@ -22,6 +22,7 @@ use Rattle.world.specs.declared.refusal.Refusal.TheVariants.{Unknown, Limit, Not
 use Rattle.world.specs.declared.ccb_state.CcbState.TheVariants.{Waiting, Active}
 use Rattle.world.specs.World.{Setup, queue_count, LiveCcb, LiveRun, World}
 use Rattle.world.specs.Lookups.{is_active, active_count, ccb_of, with_ccb, next_waiting, run_of}
+use Rattle.world.specs.QueueInfo.{queue_info}
 use Rattle.world.specs.Told.{Told, plain, traces, told_of, is_told}
 use Rattle.world.specs.Event.{Instruction, private, call, exit, Event, instruction_of, submit, dispatch, complete, guest_freeze, guest_release, executes, Reply, ccb_given, done, freeze_given, count_left, went_on, result, refused}
 use Rattle.world.specs.FreezeSteps.{frozen_with, is_guest, froze, thawed, step_guest_release}
@@ -480,7 +481,7 @@ by_request setup before event reply after (QueueInfo address) it call_is rule e 
       keeps = refl;
       calm = refl;
       given = info_answer before it.run address;
-      allowed = (refl, info_wrote before it.run address);
+      allowed = (refl, info_wrote address (queue_info before it.run.queue));
       held = refl;
       disposed = refl;
       moves = ap (λ (x : Reply × World). x.1.freezes) (some_is _ _ e);

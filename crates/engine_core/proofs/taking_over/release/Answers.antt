@@ -1,5 +1,6 @@
 use Rattle.std.proofs.Common.{◌≡◌, List, ap, sym, subst, ◌∙◌, arith, rules}
 use Rattle.freeze_ledger.specs.Freezes.{without}
+use Rattle.helpers.specs.declared.request.Answer.{Answer}
 use Rattle.recoveries.specs.RecoveryState.{RecoveryState}
 use Rattle.recoveries.specs.RunPlaces.{HasRunAt}
 use Rattle.world.specs.World.{LiveRun}
@@ -29,7 +30,7 @@ go_on-requires-clause-allowed c =
     let counted = c.release.ensures.count it.entry it.entry_found in
     let fewer : c.release.new.self.freezes ≡ without c.args.freeze c.args.recoveries.now.freezes = ap (λ (r : RecoveryState). r.freezes) c.release.ensures.freezes in
     let same : frozen_with it.entry c.release.new.self.freezes ≡ frozen_with it.entry (without c.args.freeze c.args.recoveries.now.freezes) = ap (frozen_with it.entry) fewer in
-    omega (arith, it.few, counted, same, c.from-count.ensures)
+    omega (arith, it.few, counted, same, c.from-count.ensures, ap (λ (a : Answer). a.r0) c.number.ensures)
 
 pub returns-clause-leads : goal.returns-clause-leads
 returns-clause-leads c number a setup history kept =

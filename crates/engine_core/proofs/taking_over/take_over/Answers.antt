@@ -1,4 +1,5 @@
-use Rattle.std.proofs.Common.{ap, rules}
+use Rattle.std.proofs.Common.{◌≡◌, ap, rules}
+use Rattle.bpf_machine.specs.declared.stop.Stop.TheVariants.{Exit}
 use Rattle.recoveries.specs.RecoveryState.{RecoveryState}
 use Rattle.engine_core.proofs.StopEnds.{admitted_to, exiting, exit_ends}
 use Rattle.engine_core.proofs.taking_over.take_over.Goals as goal
@@ -9,7 +10,8 @@ end-requires c =
 
 pub returns-in-Exit-clause-leads : goal.returns-in-Exit-clause-leads
 returns-in-Exit-clause-leads c number a setup history kept =
-    exit_ends setup history c.args.ccbs.now c.args.recoveries.now c.end.new.self number c.args.place c.args.segment.now c.in-Exit.r0 (admitted_to setup history c.args.ccbs.now c.args.recoveries.now number c.args.place c.args.segment.now kept c.stop.ensures.segment a) (search rules) c.end.ensures
+    let is : c.args.segment.now.stop ≡ Exit c.in-Exit.r0 = search rules in
+    rw is (exit_ends setup history c.args.ccbs.now c.args.recoveries.now c.end.new.self number c.args.place c.args.segment.now c.in-Exit.r0 (admitted_to setup history c.args.ccbs.now c.args.recoveries.now number c.args.place c.args.segment.now kept c.stop.ensures.segment a) is c.end.ensures)
 
 pub returns-in-Exit-clause-queues : goal.returns-in-Exit-clause-queues
 returns-in-Exit-clause-queues c =

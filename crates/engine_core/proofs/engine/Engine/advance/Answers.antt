@@ -1,11 +1,12 @@
 use Rattle.std.proofs.Common.{refl, rules}
 use Rattle.recoveries.specs.Admits.{IsOutAs}
 use Rattle.engine_core.specs.EngineState.{world_of}
+use Rattle.engine_core.specs.Answers.{stopped_at}
 use Rattle.engine_core.proofs.Going.{is_admitted, taken_over, goes_further, reaches_further, goes_out}
 use Rattle.engine_core.proofs.engine.Engine.advance.Goals as goal
 
-pub take_over-stop-requires : goal.take_over-stop-requires
-take_over-stop-requires c =
+pub take_over-r0-requires : goal.take_over-r0-requires
+take_over-r0-requires c =
     let out : IsOutAs c.self.inside.recoveries.runs c.number-number.result c.args.run.program.program c.args.segment = search rules in
     (c.number-number.result, is_admitted c.self.inside.config c.self.inside.history.items c.self.inside.ccbs c.self.inside.recoveries c.number-number.result c.in-Some.place c.args.run.program.program c.args.segment c.self.invariant out c.in-Some.ensures.place)
 
@@ -14,28 +15,28 @@ take_over-stop-requires c =
 pub moved-requires : goal.moved-requires
 moved-requires c =
     let out : IsOutAs c.self.inside.recoveries.runs c.number-number.result c.args.run.program.program c.args.segment = search rules in
-    let it = taken_over c.self.inside.config c.self.inside.history.items c.push_reserved.new.self.items c.self.inside.ccbs c.take_over-stop.new.ccbs c.self.inside.recoveries c.take_over-stop.new.recoveries
-    c.number-number.result c.in-Some.place c.args.run.program.program c.args.segment c.take_over-stop.result.0 c.take_over-stop.result.1 c.self.invariant (search rules) c.take_over-stop.ensures.queues out c.in-Some.ensures.place c.take_over-stop.ensures.leads in
-    let on = goes_further c.self.inside.recoveries c.take_over-stop.new.recoveries c.number-number.result c.in-Some.place c.args.run.program.program c.args.segment c.take_over-stop.result.0 c.take_over-stop.result.1 c.machine-machine.result.now out c.in-Some.ensures.place c.in-Helper.field-0 c.in-Helper.is c.take_over-stop.ensures.goes c.machine-machine.ensures in
-    reaches_further c.self.inside.config c.push_reserved.new.self.items c.take_over-stop.new.ccbs c.self.inside.recoveries c.take_over-stop.new.recoveries c.number-number.result c.args.run c.machine-machine.result.now it.kept on
+    let it = taken_over c.self.inside.config c.self.inside.history.items c.push_reserved.new.self.items c.self.inside.ccbs c.take_over-r0.new.ccbs c.self.inside.recoveries c.take_over-r0.new.recoveries
+    c.number-number.result c.in-Some.place c.args.run.program.program c.args.segment (stopped_at c.args.segment.stop) c.take_over-r0.result c.self.invariant (search rules) c.take_over-r0.ensures.queues out c.in-Some.ensures.place c.take_over-r0.ensures.leads in
+    let on = goes_further c.self.inside.recoveries c.take_over-r0.new.recoveries c.number-number.result c.in-Some.place c.args.run.program.program c.args.segment c.args.segment.stop c.take_over-r0.result c.machine-machine.result.now out c.in-Some.ensures.place c.in-Helper.field-0 (search rules) c.take_over-r0.ensures.goes c.machine-machine.ensures in
+    reaches_further c.self.inside.config c.push_reserved.new.self.items c.take_over-r0.new.ccbs c.self.inside.recoveries c.take_over-r0.new.recoveries c.number-number.result c.args.run c.machine-machine.result.now it.kept on
 
 pub invariant_of-self-in-Helper : goal.invariant_of-self-in-Helper
 invariant_of-self-in-Helper c =
     let out : IsOutAs c.self.inside.recoveries.runs c.number-number.result c.args.run.program.program c.args.segment = search rules in
-    let it = taken_over c.self.inside.config c.self.inside.history.items c.push_reserved.new.self.items c.self.inside.ccbs c.take_over-stop.new.ccbs c.self.inside.recoveries c.take_over-stop.new.recoveries
-    c.number-number.result c.in-Some.place c.args.run.program.program c.args.segment c.take_over-stop.result.0 c.take_over-stop.result.1 c.self.invariant (search rules) c.take_over-stop.ensures.queues out c.in-Some.ensures.place c.take_over-stop.ensures.leads in
+    let it = taken_over c.self.inside.config c.self.inside.history.items c.push_reserved.new.self.items c.self.inside.ccbs c.take_over-r0.new.ccbs c.self.inside.recoveries c.take_over-r0.new.recoveries
+    c.number-number.result c.in-Some.place c.args.run.program.program c.args.segment (stopped_at c.args.segment.stop) c.take_over-r0.result c.self.invariant (search rules) c.take_over-r0.ensures.queues out c.in-Some.ensures.place c.take_over-r0.ensures.leads in
     it.kept
 
 pub returns-in-Helper : goal.returns-in-Helper
 returns-in-Helper c =
     let out : IsOutAs c.self.inside.recoveries.runs c.number-number.result c.args.run.program.program c.args.segment = search rules in
-    let it = taken_over c.self.inside.config c.self.inside.history.items c.push_reserved.new.self.items c.self.inside.ccbs c.take_over-stop.new.ccbs c.self.inside.recoveries c.take_over-stop.new.recoveries
-    c.number-number.result c.in-Some.place c.args.run.program.program c.args.segment c.take_over-stop.result.0 c.take_over-stop.result.1 c.self.invariant (search rules) c.take_over-stop.ensures.queues out c.in-Some.ensures.place c.take_over-stop.ensures.leads in
-    let on = goes_further c.self.inside.recoveries c.take_over-stop.new.recoveries c.number-number.result c.in-Some.place c.args.run.program.program c.args.segment c.take_over-stop.result.0 c.take_over-stop.result.1 c.machine-machine.result.now out c.in-Some.ensures.place c.in-Helper.field-0 c.in-Helper.is c.take_over-stop.ensures.goes c.machine-machine.ensures in
+    let it = taken_over c.self.inside.config c.self.inside.history.items c.push_reserved.new.self.items c.self.inside.ccbs c.take_over-r0.new.ccbs c.self.inside.recoveries c.take_over-r0.new.recoveries
+    c.number-number.result c.in-Some.place c.args.run.program.program c.args.segment (stopped_at c.args.segment.stop) c.take_over-r0.result c.self.invariant (search rules) c.take_over-r0.ensures.queues out c.in-Some.ensures.place c.take_over-r0.ensures.leads in
+    let on = goes_further c.self.inside.recoveries c.take_over-r0.new.recoveries c.number-number.result c.in-Some.place c.args.run.program.program c.args.segment c.args.segment.stop c.take_over-r0.result c.machine-machine.result.now out c.in-Some.ensures.place c.in-Helper.field-0 (search rules) c.take_over-r0.ensures.goes c.machine-machine.ensures in
     record {
-      answered = rw (← c.self.view_is, ← c.number-number.ensures, ← c.take_over-stop.ensures.stop) (record { history = search rules; setup = refl; step = it.leads });
+      answered = rw (← c.self.view_is, ← c.number-number.ensures) (record { history = search rules; setup = refl; step = it.leads });
       goes = rw (← c.self.view_is)
-          (goes_out c.self.inside.config (world_of c.self.inside.config c.self.inside.history.items c.self.inside.ccbs c.self.inside.recoveries) (world_of c.self.inside.config c.push_reserved.new.self.items c.take_over-stop.new.ccbs c.take_over-stop.new.recoveries)
+          (goes_out c.self.inside.config (world_of c.self.inside.config c.self.inside.history.items c.self.inside.ccbs c.self.inside.recoveries) (world_of c.self.inside.config c.push_reserved.new.self.items c.take_over-r0.new.ccbs c.take_over-r0.new.recoveries)
           c.number-number.result c.args.run c.moved.result c.machine-machine.result.now c.number-number.ensures on c.moved.ensures);
       admitted = rw (← c.self.view_is, ← c.number-number.ensures) out;
       back = tt;
@@ -47,20 +48,20 @@ returns-in-Helper c =
 pub invariant_of-self-2 : goal.invariant_of-self-2
 invariant_of-self-2 c =
     let out : IsOutAs c.self.inside.recoveries.runs c.number-number.result c.args.run.program.program c.args.segment = search rules in
-    let it = taken_over c.self.inside.config c.self.inside.history.items c.push_reserved.new.self.items c.self.inside.ccbs c.take_over-stop.new.ccbs c.self.inside.recoveries c.take_over-stop.new.recoveries
-    c.number-number.result c.in-Some.place c.args.run.program.program c.args.segment c.take_over-stop.result.0 c.take_over-stop.result.1 c.self.invariant (search rules) c.take_over-stop.ensures.queues out c.in-Some.ensures.place c.take_over-stop.ensures.leads in
+    let it = taken_over c.self.inside.config c.self.inside.history.items c.push_reserved.new.self.items c.self.inside.ccbs c.take_over-r0.new.ccbs c.self.inside.recoveries c.take_over-r0.new.recoveries
+    c.number-number.result c.in-Some.place c.args.run.program.program c.args.segment (stopped_at c.args.segment.stop) c.take_over-r0.result c.self.invariant (search rules) c.take_over-r0.ensures.queues out c.in-Some.ensures.place c.take_over-r0.ensures.leads in
     it.kept
 
 pub returns-clause-answered : goal.returns-clause-answered
 returns-clause-answered c =
     let out : IsOutAs c.self.inside.recoveries.runs c.number-number.result c.args.run.program.program c.args.segment = search rules in
-    let it = taken_over c.self.inside.config c.self.inside.history.items c.push_reserved.new.self.items c.self.inside.ccbs c.take_over-stop.new.ccbs c.self.inside.recoveries c.take_over-stop.new.recoveries
-    c.number-number.result c.in-Some.place c.args.run.program.program c.args.segment c.take_over-stop.result.0 c.take_over-stop.result.1 c.self.invariant (search rules) c.take_over-stop.ensures.queues out c.in-Some.ensures.place c.take_over-stop.ensures.leads in
-    rw (← c.self.view_is, ← c.number-number.ensures, ← c.take_over-stop.ensures.stop) (record { history = search rules; setup = refl; step = it.leads })
+    let it = taken_over c.self.inside.config c.self.inside.history.items c.push_reserved.new.self.items c.self.inside.ccbs c.take_over-r0.new.ccbs c.self.inside.recoveries c.take_over-r0.new.recoveries
+    c.number-number.result c.in-Some.place c.args.run.program.program c.args.segment (stopped_at c.args.segment.stop) c.take_over-r0.result c.self.invariant (search rules) c.take_over-r0.ensures.queues out c.in-Some.ensures.place c.take_over-r0.ensures.leads in
+    rw (← c.self.view_is, ← c.number-number.ensures) (record { history = search rules; setup = refl; step = it.leads })
 
 pub returns-clause-run : goal.returns-clause-run
 returns-clause-run c =
     let out : IsOutAs c.self.inside.recoveries.runs c.number-number.result c.args.run.program.program c.args.segment = search rules in
-    let it = taken_over c.self.inside.config c.self.inside.history.items c.push_reserved.new.self.items c.self.inside.ccbs c.take_over-stop.new.ccbs c.self.inside.recoveries c.take_over-stop.new.recoveries
-    c.number-number.result c.in-Some.place c.args.run.program.program c.args.segment c.take_over-stop.result.0 c.take_over-stop.result.1 c.self.invariant (search rules) c.take_over-stop.ensures.queues out c.in-Some.ensures.place c.take_over-stop.ensures.leads in
+    let it = taken_over c.self.inside.config c.self.inside.history.items c.push_reserved.new.self.items c.self.inside.ccbs c.take_over-r0.new.ccbs c.self.inside.recoveries c.take_over-r0.new.recoveries
+    c.number-number.result c.in-Some.place c.args.run.program.program c.args.segment (stopped_at c.args.segment.stop) c.take_over-r0.result c.self.invariant (search rules) c.take_over-r0.ensures.queues out c.in-Some.ensures.place c.take_over-r0.ensures.leads in
     it.kept.run

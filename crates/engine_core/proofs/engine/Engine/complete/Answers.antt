@@ -71,25 +71,25 @@ pub recover-requires-clause-room : goal.recover-requires-clause-room
 recover-requires-clause-room c world =
     (c.in-Recover.ensures.ready world).1
 
-pub invariant_of-self-in-Ok : goal.invariant_of-self-in-Ok
-invariant_of-self-in-Ok c =
-    (completes c.self.inside.config c.self.inside.history.items c.push_reserved-in-Ok.new.self.items c.self.inside.ccbs c.recover.new.ccbs c.self.inside.recoveries c.recover.new.recoveries
-    c.args.completion (Ok (Started c.in-Ok.run'.number c.in-Ok.freeze)) (with_ccbs c.recover.new.ccbs (with_recoveries c.recover.new.recoveries (world_of c.self.inside.config c.self.inside.history.items c.self.inside.ccbs c.self.inside.recoveries))) c.self.invariant (search rules) c.recover.ensures.queues
-    (c.in-Recover.ensures.step c.self.inside.config (world_of c.self.inside.config c.self.inside.history.items c.self.inside.ccbs c.self.inside.recoveries) ∙ ap (λ (p : Reply × World). Some p) (c.in-Ok.ensures.step (world_of c.self.inside.config c.self.inside.history.items c.self.inside.ccbs c.self.inside.recoveries))) refl).kept
+pub invariant_of-self-in-Ok-recover : goal.invariant_of-self-in-Ok-recover
+invariant_of-self-in-Ok-recover c =
+    (completes c.self.inside.config c.self.inside.history.items c.push_reserved-in-Ok-recover.new.self.items c.self.inside.ccbs c.recover.new.ccbs c.self.inside.recoveries c.recover.new.recoveries
+    c.args.completion (Ok (Started c.in-Ok-recover.run'.number c.in-Ok-recover.freeze)) (with_ccbs c.recover.new.ccbs (with_recoveries c.recover.new.recoveries (world_of c.self.inside.config c.self.inside.history.items c.self.inside.ccbs c.self.inside.recoveries))) c.self.invariant (search rules) c.recover.ensures.queues
+    (c.in-Recover.ensures.step c.self.inside.config (world_of c.self.inside.config c.self.inside.history.items c.self.inside.ccbs c.self.inside.recoveries) ∙ ap (λ (p : Reply × World). Some p) (c.in-Ok-recover.ensures.step (world_of c.self.inside.config c.self.inside.history.items c.self.inside.ccbs c.self.inside.recoveries))) refl).kept
 
-pub returns-in-Ok-clause-answered : goal.returns-in-Ok-clause-answered
-returns-in-Ok-clause-answered c =
-    let it = completes c.self.inside.config c.self.inside.history.items c.push_reserved-in-Ok.new.self.items c.self.inside.ccbs c.recover.new.ccbs c.self.inside.recoveries c.recover.new.recoveries
-    c.args.completion (Ok (Started c.in-Ok.run'.number c.in-Ok.freeze)) (with_ccbs c.recover.new.ccbs (with_recoveries c.recover.new.recoveries (world_of c.self.inside.config c.self.inside.history.items c.self.inside.ccbs c.self.inside.recoveries))) c.self.invariant (search rules) c.recover.ensures.queues
-    (c.in-Recover.ensures.step c.self.inside.config (world_of c.self.inside.config c.self.inside.history.items c.self.inside.ccbs c.self.inside.recoveries) ∙ ap (λ (p : Reply × World). Some p) (c.in-Ok.ensures.step (world_of c.self.inside.config c.self.inside.history.items c.self.inside.ccbs c.self.inside.recoveries))) refl in
+pub returns-in-Ok-recover-clause-answered : goal.returns-in-Ok-recover-clause-answered
+returns-in-Ok-recover-clause-answered c =
+    let it = completes c.self.inside.config c.self.inside.history.items c.push_reserved-in-Ok-recover.new.self.items c.self.inside.ccbs c.recover.new.ccbs c.self.inside.recoveries c.recover.new.recoveries
+    c.args.completion (Ok (Started c.in-Ok-recover.run'.number c.in-Ok-recover.freeze)) (with_ccbs c.recover.new.ccbs (with_recoveries c.recover.new.recoveries (world_of c.self.inside.config c.self.inside.history.items c.self.inside.ccbs c.self.inside.recoveries))) c.self.invariant (search rules) c.recover.ensures.queues
+    (c.in-Recover.ensures.step c.self.inside.config (world_of c.self.inside.config c.self.inside.history.items c.self.inside.ccbs c.self.inside.recoveries) ∙ ap (λ (p : Reply × World). Some p) (c.in-Ok-recover.ensures.step (world_of c.self.inside.config c.self.inside.history.items c.self.inside.ccbs c.self.inside.recoveries))) refl in
     rw (← c.self.view_is) (record { history = search rules; setup = refl; step = it.leads })
 
-pub returns-in-Ok-clause-run : goal.returns-in-Ok-clause-run
-returns-in-Ok-clause-run c =
-    (completes c.self.inside.config c.self.inside.history.items c.push_reserved-in-Ok.new.self.items c.self.inside.ccbs c.recover.new.ccbs c.self.inside.recoveries c.recover.new.recoveries
-    c.args.completion (Ok (Started c.in-Ok.run'.number c.in-Ok.freeze)) (with_ccbs c.recover.new.ccbs (with_recoveries c.recover.new.recoveries (world_of c.self.inside.config c.self.inside.history.items c.self.inside.ccbs c.self.inside.recoveries))) c.self.invariant (search rules) c.recover.ensures.queues
-    (c.in-Recover.ensures.step c.self.inside.config (world_of c.self.inside.config c.self.inside.history.items c.self.inside.ccbs c.self.inside.recoveries) ∙ ap (λ (p : Reply × World). Some p) (c.in-Ok.ensures.step (world_of c.self.inside.config c.self.inside.history.items c.self.inside.ccbs c.self.inside.recoveries))) refl).kept.run
+pub returns-in-Ok-recover-clause-run : goal.returns-in-Ok-recover-clause-run
+returns-in-Ok-recover-clause-run c =
+    (completes c.self.inside.config c.self.inside.history.items c.push_reserved-in-Ok-recover.new.self.items c.self.inside.ccbs c.recover.new.ccbs c.self.inside.recoveries c.recover.new.recoveries
+    c.args.completion (Ok (Started c.in-Ok-recover.run'.number c.in-Ok-recover.freeze)) (with_ccbs c.recover.new.ccbs (with_recoveries c.recover.new.recoveries (world_of c.self.inside.config c.self.inside.history.items c.self.inside.ccbs c.self.inside.recoveries))) c.self.invariant (search rules) c.recover.ensures.queues
+    (c.in-Recover.ensures.step c.self.inside.config (world_of c.self.inside.config c.self.inside.history.items c.self.inside.ccbs c.self.inside.recoveries) ∙ ap (λ (p : Reply × World). Some p) (c.in-Ok-recover.ensures.step (world_of c.self.inside.config c.self.inside.history.items c.self.inside.ccbs c.self.inside.recoveries))) refl).kept.run
 
-pub returns-in-Ok-clause-started : goal.returns-in-Ok-clause-started
-returns-in-Ok-clause-started c =
-    c.in-Ok.ensures.out (world_of c.self.inside.config c.push_reserved-in-Ok.new.self.items c.recover.new.ccbs c.recover.new.recoveries)
+pub returns-in-Ok-recover-clause-started : goal.returns-in-Ok-recover-clause-started
+returns-in-Ok-recover-clause-started c =
+    c.in-Ok-recover.ensures.out (world_of c.self.inside.config c.push_reserved-in-Ok-recover.new.self.items c.recover.new.ccbs c.recover.new.recoveries)

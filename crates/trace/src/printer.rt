@@ -1,9 +1,11 @@
-// The trace as text, version 1: a header, a line a record, and the sums. It relies on `world`.
+// The trace as text, version 1: a header, a line a record, and the sums. It relies on `world` for records, and on
+// `helpers` for the number of the trace helper.
 
-use ccb::{CcbId, Completion};
+use ccb::CcbId;
+use helpers::Helper;
 use std::io;
 use std::io::Write;
-use world::{Completed, Record, Refusal, StoppedAt, Trace};
+use world::{Completed, CompletionRecord, Record, Refusal, StoppedAt, Trace};
 
 /// Writes the whole trace.
 pub fn print<W: Write>(trace: &Trace, out: &mut W) -> io::Result<()> {
@@ -20,7 +22,7 @@ pub fn print<W: Write>(trace: &Trace, out: &mut W) -> io::Result<()> {
 }
 
 fn print_record<W: Write>(record: &Record, out: &mut W) -> io::Result<()> {
-    match *record {
+    match record {
         Record::Submit {
             queue,
             priority,
@@ -28,15 +30,15 @@ fn print_record<W: Write>(record: &Record, out: &mut W) -> io::Result<()> {
             answer,
         } => {
             write!(out, "submit {} {priority} {retries} = ", queue.0)?;
-            print_ccb(answer, out)
+            print_ccb(*answer, out)
         }
         Record::Dispatch { queue, answer } => {
             write!(out, "dispatch {} = ", queue.0)?;
-            print_ccb(answer, out)
+            print_ccb(*answer, out)
         }
         Record::Complete { completion, answer } => {
-            print_completion(&completion, out)?;
-            print_completed(answer, out)
+            print_completion(completion, out)?;
+            print_completed(*answer, out)
         }
         Record::Advance {
             run,
@@ -54,15 +56,19 @@ fn print_record<W: Write>(record: &Record, out: &mut W) -> io::Result<()> {
             answer,
         } => {
             write!(out, "gfreeze {} {guest} = ", queue.0)?;
-            print_freeze(answer, out)
+            print_freeze(*answer, out)
         }
         Record::GuestRelease { freeze, count } => writeln!(out, "grelease {freeze} = {count}"),
     }
 }
 
-fn print_stop<W: Write>(stop: StoppedAt, out: &mut W) -> io::Result<()> {
+fn print_stop<W: Write>(stop: &StoppedAt, out: &mut W) -> io::Result<()> {
     match stop {
         StoppedAt::Helper(helper) => write!(out, "helper {}", helper.number()),
+        StoppedAt::Trace(bytes) => {
+            write!(out, "helper {} ", Helper::Trace.number())?;
+            print_bytes(bytes.as_slice(), out)
+        }
         StoppedAt::Exit => write!(out, "exit"),
     }
 }
@@ -89,8 +95,16 @@ fn print_completed<W: Write>(answer: Result<Completed, Refusal>, out: &mut W) ->
     }
 }
 
+// Each byte is a pair of lower-case hexadecimal digits.
+fn print_bytes<W: Write>(bytes: &[u8], out: &mut W) -> io::Result<()> {
+    for byte in bytes {
+        write!(out, "{byte:02x}")?;
+    }
+    Ok(())
+}
+
 // The status, the SCSI status and the sense bytes are pairs of hexadecimal digits, and no bytes are `-`.
-fn print_completion<W: Write>(completion: &Completion, out: &mut W) -> io::Result<()> {
+fn print_completion<W: Write>(completion: &CompletionRecord, out: &mut W) -> io::Result<()> {
     let status = completion.status().code();
     let scsi = completion.scsi();
     write!(
@@ -102,8 +116,6 @@ fn print_completion<W: Write>(completion: &Completion, out: &mut W) -> io::Resul
     if sense.is_empty() {
         write!(out, "-")?;
     }
-    for byte in sense.as_slice() {
-        write!(out, "{byte:02x}")?;
-    }
+    print_bytes(sense.as_slice(), out)?;
     write!(out, " = ")
 }

@@ -25,5 +25,15 @@ struct context {
     u8 sense[64];
 };
 
+/* What queue_info writes. */
+struct queue_counts {
+    u32 frozen;
+    u32 active;
+    u32 waiting;
+    u32 openings;
+};
+
 static u64 (*const release)(u64 freeze) = (void *)2;
 static u64 (*const requeue)(u64 retries_used) = (void *)4;
+static u64 (*const queue_info)(void *to) = (void *)9;
+static u64 (*const trace)(const void *bytes, u64 length) = (void *)10;

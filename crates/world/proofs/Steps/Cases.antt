@@ -161,7 +161,7 @@ pub record Requeues (before : World) (event : Event) (reply : Reply) (after : Wo
   pub found : ccb_of it.run.ccb before.live ≡ Some live
   pub answer : (reply, after) ≡ answers (record before { live = with_ccb (record { ccb = requeued live.ccb retries; state = Waiting }) before.live }) it.run (Requeue retries) (answer_number 0)
 
--- a call that is answered and does nothing else, to which no freeze and no CCB is given up
+-- a call that is answered and does nothing else: it gives no freeze back and does not dispose of its CCB
 pub record Asks (before : World) (event : Event) (reply : Reply) (after : World) : Type 0 where
   pub told : Told
   pub it : Executes before event (call told)

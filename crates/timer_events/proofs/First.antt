@@ -9,7 +9,8 @@ use Rattle.freeze_ledger.specs.declared.freeze.Holder.TheVariants.{Run, Timer, G
 use Rattle.freeze_ledger.specs.declared.freeze.Freeze.{Freeze}
 use Rattle.freeze_ledger.specs.Freezes.{is_due, entry_of}
 use Rattle.timer_events.specs.declared.due_timer.DueTimer.{DueTimer}
-use Rattle.timer_events.specs.Next.{some_due, goes_behind, all_behind, IsFirstDue, NextIsOne}
+use Rattle.timer_events.specs.Next.{some_due, goes_behind, all_behind, NextIsOne}
+use Rattle.timer_events.specs.First.{IsFirstDue}
 
 -- what is not due goes behind what is
 late_behind : (reading due number : ℕ) (h : Holder) (other : ℕ) → due ≤ reading → is_due reading h ≡ false → goes_behind due number h other ≡ true

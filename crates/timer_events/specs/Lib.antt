@@ -1,1 +1,2 @@
 pub mod Next
+pub mod First

@@ -1,13 +1,12 @@
 -- Which timer is next at a clock reading: of the freezes that timers hold, the one that goes first, once it is due.
 -- Times and readings are in milliseconds.
-use Rattle.std.specs.Prelude.{◌≡◌, ℕ, ◌≤◌, Bool, true, false, ◌==◌, ◌||◌, ◌&&◌, nat_lt, nat_le, List, Option, Some, None, Contains}
+use Rattle.std.specs.Prelude.{◌≡◌, ℕ, ◌≤◌, Bool, true, ◌==◌, ◌||◌, ◌&&◌, nat_lt, nat_le, List, Some}
 use Rattle.std.specs.List.{list_all, list_any}
 use Rattle.ccb.specs.declared.QueueId.{QueueId}
 use Rattle.freeze_ledger.specs.declared.freeze.Holder.{Holder}
 use Rattle.freeze_ledger.specs.declared.freeze.Holder.TheVariants.{Run, Timer, Guest}
 use Rattle.freeze_ledger.specs.declared.freeze.Freeze.{Freeze}
 use Rattle.freeze_ledger.specs.Freezes.{entry_of, is_due}
-use Rattle.timer_events.specs.declared.due_timer.DueTimer.{DueTimer}
 
 -- a timer holds one of these freezes, and is due
 abbrev pub some_due : ℕ → List Freeze → Bool
@@ -35,15 +34,3 @@ pub record IsNext (reading : ℕ) (freezes : List Freeze) (number : ℕ) : Type 
 -- at most one is next
 abbrev pub NextIsOne : Type 0
 NextIsOne = (reading : ℕ) (freezes : List Freeze) (one other : ℕ) → IsNext reading freezes one → IsNext reading freezes other → one ≡ other
-
--- this timer is the first that is due of those that hold these freezes
-pub record IsFirstDue (reading : ℕ) (freezes : List Freeze) (timer : DueTimer) : Type 0 where
-  pub queue : QueueId
-  pub held : Contains freezes (record { number = timer.number; queue = queue; holder = Timer timer.due })
-  pub reached : timer.due ≤ reading
-  pub first : all_behind timer.due timer.number freezes ≡ true
-
--- the same, where none may be due
-abbrev pub IsFirst : ℕ → List Freeze → Option DueTimer → Type 0
-IsFirst reading freezes None = some_due reading freezes ≡ false
-IsFirst reading freezes (Some timer) = IsFirstDue reading freezes timer

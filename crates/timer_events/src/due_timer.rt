@@ -5,7 +5,7 @@ ghost use Rattle.std.specs.Prelude.{◌≡◌, ◌++◌, ◌∷◌, [], ◌↔�
 ghost use Rattle.freeze_ledger.specs.declared.freeze.Holder.TheVariants.{Timer};
 ghost use Rattle.freeze_ledger.specs.declared.freeze.Freeze.{Freeze as Entry};
 ghost use Rattle.freeze_ledger.specs.Freezes.{is_due};
-ghost use Rattle.timer_events.specs.Next.{IsFirst};
+ghost use Rattle.timer_events.specs.First.{IsFirst};
 
 use freeze_ledger::{Freeze, Holder};
 

@@ -1,4 +1,5 @@
-// Which timer lets its freeze go next, and what becomes of all that are due. It relies on `freeze_ledger` for the entries and who holds them.
+// Which timer lets its freeze go next, and what becomes of all that are due. It relies on `freeze_ledger` for the
+// entries and who holds them.
 #![tactic(auto)]
 
 mod due_timer;

@@ -1,11 +1,12 @@
-// The next timer of a ledger. It relies on `freeze_ledger` for the entries and on `due_timer` for which of two goes
-// first.
+// The next timer of a ledger, and what a clock reading does to it. It relies on `freeze_ledger` for the entries and on
+// `due_timer` for which of two goes first.
 
 ghost use Rattle.std.specs.Prelude.{◌≡◌, ◌≤◌, ◌↔◌, false, length, IsNone, IfSome};
 ghost use Rattle.freeze_ledger.specs.declared.ledger.TheConstants.{MAX_FREEZES};
 ghost use Rattle.freeze_ledger.specs.Freezes.{due_at, not_due_at};
 ghost use Rattle.freeze_ledger.specs.State.{with_freezes};
-ghost use Rattle.timer_events.specs.Next.{IsFirst, IsNext, some_due};
+ghost use Rattle.timer_events.specs.First.{IsFirst};
+ghost use Rattle.timer_events.specs.Next.{IsNext, some_due};
 
 use crate::due_timer::{DueTimer, first_with};
 use freeze_ledger::{Freeze, Ledger};

@@ -1,6 +1,7 @@
 use Rattle.std.proofs.Common.{◌≡◌, ◌||◌, ◌&&◌, ◌==◌, nat_lt, true, false, Option, subst, sym, ◌∙◌}
 use Rattle.timer_events.specs.declared.due_timer.DueTimer.{DueTimer}
-use Rattle.timer_events.specs.Next.{IsFirst, IsFirstDue, some_due}
+use Rattle.timer_events.specs.Next.{some_due}
+use Rattle.timer_events.specs.First.{IsFirst, IsFirstDue}
 use Rattle.timer_events.proofs.First.{first_last, none_before, all_still}
 use Rattle.timer_events.proofs.due_timer.first_with.Goals as goal
 

@@ -1,7 +1,7 @@
 use Rattle.std.proofs.Common.{List, take, subst, sym}
 use Rattle.std.proofs.lemmas.List.{take_more}
 use Rattle.freeze_ledger.specs.declared.freeze.Freeze.{Freeze}
-use Rattle.timer_events.specs.Next.{IsFirst}
+use Rattle.timer_events.specs.First.{IsFirst}
 use Rattle.timer_events.proofs.timers.first_due.Goals as goal
 
 pub loop-freeze-preserved : goal.loop-freeze-preserved

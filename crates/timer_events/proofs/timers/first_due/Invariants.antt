@@ -1,5 +1,5 @@
 use Rattle.std.proofs.Common.{take}
-use Rattle.timer_events.specs.Next.{IsFirst}
+use Rattle.timer_events.specs.First.{IsFirst}
 use Rattle.timer_events.proofs.timers.first_due.Given as goal
 
 -- the first that is due of the freezes so far

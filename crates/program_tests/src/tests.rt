@@ -4,12 +4,13 @@
 use ccb::{CamStatus, CcbId, Completion};
 use command_line::Plan;
 use commands::carry;
+use short_bytes::ShortBytes;
 use std::alloc::{AllocError, Global};
 use std::io;
 use std::io::Write;
 use std::test::Fail;
 use trace::print;
-use world::{Completed, Record, StoppedAt, Totals, Trace};
+use world::{Completed, CompletionRecord, Record, StoppedAt, Totals, TracedBytes, Trace};
 
 // The two paths have 5 and 7 instructions: jeq r2, 0, +2; mov64 r1, r2; call 2; mov64 r1, 1; call 4;
 // mov64 r0, 0; exit.
@@ -146,8 +147,9 @@ fn records_of_no_scenario(rt: HostRuntime) -> Result<(), Fail> {
     let sense = [0x70, 0, 6, 10];
     let completion = Completion::new(CcbId(1), CamStatus::ScsiStatusError, 2, &sense);
     let completion = completion.ok_or("no completion")?;
+    let bytes = ShortBytes::new(&[0, 255]).ok_or("no bytes")?;
     let started = Record::Complete {
-        completion,
+        completion: CompletionRecord::new(alloc, &completion)?,
         answer: Ok(Completed::Started { run: 1, freeze: 1 }),
     };
     let ended = Record::Advance {
@@ -156,9 +158,15 @@ fn records_of_no_scenario(rt: HostRuntime) -> Result<(), Fail> {
         stop: StoppedAt::Exit,
         r0: 18446744073709551615,
     };
-    let records = vec![in alloc; started, ended]?;
+    let traced = Record::Advance {
+        run: 2,
+        instructions: 1,
+        stop: StoppedAt::Trace(TracedBytes::new(alloc, bytes)?),
+        r0: 0,
+    };
+    let records = vec![in alloc; started, traced, ended]?;
     let totals = Totals {
-        history: 2,
+        history: 3,
         frozen: 1024,
         active: 4096,
         runs: 256,
@@ -166,7 +174,8 @@ fn records_of_no_scenario(rt: HostRuntime) -> Result<(), Fail> {
     let mut out = Vec::new(alloc);
     print(&Trace { records, totals }, &mut out)?;
     let text = "camr-trace 1\ncomplete 1 0c 02 7000060a = run 1 freeze 1\n\
-        advance 4294967295 65536 exit = 18446744073709551615\nend 2 1024 4096 256\n";
+        advance 2 1 helper 10 00ff = 0\n\
+        advance 4294967295 65536 exit = 18446744073709551615\nend 3 1024 4096 256\n";
     assert_eq!(rt; out.as_slice(), text.as_bytes());
     Ok(())
 }

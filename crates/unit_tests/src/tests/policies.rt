@@ -1,6 +1,6 @@
 // Programs as lists of instructions, and the limits under which they are verified.
 
-use bpf_insn::{AluOp, Callee, Condition, Insn, Operand, Reg, Width};
+use bpf_insn::{AluOp, Callee, Condition, Insn, Operand, Reg, StoreSize, Width};
 use helpers::{HelperLimits, TableLengths};
 use std::alloc::Global;
 
@@ -28,6 +28,35 @@ pub const fn policy() -> [Insn; 7] {
     [
         jeq(Reg::R2, Operand::Immediate(0), 2),
         mov(Reg::R1, Operand::Register(Reg::R2)),
+        Insn::Call(Callee::Helper(2)),
+        mov(Reg::R1, Operand::Immediate(1)),
+        Insn::Call(Callee::Helper(4)),
+        mov(Reg::R0, Operand::Immediate(0)),
+        Insn::Exit,
+    ]
+}
+
+/// The same, but first the number 7 in eight bytes goes into the history.
+pub const fn tracing_policy() -> [Insn; 13] {
+    [
+        mov(Reg::R6, Operand::Register(Reg::R2)),
+        Insn::Store {
+            size: StoreSize::DoubleWord,
+            dst: Reg::R10,
+            src: Operand::Immediate(7),
+            offset: -8,
+        },
+        mov(Reg::R1, Operand::Register(Reg::R10)),
+        Insn::Alu {
+            width: Width::Bits64,
+            op: AluOp::Add,
+            dst: Reg::R1,
+            src: Operand::Immediate(-8),
+        },
+        mov(Reg::R2, Operand::Immediate(8)),
+        Insn::Call(Callee::Helper(10)),
+        jeq(Reg::R6, Operand::Immediate(0), 2),
+        mov(Reg::R1, Operand::Register(Reg::R6)),
         Insn::Call(Callee::Helper(2)),
         mov(Reg::R1, Operand::Immediate(1)),
         Insn::Call(Callee::Helper(4)),

@@ -1,7 +1,8 @@
 // Recoveries of failed CCBs, call by call, with ample memory and with one allocation refused. What each call answers
 // is worked out by hand.
 
-use super::engine::{QUEUE, one_queue, open, shut, totals};
+use super::engine::{QUEUE, are_told, one_queue, one_queue_with, open, shut, totals};
+use super::policies::tracing_policy;
 use ccb::{CamStatus, CcbId, Completion, QueueId};
 use engine_core::{
     AdvanceAnswer, AdvanceFault, CallFault, CompleteAnswer, Completed, Engine, Record, Run,
@@ -9,10 +10,12 @@ use engine_core::{
 };
 use helpers::Helper;
 use interpreter::{Segment, to_stop};
-use std::alloc::Global;
+use short_bytes::ShortBytes;
+use std::alloc::{AllocError, Global};
 use std::process::Abort;
 use std::sync::Arc;
 use std::test::Fail;
+use world::{CompletionRecord, TracedBytes};
 
 fn completion(ccb: u32, status: CamStatus) -> Result<Completion, Fail> {
     Ok(Completion::new(CcbId(ccb), status, 0, &[]).ok_or("no completion")?)
@@ -172,20 +175,20 @@ fn begin(rt: &impl Abort, engine: &mut Engine) -> Result<(), CallFault> {
     Ok(())
 }
 
-// Drives a run of the two-path program to its end.
+// Drives a run of at most four segments to its end.
 fn drive(rt: &impl Abort, engine: &mut Engine, run: Run) -> Result<u64, Fail> {
     let mut run = run;
-    for _ in 0..3 {
+    for _ in 0..4 {
         match advance(rt, engine, run)? {
             AdvanceAnswer::Goes(next, _) => run = next,
             AdvanceAnswer::Ended(r0) => return Ok(r0),
         }
     }
     run.forfeit();
-    Err(Fail::new("a fourth segment"))
+    Err(Fail::new("a fifth segment"))
 }
 
-const fn advanced(instructions: u32, stop: StoppedAt) -> Record {
+fn advanced(instructions: u32, stop: StoppedAt) -> Record {
     Record::Advance {
         run: 1,
         instructions,
@@ -194,9 +197,9 @@ const fn advanced(instructions: u32, stop: StoppedAt) -> Record {
     }
 }
 
-fn recover_once(rt: &impl Abort, engine: &mut Engine) -> Result<(), Fail> {
+fn recover_once(rt: &impl Abort, engine: &mut Engine, failed: Completion) -> Result<(), Fail> {
     begin(rt, engine)?;
-    let (run, freeze) = fail(rt, engine, completion(1, CamStatus::CommandTimeout)?)?;
+    let (run, freeze) = fail(rt, engine, failed)?;
     let sums = totals(engine);
     let r0 = drive(rt, engine, run)?;
     assert_eq!(rt; (freeze, r0), (1, 0));
@@ -207,10 +210,27 @@ fn recover_once(rt: &impl Abort, engine: &mut Engine) -> Result<(), Fail> {
     Ok(())
 }
 
+// What is recorded of a completion. Where memory is refused the same call again succeeds.
+fn completed(alloc: Global, completion: &Completion) -> Result<CompletionRecord, AllocError> {
+    match CompletionRecord::new(alloc, completion) {
+        Ok(record) => Ok(record),
+        Err(AllocError) => CompletionRecord::new(alloc, completion),
+    }
+}
+
+// The same of the bytes of a trace call.
+fn traced(alloc: Global, bytes: ShortBytes) -> Result<TracedBytes, AllocError> {
+    match TracedBytes::new(alloc, bytes) {
+        Ok(record) => Ok(record),
+        Err(AllocError) => TracedBytes::new(alloc, bytes),
+    }
+}
+
 #[test]
 fn failed_once_and_memory_refused_once(rt: HostRuntime) -> Result<(), Fail> {
     let mut engine = open(&rt, rt.alloc(), one_queue(rt.alloc())?)?;
-    let outcome = recover_once(&rt, &mut engine);
+    let failed = completion(1, CamStatus::CommandTimeout)?;
+    let outcome = recover_once(&rt, &mut engine, failed);
     let trace = shut(engine);
     outcome?;
     let records = [
@@ -225,14 +245,14 @@ fn failed_once_and_memory_refused_once(rt: HostRuntime) -> Result<(), Fail> {
             answer: Ok(CcbId(1)),
         },
         Record::Complete {
-            completion: completion(1, CamStatus::CommandTimeout)?,
+            completion: completed(rt.alloc(), &failed)?,
             answer: Ok(Completed::Started { run: 1, freeze: 1 }),
         },
         advanced(3, StoppedAt::Helper(Helper::Release)),
         advanced(2, StoppedAt::Helper(Helper::Requeue)),
         advanced(2, StoppedAt::Exit),
     ];
-    assert_eq!(rt; trace.records.as_slice(), records.as_slice());
+    assert!(rt; are_told(rt.alloc(), &trace.records, &records)?);
     assert_eq!(rt;
         (trace.totals.frozen, trace.totals.active, trace.totals.runs),
         (0, 0, 0)
@@ -282,4 +302,29 @@ fn same_segment_twice(rt: HostRuntime) -> Result<(), Fail> {
     let outcome = presented_twice(&rt, &mut engine);
     let _ = shut(engine);
     outcome
+}
+
+// Sense bytes and traced bytes stand apart in the history, and take memory of their own.
+#[test]
+fn traced_once_and_memory_refused_once(rt: HostRuntime) -> Result<(), Fail> {
+    let config = one_queue_with(rt.alloc(), &tracing_policy())?;
+    let mut engine = open(&rt, rt.alloc(), config)?;
+    let failed = Completion::new(CcbId(1), CamStatus::ScsiStatusError, 2, &[112, 0, 6]);
+    let failed = failed.ok_or("no completion")?;
+    let outcome = recover_once(&rt, &mut engine, failed);
+    let trace = shut(engine);
+    outcome?;
+    let seven = ShortBytes::new(&[7, 0, 0, 0, 0, 0, 0, 0]).ok_or("no bytes")?;
+    let records = [
+        Record::Complete {
+            completion: completed(rt.alloc(), &failed)?,
+            answer: Ok(Completed::Started { run: 1, freeze: 1 }),
+        },
+        advanced(6, StoppedAt::Trace(traced(rt.alloc(), seven)?)),
+        advanced(3, StoppedAt::Helper(Helper::Release)),
+        advanced(2, StoppedAt::Helper(Helper::Requeue)),
+        advanced(2, StoppedAt::Exit),
+    ];
+    assert!(rt; are_told(rt.alloc(), &trace.records[2..], &records)?);
+    Ok(())
 }

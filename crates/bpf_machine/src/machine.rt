@@ -117,11 +117,13 @@ impl Machine {
         ensures end { private_step program.now self.new ≡ None }
         ensures short { result < budget }
     {
+        let rows = program.rows();
         let mut place = self.place;
         let mut registers = self.registers;
         let mut steps = 0;
         while let Some(next) = advance(
             program,
+            rows,
             place,
             &mut registers,
             &self.context,

@@ -45,6 +45,13 @@ is_due reading (Run run) = false
 is_due reading (Timer due) = nat_le due reading
 is_due reading (Guest guest) = false
 
+-- the freezes whose timers are due at this clock reading, and all others
+abbrev pub due_at : ℕ → List Freeze → List Freeze
+due_at reading freezes = filter (λ freeze. is_due reading freeze.holder) freezes
+
+abbrev pub not_due_at : ℕ → List Freeze → List Freeze
+not_due_at reading freezes = filter (λ freeze. not (is_due reading freeze.holder)) freezes
+
 -- the number and the holder of each freeze of the queue
 abbrev pub holders_of : ℕ → List Freeze → List (ℕ × Holder)
 holders_of queue freezes = map (λ freeze. (freeze.number, freeze.holder)) (filter (names queue) freezes)

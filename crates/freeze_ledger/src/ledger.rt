@@ -204,9 +204,10 @@ impl Ledger {
         self.counts.len() as u32
     }
 
-    /// All entries, by rising number.
+    /// All entries, at most 1024, by rising number.
     pub fn entries(&self) -> &[Freeze]
         ensures entries { result.now ≡ self.now.freezes }
+        ensures bound { length result.now ≤ MAX_FREEZES }
         ensures rising { AreRising 0 (map (λ freeze. freeze.number) result.now) self.now.greatest }
     {
         &self.freezes

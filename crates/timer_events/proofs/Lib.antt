@@ -1,2 +1,3 @@
 pub mod First
 pub mod Worked
+pub mod Expiring

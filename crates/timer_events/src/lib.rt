@@ -1,8 +1,8 @@
-// Which timer lets its freeze go next. It relies on `freeze_ledger` for the entries and who holds them.
+// Which timer lets its freeze go next, and what becomes of all that are due. It relies on `freeze_ledger` for the entries and who holds them.
 #![tactic(auto)]
 
 mod due_timer;
 pub mod laws;
 mod timers;
 
-pub use timers::next_due;
+pub use timers::{expire_due, next_due};

@@ -6,7 +6,7 @@ use freeze_ledger::{FreezeToken, Holder, Ledger};
 use std::alloc::{AllocError, Global};
 use std::process::Abort;
 use std::test::Fail;
-use timer_events::next_due;
+use timer_events::{expire_due, next_due};
 
 const QUEUE: QueueId = QueueId(0);
 
@@ -41,6 +41,10 @@ fn goes_next(ledger: &mut Ledger, reading: u64) -> Option<u32> {
     Some(number)
 }
 
+fn all_go(ledger: &mut Ledger, reading: u64) -> u32 {
+    expire_due(ledger, reading)
+}
+
 fn len(ledger: &Ledger) -> usize {
     ledger.len()
 }
@@ -49,6 +53,17 @@ fn len(ledger: &Ledger) -> usize {
 fn freeze_until(ledger: &mut Ledger, guest: u32, due: u64) -> bool {
     match take(ledger, QUEUE, guest) {
         Some(token) => hand_over(ledger, token, due),
+        None => false,
+    }
+}
+
+// A guest's freeze that nobody will give back.
+fn freeze_for_good(ledger: &mut Ledger, guest: u32) -> bool {
+    match take(ledger, QUEUE, guest) {
+        Some(token) => {
+            token.forfeit();
+            true
+        }
         None => false,
     }
 }
@@ -67,6 +82,19 @@ fn go_in_order(rt: &impl Abort, ledger: &mut Ledger) {
     assert_eq!(rt; len(ledger), 0);
 }
 
+// Of the freezes of a guest and of three timers those of two go at once, and the guest's stays.
+fn go_at_once(rt: &impl Abort, ledger: &mut Ledger) {
+    let guest = 7;
+    for due in [10, 30, 20] {
+        assert!(rt; freeze_until(ledger, guest, due));
+    }
+    assert!(rt; freeze_for_good(ledger, guest));
+    assert_eq!(rt; all_go(ledger, 20), 2);
+    assert_eq!(rt; all_go(ledger, 20), 0);
+    assert_eq!(rt; goes_next(ledger, 30), Some(2));
+    assert_eq!(rt; len(ledger), 1);
+}
+
 // Where memory is refused the same call again succeeds.
 #[test]
 fn timers_let_go_in_the_order_of_their_times(rt: HostRuntime) -> Result<(), Fail> {
@@ -77,6 +105,19 @@ fn timers_let_go_in_the_order_of_their_times(rt: HostRuntime) -> Result<(), Fail
         Err(AllocError) => with_room(alloc, queues)?,
     };
     go_in_order(&rt, &mut ledger);
+    Ok(())
+}
+
+// The same, of a ledger of its own.
+#[test]
+fn a_reading_lets_all_go_that_are_due(rt: HostRuntime) -> Result<(), Fail> {
+    let alloc = rt.alloc();
+    let queues = 1;
+    let mut ledger = match with_room(alloc, queues) {
+        Ok(ledger) => ledger,
+        Err(AllocError) => with_room(alloc, queues)?,
+    };
+    go_at_once(&rt, &mut ledger);
     Ok(())
 }
 

@@ -121,7 +121,7 @@ fn a_reading_lets_all_go_that_are_due(rt: HostRuntime) -> Result<(), Fail> {
     Ok(())
 }
 
-// A token of another ledger comes back, and is given back there.
+// A token of another ledger comes back, and nothing is handed over.
 #[test]
 fn no_foreign_token_is_handed_over(rt: HostRuntime) -> Result<(), Fail> {
     let alloc = rt.alloc();

@@ -70,6 +70,9 @@ fn command_of(line: &str) -> Option<Command> {
         ("grelease", Some(freeze), None, None, None) => Some(Command::GuestRelease {
             freeze: number(freeze)?,
         }),
+        ("clock", Some(reading), None, None, None) => Some(Command::Clock {
+            reading: long_number(reading)?,
+        }),
         _ => None,
     }
 }
@@ -83,7 +86,20 @@ fn completion(ccb: &str, status: &str, scsi: &str) -> Option<Completion> {
 
 // A number below 2^32 in decimal digits, without a sign and without leading zeros.
 fn number(word: &str) -> Option<u32>
-    ensures { MatchOption result ((n : ℕ) → ¬ (IsNumber word.now n)) (IsNumber word.now) }
+    ensures { MatchOption result ((n : ℕ) → ¬ (IsNumber 32 word.now n)) (IsNumber 32 word.now) }
+{
+    if word != "0" && word.starts_with('0') {
+        return None;
+    }
+    if !has_digits_alone(word) {
+        return None;
+    }
+    word.parse().ok()
+}
+
+// The same of a number below 2^64.
+fn long_number(word: &str) -> Option<u64>
+    ensures { MatchOption result ((n : ℕ) → ¬ (IsNumber 64 word.now n)) (IsNumber 64 word.now) }
 {
     if word != "0" && word.starts_with('0') {
         return None;

@@ -1,10 +1,10 @@
 // Reads a scenario: a command a line, in the words that `steps` has names for. It relies on `hexadecimal` for
 // bytes and on `ccb` for what a completion may say.
 
-ghost use Rattle.std.specs.Prelude.{◌≡◌, ℕ, MatchOption};
+ghost use Rattle.std.specs.Prelude.{◌≡◌, ◌&&◌, not, ℕ, MatchOption};
 ghost use Rattle.std.specs.Char.{is_ascii_digit};
 ghost use Rattle.std.specs.List.{list_all};
-ghost use Rattle.scenario.specs.Numeral.{IsNumber};
+ghost use Rattle.scenario.specs.Numeral.{IsNumber, has_leading_zero};
 
 use crate::steps::{Command, Step};
 use ccb::{CamStatus, CcbId, Completion, QueueId};
@@ -88,10 +88,7 @@ fn completion(ccb: &str, status: &str, scsi: &str) -> Option<Completion> {
 fn number(word: &str) -> Option<u32>
     ensures { MatchOption result ((n : ℕ) → ¬ (IsNumber 32 word.now n)) (IsNumber 32 word.now) }
 {
-    if word != "0" && word.starts_with('0') {
-        return None;
-    }
-    if !has_digits_alone(word) {
+    if !is_decimal(word) {
         return None;
     }
     word.parse().ok()
@@ -101,13 +98,20 @@ fn number(word: &str) -> Option<u32>
 fn long_number(word: &str) -> Option<u64>
     ensures { MatchOption result ((n : ℕ) → ¬ (IsNumber 64 word.now n)) (IsNumber 64 word.now) }
 {
-    if word != "0" && word.starts_with('0') {
-        return None;
-    }
-    if !has_digits_alone(word) {
+    if !is_decimal(word) {
         return None;
     }
     word.parse().ok()
+}
+
+// Whether the word is digits alone, without leading zeros.
+fn is_decimal(word: &str) -> bool
+    ensures { result ≡ (not (has_leading_zero word.now) && list_all is_ascii_digit word.now) }
+{
+    if word != "0" && word.starts_with('0') {
+        return false;
+    }
+    has_digits_alone(word)
 }
 
 fn has_digits_alone(word: &str) -> bool

@@ -9,16 +9,16 @@ use Rattle.freeze_ledger.specs.Freezes.{entry_of}
 use Rattle.recoveries.specs.RecoveryState.{RecoveryState, with_recoveries}
 use Rattle.world.specs.declared.refusal.Refusal.{Refusal}
 use Rattle.world.specs.declared.record.Record.{Record}
-use Rattle.world.specs.declared.record.Record.TheVariants.{Submit, Dispatch, Complete, Advance, GuestFreeze, GuestRelease}
+use Rattle.world.specs.declared.record.Record.TheVariants.{Submit, Dispatch, Complete, Advance, GuestFreeze, GuestRelease, Clock}
 use Rattle.world.specs.declared.record.StoppedAt.{StoppedAt}
 use Rattle.world.specs.declared.record.Completed.{Completed}
 use Rattle.world.specs.declared.record.Completed.TheVariants.{Done}
 use Rattle.world.specs.World.{Setup, World, queue_count}
-use Rattle.world.specs.Event.{submit, dispatch, complete, guest_freeze, guest_release, done, count_left}
-use Rattle.world.specs.FreezeSteps.{step_guest_freeze, step_guest_release}
+use Rattle.world.specs.Event.{submit, dispatch, complete, guest_freeze, guest_release, clock_reads, done, count_left}
+use Rattle.world.specs.FreezeSteps.{step_guest_freeze, step_guest_release, step_clock_reads}
 use Rattle.world.specs.CcbSteps.{step_submit, step_dispatch, step_complete, finishes}
 use Rattle.world.specs.WorldRun.{Leads}
-use Rattle.world.specs.Flat.{ccb_reply, completed_reply, freeze_reply, events_of}
+use Rattle.world.specs.Flat.{ccb_reply, completed_reply, freeze_reply, clock_reply, events_of}
 use Rattle.world.proofs.Lists.Found.{leave}
 use Rattle.world.proofs.Steps.Moves.{ccb_key}
 use Rattle.engine_core.specs.EngineState.{world_of}
@@ -48,6 +48,12 @@ guest_releases setup history later ccbs recoveries after freeze count kept is sa
     let before : World = world_of setup history ccbs recoveries in
     goes_once setup history later ccbs ccbs recoveries after (GuestRelease freeze count) (guest_release freeze) (count_left count) (with_recoveries after before) kept is same refl
     (step before) refl
+
+pub reads_clock : (setup : Setup) (history later : List Record) (ccbs : CcbsState) (recoveries after : RecoveryState) (reading : ℕ) (answer : Result ℕ Refusal) → KeepsEngine setup history ccbs recoveries → later ≡ history ++ Clock reading answer ∷ [] → after.queues ≡ recoveries.queues → ((world : World) → step_clock_reads (with_recoveries recoveries world) reading ≡ (clock_reply answer, with_recoveries after world)) → Goes setup history later ccbs ccbs recoveries after (Clock reading answer)
+reads_clock setup history later ccbs recoveries after reading answer kept is same step =
+    let before : World = world_of setup history ccbs recoveries in
+    goes_once setup history later ccbs ccbs recoveries after (Clock reading answer) (clock_reads reading) (clock_reply answer) (with_recoveries after before) kept is same refl
+    (ap Some (step before)) refl
 
 pub completes : (setup : Setup) (history later : List Record) (ccbs more : CcbsState) (recoveries after : RecoveryState) (outcome : Outcome) (answer : Result Completed Refusal) (world : World) → KeepsEngine setup history ccbs recoveries → later ≡ history ++ Complete outcome answer ∷ [] → after.queues ≡ recoveries.queues → step_complete setup (world_of setup history ccbs recoveries) outcome ≡ Some (completed_reply answer, world) → IsWorldOf world more after → Goes setup history later ccbs more recoveries after (Complete outcome answer)
 completes setup history later ccbs more recoveries after outcome answer world kept is same step fields =

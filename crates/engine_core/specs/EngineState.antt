@@ -26,6 +26,7 @@ world_of setup history ccbs recoveries = record {
   greatest_ccb = ccbs.greatest;
   greatest_run = recoveries.greatest_run;
   greatest_freeze = recoveries.greatest_freeze;
+  clock = recoveries.clock;
 }
 
 abbrev pub opened : Setup → EngineState

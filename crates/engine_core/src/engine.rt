@@ -7,7 +7,7 @@ ghost use Rattle.freeze_ledger.specs.declared.freeze.Holder.TheVariants.{Guest};
 ghost use Rattle.ccb_table.specs.CcbsState.{no_ccbs};
 ghost use Rattle.recoveries.specs.RecoveryState.{no_recoveries};
 ghost use Rattle.recoveries.specs.Admits.{IsOutAs};
-ghost use Rattle.world.specs.declared.record.Record.TheVariants.{Submit, Dispatch, Complete, Advance, GuestFreeze, GuestRelease};
+ghost use Rattle.world.specs.declared.record.Record.TheVariants.{Submit, Dispatch, Complete, Advance, GuestFreeze, GuestRelease, Clock};
 ghost use Rattle.world.specs.World.{queue_count};
 ghost use Rattle.world.specs.TotalsOf.{TotalsOf, totals_in};
 ghost use Rattle.engine_core.specs.EngineState.{EngineState, opened, IsRun, Records, GuestHolds};
@@ -286,6 +286,24 @@ impl Engine {
         self.history
             .push_reserved(Record::GuestRelease { freeze, count });
         Ok(count)
+    }
+
+    /// Takes a clock reading, in milliseconds: the freezes go whose timers are due at or before it, and no others. The
+    /// answer is how many these were, at most 1024. C2 above 2^62; C5 below the last reading, which is 0 before the
+    /// first. Both are recorded and change nothing else.
+    pub fn clock(&mut self, reading: u64) -> Result<u32, CallFault>
+        ensures answered { IfOk result (λ count. Records self.old self.new (Clock reading (Ok count))) }
+        ensures fault { IfErr result (λ fault. FaultIs fault (self.new ≡ self.old) (λ refusal. Records self.old self.new (Clock reading (Err refusal)))) }
+        ensures run { IsRun self.new }
+    {
+        self.history.reserve(1)?;
+        let answer = self.recoveries.read_clock(reading);
+        self.history
+            .push_reserved(Record::Clock { reading, answer });
+        match answer {
+            Ok(count) => Ok(count),
+            Err(refusal) => Err(CallFault::Refused(refusal)),
+        }
     }
 
     /// The sums so far.

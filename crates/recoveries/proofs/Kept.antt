@@ -1,5 +1,5 @@
 -- What the freezes and the records keep is kept by each call.
-use Rattle.std.proofs.Common.{◌≡◌, ℕ, ◌+◌, ◌<◌, ◌≤◌, List, [], ◌∷◌, ◌++◌, map, length, get_or, set, take, drop, suc, true, false, Option, Some, None, inl, inr, refl, ap, sym, subst, ◌∙◌, arith, length-append}
+use Rattle.std.proofs.Common.{◌≡◌, ℕ, ◌+◌, ◌<◌, ◌≤◌, List, [], ◌∷◌, ◌++◌, map, length, get_or, set, take, drop, suc, true, false, not, Option, Some, None, inl, inr, refl, ap, sym, subst, ◌∙◌, arith, length-append}
 use Rattle.std.specs.List.{All, remove}
 use Rattle.std.specs.Option.{option_to_list}
 use Rattle.std.proofs.lemmas.Bool.{cases_eq, eq-eqb, ne_eqb, eqb-true}
@@ -9,7 +9,7 @@ use Rattle.std.proofs.lemmas.List.Edits.{length-remove}
 use Rattle.std.proofs.Math.ListN.{length-set}
 use Rattle.freeze_ledger.specs.declared.freeze.Holder.TheVariants.{Run}
 use Rattle.freeze_ledger.specs.declared.freeze.Freeze.{Freeze}
-use Rattle.freeze_ledger.specs.Freezes.{entry_of, without}
+use Rattle.freeze_ledger.specs.Freezes.{entry_of, without, is_due, not_due_at}
 use Rattle.freeze_ledger.specs.State.{LedgerState, with_entry, with_freezes}
 use Rattle.world.specs.World.{LiveRun}
 use Rattle.ccb.specs.Rising.{AreRising}
@@ -17,16 +17,16 @@ use Rattle.world.specs.RunSteps.{is_run}
 use Rattle.world.specs.FreezeSteps.{is_guest}
 use Rattle.world.specs.FreezeLaws.{entries_of}
 use Rattle.world.proofs.Lists.Found.{put_keys}
-use Rattle.world.proofs.Lists.Rising.{rising_push, rising_leave}
+use Rattle.world.proofs.Lists.Rising.{rising_push, rising_leave, rising_filter}
 use Rattle.world.proofs.Lists.Placed.{below, apart}
 use Rattle.world.proofs.Lists.Entries.{freeze_key, FreezesRise}
-use Rattle.world.proofs.Lists.HeldBy.{entries_push_other, entries_without_other}
+use Rattle.world.proofs.Lists.HeldBy.{entries_push_other, entries_kept, entries_without_other}
 use Rattle.recoveries.specs.declared.run_record.RunRecord.{RunRecord}
 use Rattle.recoveries.specs.RecoveryState.{tokens_of}
 use Rattle.recoveries.specs.LiveRuns.{live_of, lives_of, number_of}
 use Rattle.recoveries.specs.Invariant.{HoldsItsEntries, NamesStarted, KeepsRecoveries}
 use Rattle.recoveries.proofs.Records.{key_of, own, record_changed, record_removed}
-use Rattle.recoveries.proofs.Tokens.{other_run, guest_is_no_run, entries_push_own, entries_none}
+use Rattle.recoveries.proofs.Tokens.{other_run, guest_is_no_run, run_is_not_due, entries_push_own, entries_none}
 
 -- a guest's freeze more
 pub kept_guest : (rs : List RunRecord) (capacity greatest : ℕ) (before : LedgerState) (f : Freeze) → KeepsRecoveries rs capacity before greatest → f.number ≡ before.greatest + 1 → is_guest f.holder ≡ true → KeepsRecoveries rs capacity (with_entry before f) greatest
@@ -46,6 +46,18 @@ kept_without rs capacity greatest n before f k entry guests = record {
   tokens = λ i d l. k.tokens i d l ∙ ap tokens_of (sym (entries_without_other (get_or rs i d).number n 0 before.freezes before.greatest f k.numbered entry (guest_is_no_run _ f.holder guests)));
   started = All-filter _ (NamesStarted greatest) before.freezes k.started;
   numbered = rising_leave freeze_key 0 before.freezes before.greatest n k.numbered;
+  within = k.within;
+  room = k.room;
+}
+
+-- the due timers' entries fewer
+pub kept_expired : (rs : List RunRecord) (capacity greatest reading : ℕ) (before : LedgerState) → KeepsRecoveries rs capacity before greatest → KeepsRecoveries rs capacity (with_freezes before (not_due_at reading before.freezes)) greatest
+kept_expired rs capacity greatest reading before k = record {
+  rising = k.rising;
+  tokens = λ i d l. k.tokens i d l ∙ ap tokens_of (sym (entries_kept (get_or rs i d).number 0 before.freezes before.greatest (λ (f : Freeze). is_due reading f.holder) k.numbered
+      (λ n f there its. run_is_not_due reading (get_or rs i d).number f.holder its)));
+  started = All-filter _ (NamesStarted greatest) before.freezes k.started;
+  numbered = rising_filter freeze_key (λ (f : Freeze). not (is_due reading f.holder)) 0 before.freezes before.greatest k.numbered;
   within = k.within;
   room = k.room;
 }

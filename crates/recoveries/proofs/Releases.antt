@@ -34,8 +34,8 @@ pub record StandsReady (rs : List RunRecord) (ledger : LedgerState) (freeze plac
   pub rising : FreezesRise 0 (entries_of r.number ledger.freezes) ledger.greatest
   pub token : (k : ℕ) × (k < length r.tokens.items) × (told (get_or r.tokens.items k None) ≡ freeze)
 
-pub stands_ready : (rs : List RunRecord) (capacity greatest freeze place : ℕ) (ledger : LedgerState) (r : RunRecord) → KeepsRecoveries rs capacity ledger greatest → MayRelease place freeze (state_of ledger (lives_of rs) greatest) → r ≡ get_or rs place r → StandsReady rs ledger freeze place r
-stands_ready rs capacity greatest freeze place ledger r k may stands =
+pub stands_ready : (rs : List RunRecord) (capacity greatest clock freeze place : ℕ) (ledger : LedgerState) (r : RunRecord) → KeepsRecoveries rs capacity ledger greatest → MayRelease place freeze (state_of ledger (lives_of rs) greatest clock) → r ≡ get_or rs place r → StandsReady rs ledger freeze place r
+stands_ready rs capacity greatest clock freeze place ledger r k may stands =
     let at = run_at rs place may.0 r may.2 stands in
     let its : is_run r.number may.1.holder ≡ true = ap (λ (x : LiveRun). is_run x.number may.1.holder) at.1 ∙ may.4 in
     let tokens : r.tokens.items ≡ tokens_of (entries_of r.number ledger.freezes) = subst (HoldsItsEntries ledger.freezes) (sym stands) (k.tokens place r at.0) in

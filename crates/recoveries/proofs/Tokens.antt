@@ -7,7 +7,7 @@ use Rattle.std.proofs.lemmas.List.Elements.{All-head, All-tail, filter-append}
 use Rattle.freeze_ledger.specs.declared.freeze.Holder.{Holder}
 use Rattle.freeze_ledger.specs.declared.freeze.Holder.TheVariants.{Run, Timer, Guest}
 use Rattle.freeze_ledger.specs.declared.freeze.Freeze.{Freeze}
-use Rattle.freeze_ledger.specs.Freezes.{entry_of, without}
+use Rattle.freeze_ledger.specs.Freezes.{entry_of, without, is_due}
 use Rattle.world.specs.RunSteps.{is_run}
 use Rattle.world.specs.FreezeSteps.{is_guest}
 use Rattle.world.specs.FreezeLaws.{entries_of}
@@ -37,6 +37,12 @@ pub guest_is_no_run : (a : ℕ) (h : Holder) → is_guest h ≡ true → is_run 
 guest_is_no_run a (Run x) p = absurd (let bad : false ≡ true = p in cc)
 guest_is_no_run a (Timer x) p = refl
 guest_is_no_run a (Guest x) p = refl
+
+-- no timer holds what a run holds
+pub run_is_not_due : (reading a : ℕ) (h : Holder) → is_run a h ≡ true → is_due reading h ≡ false
+run_is_not_due reading a (Run x) p = refl
+run_is_not_due reading a (Timer x) p = absurd (let bad : false ≡ true = p in cc)
+run_is_not_due reading a (Guest x) p = refl
 
 -- one more of its own
 pub entries_push_own : (r : ℕ) (fs : List Freeze) (f : Freeze) → is_run r f.holder ≡ true → entries_of r (fs ++ f ∷ []) ≡ entries_of r fs ++ f ∷ []

@@ -19,31 +19,35 @@ pub record RecoveryState : Type 0 where
   -- the greatest freeze and run numbers that were given
   pub greatest_freeze : ℕ
   pub greatest_run : ℕ
+  -- what the clock read last, in milliseconds, 0 before the first reading
+  pub clock : ℕ
 
 abbrev pub no_recoveries : ℕ → RecoveryState
-no_recoveries queues = record { queues = queues; freezes = []; runs = []; greatest_freeze = 0; greatest_run = 0 }
+no_recoveries queues = record { queues = queues; freezes = []; runs = []; greatest_freeze = 0; greatest_run = 0; clock = 0 }
 
--- the world with these freezes and runs
+-- the world with these freezes and runs, and this clock
 abbrev pub with_recoveries : RecoveryState → World → World
 with_recoveries state world = record world {
   freezes = state.freezes;
   runs = state.runs;
   greatest_freeze = state.greatest_freeze;
   greatest_run = state.greatest_run;
+  clock = state.clock;
 }
 
 -- the ledger of the freezes
 abbrev pub ledger_of : RecoveryState → LedgerState
 ledger_of state = record { queues = state.queues; greatest = state.greatest_freeze; freezes = state.freezes }
 
--- what a ledger and the runs beside it are
-abbrev pub state_of : LedgerState → List LiveRun → ℕ → RecoveryState
-state_of ledger runs greatest_run = record {
+-- what a ledger, the runs beside it and the clock are
+abbrev pub state_of : LedgerState → List LiveRun → (greatest_run clock : ℕ) → RecoveryState
+state_of ledger runs greatest_run clock = record {
   queues = ledger.queues;
   freezes = ledger.freezes;
   runs = runs;
   greatest_freeze = ledger.greatest;
   greatest_run = greatest_run;
+  clock = clock;
 }
 
 -- what is answered where this was taken

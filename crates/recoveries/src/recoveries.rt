@@ -1,5 +1,5 @@
-// The freezes and the live runs, in the order of their numbers. It relies on `freeze_ledger` for freezes, on `run_record`
-// for what is recorded of a run, and on `world` for what each call means.
+// The freezes, the live runs and the clock. It relies on `freeze_ledger` for freezes, on `timer_events` for those that a
+// clock reading lets go, on `run_record` for what is recorded of a run, and on `world` for what each call means.
 
 ghost use Rattle.std.specs.Prelude.{◌≡◌, ℕ, ◌<◌, ◌≤◌, ◌==◌, ◌↔◌, true, false, not, List, [], length, filter, Contains, Some, None, IsTrue, IsSome, IfSome, IfOk, Bool};
 ghost use Rattle.std.specs.Arc.{arc_value};
@@ -15,7 +15,8 @@ ghost use Rattle.world.specs.World.{Setup, queue_count, queue_setup, LiveRun, Wo
 ghost use Rattle.world.specs.Capacities.{most_runs};
 ghost use Rattle.world.specs.Lookups.{run_of, with_run, with_ccb};
 ghost use Rattle.world.specs.Event.{run_started, count_left};
-ghost use Rattle.world.specs.FreezeSteps.{frozen_with, is_guest, step_guest_freeze, step_guest_release};
+ghost use Rattle.world.specs.FreezeSteps.{frozen_with, is_guest, step_guest_freeze, step_guest_release, step_clock_reads};
+ghost use Rattle.world.specs.Flat.{clock_reply};
 ghost use Rattle.world.specs.CcbSteps.{recovers, run_meets_limit};
 ghost use Rattle.world.specs.RunSteps.{is_run};
 ghost use Rattle.world.specs.FreezeLaws.{entries_of};
@@ -36,19 +37,25 @@ use interpreter::{Segment, pass};
 use std::alloc::{AllocError, Global};
 use std::marker::Model;
 use std::sync::Arc;
+use timer_events::expire_due;
 use verifier::Accepted;
 use world::Refusal;
 
 /// How many runs can be live at a time.
 const MAX_RUNS: usize = 256;
 
+/// The last clock reading that there is, in milliseconds: 2^62.
+const LAST_READING: u64 = 4_611_686_018_427_387_904;
+
 /// The freezes of a fixed number of device queues, and the live runs with what they hold of them. Contracts see the
-/// freezes and the runs, each in the order of their numbers, and the greatest numbers given so far.
+/// freezes and the runs, each in the order of their numbers, the greatest numbers given so far, and what the clock read
+/// last.
 #[derive(Drop)]
 pub struct Recoveries {
     ledger: Ledger,
     runs: Vec<RunRecord>,
     greatest_run: u32,
+    clock: u64,
 }
 
 impl Model for Recoveries {
@@ -60,7 +67,7 @@ impl Model for Recoveries {
     ghost use Rattle.recoveries.specs.LiveRuns.{lives_of};
     ghost use Rattle.recoveries.specs.Invariant.{KeepsRecoveries};
 
-    ghost view = { λ r. state_of r.ledger (lives_of r.runs.items) r.greatest_run };
+    ghost view = { λ r. state_of r.ledger (lives_of r.runs.items) r.greatest_run r.clock };
 
     ghost invariant = { λ r. KeepsRecoveries r.runs.items (vec_capacity r.runs) r.ledger r.greatest_run };
 }
@@ -92,6 +99,7 @@ impl Recoveries {
             ledger: Ledger::with_room(alloc, queues)?,
             runs: Vec::with_capacity(alloc, MAX_RUNS)?,
             greatest_run: 0,
+            clock: 0,
         })
     }
 
@@ -154,6 +162,24 @@ impl Recoveries {
                 unreachable!()
             }
         }
+    }
+
+    /// Reads the clock, in milliseconds: the freezes go whose timers are due at or before the reading, and no others; it
+    /// answers how many these were, at most 1024. C2 above 2^62, and C5 below the last reading. A refusal changes
+    /// nothing.
+    pub fn read_clock(&mut self, reading: u64) -> Result<u32, Refusal>
+        ensures step { (world : World) →
+            step_clock_reads (with_recoveries self.old world) reading ≡ (clock_reply result, with_recoveries self.new world) }
+        ensures queues { self.new.queues ≡ self.old.queues }
+    {
+        if reading > LAST_READING {
+            return Err(Refusal::Limit);
+        }
+        if reading < self.clock {
+            return Err(Refusal::GoesBack);
+        }
+        self.clock = reading;
+        Ok(expire_due(&mut self.ledger, reading))
     }
 
     /// Whether a further run meets a limit: 256 are live, or the numbers up to 4,294,967,295 are used up.

@@ -9,9 +9,9 @@ has_leading_zero (x ∷ []) = false
 has_leading_zero (x ∷ y ∷ rest) = x == 48
 
 -- the word spells the number in decimal digits, without a sign and without leading zeros; it is
--- below 2^32
-pub record IsNumber (word : List ℕ) (n : ℕ) : Type 0 where
+-- below 2^bits
+pub record IsNumber (bits : ℕ) (word : List ℕ) (n : ℕ) : Type 0 where
   pub digits : IsNumeral 10 word
   pub shortest : has_leading_zero word ≡ false
   pub value : n ≡ digits_value 10 word
-  pub fits : n < 2 ^ 32
+  pub fits : n < 2 ^ bits

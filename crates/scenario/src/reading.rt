@@ -1,10 +1,10 @@
 // Reads a scenario: a command a line, in the words that `steps` has names for. It relies on `hexadecimal` for
 // bytes and on `ccb` for what a completion may say.
 
-ghost use Rattle.std.specs.Prelude.{◌≡◌, ℕ, MatchOption};
+ghost use Rattle.std.specs.Prelude.{◌≡◌, ◌&&◌, not, ℕ, MatchOption};
 ghost use Rattle.std.specs.Char.{is_ascii_digit};
 ghost use Rattle.std.specs.List.{list_all};
-ghost use Rattle.scenario.specs.Numeral.{IsNumber};
+ghost use Rattle.scenario.specs.Numeral.{IsNumber, has_leading_zero};
 
 use crate::steps::{Command, Step};
 use ccb::{CamStatus, CcbId, Completion, QueueId};
@@ -70,6 +70,9 @@ fn command_of(line: &str) -> Option<Command> {
         ("grelease", Some(freeze), None, None, None) => Some(Command::GuestRelease {
             freeze: number(freeze)?,
         }),
+        ("clock", Some(reading), None, None, None) => Some(Command::Clock {
+            reading: long_number(reading)?,
+        }),
         _ => None,
     }
 }
@@ -83,15 +86,32 @@ fn completion(ccb: &str, status: &str, scsi: &str) -> Option<Completion> {
 
 // A number below 2^32 in decimal digits, without a sign and without leading zeros.
 fn number(word: &str) -> Option<u32>
-    ensures { MatchOption result ((n : ℕ) → ¬ (IsNumber word.now n)) (IsNumber word.now) }
+    ensures { MatchOption result ((n : ℕ) → ¬ (IsNumber 32 word.now n)) (IsNumber 32 word.now) }
 {
-    if word != "0" && word.starts_with('0') {
-        return None;
-    }
-    if !has_digits_alone(word) {
+    if !is_decimal(word) {
         return None;
     }
     word.parse().ok()
+}
+
+// The same of a number below 2^64.
+fn long_number(word: &str) -> Option<u64>
+    ensures { MatchOption result ((n : ℕ) → ¬ (IsNumber 64 word.now n)) (IsNumber 64 word.now) }
+{
+    if !is_decimal(word) {
+        return None;
+    }
+    word.parse().ok()
+}
+
+// Whether the word is digits alone, without leading zeros.
+fn is_decimal(word: &str) -> bool
+    ensures { result ≡ (not (has_leading_zero word.now) && list_all is_ascii_digit word.now) }
+{
+    if word != "0" && word.starts_with('0') {
+        return false;
+    }
+    has_digits_alone(word)
 }
 
 fn has_digits_alone(word: &str) -> bool

@@ -30,6 +30,10 @@ pub enum Command {
     GuestRelease {
         freeze: u32,
     },
+    /// `clock T`: the clock reads T, in milliseconds.
+    Clock {
+        reading: u64,
+    },
 }
 
 /// A command with its line, the first being 1.

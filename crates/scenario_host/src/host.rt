@@ -6,7 +6,7 @@ ghost use Rattle.scenario_host.specs.declared.host.RunFault.TheVariants.{OutOfMe
 
 use crate::completions::Completions;
 use crate::driver;
-use ccb::{CcbId, Completion, QueueId};
+use ccb::{Completion, QueueId};
 use engine_core::{CallFault, Config, Engine, ReleaseFault, Trace};
 use freeze_ledger::FreezeToken;
 use scenario::{Command, Step};
@@ -51,7 +51,7 @@ struct Host {
 }
 
 // A refusal is recorded, and the scenario goes on.
-fn recorded(answer: Result<CcbId, CallFault>) -> Result<(), RunFault> {
+fn recorded<T: Copy>(answer: Result<T, CallFault>) -> Result<(), RunFault> {
     match answer {
         Ok(_) | Err(CallFault::Refused(_)) => Ok(()),
         Err(CallFault::OutOfMemory) => Err(RunFault::OutOfMemory),
@@ -90,6 +90,7 @@ impl Host {
             Command::Drain => self.drain(),
             Command::GuestFreeze { queue, guest } => Ok(self.freeze(queue, guest)?),
             Command::GuestRelease { freeze } => self.release(freeze, step.line),
+            Command::Clock { reading } => recorded(self.engine.clock(reading)),
         }
     }
 

@@ -36,10 +36,7 @@ fn print_record<W: Write>(record: &Record, out: &mut W) -> io::Result<()> {
             write!(out, "dispatch {} = ", queue.0)?;
             print_ccb(*answer, out)
         }
-        Record::Complete { completion, answer } => {
-            print_completion(completion, out)?;
-            print_completed(*answer, out)
-        }
+        Record::Complete { completion, answer } => print_completion(completion, *answer, out),
         Record::Advance {
             run,
             instructions,
@@ -59,6 +56,7 @@ fn print_record<W: Write>(record: &Record, out: &mut W) -> io::Result<()> {
             print_freeze(*answer, out)
         }
         Record::GuestRelease { freeze, count } => writeln!(out, "grelease {freeze} = {count}"),
+        Record::Clock { reading, answer } => print_clock(*reading, *answer, out),
     }
 }
 
@@ -87,6 +85,17 @@ fn print_freeze<W: Write>(answer: Result<u32, Refusal>, out: &mut W) -> io::Resu
     }
 }
 
+fn print_clock<W: Write>(
+    reading: u64,
+    answer: Result<u32, Refusal>,
+    out: &mut W,
+) -> io::Result<()> {
+    match answer {
+        Ok(count) => writeln!(out, "clock {reading} = {count}"),
+        Err(refusal) => writeln!(out, "clock {reading} = {refusal}"),
+    }
+}
+
 fn print_completed<W: Write>(answer: Result<Completed, Refusal>, out: &mut W) -> io::Result<()> {
     match answer {
         Ok(Completed::Done) => writeln!(out, "done"),
@@ -104,7 +113,11 @@ fn print_bytes<W: Write>(bytes: &[u8], out: &mut W) -> io::Result<()> {
 }
 
 // The status, the SCSI status and the sense bytes are pairs of hexadecimal digits, and no bytes are `-`.
-fn print_completion<W: Write>(completion: &CompletionRecord, out: &mut W) -> io::Result<()> {
+fn print_completion<W: Write>(
+    completion: &CompletionRecord,
+    answer: Result<Completed, Refusal>,
+    out: &mut W,
+) -> io::Result<()> {
     let status = completion.status().code();
     let scsi = completion.scsi();
     write!(
@@ -117,5 +130,6 @@ fn print_completion<W: Write>(completion: &CompletionRecord, out: &mut W) -> io:
         write!(out, "-")?;
     }
     print_bytes(sense.as_slice(), out)?;
-    write!(out, " = ")
+    write!(out, " = ")?;
+    print_completed(answer, out)
 }

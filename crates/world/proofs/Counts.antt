@@ -1,15 +1,15 @@
 -- Frozen counts move as the entries do.
-use Rattle.std.proofs.Common.{◌≡◌, ℕ, ◌+◌, List, false, cond, eqb, Some, ap, sym, subst, ◌∙◌, arith}
+use Rattle.std.proofs.Common.{◌≡◌, ℕ, ◌+◌, List, false, cond, eqb, Some, ap, refl, sym, subst, ◌∙◌, arith}
 use Rattle.std.proofs.lemmas.Bool.{ne_eqb}
 use Rattle.freeze_ledger.specs.declared.freeze.Freeze.{Freeze}
-use Rattle.freeze_ledger.specs.Freezes.{frozen, entry_of, without}
+use Rattle.freeze_ledger.specs.Freezes.{frozen, entry_of, without, due_at}
 use Rattle.world.specs.FreezeSteps.{frozen_with}
 use Rattle.world.specs.World.{Setup, World}
 use Rattle.world.specs.Event.{Event, Reply, run_started}
 use Rattle.world.specs.Limits.{KeepsLimits}
 use Rattle.world.specs.FreezeLaws.{OneFewer, MovesCounts, CountsAreEntries}
-use Rattle.world.proofs.Lists.Entries.{frozen_push, frozen_without, entry_bounds}
-use Rattle.world.proofs.Steps.Cases.{Case, case_of, refuses, submits, dispatches, finishes_one, recovers_one, recovers_unfrozen, freezes_one, releases_one, goes_on_one, gives_back, requeues_one, asks_one, exits}
+use Rattle.world.proofs.Lists.Entries.{frozen_push, frozen_without, frozen_due, entry_bounds}
+use Rattle.world.proofs.Steps.Cases.{Case, case_of, refuses, submits, dispatches, finishes_one, recovers_one, recovers_unfrozen, freezes_one, releases_one, reads_clock, goes_on_one, gives_back, requeues_one, asks_one, exits}
 use Rattle.world.proofs.Leads.{limits_are_kept}
 
 -- the count after the freeze of this number went
@@ -46,6 +46,11 @@ case_moves setup before event reply after kept (freezes_one it) =
     rw (it.event_is, it.reply_is) (λ other. ap (λ (w : World). frozen other w.freezes) it.after_is ∙ frozen_push other before.freezes _)
 case_moves setup before event reply after kept (releases_one it) =
     rw it.event_is (_, it.reply_is, goes setup before after it.number it.freeze kept it.entry (ap (λ (w : World). w.freezes) it.after_is))
+case_moves setup before event reply after kept (reads_clock it) =
+    rw (it.event_is, it.reply_is) (record {
+      count_is = refl;
+      fewer = λ other. ap (λ (w : World). frozen other w.freezes + frozen other (due_at it.reading before.freezes)) it.after_is ∙ frozen_due other it.reading before.freezes;
+    })
 case_moves setup before event reply after kept (goes_on_one it) = rw it.it.event_is (ap (λ (w : World). w.freezes) it.after_is)
 case_moves setup before event reply after kept (gives_back it) =
     rw it.it.event_is (it.number, _, (it.it.run, it.it.found, it.call_is), ap (λ (x : Reply × World). x.0) it.answer, goes setup before after it.number it.freeze kept it.entry (ap (λ (x : Reply × World). x.1.freezes) it.answer))

@@ -6,6 +6,7 @@ pub mod Kept
 pub mod Leads
 pub mod Empty
 pub mod Counts
+pub mod Clocks
 pub mod Gone
 pub mod Reaching
 pub mod Held

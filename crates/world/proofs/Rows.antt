@@ -1,6 +1,7 @@
 -- Rows worked by hand, computed by the definitions themselves.
 pub mod Worked
 pub mod Guests
+pub mod Clock
 pub mod Ccbs
 pub mod Runs
 pub mod Lawful

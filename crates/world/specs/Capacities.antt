@@ -1,5 +1,5 @@
 -- How much there is at most at a time, and the last number that is given.
-use Rattle.std.specs.Prelude.{ℕ}
+use Rattle.std.specs.Prelude.{ℕ, ◌^◌}
 use Rattle.freeze_ledger.specs.declared.ledger.TheConstants.{MAX_FREEZES, MAX_FREEZE_NUMBER, MAX_QUEUE_FREEZES}
 
 abbrev pub most_queues : ℕ
@@ -37,3 +37,7 @@ most_freezes_of_queue = MAX_QUEUE_FREEZES
 -- of CCBs, freezes and runs
 abbrev pub last_number : ℕ
 last_number = MAX_FREEZE_NUMBER
+
+-- of the clock, in milliseconds
+abbrev pub last_reading : ℕ
+last_reading = 2 ^ 62

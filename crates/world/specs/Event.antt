@@ -21,6 +21,8 @@ pub data Event : Type 0 where
   guest_freeze : (queue guest : ℕ) → Event
   -- a guest gives the freeze of that number back
   guest_release : (freeze : ℕ) → Event
+  -- the clock is read, in milliseconds
+  clock_reads : (reading : ℕ) → Event
   -- the run of that number executes its next instruction
   executes : (run : ℕ) → Instruction → Event
 
@@ -35,6 +37,8 @@ pub data Reply : Type 0 where
   freeze_given : (freeze : ℕ) → Reply
   -- how many freezes the queue has afterwards
   count_left : (count : ℕ) → Reply
+  -- how many freezes went by their timers
+  expired : (count : ℕ) → Reply
   -- the run went on, and nobody else saw it
   went_on : Reply
   -- what R0 is after a helper call, or at the exit

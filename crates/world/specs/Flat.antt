@@ -8,10 +8,10 @@ use Rattle.world.specs.declared.record.Completed.TheVariants.{Done, Started}
 use Rattle.world.specs.declared.record.StoppedAt.{StoppedAt}
 use Rattle.world.specs.declared.record.StoppedAt.TheVariants.{Helper, Trace, Exit}
 use Rattle.world.specs.declared.record.Record.{Record}
-use Rattle.world.specs.declared.record.Record.TheVariants.{Submit, Dispatch, Complete, Advance, GuestFreeze, GuestRelease}
+use Rattle.world.specs.declared.record.Record.TheVariants.{Submit, Dispatch, Complete, Advance, GuestFreeze, GuestRelease, Clock}
 use Rattle.world.specs.World.{Setup, World}
 use Rattle.world.specs.Told.{plain, traces}
-use Rattle.world.specs.Event.{Instruction, private, call, exit, Event, submit, dispatch, complete, guest_freeze, guest_release, executes, Reply, ccb_given, done, run_started, freeze_given, count_left, went_on, result, refused}
+use Rattle.world.specs.Event.{Instruction, private, call, exit, Event, submit, dispatch, complete, guest_freeze, guest_release, clock_reads, executes, Reply, ccb_given, done, run_started, freeze_given, count_left, expired, went_on, result, refused}
 use Rattle.world.specs.WorldRun.{Leads}
 
 -- what is answered to a call that gives the number of a CCB
@@ -29,6 +29,11 @@ completed_reply (Err refusal) = refused refusal
 abbrev pub freeze_reply : Result ℕ Refusal → Reply
 freeze_reply (Ok number) = freeze_given number
 freeze_reply (Err refusal) = refused refusal
+
+-- what is answered to a clock reading
+abbrev pub clock_reply : Result ℕ Refusal → Reply
+clock_reply (Ok count) = expired count
+clock_reply (Err refusal) = refused refusal
 
 -- the instruction at which a run stopped
 abbrev pub stop_of : StoppedAt → Instruction
@@ -51,6 +56,7 @@ events_of (Complete completion answer) = (complete completion, completed_reply a
 events_of (Advance run instructions stop r0) = advance_of run instructions stop r0
 events_of (GuestFreeze queue guest answer) = (guest_freeze queue.0 guest, freeze_reply answer) ∷ []
 events_of (GuestRelease freeze count) = (guest_release freeze, count_left count) ∷ []
+events_of (Clock reading answer) = (clock_reads reading, clock_reply answer) ∷ []
 
 abbrev pub flat : List Record → List (Event × Reply)
 flat records = flat_map events_of records

@@ -1,7 +1,7 @@
 -- The laws of frozen counts and freezes: what holds in every run of the world.
-use Rattle.std.specs.Prelude.{◌≡◌, ℕ, ◌+◌, ◌==◌, true, if◌then◌else◌, List, ◌∷◌, ◌++◌, map, filter, IsSome, Some}
+use Rattle.std.specs.Prelude.{◌≡◌, ℕ, ◌+◌, ◌==◌, true, if◌then◌else◌, List, ◌∷◌, ◌++◌, map, filter, length, IsSome, Some}
 use Rattle.freeze_ledger.specs.declared.freeze.Freeze.{Freeze}
-use Rattle.freeze_ledger.specs.Freezes.{names, frozen, entry_of}
+use Rattle.freeze_ledger.specs.Freezes.{names, frozen, entry_of, due_at}
 use Rattle.ccb.specs.Completion.{Outcome}
 use Rattle.helpers.specs.declared.helper.Helper.TheVariants as helpers
 use Rattle.helpers.specs.declared.request.Request.TheVariants.{Release}
@@ -10,7 +10,7 @@ use Rattle.world.specs.World.{Setup, LiveCcb, LiveRun, World}
 use Rattle.world.specs.Lawful.{IsLawful}
 use Rattle.world.specs.Lookups.{ccb_of, run_of}
 use Rattle.world.specs.Told.{plain}
-use Rattle.world.specs.Event.{call, Event, complete, guest_freeze, guest_release, executes, Reply, done, run_started, freeze_given, count_left, result, refused}
+use Rattle.world.specs.Event.{call, Event, complete, guest_freeze, guest_release, clock_reads, executes, Reply, done, run_started, freeze_given, count_left, expired, result, refused}
 use Rattle.world.specs.FreezeSteps.{frozen_with}
 use Rattle.world.specs.RunSteps.{is_run}
 use Rattle.world.specs.Step.{WorldStep}
@@ -37,6 +37,17 @@ pub record OneFewer (before : World) (number count : ℕ) (after : World) : Type
   pub count_is : count ≡ frozen_with freeze after.freezes
   pub fewer : (other : ℕ) → frozen other after.freezes + (if names other freeze then 1 else 0) ≡ frozen other before.freezes
 
+-- The freezes whose timers are due went, `count` in all: of each queue as many as were its own.
+pub record DueGone (before : World) (reading count : ℕ) (after : World) : Type 0 where
+  pub count_is : count ≡ length (due_at reading before.freezes)
+  pub fewer : (other : ℕ) → frozen other after.freezes + frozen other (due_at reading before.freezes) ≡ frozen other before.freezes
+
+-- a clock reading, by its reply
+abbrev pub MovesByClock : World → ℕ → Reply → World → Type 0
+MovesByClock before reading (expired count) after = DueGone before reading count after
+MovesByClock before reading (refused refusal) after = after ≡ before
+MovesByClock before reading reply after = ⊥
+
 -- a guest's freeze, by its reply
 abbrev pub MovesByFreeze : World → ℕ → Reply → World → Type 0
 MovesByFreeze before queue (freeze_given number) after = OneMore before queue after
@@ -60,13 +71,14 @@ AsksFor world run number =
     (it : LiveRun) × (run_of run world.runs ≡ Some it) × (request_at it.program it.machine ≡ Some (Release number))
 
 -- What a step does to each queue's frozen count: a freeze that was taken adds one to its queue's, by whomever it was
--- taken, and one that is given back takes one; the reply to that is the number of entries that name the queue now.
--- Nothing else changes a count.
+-- taken, and one that is given back takes one; the reply to that is the number of entries that name the queue now. A
+-- clock reading takes those whose timers are due. Nothing else changes a count.
 abbrev pub MovesCounts : World → Event → Reply → World → Type 0
 MovesCounts before (guest_freeze queue guest) reply after = MovesByFreeze before queue reply after
 MovesCounts before (complete outcome) reply after = MovesByCompletion before outcome reply after
 MovesCounts before (guest_release number) reply after =
     (count : ℕ) × (reply ≡ count_left count) × OneFewer before number count after
+MovesCounts before (clock_reads reading) reply after = MovesByClock before reading reply after
 MovesCounts before (executes run (call (plain helpers.Release))) reply after =
     (number count : ℕ) × AsksFor before run number × (reply ≡ result count) × OneFewer before number count after
 MovesCounts before event reply after = KeepsFreezes before after

@@ -1,12 +1,13 @@
--- What becomes of the freezes: a new one and one fewer, and what guests do with theirs.
-use Rattle.std.specs.Prelude.{ℕ, ◌+◌, Bool, true, false, if◌then◌else◌, nat_le, List, [], ◌∷◌, ◌++◌, Option, Some, None}
+-- What becomes of the freezes: a new one and one fewer, what guests do with theirs, and those that timers let go.
+use Rattle.std.specs.Prelude.{ℕ, ◌+◌, Bool, true, false, if◌then◌else◌, nat_lt, nat_le, List, [], ◌∷◌, ◌++◌, length, Option, Some, None}
 use Rattle.freeze_ledger.specs.declared.freeze.Holder.{Holder}
 use Rattle.freeze_ledger.specs.declared.freeze.Holder.TheVariants.{Run, Timer, Guest}
 use Rattle.freeze_ledger.specs.declared.freeze.Freeze.{Freeze}
-use Rattle.freeze_ledger.specs.Freezes.{frozen, meets_limit, without}
-use Rattle.world.specs.declared.refusal.Refusal.TheVariants.{Unknown, Limit}
+use Rattle.freeze_ledger.specs.Freezes.{frozen, meets_limit, without, due_at, not_due_at}
+use Rattle.world.specs.declared.refusal.Refusal.TheVariants.{Unknown, Limit, GoesBack}
+use Rattle.world.specs.Capacities.{last_reading}
 use Rattle.world.specs.World.{Setup, queue_count, World}
-use Rattle.world.specs.Event.{Reply, freeze_given, count_left, refused}
+use Rattle.world.specs.Event.{Reply, freeze_given, count_left, expired, refused}
 
 abbrev pub is_guest : Holder → Bool
 is_guest (Run run) = false
@@ -43,3 +44,15 @@ step_guest_release world None = None
 step_guest_release world (Some freeze) =
     let after = thawed world freeze.number in
     if is_guest freeze.holder then Some (count_left (frozen_with freeze after.freezes), after) else None
+
+-- the clock reads this, and the freezes whose timers are due are gone
+abbrev pub clock_at : World → ℕ → World
+clock_at world reading = record world { freezes = not_due_at reading world.freezes; clock = reading }
+
+-- C2 above the last reading that there is, C5 where the clock would go back, else the freezes whose timers are due go, and
+-- the reply is how many
+abbrev pub step_clock_reads : World → ℕ → Reply × World
+step_clock_reads world reading =
+    if nat_lt last_reading reading then (refused Limit, world)
+    else if nat_lt reading world.clock then (refused GoesBack, world)
+    else (expired (length (due_at reading world.freezes)), clock_at world reading)

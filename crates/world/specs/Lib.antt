@@ -17,6 +17,7 @@ pub mod Flat
 pub mod TotalsOf
 pub mod Limits
 pub mod FreezeLaws
+pub mod ClockLaws
 pub mod Headline
 pub mod CcbLaws
 pub mod RefusalText

@@ -66,6 +66,8 @@ pub record World : Type 0 where
   pub greatest_ccb : ℕ
   pub greatest_run : ℕ
   pub greatest_freeze : ℕ
+  -- what the clock read last, in milliseconds, 0 before the first reading
+  pub clock : ℕ
 
 -- the world before the first event
 abbrev pub opening : Setup → World
@@ -78,4 +80,5 @@ opening setup = record {
   greatest_ccb = 0;
   greatest_run = 0;
   greatest_freeze = 0;
+  clock = 0;
 }

@@ -68,6 +68,11 @@ pub enum Record {
         freeze: u32,
         count: u32,
     },
+    /// The clock was read, in milliseconds: how many freezes went since their timers were due, 0 to 1024.
+    Clock {
+        reading: u64,
+        answer: Result<u32, Refusal>,
+    },
 }
 
 // A history has many records: what is large stands apart.

@@ -11,6 +11,8 @@ pub enum Refusal {
     Limit,
     /// C3: the CCB is not active.
     NotActive,
+    /// C5: the clock would go back.
+    GoesBack,
     /// Q2: the queue is frozen.
     Frozen,
     /// Q3: as many CCBs of the queue are active as it has openings.
@@ -30,6 +32,7 @@ impl fmt::Display for Refusal {
             Refusal::Unknown => "C1",
             Refusal::Limit => "C2",
             Refusal::NotActive => "C3",
+            Refusal::GoesBack => "C5",
             Refusal::Frozen => "Q2",
             Refusal::NoOpening => "Q3",
             Refusal::NothingWaits => "Q4",

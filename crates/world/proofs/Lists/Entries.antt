@@ -1,9 +1,10 @@
 -- Lists of freezes: what one more at the end, and one fewer by its number, leave.
-use Rattle.std.proofs.Common.{◌≡◌, ℕ, ◌+◌, ◌<◌, ◌≤◌, List, [], ◌∷◌, ◌++◌, map, cond, Option, Some, None, IsSome, refl, ◌∙◌}
+use Rattle.std.proofs.Common.{◌≡◌, ℕ, ◌+◌, ◌<◌, ◌≤◌, List, [], ◌∷◌, ◌++◌, map, cond, Option, Some, None, IsSome, not, refl, ◌∙◌, arith}
 use Rattle.std.proofs.lemmas.List.Sums.{sum_by_push}
+use Rattle.std.proofs.lemmas.List.Filters.{sum_by-filter_both}
 use Rattle.ccb.specs.Rising.{AreRising}
 use Rattle.freeze_ledger.specs.declared.freeze.Freeze.{Freeze}
-use Rattle.freeze_ledger.specs.Freezes.{names, frozen, entry_of, without}
+use Rattle.freeze_ledger.specs.Freezes.{names, frozen, entry_of, without, is_due, due_at, not_due_at}
 use Rattle.world.proofs.Lists.Found.{at_tail, found_key, missing_push, leave_same}
 use Rattle.world.proofs.Lists.Rising.{found_bounds, count_gone}
 
@@ -34,6 +35,11 @@ entry_bounds low fs high n f h e =
 -- a removal takes one from the count of what the freeze names
 pub frozen_without : (q low : ℕ) (fs : List Freeze) (high n : ℕ) (f : Freeze) → FreezesRise low fs high → entry_of n fs ≡ Some f → frozen q (without n fs) + cond (names q f) 1 0 ≡ frozen q fs
 frozen_without q low fs high n f h e = count_gone freeze_key (names q) low fs high n f h e
+
+-- the freezes whose timers are due are as many fewer
+pub frozen_due : (q reading : ℕ) (fs : List Freeze) → frozen q (not_due_at reading fs) + frozen q (due_at reading fs) ≡ frozen q fs
+frozen_due q reading fs =
+    omega (arith, sum_by-filter_both (λ (f : Freeze). is_due reading f.holder) (λ (f : Freeze). not (is_due reading f.holder)) (λ f. refl) (λ (f : Freeze). cond (names q f) 1 0) fs)
 
 -- what is there no more is not there
 pub none_since : (o : Option Freeze) → (IsSome o → ⊥) → o ≡ None

@@ -1,11 +1,11 @@
 -- What rising numbers say of a list: numbers tell its elements apart, so a change of one by its number is a change of
 -- one alone.
-use Rattle.std.proofs.Common.{◌≡◌, ℕ, ◌+◌, ◌<◌, ◌≤◌, List, [], ◌∷◌, ◌++◌, map, Bool, true, not, cond, eqb, Some, None, inl, inr, refl, ap, sym, subst, ◌∙◌, arith}
+use Rattle.std.proofs.Common.{◌≡◌, ℕ, ◌+◌, ◌<◌, ◌≤◌, List, [], ◌∷◌, ◌++◌, map, Bool, true, false, not, cond, eqb, Some, None, inl, inr, refl, ap, sym, subst, ◌∙◌, arith}
 use Rattle.std.specs.List.{find, filter, count_by}
 use Rattle.std.proofs.lemmas.Bool.{cases_Bool, cases_eq, cond-true, cond-false, cond_both}
 use Rattle.std.proofs.lemmas.List.Sums.{sum_by-cons}
 use Rattle.ccb.specs.Rising.{AreRising}
-use Rattle.world.proofs.Lists.Found.{at, put, leave, found_key, at_head, at_tail, put_head, put_tail, leave_head, leave_tail}
+use Rattle.world.proofs.Lists.Found.{at, put, leave, found_key, at_head, at_tail, put_head, put_tail, leave_head, leave_tail, filter_no, missing_filter}
 
 pub rising_lower : (low lower : ℕ) (ns : List ℕ) (high : ℕ) → lower ≤ low → AreRising low ns high → AreRising lower ns high
 rising_lower low lower [] high le h = omega arith
@@ -179,3 +179,18 @@ module _ {A : Type 0} (key : A → ℕ) where
   found_unfiltered p low xs high n x h e =
       let named : key x ≡ n = found_key key n (filter p xs) x e in
       subst (λ (k : ℕ). at key k xs ≡ Some x) named (found_among (λ (y : A). eqb (key y) n) p low xs high x h e).0
+
+  -- and what fails is found among some no more
+  pub filtered_out : (p : A → Bool) (low : ℕ) (xs : List A) (high n : ℕ) (x : A) → AreRising low (map key xs) high → at key n xs ≡ Some x → p x ≡ false → at key n (filter p xs) ≡ None
+  filtered_out p low [] high n x h e fails = refl
+  filtered_out p low (y ∷ xs) high n x h e fails =
+      elim (cases_eq (key y) n) [
+        | inl same ↦
+            let both : Some y ≡ Some x = sym (at_head key n y xs same) ∙ e in
+            let is_x : y ≡ x = cc in
+            ap (at key n) (filter_no key p y xs (subst (λ (z : A). p z ≡ false) (sym is_x) fails))
+            ∙ missing_filter key p n xs (missing_low (key y) xs high n (omega (arith, same)) h.1)
+        | inr apart ↦
+            let rest = filtered_out p (key y) xs high n x h.1 (sym (at_tail key n y xs apart) ∙ e) fails in
+            cond_both (p y) (y ∷ filter p xs) (filter p xs) (λ ys. at key n ys ≡ None) (λ _. at_tail key n y (filter p xs) apart ∙ rest) (λ _. rest)
+      ]

@@ -71,6 +71,7 @@ at_end = record {
   greatest_ccb = 1;
   greatest_run = 1;
   greatest_freeze = 1;
+  clock = 0;
 }
 
 -- the six records that a transport makes of it

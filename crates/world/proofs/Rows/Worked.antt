@@ -52,6 +52,7 @@ with_freezes freezes greatest = record {
   greatest_ccb = 0;
   greatest_run = 0;
   greatest_freeze = greatest;
+  clock = 0;
 }
 
 -- the world of one queue with these CCBs
@@ -65,6 +66,7 @@ with_ccbs live greatest = record {
   greatest_ccb = greatest;
   greatest_run = 0;
   greatest_freeze = 0;
+  clock = 0;
 }
 
 -- a guest's freeze of queue 0

@@ -1,5 +1,5 @@
 -- The cases of a step: what holds before it, what is answered, and what is after it. A proof about steps goes by these.
-use Rattle.std.proofs.Common.{◌≡◌, ℕ, ◌+◌, ◌<◌, ◌≤◌, [], ◌∷◌, ◌++◌, Bool, true, false, not, leb, ltb, Option, Some, None, inl, inr, refl, ap, sym, subst, ◌∙◌, arith}
+use Rattle.std.proofs.Common.{◌≡◌, ℕ, ◌+◌, ◌<◌, ◌≤◌, [], ◌∷◌, ◌++◌, length, Bool, true, false, not, leb, ltb, Option, Some, None, inl, inr, refl, ap, sym, subst, ◌∙◌, arith}
 use Rattle.std.specs.Prelude.{◌&&◌, slice_index}
 use Rattle.std.specs.Option.{option_map, option_and_then}
 use Rattle.std.proofs.lemmas.Bool.{cases_Bool, cond-true, cond-false, leb-true, leb-false, ltb-false, and_parts, not-true, not-false}
@@ -11,21 +11,22 @@ use Rattle.helpers.specs.declared.request.Answer.{Answer}
 use Rattle.helpers.specs.Table.{answer_number}
 use Rattle.freeze_ledger.specs.declared.freeze.Holder.TheVariants.{Run, Guest}
 use Rattle.freeze_ledger.specs.declared.freeze.Freeze.{Freeze}
-use Rattle.freeze_ledger.specs.Freezes.{frozen, meets_limit, entry_of, without}
+use Rattle.freeze_ledger.specs.Freezes.{frozen, meets_limit, entry_of, without, due_at}
 use Rattle.helpers.specs.declared.request.Request.{Request}
 use Rattle.helpers.specs.declared.request.Request.TheVariants.{Release, Requeue, QueueInfo, Trace}
 use Rattle.bpf_machine.specs.MachineState.{MachineState}
 use Rattle.bpf_machine.specs.Calls.{meets_rule}
 use Rattle.bpf_machine.specs.Step.{private_step, request_at, exit_at, answered, IsAnswer}
 use Rattle.world.specs.declared.refusal.Refusal.{Refusal}
-use Rattle.world.specs.declared.refusal.Refusal.TheVariants.{Unknown, Limit, NotActive, Frozen, NoOpening, NothingWaits}
+use Rattle.world.specs.declared.refusal.Refusal.TheVariants.{Unknown, Limit, NotActive, GoesBack, Frozen, NoOpening, NothingWaits}
 use Rattle.world.specs.declared.ccb_state.CcbState.TheVariants.{Waiting, Active}
+use Rattle.world.specs.Capacities.{last_reading}
 use Rattle.world.specs.World.{Setup, queue_count, LiveCcb, LiveRun, World}
 use Rattle.world.specs.Lookups.{is_active, active_count, ccb_of, with_ccb, next_waiting, run_of}
 use Rattle.world.specs.QueueInfo.{queue_info}
 use Rattle.world.specs.Told.{Told, plain, traces, told_of, is_told}
-use Rattle.world.specs.Event.{Instruction, private, call, exit, Event, instruction_of, submit, dispatch, complete, guest_freeze, guest_release, executes, Reply, ccb_given, done, freeze_given, count_left, went_on, result, refused}
-use Rattle.world.specs.FreezeSteps.{frozen_with, is_guest, froze, thawed, step_guest_release}
+use Rattle.world.specs.Event.{Instruction, private, call, exit, Event, instruction_of, submit, dispatch, complete, guest_freeze, guest_release, clock_reads, executes, Reply, ccb_given, done, freeze_given, count_left, expired, went_on, result, refused}
+use Rattle.world.specs.FreezeSteps.{frozen_with, is_guest, froze, thawed, step_guest_release, clock_at}
 use Rattle.world.specs.CcbSteps.{ccb_meets_limit, starts, is_success, run_meets_limit, finishes, run_starts, completes, is_completion}
 use Rattle.world.specs.RunSteps.{is_run, goes_on, answers, releases, requeues, step_request, may_call, step_call, ends, step_run, step_executes, info_answer}
 use Rattle.world.specs.Step.{WorldStep}
@@ -124,6 +125,15 @@ pub record Releases (before : World) (event : Event) (reply : Reply) (after : Wo
   pub reply_is : reply ≡ count_left (frozen_with freeze (without freeze.number before.freezes))
   pub after_is : after ≡ thawed before freeze.number
 
+-- the clock is read: the freezes whose timers are due go
+pub record ReadsClock (before : World) (event : Event) (reply : Reply) (after : World) : Type 0 where
+  pub reading : ℕ
+  pub event_is : event ≡ clock_reads reading
+  pub within : reading ≤ last_reading
+  pub on : before.clock ≤ reading
+  pub reply_is : reply ≡ expired (length (due_at reading before.freezes))
+  pub after_is : after ≡ clock_at before reading
+
 -- a run that is out executes its next instruction
 pub record Executes (before : World) (event : Event) (instruction : Instruction) : Type 0 where
   pub number : ℕ
@@ -194,6 +204,7 @@ pub data Case (setup : Setup) (before : World) (event : Event) (reply : Reply) (
   recovers_unfrozen : RecoversUnfrozen setup before event reply after → Case setup before event reply after
   freezes_one : Freezes setup before event reply after → Case setup before event reply after
   releases_one : Releases before event reply after → Case setup before event reply after
+  reads_clock : ReadsClock before event reply after → Case setup before event reply after
   goes_on_one : GoesOn before event reply after → Case setup before event reply after
   gives_back : GivesBack before event reply after → Case setup before event reply after
   requeues_one : Requeues before event reply after → Case setup before event reply after
@@ -333,6 +344,28 @@ guest_freeze_case setup before queue guest reply after e =
                   event_is = refl;
                   known = leb-false _ _ known;
                   room = room;
+                  reply_is = ap (λ (x : Reply × World). x.0) last;
+                  after_is = ap (λ (x : Reply × World). x.1) last;
+                })
+          ]
+    ]
+
+clock_case : (setup : Setup) (before : World) (reading : ℕ) (reply : Reply) (after : World) → WorldStep setup before (clock_reads reading) reply after → Case setup before (clock_reads reading) reply after
+clock_case setup before reading reply after e =
+    let is = some_is _ _ e in
+    elim (cases_Bool (ltb last_reading reading)) [
+      | inl above ↦ refused_case setup before (clock_reads reading) reply after Limit (λ n. refl) refl refl (is ∙ cond-true (ltb last_reading reading) _ _ above)
+      | inr within ↦
+          let inner = is ∙ cond-false (ltb last_reading reading) _ _ within in
+          elim (cases_Bool (ltb reading before.clock)) [
+            | inl back ↦ refused_case setup before (clock_reads reading) reply after GoesBack (λ n. refl) refl refl (inner ∙ cond-true (ltb reading before.clock) _ _ back)
+            | inr on ↦
+                let last = inner ∙ cond-false (ltb reading before.clock) _ _ on in
+                reads_clock (record {
+                  reading = reading;
+                  event_is = refl;
+                  within = ltb-false _ _ within;
+                  on = ltb-false _ _ on;
                   reply_is = ap (λ (x : Reply × World). x.0) last;
                   after_is = ap (λ (x : Reply × World). x.1) last;
                 })
@@ -520,6 +553,7 @@ case_of setup before (complete outcome) reply after e =
     ]
 case_of setup before (guest_freeze queue guest) reply after e = guest_freeze_case setup before queue guest reply after e
 case_of setup before (guest_release number) reply after e = releases_one (guest_release_parts setup before number reply after e)
+case_of setup before (clock_reads reading) reply after e = clock_case setup before reading reply after e
 case_of setup before (executes number private) reply after e = goes_on_one (private_parts setup before number reply after e)
 case_of setup before (executes number (call told)) reply after e = called_case setup before (executes number (call told)) told reply after (call_parts setup before number told reply after e)
 case_of setup before (executes number exit) reply after e = exits (exit_parts setup before number reply after e)

@@ -8,7 +8,7 @@ use Rattle.ccb.specs.Ccb.{started, completed, requeued}
 use Rattle.freeze_ledger.specs.declared.freeze.Holder.{Holder}
 use Rattle.freeze_ledger.specs.declared.freeze.Holder.TheVariants.{Run, Timer, Guest}
 use Rattle.freeze_ledger.specs.declared.freeze.Freeze.{Freeze}
-use Rattle.freeze_ledger.specs.Freezes.{entry_of}
+use Rattle.freeze_ledger.specs.Freezes.{entry_of, is_due}
 use Rattle.world.specs.declared.ccb_state.CcbState.{CcbState}
 use Rattle.world.specs.declared.ccb_state.CcbState.TheVariants.{Waiting, Active, InRecovery}
 use Rattle.world.specs.World.{Setup, queue_count, LiveCcb, EndedCcb, LiveRun, World}
@@ -24,7 +24,7 @@ use Rattle.world.proofs.Lists.Found.{found_key, missing_push, at_head}
 use Rattle.world.proofs.Lists.Rising.{missing_high}
 use Rattle.world.proofs.Lists.Each.{all_found}
 use Rattle.world.proofs.Lists.Entries.{freeze_key}
-use Rattle.world.proofs.Steps.Cases.{Recovers, RecoversUnfrozen, Executes, Case, refuses, submits, dispatches, finishes_one, recovers_one, recovers_unfrozen, freezes_one, releases_one, goes_on_one, gives_back, requeues_one, asks_one, exits, pair_parts}
+use Rattle.world.proofs.Steps.Cases.{Recovers, RecoversUnfrozen, Executes, Case, refuses, submits, dispatches, finishes_one, recovers_one, recovers_unfrozen, freezes_one, releases_one, reads_clock, goes_on_one, gives_back, requeues_one, asks_one, exits, pair_parts}
 use Rattle.world.proofs.Steps.Moves.{ccb_key, run_key, ccb_found, run_found, next_found, ccbs_stay, ccb_enters, ccb_changes, ccb_leaves, Comes, freezes_stay, freeze_enters, freezes_leave, Begins, tells_start, runs_stay, run_enters, run_changes, run_leaves, Effect}
 
 -- the queue of a live CCB exists
@@ -79,6 +79,12 @@ one_run : (r s : ℕ) (holder : Holder) → is_run r holder ≡ true → is_run 
 one_run r s (Run run) p q = sym (eqb-true _ _ p) ∙ eqb-true _ _ q
 one_run r s (Timer due) p q = absurd (let bad : false ≡ true = p in cc)
 one_run r s (Guest guest) p q = absurd (let bad : false ≡ true = p in cc)
+
+-- nor is a timer a run
+due_is_none : (reading r : ℕ) (holder : Holder) → is_due reading holder ≡ true → is_run r holder ≡ false
+due_is_none reading r (Run run) e = absurd (let bad : false ≡ true = e in cc)
+due_is_none reading r (Timer due) e = refl
+due_is_none reading r (Guest guest) e = refl
 
 -- a run that begins is found by its number
 pub begun_found : (setup : Setup) (before : World) (event : Event) (reply : Reply) (after : World) (run : LiveRun) → RunLimits setup before → Begins setup before event reply after run → run_of (before.greatest_run + 1) after.runs ≡ Some run
@@ -260,6 +266,18 @@ effect_of setup before event reply after kept (releases_one it) =
           let same = same_entry before.freezes n it.number f it.freeze entry it.entry (eqb-true _ _ goes) in
           let other : is_run run f.holder ≡ false = guest_is_none run f.holder (subst (λ (x : Freeze). is_guest x.holder ≡ true) (sym same) it.guests) in
           absurd (let bad : false ≡ true = sym other ∙ its in cc));
+      runs = runs_stay (ap (λ (w : World). w.runs) it.after_is) (ap (λ (w : World). w.greatest_run) it.after_is) (ap tells_start it.reply_is);
+      openings = ap (λ (w : World). w.openings) it.after_is;
+      taken = λ run given. ap (taken_by run event) it.reply_is;
+      acts = idle_acts before event (λ run. ap (instruction_of run) it.event_is);
+    }
+effect_of setup before event reply after kept (reads_clock it) =
+    let none : finished_by before event reply ≡ [] = ap (λ (x : Event). finished_by before x reply) it.event_is in
+    record {
+      ccbs = ccbs_stay (ap (λ (w : World). w.live) it.after_is) (ap (λ (w : World). w.greatest_ccb) it.after_is) none;
+      ended = none_ended before after event reply none (ap (λ (w : World). w.ended) it.after_is);
+      freezes = freezes_leave (λ (f : Freeze). is_due it.reading f.holder) (ap (λ (w : World). w.freezes) it.after_is) (ap (λ (w : World). w.greatest_freeze) it.after_is)
+          (λ n f entry goes run its. absurd (let bad : false ≡ true = sym (due_is_none it.reading run f.holder goes) ∙ its in cc));
       runs = runs_stay (ap (λ (w : World). w.runs) it.after_is) (ap (λ (w : World). w.greatest_run) it.after_is) (ap tells_start it.reply_is);
       openings = ap (λ (w : World). w.openings) it.after_is;
       taken = λ run given. ap (taken_by run event) it.reply_is;

@@ -21,7 +21,7 @@ use Rattle.world.specs.Headline.{is_disposal, is_exit}
 use Rattle.world.specs.Limits.{FreezeLimits}
 use Rattle.world.proofs.Lists.Found.{leave, found_key, found_push, put_same, put_other, leave_same, leave_other}
 use Rattle.world.proofs.Lists.Entries.{frozen_without, entry_bounds}
-use Rattle.world.proofs.Steps.Cases.{Executes, Case, refuses, submits, dispatches, finishes_one, recovers_one, recovers_unfrozen, freezes_one, releases_one, goes_on_one, gives_back, requeues_one, asks_one, exits, pair_parts}
+use Rattle.world.proofs.Steps.Cases.{Executes, Case, refuses, submits, dispatches, finishes_one, recovers_one, recovers_unfrozen, freezes_one, releases_one, reads_clock, goes_on_one, gives_back, requeues_one, asks_one, exits, pair_parts}
 use Rattle.world.proofs.Steps.Moves.{run_key, run_found, Begins}
 use Rattle.world.proofs.Steps.Effects.{its_instruction, not_others}
 use Rattle.world.proofs.Steps.Private.{private_keeps}
@@ -109,6 +109,7 @@ fate_of setup before event reply after number run kept found (recovers_unfrozen 
     stands (ap (instruction_of number) it.fails.event_is) (ap (λ (x : Reply × World). run_of number x.1.runs) it.starts_is ∙ found_push run_key number before.runs _ run found)
 fate_of setup before event reply after number run kept found (freezes_one it) = unchanged before event after number run found (ap (instruction_of number) it.event_is) (ap (λ (w : World). w.runs) it.after_is)
 fate_of setup before event reply after number run kept found (releases_one it) = unchanged before event after number run found (ap (instruction_of number) it.event_is) (ap (λ (w : World). w.runs) it.after_is)
+fate_of setup before event reply after number run kept found (reads_clock it) = unchanged before event after number run found (ap (instruction_of number) it.event_is) (ap (λ (w : World). w.runs) it.after_is)
 fate_of setup before event reply after number run kept found (goes_on_one it) =
     let same = private_keeps it.it.run.program it.it.run.machine it.machine it.step in
     one_goes before event after private it.it it.machine (ap (λ (w : World). w.runs) it.after_is) refl (inl it.step)

@@ -15,7 +15,7 @@ use Rattle.bpf_machine.specs.MachineState.{MachineState, entry}
 use Rattle.world.specs.declared.ccb_state.CcbState.TheVariants.{Waiting, InRecovery}
 use Rattle.world.specs.World.{Setup, queue_count, queue_setup, LiveCcb, LiveRun, World}
 use Rattle.world.specs.Lookups.{is_active, is_waiting, is_of, active_count, ccb_of, with_ccb, next_waiting, run_of, with_run}
-use Rattle.world.specs.Event.{Instruction, Event, complete, instruction_of, Reply, ccb_given, done, run_started, freeze_given, count_left, went_on, result, refused}
+use Rattle.world.specs.Event.{Instruction, Event, complete, instruction_of, Reply, ccb_given, done, run_started, freeze_given, count_left, expired, went_on, result, refused}
 use Rattle.world.specs.CcbSteps.{ccb_meets_limit, run_meets_limit, is_completion}
 use Rattle.world.specs.RunSteps.{is_run}
 use Rattle.world.specs.TookGave.{taken_by}
@@ -122,6 +122,7 @@ tells_start done = false
 tells_start (run_started run freeze) = true
 tells_start (freeze_given freeze) = false
 tells_start (count_left count) = false
+tells_start (expired count) = false
 tells_start went_on = false
 tells_start (result r0) = false
 tells_start (refused refusal) = false

@@ -1,10 +1,9 @@
 use Rattle.std.proofs.Common.{◌≡◌, ◌∙◌, false, true}
-use Rattle.scenario.proofs.Digits.{all_digits}
+use Rattle.scenario.proofs.Digits.{is_tested}
 use Rattle.scenario.proofs.reading.number.Goals as goal
 
-pub returns-then-not-has_digits_alone : goal.returns-then-not-has_digits_alone
-returns-then-not-has_digits_alone c n is =
-    let all = all_digits c.args.word.now is.digits.1 in
-    let are : c.has_digits_alone.result ≡ true = c.has_digits_alone.ensures ∙ all in
-    let not : c.has_digits_alone.result ≡ false = c.if-not-has_digits_alone.true in
+pub returns-then-not-is_decimal : goal.returns-then-not-is_decimal
+returns-then-not-is_decimal c n is =
+    let is_one : c.is_decimal.result ≡ true = c.is_decimal.ensures ∙ is_tested 32 c.args.word.now n is in
+    let not : c.is_decimal.result ≡ false = c.if-not-is_decimal.true in
     cc

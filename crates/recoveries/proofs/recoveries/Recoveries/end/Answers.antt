@@ -20,6 +20,6 @@ invariant_of-self c =
 pub returns : goal.returns
 returns c =
     rw (← c.self.view_is) (λ it at.
-    ap (λ (ls : List LiveRun). state_of c.self.inside.ledger ls c.self.inside.greatest_run)
+    ap (λ (ls : List LiveRun). state_of c.self.inside.ledger ls c.self.inside.greatest_run c.self.inside.clock)
     (ap lives_of c.remove-ended.ensures.items
     ∙ record_removed c.self.inside.runs.items c.self.inside.greatest_run c.args.place it.number c.remove-ended.result c.self.invariant.rising (here c it at).0 (sym (ap key_of c.remove-ended.ensures.value) ∙ ap number_of (here c it at).1)))

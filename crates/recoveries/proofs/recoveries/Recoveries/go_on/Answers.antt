@@ -32,7 +32,7 @@ returns-clause-goes c =
     let rs : List RunRecord = c.self.inside.runs.items in
     let r : RunRecord = c.index_mut.result.now in
     rw (← c.self.view_is) (λ it at.
-    ap (λ (ls : List LiveRun). state_of c.self.inside.ledger ls c.self.inside.greatest_run)
+    ap (λ (ls : List LiveRun). state_of c.self.inside.ledger ls c.self.inside.greatest_run c.self.inside.clock)
     (record_changed rs c.self.inside.greatest_run c.args.place (record r { machine = c.pass.new.machine }) r c.self.invariant.rising (here c it at).0 (sym (ap key_of c.index_mut.ensures.value))
     ∙ ap (λ (x : LiveRun). with_run x (lives_of rs)) (goes_on c it at)))
 

@@ -16,19 +16,19 @@ use Rattle.recoveries.proofs.recoveries.Recoveries.release.Goals as goal
 
 pub unwrap-at-requires : goal.unwrap-at-requires
 unwrap-at-requires c =
-    let ready = stands_ready c.self.inside.runs.items _ c.self.inside.greatest_run c.args.freeze c.args.place c.self.inside.ledger c.index_mut-it.result.now c.self.invariant (subst (MayRelease c.args.place c.args.freeze) (sym c.self.view_is) c.requires) c.index_mut-it.ensures.value in
+    let ready = stands_ready c.self.inside.runs.items _ c.self.inside.greatest_run c.self.inside.clock c.args.freeze c.args.place c.self.inside.ledger c.index_mut-it.result.now c.self.invariant (subst (MayRelease c.args.place c.args.freeze) (sym c.self.view_is) c.requires) c.index_mut-it.ensures.value in
     token_found c.place_of_token.result c.as_slice.result.now c.index_mut-it.result.now.tokens.items c.args.freeze c.as_slice.ensures.value c.place_of_token.ensures.none ready.token
 
 pub unreachable-requires : goal.unreachable-requires
 unreachable-requires c =
-    let ready = stands_ready c.self.inside.runs.items _ c.self.inside.greatest_run c.args.freeze c.args.place c.self.inside.ledger c.index_mut-it.result.now c.self.invariant (subst (MayRelease c.args.place c.args.freeze) (sym c.self.view_is) c.requires) c.index_mut-it.ensures.value in
+    let ready = stands_ready c.self.inside.runs.items _ c.self.inside.greatest_run c.self.inside.clock c.args.freeze c.args.place c.self.inside.ledger c.index_mut-it.result.now c.self.invariant (subst (MayRelease c.args.place c.args.freeze) (sym c.self.view_is) c.requires) c.index_mut-it.ensures.value in
     let taken = token_taken c.self.inside.runs.items c.self.inside.ledger c.args.freeze c.args.place c.index_mut-it.result.now ready c.place_of_token.result c.as_slice.result.now c.unwrap-at.result c.remove.result c.as_slice.ensures.value c.unwrap-at.ensures c.place_of_token.ensures.within c.place_of_token.ensures.found c.remove.ensures.value in
     let bad : None ≡ Some ready.entry = sym c.in_default.is ∙ taken.0 in
     cc
 
 pub unreachable-requires-in-Err : goal.unreachable-requires-in-Err
 unreachable-requires-in-Err c =
-    let ready = stands_ready c.self.inside.runs.items _ c.self.inside.greatest_run c.args.freeze c.args.place c.self.inside.ledger c.index_mut-it.result.now c.self.invariant (subst (MayRelease c.args.place c.args.freeze) (sym c.self.view_is) c.requires) c.index_mut-it.ensures.value in
+    let ready = stands_ready c.self.inside.runs.items _ c.self.inside.greatest_run c.self.inside.clock c.args.freeze c.args.place c.self.inside.ledger c.index_mut-it.result.now c.self.invariant (subst (MayRelease c.args.place c.args.freeze) (sym c.self.view_is) c.requires) c.index_mut-it.ensures.value in
     let taken = token_taken c.self.inside.runs.items c.self.inside.ledger c.args.freeze c.args.place c.index_mut-it.result.now ready c.place_of_token.result c.as_slice.result.now c.unwrap-at.result c.remove.result c.as_slice.ensures.value c.unwrap-at.ensures c.place_of_token.ensures.within c.place_of_token.ensures.found c.remove.ensures.value in
     let both : Some c.in-Some.held ≡ Some ready.entry = sym c.in-Some.is ∙ taken.0 in
     let is : c.in-Some.held ≡ ready.entry = cc in
@@ -37,7 +37,7 @@ unreachable-requires-in-Err c =
     cc
 
 ready_in : (c : goal.In-Ok) → StandsReady c.self.inside.runs.items c.self.inside.ledger c.args.freeze c.args.place c.index_mut-it.result.now
-ready_in c = stands_ready c.self.inside.runs.items _ c.self.inside.greatest_run c.args.freeze c.args.place c.self.inside.ledger c.index_mut-it.result.now c.self.invariant (subst (MayRelease c.args.place c.args.freeze) (sym c.self.view_is) c.requires) c.index_mut-it.ensures.value
+ready_in c = stands_ready c.self.inside.runs.items _ c.self.inside.greatest_run c.self.inside.clock c.args.freeze c.args.place c.self.inside.ledger c.index_mut-it.result.now c.self.invariant (subst (MayRelease c.args.place c.args.freeze) (sym c.self.view_is) c.requires) c.index_mut-it.ensures.value
 
 taken_in : (c : goal.In-Ok) → (c.remove.result ≡ Some (ready_in c).entry) × (remove c.index_mut-it.result.now.tokens.items c.unwrap-at.result ≡ tokens_of (entries_of c.index_mut-it.result.now.number (without c.args.freeze c.self.inside.ledger.freezes)))
 taken_in c = token_taken c.self.inside.runs.items c.self.inside.ledger c.args.freeze c.args.place c.index_mut-it.result.now (ready_in c) c.place_of_token.result c.as_slice.result.now c.unwrap-at.result c.remove.result c.as_slice.ensures.value c.unwrap-at.ensures c.place_of_token.ensures.within c.place_of_token.ensures.found c.remove.ensures.value
@@ -61,6 +61,6 @@ returns-clause-freezes c =
     let r : RunRecord = c.index_mut-it.result.now in
     let after : RunRecord = record r { tokens = c.remove.new.self } in
     rw (← c.self.view_is)
-    (ap (λ (l : LedgerState). state_of l (lives_of (set c.self.inside.runs.items c.args.place after)) c.self.inside.greatest_run) (ledger_is c)
-    ∙ ap (λ (ls : List LiveRun). state_of (with_freezes c.self.inside.ledger (without c.args.freeze c.self.inside.ledger.freezes)) ls c.self.inside.greatest_run)
+    (ap (λ (l : LedgerState). state_of l (lives_of (set c.self.inside.runs.items c.args.place after)) c.self.inside.greatest_run c.self.inside.clock) (ledger_is c)
+    ∙ ap (λ (ls : List LiveRun). state_of (with_freezes c.self.inside.ledger (without c.args.freeze c.self.inside.ledger.freezes)) ls c.self.inside.greatest_run c.self.inside.clock)
     (record_kept c.self.inside.runs.items c.args.place r after ready.within c.index_mut-it.ensures.value refl))

@@ -1,0 +1,34 @@
+use Rattle.std.proofs.Common.{refl, rules}
+use Rattle.engine_core.proofs.OneMore.{reads_clock}
+use Rattle.engine_core.proofs.engine.Engine.clock.Goals as goal
+use Rattle.engine_core.proofs.engine.Engine.clock.Goals.{in-Ok, in-Err}
+
+pub returns-clause-answered : goal.returns-clause-answered
+returns-clause-answered c =
+    let it = reads_clock c.self.inside.config c.self.inside.history.items c.push_reserved.new.self.items c.self.inside.ccbs c.self.inside.recoveries c.read_clock-answer.new.self
+    c.args.reading c.read_clock-answer.result c.self.invariant (search rules) c.read_clock-answer.ensures.queues c.read_clock-answer.ensures.step in
+    elim c.match-answer.branch [
+      | in-Ok w ↦
+          rw (w.result-is, ← c.self.view_is, ← w.in-Ok.is) (record { history = search rules; setup = refl; step = it.leads })
+      | in-Err w ↦ rw w.result-is tt
+    ]
+
+pub returns-clause-fault : goal.returns-clause-fault
+returns-clause-fault c =
+    let it = reads_clock c.self.inside.config c.self.inside.history.items c.push_reserved.new.self.items c.self.inside.ccbs c.self.inside.recoveries c.read_clock-answer.new.self
+    c.args.reading c.read_clock-answer.result c.self.invariant (search rules) c.read_clock-answer.ensures.queues c.read_clock-answer.ensures.step in
+    elim c.match-answer.branch [
+      | in-Ok w ↦ rw w.result-is tt
+      | in-Err w ↦
+          rw (w.result-is, ← c.self.view_is, ← w.in-Err.is) (record { history = search rules; setup = refl; step = it.leads })
+    ]
+
+pub returns-clause-run : goal.returns-clause-run
+returns-clause-run c =
+    (reads_clock c.self.inside.config c.self.inside.history.items c.push_reserved.new.self.items c.self.inside.ccbs c.self.inside.recoveries c.read_clock-answer.new.self
+    c.args.reading c.read_clock-answer.result c.self.invariant (search rules) c.read_clock-answer.ensures.queues c.read_clock-answer.ensures.step).kept.run
+
+pub invariant_of-self-2 : goal.invariant_of-self-2
+invariant_of-self-2 c =
+    (reads_clock c.self.inside.config c.self.inside.history.items c.push_reserved.new.self.items c.self.inside.ccbs c.self.inside.recoveries c.read_clock-answer.new.self
+    c.args.reading c.read_clock-answer.result c.self.invariant (search rules) c.read_clock-answer.ensures.queues c.read_clock-answer.ensures.step).kept

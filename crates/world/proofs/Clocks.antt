@@ -1,0 +1,128 @@
+-- The clock goes on, and a freeze that a timer holds goes by a clock reading and by nothing else.
+use Rattle.std.proofs.Common.{◌≡◌, ℕ, ◌≤◌, List, [], ◌∷◌, ◌++◌, length, true, false, not, leb, Some, None, ◌⊎◌, inl, inr, ap, sym, ◌∙◌, arith}
+use Rattle.std.proofs.lemmas.Bool.{cases_Bool, cond-true, cond-false, not_from_true, not_from_false}
+use Rattle.freeze_ledger.specs.declared.freeze.Holder.{Holder}
+use Rattle.freeze_ledger.specs.declared.freeze.Holder.TheVariants.{Timer}
+use Rattle.freeze_ledger.specs.declared.freeze.Freeze.{Freeze}
+use Rattle.freeze_ledger.specs.Freezes.{entry_of, without, is_due, due_at, not_due_at}
+use Rattle.world.specs.Capacities.{last_reading}
+use Rattle.world.specs.World.{Setup, World, opening}
+use Rattle.world.specs.Event.{Event, Reply, expired}
+use Rattle.world.specs.FreezeSteps.{is_guest}
+use Rattle.world.specs.RunSteps.{is_run}
+use Rattle.world.specs.WorldRun.{Leads}
+use Rattle.world.specs.Limits.{KeepsLimits}
+use Rattle.world.specs.ClockLaws.{ClockGoesOn, lets_go, KeepsTime, TimersKeepTime}
+use Rattle.world.proofs.Lists.Found.{found_push, found_in_filter, leave_other}
+use Rattle.world.proofs.Lists.Rising.{filtered_out}
+use Rattle.world.proofs.Lists.Entries.{freeze_key}
+use Rattle.world.proofs.Steps.Cases.{ReadsClock, Case, case_of, refuses, submits, dispatches, finishes_one, recovers_one, recovers_unfrozen, freezes_one, releases_one, reads_clock, goes_on_one, gives_back, requeues_one, asks_one, exits}
+use Rattle.world.proofs.Steps.Effects.{same_entry}
+use Rattle.world.proofs.Leads.{limits_are_kept}
+
+-- a step leaves the clock, or it reads what is neither before it nor after the last reading
+abbrev ClockMove : World → World → Type 0
+ClockMove before after = (after.clock ≡ before.clock) ⊎ ((before.clock ≤ after.clock) × (after.clock ≤ last_reading))
+
+clock_move : (setup : Setup) (before : World) (event : Event) (reply : Reply) (after : World) → Case setup before event reply after → ClockMove before after
+clock_move setup before event reply after (refuses it) = inl (ap (λ (w : World). w.clock) it.after_is)
+clock_move setup before event reply after (submits it) = inl (ap (λ (w : World). w.clock) it.after_is)
+clock_move setup before event reply after (dispatches it) = inl (ap (λ (w : World). w.clock) it.after_is)
+clock_move setup before event reply after (finishes_one it) = inl (ap (λ (w : World). w.clock) it.after_is)
+clock_move setup before event reply after (recovers_one it) = inl (ap (λ (x : Reply × World). x.1.clock) it.starts_is)
+clock_move setup before event reply after (recovers_unfrozen it) = inl (ap (λ (x : Reply × World). x.1.clock) it.starts_is)
+clock_move setup before event reply after (freezes_one it) = inl (ap (λ (w : World). w.clock) it.after_is)
+clock_move setup before event reply after (releases_one it) = inl (ap (λ (w : World). w.clock) it.after_is)
+clock_move setup before event reply after (reads_clock it) =
+    let is : after.clock ≡ it.reading = ap (λ (w : World). w.clock) it.after_is in
+    inr (rw is it.on, rw is it.within)
+clock_move setup before event reply after (goes_on_one it) = inl (ap (λ (w : World). w.clock) it.after_is)
+clock_move setup before event reply after (gives_back it) = inl (ap (λ (x : Reply × World). x.1.clock) it.answer)
+clock_move setup before event reply after (requeues_one it) = inl (ap (λ (x : Reply × World). x.1.clock) it.answer)
+clock_move setup before event reply after (asks_one it) = inl (ap (λ (x : Reply × World). x.1.clock) it.answer)
+clock_move setup before event reply after (exits it) = inl (ap (λ (w : World). w.clock) it.after_is)
+
+moved_on : (before after : World) → ClockMove before after → before.clock ≤ last_reading → (before.clock ≤ after.clock) × (after.clock ≤ last_reading)
+moved_on before after (inl same) within = (omega (arith, same), rw same within)
+moved_on before after (inr moved) within = moved
+
+leads_on : (setup : Setup) (before : World) (xs : List (Event × Reply)) (after : World) → Leads setup before xs after → before.clock ≤ last_reading → (before.clock ≤ after.clock) × (after.clock ≤ last_reading)
+leads_on setup before [] after run within =
+    let same : before.clock ≡ after.clock = ap (λ (w : World). w.clock) run in
+    (omega (arith, same), rw (← same) within)
+leads_on setup before (x ∷ xs) after run within =
+    let first = moved_on before run.0 (clock_move setup before x.0 x.1 run.0 (case_of setup before x.0 x.1 run.0 run.1)) within in
+    let rest = leads_on setup run.0 xs after run.2 first.1 in
+    (omega (arith, first.0, rest.0), rest.1)
+
+pub clock_goes_on : ClockGoesOn
+clock_goes_on setup xs ys before after first second =
+    let opened : 0 ≤ last_reading = omega arith in
+    let begun = leads_on setup (opening setup) xs before first opened in
+    leads_on setup before ys after second begun.1
+
+-- an event that lets nothing go leaves a timer's freeze, where the freezes are as they were, or one is more
+as_before : (before : World) (event : Event) (reply : Reply) (after : World) → ((due : ℕ) → lets_go due reply event ≡ false) → after.freezes ≡ before.freezes → KeepsTime before event reply after
+as_before before event reply after calm e =
+    λ freeze due found timer.
+    ap (entry_of freeze.number) e ∙ (found ∙ sym (cond-false (lets_go due reply event) None (Some freeze) (calm due)))
+
+one_more : (before : World) (event : Event) (reply : Reply) (after : World) (new : Freeze) → ((due : ℕ) → lets_go due reply event ≡ false) → after.freezes ≡ before.freezes ++ new ∷ [] → KeepsTime before event reply after
+one_more before event reply after new calm e =
+    λ freeze due found timer.
+    ap (entry_of freeze.number) e
+    ∙ (found_push freeze_key freeze.number before.freezes new freeze found ∙ sym (cond-false (lets_go due reply event) None (Some freeze) (calm due)))
+
+-- or one is gone that no timer holds
+one_fewer : (before : World) (event : Event) (reply : Reply) (after : World) (number : ℕ) (gone : Freeze) → ((due : ℕ) → lets_go due reply event ≡ false) → after.freezes ≡ without gone.number before.freezes → entry_of number before.freezes ≡ Some gone → ((due : ℕ) → gone.holder ≡ Timer due → ⊥) → KeepsTime before event reply after
+one_fewer before event reply after number gone calm e entry others =
+    λ freeze due found timer.
+    let apart : gone.number ≡ freeze.number → ⊥ = λ same.
+    let is : gone ≡ freeze = same_entry before.freezes number freeze.number gone freeze entry found same in
+    others due (ap (λ (f : Freeze). f.holder) is ∙ timer) in
+    ap (entry_of freeze.number) e
+    ∙ (leave_other freeze_key gone.number freeze.number before.freezes apart ∙ (found ∙ sym (cond-false (lets_go due reply event) None (Some freeze) (calm due))))
+
+guests_no_timer : (holder : Holder) → is_guest holder ≡ true → (due : ℕ) → holder ≡ Timer due → ⊥
+guests_no_timer holder guests due timer = let bad : false ≡ true = sym (ap is_guest timer) ∙ guests in cc
+
+runs_no_timer : (run : ℕ) (holder : Holder) → is_run run holder ≡ true → (due : ℕ) → holder ≡ Timer due → ⊥
+runs_no_timer run holder held due timer = let bad : false ≡ true = sym (ap (is_run run) timer) ∙ held in cc
+
+-- a clock reading lets go what is due
+by_the_clock : (setup : Setup) (before : World) (event : Event) (reply : Reply) (after : World) → KeepsLimits setup before → ReadsClock before event reply after → KeepsTime before event reply after
+by_the_clock setup before event reply after kept it = λ freeze due found timer.
+    let tests : lets_go due reply event ≡ leb due it.reading = ap (λ (r : Reply). lets_go due r event) it.reply_is ∙ ap (lets_go due (expired (length (due_at it.reading before.freezes)))) it.event_is in
+    let is : is_due it.reading freeze.holder ≡ leb due it.reading = ap (is_due it.reading) timer in
+    let rest : entry_of freeze.number after.freezes ≡ entry_of freeze.number (not_due_at it.reading before.freezes) = ap (λ (w : World). entry_of freeze.number w.freezes) it.after_is in
+    elim (cases_Bool (leb due it.reading)) [
+      | inl reached ↦
+          rest
+          ∙ (filtered_out freeze_key (λ (f : Freeze). not (is_due it.reading f.holder)) 0 before.freezes before.greatest_freeze freeze.number freeze kept.freezes.numbered found (not_from_true _ (is ∙ reached))
+          ∙ sym (cond-true (lets_go due reply event) None (Some freeze) (tests ∙ reached)))
+      | inr later ↦
+          rest
+          ∙ (found_in_filter freeze_key (λ (f : Freeze). not (is_due it.reading f.holder)) freeze.number before.freezes freeze found (not_from_false _ (is ∙ later))
+          ∙ sym (cond-false (lets_go due reply event) None (Some freeze) (tests ∙ later)))
+    ]
+
+case_keeps_time : (setup : Setup) (before : World) (event : Event) (reply : Reply) (after : World) → KeepsLimits setup before → Case setup before event reply after → KeepsTime before event reply after
+case_keeps_time setup before event reply after kept (refuses it) = as_before before event reply after (λ due. ap (λ (r : Reply). lets_go due r event) it.reply_is) (ap (λ (w : World). w.freezes) it.after_is)
+case_keeps_time setup before event reply after kept (submits it) = as_before before event reply after (λ due. ap (λ (r : Reply). lets_go due r event) it.reply_is) (ap (λ (w : World). w.freezes) it.after_is)
+case_keeps_time setup before event reply after kept (dispatches it) = as_before before event reply after (λ due. ap (λ (r : Reply). lets_go due r event) it.reply_is) (ap (λ (w : World). w.freezes) it.after_is)
+case_keeps_time setup before event reply after kept (finishes_one it) = as_before before event reply after (λ due. ap (λ (r : Reply). lets_go due r event) it.reply_is) (ap (λ (w : World). w.freezes) it.after_is)
+case_keeps_time setup before event reply after kept (recovers_one it) = one_more before event reply after _ (λ due. ap (λ (x : Reply × World). lets_go due x.0 event) it.starts_is) (ap (λ (x : Reply × World). x.1.freezes) it.starts_is)
+case_keeps_time setup before event reply after kept (recovers_unfrozen it) = as_before before event reply after (λ due. ap (λ (x : Reply × World). lets_go due x.0 event) it.starts_is) (ap (λ (x : Reply × World). x.1.freezes) it.starts_is)
+case_keeps_time setup before event reply after kept (freezes_one it) = one_more before event reply after _ (λ due. ap (λ (r : Reply). lets_go due r event) it.reply_is) (ap (λ (w : World). w.freezes) it.after_is)
+case_keeps_time setup before event reply after kept (releases_one it) =
+    one_fewer before event reply after it.number it.freeze (λ due. ap (λ (r : Reply). lets_go due r event) it.reply_is) (ap (λ (w : World). w.freezes) it.after_is) it.entry (guests_no_timer it.freeze.holder it.guests)
+case_keeps_time setup before event reply after kept (reads_clock it) = by_the_clock setup before event reply after kept it
+case_keeps_time setup before event reply after kept (goes_on_one it) = as_before before event reply after (λ due. ap (λ (r : Reply). lets_go due r event) it.reply_is) (ap (λ (w : World). w.freezes) it.after_is)
+case_keeps_time setup before event reply after kept (gives_back it) =
+    one_fewer before event reply after it.number it.freeze (λ due. ap (λ (x : Reply × World). lets_go due x.0 event) it.answer) (ap (λ (x : Reply × World). x.1.freezes) it.answer) it.entry (runs_no_timer it.it.run.number it.freeze.holder it.held)
+case_keeps_time setup before event reply after kept (requeues_one it) = as_before before event reply after (λ due. ap (λ (x : Reply × World). lets_go due x.0 event) it.answer) (ap (λ (x : Reply × World). x.1.freezes) it.answer)
+case_keeps_time setup before event reply after kept (asks_one it) = as_before before event reply after (λ due. ap (λ (x : Reply × World). lets_go due x.0 event) it.answer) (ap (λ (x : Reply × World). x.1.freezes) it.answer)
+case_keeps_time setup before event reply after kept (exits it) = as_before before event reply after (λ due. ap (λ (r : Reply). lets_go due r event) it.reply_is) (ap (λ (w : World). w.freezes) it.after_is)
+
+pub timers_keep_time : TimersKeepTime
+timers_keep_time setup xs before run event reply after e = case_keeps_time setup before event reply after (limits_are_kept setup xs before run) (case_of setup before event reply after e)

@@ -4,18 +4,20 @@ ghost use Rattle.world.specs.Limits.{LimitsAreKept};
 ghost use Rattle.world.specs.FreezeLaws.{CountsAreEntries, HeldAreEntries};
 ghost use Rattle.world.specs.FreezeLaws.{GivenUpStaysGivenUp, GivenUpByRunStaysGivenUp, GoneStaysGone};
 ghost use Rattle.world.specs.CcbLaws.{EachIsLiveOrEnded};
+ghost use Rattle.world.specs.ClockLaws.{ClockGoesOn, TimersKeepTime};
 ghost use Rattle.world.specs.Flat.{EmptyAdvanceIsNone};
 ghost use Rattle.world.specs.Headline.{NeverStuck, MachinesAreReached, WithinBudget, DisposedOnce, ExactFreezes, OthersLeaveIt, GoneRunStaysGone};
 
 /// The headline. For every setup of accepted programs and every interleaving, instruction by instruction, of
-/// submissions, dispatches, completions, guests and runs: no run is ever stuck, and each that is out has
+/// submissions, dispatches, completions, timers, guests and runs: no run is ever stuck, and each that is out has
 /// exactly one next step; each executes at most its budget; if it ends it has released exactly the freezes
 /// that it took, and it disposed of its CCB once; and every queue's frozen count is at every moment the number
 /// of entries that name it. And: each live run's machine is one that its program reaches; what a machine holds
 /// is what the entries say of its run; no limit is passed; each CCB number is of a live CCB or of one that
 /// ended, once, with its code; a step of anyone else leaves a run as it is; a freeze that was given up, a
-/// freeze number that is gone and a run that is gone never come back; and an advance of no instruction stands
-/// for no event.
+/// freeze number that is gone and a run that is gone never come back; the clock never goes back, and a freeze
+/// that a timer holds goes by the first reading at or after its time and by nothing else; and an advance of no
+/// instruction stands for no event.
 pub fn headline()
     ensures never_stuck { NeverStuck }
     ensures reached { MachinesAreReached }
@@ -31,5 +33,7 @@ pub fn headline()
     ensures given_up_by_run { GivenUpByRunStaysGivenUp }
     ensures gone { GoneStaysGone }
     ensures gone_run { GoneRunStaysGone }
+    ensures clock { ClockGoesOn }
+    ensures timers { TimersKeepTime }
     ensures empty_advance { EmptyAdvanceIsNone }
 {}

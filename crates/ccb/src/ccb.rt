@@ -6,9 +6,9 @@ ghost use Rattle.ccb.specs.Ccb.{completed, flags_of, requeued, started, status_w
 use crate::cam_status::CamStatus;
 use crate::ccb_flags::CcbFlags;
 use crate::completion::Completion;
-use short_bytes::ShortBytes;
 use crate::{CcbId, QueueId};
 use bitflags::Flags;
+use short_bytes::ShortBytes;
 
 /// A CAM Control Block (ANSI X3.232): one command for one device queue. Until its first completion,
 /// and again once it is requeued, its status says that it is in progress and nothing has come.

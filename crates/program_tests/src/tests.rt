@@ -10,7 +10,7 @@ use std::io;
 use std::io::Write;
 use std::test::Fail;
 use trace::print;
-use world::{Completed, CompletionRecord, Record, StoppedAt, Totals, TracedBytes, Trace};
+use world::{Completed, CompletionRecord, Record, StoppedAt, Totals, Trace, TracedBytes};
 
 // The two paths have 5 and 7 instructions: jeq r2, 0, +2; mov64 r1, r2; call 2; mov64 r1, 1; call 4;
 // mov64 r0, 0; exit.

@@ -325,6 +325,7 @@ fn traced_once_and_memory_refused_once(rt: HostRuntime) -> Result<(), Fail> {
         advanced(2, StoppedAt::Helper(Helper::Requeue)),
         advanced(2, StoppedAt::Exit),
     ];
-    assert!(rt; are_told(rt.alloc(), &trace.records[2..], &records)?);
+    let told = trace.records.get(2..).ok_or("fewer records")?;
+    assert!(rt; are_told(rt.alloc(), told, &records)?);
     Ok(())
 }

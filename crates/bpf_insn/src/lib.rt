@@ -14,7 +14,7 @@ pub use insn::{
     AluOp, ByteOrder, Callee, Condition, Distance, InPlaceOp, Insn, LoadForm, Operand,
     SignExtension, StoreSize, Width, WordSize,
 };
-pub use opcode::Opcode;
+pub use opcode::{Opcode, QUICK_OPS, QuickOp};
 pub use program::{MAX_SLOTS, Program, ProgramBuilder, Slot};
 pub use reg::Reg;
 pub use row::Row;

@@ -5,7 +5,9 @@ pub mod Held
 pub mod MemoryFound
 mod MemoryRows
 pub mod Progress
+pub mod QuickResults
 pub mod RegisterLists
+pub mod SecondOperands
 pub mod Room
 pub mod Rows
 pub mod Same

@@ -14,4 +14,5 @@ pub mod Progress
 pub mod RegisterWords
 pub mod Inside
 pub mod Unchecked
+pub mod QuickResults
 pub mod Able

@@ -2,11 +2,12 @@
 // that an instruction reads and writes words and tests nothing. Behind the words is one that is always 0, the source of a
 // row that has a constant. It relies on `bpf_insn` for the registers' names and for rows.
 
-ghost use Rattle.std.specs.Prelude.{◌≡◌, ◌≤◌, ◌↔◌, IsTrue, ◌∷◌, ◌++◌, Some, None, drop, replicate, slice_index_or, slice_set, length};
-ghost use Rattle.bpf_insn.specs.declared.insn.Operand.{Operand};
+ghost use Rattle.std.specs.Prelude.{◌≡◌, ◌≤◌, ◌↔◌, IsTrue, ◌∷◌, ◌++◌, Some, None, drop, pos, replicate, slice_index_or, slice_set, length};
+ghost use Rattle.std.specs.Int.{w64, cast_unsigned};
 ghost use Rattle.bpf_insn.specs.Reg.{number_of};
-ghost use Rattle.bpf_insn.specs.Rows.{HasSource, no_source};
-ghost use Rattle.bpf_machine.specs.Unchecked.{word_at, word_for, with_word};
+ghost use Rattle.bpf_insn.specs.Rows.{no_source};
+ghost use Rattle.bpf_machine.specs.RegisterWords.{word_of};
+ghost use Rattle.bpf_machine.specs.Unchecked.{second_word, word_at, word_for, with_word};
 
 use bpf_insn::{Operand, Reg, Row};
 use std::marker::Model;
@@ -88,11 +89,40 @@ impl Registers {
     /// What a row's second operand stands for, where an unwritten register counts as 0. Of the source's word and the
     /// constant one is 0, so that the row is not asked which it has.
     #[inline(always)]
-    pub fn second(&self, row: Row) -> u64
-        requires { row.src ≤ no_source }
-        ensures { (source : Operand) → HasSource source row → result ≡ word_for self.now source }
+    pub fn second(&self, row: &Row) -> u64
+        requires { row.now.src ≤ no_source }
+        ensures { result ≡ second_word self.now row.now }
     {
-        self.words[usize::from(row.src)].wrapping_add(i64::from(row.constant).cast_unsigned())
+        self.source_word(row).wrapping_add(constant_word(row))
+    }
+
+    /// The same of a row whose second operand is a constant.
+    #[inline(always)]
+    pub fn constant(&self, row: &Row) -> u64
+        requires { row.now.src ≡ no_source }
+        ensures { result ≡ second_word self.now row.now }
+    {
+        constant_word(row)
+    }
+
+    /// The same of a row whose second operand is a register.
+    #[inline(always)]
+    pub fn source(&self, row: &Row) -> u64
+        requires range { row.now.src ≤ no_source }
+        requires form { row.now.constant ≡ pos 0 }
+        ensures { result ≡ second_word self.now row.now }
+    {
+        self.source_word(row)
+    }
+
+    // The word of a row's source, and the 0 behind the registers where it has none.
+    #[inline(always)]
+    fn source_word(&self, row: &Row) -> u64
+        requires { row.now.src ≤ no_source }
+        ensures word { result ≡ word_of (slice_index_or self.now row.now.src None) }
+        ensures none { row.now.src ≡ no_source → result ≡ 0 }
+    {
+        self.words[usize::from(row.src)]
     }
 
     /// Writes a register.
@@ -136,4 +166,12 @@ impl Registers {
         self.clear(Reg::R4);
         self.clear(Reg::R5);
     }
+}
+
+// The word of a row's constant: it is sign-extended.
+#[inline(always)]
+fn constant_word(row: &Row) -> u64
+    ensures { result ≡ cast_unsigned w64 row.now.constant }
+{
+    i64::from(row.constant).cast_unsigned()
 }

@@ -8,9 +8,12 @@ ghost use Rattle.scenario.specs.Numeral.{IsNumber, has_leading_zero};
 
 use crate::steps::{Command, Step};
 use ccb::{CamStatus, CcbId, Completion, QueueId};
-use hexadecimal::byte_of;
+use hexadecimal::{byte_of, is_digit, pair};
 use or_memory::OrMemory;
 use std::alloc::{AllocError, Global};
+
+/// The most sense bytes that a completion brings.
+const MAX_SENSE: usize = 64;
 
 /// N1: the line of that number, from 1, is not of the form.
 #[derive(Clone, Copy, Debug, PartialEq, Eq)]
@@ -59,8 +62,8 @@ fn command_of(line: &str) -> Option<Command> {
         ("dispatch", Some(queue), None, None, None) => Some(Command::Dispatch {
             queue: QueueId(number(queue)?),
         }),
-        ("complete", Some(ccb), Some(status), Some(scsi), Some("-")) => Some(Command::Complete {
-            completion: completion(ccb, status, scsi)?,
+        ("complete", Some(ccb), Some(status), Some(scsi), Some(sense)) => Some(Command::Complete {
+            completion: completion(ccb, status, scsi, sense)?,
         }),
         ("drain", None, None, None, None) => Some(Command::Drain),
         ("gfreeze", Some(queue), Some(guest), None, None) => Some(Command::GuestFreeze {
@@ -77,11 +80,38 @@ fn command_of(line: &str) -> Option<Command> {
     }
 }
 
-// What a device reports of a CCB, without sense bytes: never that it is still in progress.
-fn completion(ccb: &str, status: &str, scsi: &str) -> Option<Completion> {
+// What a device reports of a CCB: never that it is still in progress.
+fn completion(ccb: &str, status: &str, scsi: &str, sense: &str) -> Option<Completion> {
     let ccb = CcbId(number(ccb)?);
     let status = CamStatus::from_code(byte_of(status)?)?;
-    Completion::new(ccb, status, byte_of(scsi)?, &[])
+    let scsi = byte_of(scsi)?;
+    let mut bytes = [0; MAX_SENSE];
+    let count = read_sense(sense, &mut bytes)?;
+    Completion::new(ccb, status, scsi, bytes.get(..count)?)
+}
+
+// Reads sense bytes, each as two digits, or `-` where there are none: how many there are, at most 64.
+fn read_sense(word: &str, bytes: &mut [u8; MAX_SENSE]) -> Option<usize> {
+    if word == "-" {
+        return Some(0);
+    }
+    if word.is_empty() {
+        return None;
+    }
+    let mut count = 0usize;
+    for digits in word.as_bytes().chunks(2) {
+        *bytes.get_mut(count)? = byte_in(digits)?;
+        count = count.saturating_add(1);
+    }
+    Some(count)
+}
+
+// The byte that two digits spell.
+fn byte_in(digits: &[u8]) -> Option<u8> {
+    match digits {
+        [high, low] if is_digit(*high) && is_digit(*low) => Some(pair(*high, *low)),
+        _ => None,
+    }
 }
 
 // A number below 2^32 in decimal digits, without a sign and without leading zeros.

@@ -15,7 +15,8 @@ pub enum Command {
     Dispatch {
         queue: QueueId,
     },
-    /// `complete C STATUS SCSI -`: a device reports that it is done with CCB C, without sense bytes.
+    /// `complete C STATUS SCSI SENSE`: a device reports that it is done with CCB C, with these sense bytes, or with `-`
+    /// for none.
     Complete {
         completion: Completion,
     },

@@ -21,7 +21,7 @@ use Rattle.helpers.specs.declared.helper.Helper.{Helper as TheHelper}
 use Rattle.helpers.specs.declared.helper.Helper.TheVariants as helpers
 use Rattle.helpers.specs.declared.request.Answer.{Answer}
 use Rattle.helpers.specs.declared.request.Request.{Request}
-use Rattle.helpers.specs.declared.request.Request.TheVariants.{Release, Requeue, QueueInfo, Trace}
+use Rattle.helpers.specs.declared.request.Request.TheVariants.{Freeze, Release, ReleaseAfter, Requeue, Finish, QueueInfo, Trace}
 use Rattle.helpers.specs.Table.{answer_number}
 use Rattle.stack_frame.specs.Frame.{written_at}
 use Rattle.bpf_machine.specs.declared.stop.Stop.TheVariants.{Helper as AtHelper, Exit as AtExit}
@@ -177,12 +177,22 @@ release_is_no_step = refl
 requeue_request : request_at (one (call (pos 4))) (with_register with_freeze R1 1) ≡ Some (Requeue 1)
 requeue_request = refl
 
--- helper 3 is not answered
-no_helper : request_at (one (call (pos 3))) (with_register with_freeze R1 7) ≡ None
+-- helper 6 is not answered
+no_helper : request_at (one (call (pos 6))) (with_register with_freeze R1 7) ≡ None
 no_helper = refl
 
-no_helper_stuck : is_stuck (one (call (pos 3))) limits (with_register with_freeze R1 7) ≡ true
+no_helper_stuck : is_stuck (one (call (pos 6))) limits (with_register with_freeze R1 7) ≡ true
 no_helper_stuck = refl
+
+-- a queue is frozen by its number, a freeze is handed over with a time, and a CCB finished with a code
+freeze_request : request_at (one (call (pos 1))) (with_register with_freeze R1 3) ≡ Some (Freeze 3)
+freeze_request = refl
+
+release_after_request : request_at (one (call (pos 3))) (with_register (with_register with_freeze R1 7) R2 500) ≡ Some (ReleaseAfter 7 500)
+release_after_request = refl
+
+finish_request : request_at (one (call (pos 5))) (with_register with_freeze R1 2) ≡ Some (Finish 2)
+finish_request = refl
 
 -- the freeze that is held can be given back, and no other
 release_held : is_stuck (one (call (pos 2))) limits (with_register with_freeze R1 7) ≡ false
@@ -235,6 +245,21 @@ stops_nowhere_else = refl
 -- the freeze is held no more.
 answered_release : answered (Release 7) (answer_number 2) (with_register with_freeze R1 7) ≡ record with_freeze { place = 1; registers = Some 2 ∷ None ∷ None ∷ None ∷ None ∷ None ∷ None ∷ None ∷ None ∷ None ∷ Some 0x20000200 ∷ []; held = [] }
 answered_release = refl
+
+-- a freeze that is taken comes last among those that are held, and 0 is none
+answered_freeze : (answered (Freeze 0) (answer_number 9) with_freeze).held ≡ 7 ∷ 9 ∷ []
+answered_freeze = refl
+
+answered_no_freeze : (answered (Freeze 0) (answer_number 0) with_freeze).held ≡ 7 ∷ []
+answered_no_freeze = refl
+
+-- one that is handed over is held no more
+answered_release_after : (answered (ReleaseAfter 7 500) (answer_number 0) with_freeze).held ≡ []
+answered_release_after = refl
+
+-- a CCB that is finished is disposed of
+answered_finish : (answered (Finish 2) (answer_number 0) with_freeze).disposed ≡ true
+answered_finish = refl
 
 -- a requeue disposes of the CCB and leaves the freezes
 answered_requeue : answered (Requeue 1) (answer_number 0) (with_register with_freeze R1 1) ≡ record with_freeze { place = 1; registers = Some 0 ∷ None ∷ None ∷ None ∷ None ∷ None ∷ None ∷ None ∷ None ∷ None ∷ Some 0x20000200 ∷ []; disposed = true }

@@ -2,12 +2,13 @@
 // so there is one frame. It relies on `registers`, `held_freezes` and `stack_frame` for what it keeps, on `stepping` for
 // an instruction, on `bpf_insn` for programs, and on `helpers` for the calls.
 
-ghost use Rattle.std.specs.Prelude.{◌≡◌, ◌+◌, ◌<◌, ◌↔◌, true, None, IsTrue};
+ghost use Rattle.std.specs.Prelude.{◌≡◌, ◌+◌, ◌<◌, ◌↔◌, true, None, IsTrue, length};
 ghost use Rattle.bpf_insn.specs.declared.program.TheConstants.{MAX_SLOTS};
+ghost use Rattle.bpf_machine.specs.declared.held_freezes.TheConstants.{MAX_HELD};
 ghost use Rattle.bpf_machine.specs.MachineState.{entry, register};
 ghost use Rattle.bpf_machine.specs.Calls.{argument, request_by, request_with, traced};
 ghost use Rattle.helpers.specs.declared.helper.Helper.TheVariants as helpers;
-ghost use Rattle.bpf_machine.specs.Step.{private_step, request_at, exit_at, after_call, answered, frames_after};
+ghost use Rattle.bpf_machine.specs.Step.{private_step, request_at, exit_at, after_call, answered, frames_after, held_with, held_without, HasRoomFor, IsAnswer, IsNewFreeze};
 ghost use Rattle.bpf_machine.specs.Stops.{stop_at};
 ghost use Rattle.bpf_machine.specs.Reached.{IsEntry, PrivateSteps};
 ghost use Rattle.bpf_machine.specs.Able.{GoesOnWithin};
@@ -240,22 +241,48 @@ impl Machine {
     }
 
     /// Passes a helper call that was answered, where the machine stands at a slot of a program: R0 is the answer
-    /// and R1 to R5 are unwritten. A freeze that was released is held no more, a CCB that waits again is disposed of,
-    /// and what the call wrote stands in its frame.
+    /// and R1 to R5 are unwritten. A freeze that was taken is held, one that was released or handed over is held no
+    /// more, a CCB that waits again or is finished is disposed of, and what the call wrote stands in its frame.
     pub fn pass(&mut self, request: &Request, answer: &Answer)
-        requires { self.old.place < MAX_SLOTS }
+        requires place { self.old.place < MAX_SLOTS }
+        requires allowed { IsAnswer self.old request.now answer.now }
+        requires room { HasRoomFor self.old request.now }
         ensures { self.new ≡ answered request.now answer.now self.old }
     {
-        self.pass_call(answer.r0);
         match *request {
-            Request::Release { freeze } => self.held = self.held.without(freeze),
+            Request::Freeze { queue: _ } => self.take(answer.r0),
+            Request::Release { freeze } => self.give_up(freeze),
+            Request::ReleaseAfter {
+                freeze,
+                milliseconds: _,
+            } => self.give_up(freeze),
             Request::Requeue { retries: _ } => self.disposed = true,
+            Request::Finish { code: _ } => self.disposed = true,
             Request::QueueInfo { address: _ } => self.write(&answer.written),
             Request::Trace {
                 address: _,
                 bytes: _,
             } => {}
         }
+        self.pass_call(answer.r0);
+    }
+
+    // A freeze that was taken is held; 0 is none.
+    fn take(&mut self, freeze: u64)
+        requires new { IsNewFreeze self.old.held freeze }
+        requires room { length self.old.held < MAX_HELD }
+        ensures { self.new ≡ record self.old { held = held_with self.old.held freeze } }
+    {
+        if freeze != 0 {
+            self.held.push(freeze as u32);
+        }
+    }
+
+    // A freeze is held no more.
+    fn give_up(&mut self, freeze: u64)
+        ensures { self.new ≡ record self.old { held = held_without self.old.held freeze } }
+    {
+        self.held = self.held.without(freeze);
     }
 
     // What a call wrote stands in the frame.

@@ -8,7 +8,7 @@ use Rattle.helpers.specs.declared.helper.Asked.TheVariants.{Queue, HeldFreeze, W
 use Rattle.helpers.specs.declared.helper.Asks.{Asks}
 use Rattle.helpers.specs.declared.request.Arguments.{Arguments}
 use Rattle.helpers.specs.declared.request.Request.{Request}
-use Rattle.helpers.specs.declared.request.Request.TheVariants.{Release, Requeue, QueueInfo, Trace}
+use Rattle.helpers.specs.declared.request.Request.TheVariants.{Freeze, Release, ReleaseAfter, Requeue, Finish, QueueInfo, Trace}
 use Rattle.helpers.specs.declared.request.Answer.{Answer}
 
 abbrev pub nothing : Asks
@@ -83,22 +83,31 @@ is_helper a b = number_of a == number_of b
 -- the call of a helper with these arguments, if it is answered and they tell all of it: not what a trace call puts into
 -- the history
 abbrev pub request_of : Helper → Arguments → Option Request
+request_of helpers.Freeze arguments = Some (Freeze arguments.first)
 request_of helpers.Release arguments = Some (Release arguments.first)
+request_of helpers.ReleaseAfter arguments = Some (ReleaseAfter arguments.first arguments.second)
 request_of helpers.Requeue arguments = Some (Requeue arguments.first)
+request_of helpers.Finish arguments = Some (Finish arguments.first)
 request_of helpers.QueueInfo arguments = Some (QueueInfo arguments.first)
 request_of helper arguments = None
 
 -- the helper that is called
 abbrev pub helper_in : Request → Helper
+helper_in (Freeze queue) = helpers.Freeze
 helper_in (Release freeze) = helpers.Release
+helper_in (ReleaseAfter freeze milliseconds) = helpers.ReleaseAfter
 helper_in (Requeue retries) = helpers.Requeue
+helper_in (Finish code) = helpers.Finish
 helper_in (QueueInfo address) = helpers.QueueInfo
 helper_in (Trace address bytes) = helpers.Trace
 
 -- the arguments with which it is called
 abbrev pub arguments_in : Request → Arguments
+arguments_in (Freeze queue) = record { first = queue; second = 0; third = 0 }
 arguments_in (Release freeze) = record { first = freeze; second = 0; third = 0 }
+arguments_in (ReleaseAfter freeze milliseconds) = record { first = freeze; second = milliseconds; third = 0 }
 arguments_in (Requeue retries) = record { first = retries; second = 0; third = 0 }
+arguments_in (Finish code) = record { first = code; second = 0; third = 0 }
 arguments_in (QueueInfo address) = record { first = address; second = 0; third = 0 }
 arguments_in (Trace address bytes) = record { first = address; second = length bytes; third = 0 }
 

@@ -18,10 +18,17 @@ pub struct Arguments {
 /// A call of a helper that is answered, with its arguments as whole 64-bit values.
 #[derive(Clone, Copy, Debug, PartialEq, Eq)]
 pub enum Request {
+    /// Freezes a queue. The answer is the number of the new freeze, or 0 exactly at a limit.
+    Freeze { queue: u64 },
     /// Gives a freeze back that the run holds. The answer is the queue's frozen count then, 0 to 254.
     Release { freeze: u64 },
+    /// Hands a freeze that the run holds over to a timer, which is due so many milliseconds later: 1 to 600,000. The
+    /// answer is 0.
+    ReleaseAfter { freeze: u64, milliseconds: u64 },
     /// Makes the run's CCB wait again, with so many retries fewer: 0 or 1. The answer is 0.
     Requeue { retries: u64 },
+    /// Ends the run's CCB with that final status code, 0 to 63. The answer is 0.
+    Finish { code: u64 },
     /// Writes what the run's queue has to the 16 bytes from an address on. The answer is 0.
     QueueInfo { address: u64 },
     /// Puts the bytes that stand from an address on into the history, 1 to 64 of them. The answer is 0.
@@ -35,19 +42,26 @@ impl Request {
         ensures { result ≡ request_of helper arguments.now }
     {
         match helper {
+            Helper::Freeze => Some(Request::Freeze {
+                queue: arguments.first,
+            }),
             Helper::Release => Some(Request::Release {
                 freeze: arguments.first,
+            }),
+            Helper::ReleaseAfter => Some(Request::ReleaseAfter {
+                freeze: arguments.first,
+                milliseconds: arguments.second,
             }),
             Helper::Requeue => Some(Request::Requeue {
                 retries: arguments.first,
             }),
+            Helper::Finish => Some(Request::Finish {
+                code: arguments.first,
+            }),
             Helper::QueueInfo => Some(Request::QueueInfo {
                 address: arguments.first,
             }),
-            Helper::Freeze
-            | Helper::ReleaseAfter
-            | Helper::Finish
-            | Helper::TableGet
+            Helper::TableGet
             | Helper::TablePut
             | Helper::TableAdd
             | Helper::Trace
@@ -61,8 +75,11 @@ impl Request {
         ensures { result ≡ helper_in self.now }
     {
         match self {
+            Request::Freeze { .. } => Helper::Freeze,
             Request::Release { .. } => Helper::Release,
+            Request::ReleaseAfter { .. } => Helper::ReleaseAfter,
             Request::Requeue { .. } => Helper::Requeue,
+            Request::Finish { .. } => Helper::Finish,
             Request::QueueInfo { .. } => Helper::QueueInfo,
             Request::Trace { .. } => Helper::Trace,
         }

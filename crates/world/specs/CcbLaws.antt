@@ -1,9 +1,10 @@
 -- The law of CCB numbers: each that was given is live or ended, and the ended ones are those that events ended.
-use Rattle.std.specs.Prelude.{◌≡◌, ℕ, ◌<◌, ◌≤◌, ◌==◌, List, [], ◌∷◌, ◌++◌, Some, None, ◌⊎◌, count_by}
+use Rattle.std.specs.Prelude.{◌≡◌, ℕ, ◌<◌, ◌≤◌, ◌==◌, List, [], ◌∷◌, ◌++◌, Option, Some, None, ◌⊎◌, count_by}
 use Rattle.ccb.specs.Status.{code_of}
-use Rattle.world.specs.World.{Setup, LiveCcb, EndedCcb, World, opening}
-use Rattle.world.specs.Lookups.{ccb_of}
-use Rattle.world.specs.Event.{Event, complete, Reply, done}
+use Rattle.world.specs.World.{Setup, LiveCcb, EndedCcb, LiveRun, World, opening}
+use Rattle.world.specs.Lookups.{ccb_of, run_of}
+use Rattle.world.specs.Told.{finishes}
+use Rattle.world.specs.Event.{call, Event, complete, executes, Reply, done}
 use Rattle.world.specs.WorldRun.{Leads, WorldRun}
 
 -- how often the number is among those that ended
@@ -23,9 +24,16 @@ pub record AreAccounted (live : List LiveCcb) (ended : List EndedCcb) (greatest 
   pub each : (number : ℕ) → 0 < number → number ≤ greatest → IsLiveOnly number live ended ⊎ IsEndedOnly number live ended
   pub no_other : (number : ℕ) → (number ≡ 0) ⊎ (greatest < number) → (ccb_of number live ≡ None) × (ended_times number ended ≡ 0)
 
--- the CCB that an event finishes in this world: that of a completion which is done, with the code of its status
+-- the CCB of this run, with the code
+abbrev pub finished_by_run : ℕ → Option LiveRun → List EndedCcb
+finished_by_run code None = []
+finished_by_run code (Some run) = record { number = run.ccb; code = code } ∷ []
+
+-- the CCB that an event finishes in this world: that of a completion which is done, with the code of its status, and that
+-- of a run which calls helper 5, with the code that it names
 abbrev pub finished_by : World → Event → Reply → List EndedCcb
 finished_by before (complete outcome) done = record { number = outcome.ccb.0; code = code_of outcome.status } ∷ []
+finished_by before (executes run (call (finishes code))) reply = finished_by_run code (run_of run before.runs)
 finished_by before event reply = []
 
 -- all that the events finish, in order

@@ -68,12 +68,16 @@ is_success status = code_of status == code_of RequestCompleted
 abbrev pub run_meets_limit : World → Bool
 run_meets_limit world = nat_le most_runs (length world.runs) || nat_le last_number world.greatest_run
 
--- the CCB is gone, and the code of its status is kept
-abbrev pub finishes : World → Ccb → CamStatus → World
-finishes world ccb status = record world {
+-- the CCB is gone, and its final code is kept
+abbrev pub ended_with : World → Ccb → ℕ → World
+ended_with world ccb code = record world {
   live = filter (λ live. not (live.ccb.number.0 == ccb.number.0)) world.live;
-  ended = world.ended ++ record { number = ccb.number.0; code = code_of status } ∷ [];
+  ended = world.ended ++ record { number = ccb.number.0; code = code } ∷ [];
 }
+
+-- it is gone with the code of its status
+abbrev pub finishes : World → Ccb → CamStatus → World
+finishes world ccb status = ended_with world ccb (code_of status)
 
 -- The CCB is in recovery by a new run, which is out: it begins at the entry of its queue's program, over the context
 -- of the CCB, and is told the number of its freeze.

@@ -6,11 +6,11 @@ use Rattle.world.specs.declared.refusal.Refusal.{Refusal}
 use Rattle.world.specs.declared.record.Completed.{Completed}
 use Rattle.world.specs.declared.record.Completed.TheVariants.{Done, Started}
 use Rattle.world.specs.declared.record.StoppedAt.{StoppedAt}
-use Rattle.world.specs.declared.record.StoppedAt.TheVariants.{Helper, Trace, Exit}
+use Rattle.world.specs.declared.record.StoppedAt.TheVariants.{Helper, Trace, Finish, Exit}
 use Rattle.world.specs.declared.record.Record.{Record}
 use Rattle.world.specs.declared.record.Record.TheVariants.{Submit, Dispatch, Complete, Advance, GuestFreeze, GuestRelease, Clock}
 use Rattle.world.specs.World.{Setup, World}
-use Rattle.world.specs.Told.{plain, traces}
+use Rattle.world.specs.Told.{plain, traces, finishes}
 use Rattle.world.specs.Event.{Instruction, private, call, exit, Event, submit, dispatch, complete, guest_freeze, guest_release, clock_reads, executes, Reply, ccb_given, done, run_started, freeze_given, count_left, expired, went_on, result, refused}
 use Rattle.world.specs.WorldRun.{Leads}
 
@@ -39,6 +39,7 @@ clock_reply (Err refusal) = refused refusal
 abbrev pub stop_of : StoppedAt → Instruction
 stop_of (Helper helper) = call (plain helper)
 stop_of (Trace bytes) = call (traces bytes)
+stop_of (Finish code) = call (finishes code)
 stop_of Exit = exit
 
 -- An advance by so many instructions: all but the last are private. One by no instruction is none: it claims a helper

@@ -1,17 +1,18 @@
 -- The laws of frozen counts and freezes: what holds in every run of the world.
-use Rattle.std.specs.Prelude.{◌≡◌, ℕ, ◌+◌, ◌==◌, true, if◌then◌else◌, List, ◌∷◌, ◌++◌, map, filter, length, IsSome, Some}
+use Rattle.std.specs.Prelude.{◌≡◌, ℕ, ◌+◌, ◌==◌, true, false, if◌then◌else◌, List, ◌∷◌, ◌++◌, map, filter, length, IsSome, Some}
 use Rattle.freeze_ledger.specs.declared.freeze.Freeze.{Freeze}
 use Rattle.freeze_ledger.specs.Freezes.{names, frozen, entry_of, due_at}
 use Rattle.ccb.specs.Completion.{Outcome}
 use Rattle.helpers.specs.declared.helper.Helper.TheVariants as helpers
-use Rattle.helpers.specs.declared.request.Request.TheVariants.{Release}
+use Rattle.helpers.specs.declared.request.Request.{Request}
+use Rattle.helpers.specs.declared.request.Request.TheVariants.{Freeze as FreezeQueue, Release, ReleaseAfter}
 use Rattle.bpf_machine.specs.Step.{request_at}
 use Rattle.world.specs.World.{Setup, LiveCcb, LiveRun, World}
 use Rattle.world.specs.Lawful.{IsLawful}
 use Rattle.world.specs.Lookups.{ccb_of, run_of}
 use Rattle.world.specs.Told.{plain}
 use Rattle.world.specs.Event.{call, Event, complete, guest_freeze, guest_release, clock_reads, executes, Reply, done, run_started, freeze_given, count_left, expired, result, refused}
-use Rattle.world.specs.FreezeSteps.{frozen_with}
+use Rattle.world.specs.FreezeSteps.{frozen_with, is_timer}
 use Rattle.world.specs.RunSteps.{is_run}
 use Rattle.world.specs.Step.{WorldStep}
 use Rattle.world.specs.WorldRun.{Leads, WorldRun}
@@ -65,14 +66,34 @@ MovesByCompletion before outcome done after = KeepsFreezes before after
 MovesByCompletion before outcome (refused refusal) after = after ≡ before
 MovesByCompletion before outcome reply after = ⊥
 
+-- the run stands at this call
+abbrev pub Calls : World → ℕ → Request → Type 0
+Calls world run request =
+    (it : LiveRun) × (run_of run world.runs ≡ Some it) × (request_at it.program it.machine ≡ Some request)
+
 -- the freeze that the run asks to give back
 abbrev pub AsksFor : World → ℕ → ℕ → Type 0
-AsksFor world run number =
-    (it : LiveRun) × (run_of run world.runs ≡ Some it) × (request_at it.program it.machine ≡ Some (Release number))
+AsksFor world run number = Calls world run (Release number)
+
+-- and that which it asks to hand over to a timer
+abbrev pub HandsOver : World → ℕ → ℕ → Type 0
+HandsOver world run number = (milliseconds : ℕ) × Calls world run (ReleaseAfter number milliseconds)
+
+-- A run's call for a further freeze of a queue, by its reply: one more of the queue, or, where the reply is 0, none.
+pub record MovesByTaking (before : World) (run : ℕ) (reply : Reply) (after : World) : Type 0 where
+  pub queue : ℕ
+  pub freeze : ℕ
+  pub asks : Calls before run (FreezeQueue queue)
+  pub reply_is : reply ≡ result freeze
+  pub more : (other : ℕ) → frozen other after.freezes ≡ frozen other before.freezes + (if freeze == 0 then 0 else if queue == other then 1 else 0)
+
+-- no queue's count changed: a freeze may have another holder
+abbrev pub KeepsCounts : World → World → Type 0
+KeepsCounts before after = (other : ℕ) → frozen other after.freezes ≡ frozen other before.freezes
 
 -- What a step does to each queue's frozen count: a freeze that was taken adds one to its queue's, by whomever it was
--- taken, and one that is given back takes one; the reply to that is the number of entries that name the queue now. A
--- clock reading takes those whose timers are due. Nothing else changes a count.
+-- taken, and one that is given back takes one; the reply to that is the number of entries that name the queue now. One
+-- that is handed over stays. A clock reading takes those whose timers are due. Nothing else changes a count.
 abbrev pub MovesCounts : World → Event → Reply → World → Type 0
 MovesCounts before (guest_freeze queue guest) reply after = MovesByFreeze before queue reply after
 MovesCounts before (complete outcome) reply after = MovesByCompletion before outcome reply after
@@ -81,6 +102,8 @@ MovesCounts before (guest_release number) reply after =
 MovesCounts before (clock_reads reading) reply after = MovesByClock before reading reply after
 MovesCounts before (executes run (call (plain helpers.Release))) reply after =
     (number count : ℕ) × AsksFor before run number × (reply ≡ result count) × OneFewer before number count after
+MovesCounts before (executes run (call (plain helpers.Freeze))) reply after = MovesByTaking before run reply after
+MovesCounts before (executes run (call (plain helpers.ReleaseAfter))) reply after = KeepsCounts before after
 MovesCounts before event reply after = KeepsFreezes before after
 
 -- at every moment of every run each frozen count moves as its entries do
@@ -101,6 +124,17 @@ GivenUpByRunStaysGivenUp =
     (setup : Setup) (xs ys : List (Event × Reply)) (run number : ℕ) (reply : Reply) (before world : World) →
     WorldRun setup xs before → AsksFor before run number →
     Leads setup before ((executes run (call (plain helpers.Release)), reply) ∷ ys) world → IsHeld number world → ⊥
+
+-- a run or a guest holds the freeze of that number
+abbrev pub IsOwned : ℕ → World → Type 0
+IsOwned number world = (freeze : Freeze) × (entry_of number world.freezes ≡ Some freeze) × (is_timer freeze.holder ≡ false)
+
+-- one that a run handed over is held by a timer or gone ever after, and never by a run or a guest again
+abbrev pub HandedOverStaysHandedOver : Type 0
+HandedOverStaysHandedOver =
+    (setup : Setup) (xs ys : List (Event × Reply)) (run number : ℕ) (reply : Reply) (before world : World) →
+    WorldRun setup xs before → HandsOver before run number →
+    Leads setup before ((executes run (call (plain helpers.ReleaseAfter)), reply) ∷ ys) world → IsOwned number world → ⊥
 
 -- a number whose freeze is gone never has one again
 abbrev pub GoneStaysGone : Type 0

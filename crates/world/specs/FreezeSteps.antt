@@ -3,7 +3,7 @@ use Rattle.std.specs.Prelude.{ℕ, ◌+◌, Bool, true, false, if◌then◌else�
 use Rattle.freeze_ledger.specs.declared.freeze.Holder.{Holder}
 use Rattle.freeze_ledger.specs.declared.freeze.Holder.TheVariants.{Run, Timer, Guest}
 use Rattle.freeze_ledger.specs.declared.freeze.Freeze.{Freeze}
-use Rattle.freeze_ledger.specs.Freezes.{frozen, meets_limit, without, due_at, not_due_at}
+use Rattle.freeze_ledger.specs.Freezes.{frozen, meets_limit, without, handed_over, due_at, not_due_at}
 use Rattle.world.specs.declared.refusal.Refusal.TheVariants.{Unknown, Limit, GoesBack}
 use Rattle.world.specs.Capacities.{last_reading}
 use Rattle.world.specs.World.{Setup, queue_count, World}
@@ -13,6 +13,11 @@ abbrev pub is_guest : Holder → Bool
 is_guest (Run run) = false
 is_guest (Timer due) = false
 is_guest (Guest guest) = true
+
+abbrev pub is_timer : Holder → Bool
+is_timer (Run run) = false
+is_timer (Timer due) = true
+is_timer (Guest guest) = false
 
 -- how many freezes there are of what this one freezes
 abbrev pub frozen_with : Freeze → List Freeze → ℕ
@@ -30,6 +35,10 @@ froze world queue holder =
 -- without the freeze of this number
 abbrev pub thawed : World → ℕ → World
 thawed world number = record world { freezes = without number world.freezes }
+
+-- with a timer that is due then as the holder of the freeze of this number
+abbrev pub timed : World → ℕ → ℕ → World
+timed world number due = record world { freezes = handed_over number due world.freezes }
 
 -- C1 where there is no such queue, C2 where a further freeze meets a limit, else a new freeze
 abbrev pub step_guest_freeze : Setup → World → ℕ → ℕ → Reply × World

@@ -8,7 +8,7 @@ use Rattle.world.specs.declared.ccb_state.CcbState.TheVariants.{InRecovery}
 use Rattle.world.specs.World.{Setup, queue_setup, LiveCcb, LiveRun, World}
 use Rattle.world.specs.Lawful.{IsLawful}
 use Rattle.world.specs.Lookups.{ccb_of, run_of}
-use Rattle.world.specs.Told.{Told, plain, traces}
+use Rattle.world.specs.Told.{Told, plain, traces, finishes}
 use Rattle.world.specs.Event.{Instruction, private, call, exit, Event, complete, executes, instruction_of, Reply, run_started}
 use Rattle.world.specs.Step.{WorldStep}
 use Rattle.world.specs.WorldRun.{Leads, WorldRun}
@@ -22,9 +22,9 @@ is_step_of run event = is_some (instruction_of run event)
 -- the call disposes of the run's CCB: it makes it wait again, or finishes it
 abbrev pub is_disposing : Told → Bool
 is_disposing (plain helpers.Requeue) = true
-is_disposing (plain helpers.Finish) = true
 is_disposing (plain helper) = false
 is_disposing (traces bytes) = false
+is_disposing (finishes code) = true
 
 -- the instruction disposes of the run's CCB
 abbrev pub is_disposal : Option Instruction → Bool

@@ -1,14 +1,14 @@
 -- What one instruction of a run does: to its own machine, and by a helper call or its exit to the world.
-use Rattle.std.specs.Prelude.{ℕ, Bool, false, not, ◌&&◌, ◌==◌, if◌then◌else◌, Option, Some, None, filter}
+use Rattle.std.specs.Prelude.{ℕ, ◌+◌, Bool, false, not, ◌&&◌, ◌==◌, if◌then◌else◌, Option, Some, None, filter}
 use Rattle.std.specs.Option.{option_map, option_and_then}
 use Rattle.ccb.specs.Ccb.{requeued}
 use Rattle.freeze_ledger.specs.declared.freeze.Holder.{Holder}
 use Rattle.freeze_ledger.specs.declared.freeze.Holder.TheVariants.{Run, Timer, Guest}
 use Rattle.freeze_ledger.specs.declared.freeze.Freeze.{Freeze}
-use Rattle.freeze_ledger.specs.Freezes.{entry_of}
+use Rattle.freeze_ledger.specs.Freezes.{entry_of, meets_limit}
 use Rattle.helpers.specs.declared.limits.HelperLimits.{HelperLimits}
 use Rattle.helpers.specs.declared.request.Request.{Request}
-use Rattle.helpers.specs.declared.request.Request.TheVariants.{Release, Requeue, QueueInfo, Trace}
+use Rattle.helpers.specs.declared.request.Request.TheVariants.{Freeze as FreezeQueue, Release, ReleaseAfter, Requeue, Finish, QueueInfo, Trace}
 use Rattle.helpers.specs.declared.request.Answer.{Answer}
 use Rattle.helpers.specs.Table.{answer_number}
 use Rattle.bpf_machine.specs.MachineState.{MachineState}
@@ -20,7 +20,8 @@ use Rattle.world.specs.Lookups.{ccb_of, with_ccb, with_run}
 use Rattle.world.specs.Told.{Told, told_of, is_told}
 use Rattle.world.specs.QueueInfo.{queue_info, info_bytes}
 use Rattle.world.specs.Event.{Instruction, private, call, exit, Reply, went_on, result}
-use Rattle.world.specs.FreezeSteps.{frozen_with, thawed}
+use Rattle.world.specs.FreezeSteps.{frozen_with, froze, thawed, timed}
+use Rattle.world.specs.CcbSteps.{ended_with}
 
 -- the holder is the run of this number
 abbrev pub is_run : ℕ → Holder → Bool
@@ -36,6 +37,13 @@ goes_on world run machine = record world { runs = with_run (record run { machine
 abbrev pub answers : World → LiveRun → Request → Answer → Reply × World
 answers world run request answer = (result answer.r0, goes_on world run (answered request answer run.machine))
 
+-- the run freezes a queue, and the answer is the new freeze's number, or 0 where a further freeze meets a limit
+abbrev pub takes : World → LiveRun → ℕ → Reply × World
+takes world run queue =
+    if meets_limit queue world.freezes world.greatest_freeze
+    then answers world run (FreezeQueue queue) (answer_number 0)
+    else answers (froze world queue (Run run.number)) run (FreezeQueue queue) (answer_number (world.greatest_freeze + 1))
+
 -- no event unless the run holds the freeze; it goes, and the answer is how many its queue has then
 abbrev pub releases : World → LiveRun → Option Freeze → Option (Reply × World)
 releases world run None = None
@@ -45,12 +53,26 @@ releases world run (Some freeze) =
     then Some (answers after run (Release freeze.number) (answer_number (frozen_with freeze after.freezes)))
     else None
 
+-- no event unless the run holds the freeze; its holder is now a timer, which is due so many milliseconds after the clock
+abbrev pub hands_over : World → LiveRun → ℕ → Option Freeze → Option (Reply × World)
+hands_over world run milliseconds None = None
+hands_over world run milliseconds (Some freeze) =
+    let after = timed world freeze.number (world.clock + milliseconds) in
+    if is_run run.number freeze.holder
+    then Some (answers after run (ReleaseAfter freeze.number milliseconds) (answer_number 0))
+    else None
+
 -- the run's CCB waits again with so many retries fewer
 abbrev pub requeues : World → LiveRun → ℕ → Option LiveCcb → Option (Reply × World)
 requeues world run retries None = None
 requeues world run retries (Some live) =
     let after = record world { live = with_ccb (record { ccb = requeued live.ccb retries; state = Waiting }) world.live } in
     Some (answers after run (Requeue retries) (answer_number 0))
+
+-- the run's CCB is gone, with this final code
+abbrev pub finishes : World → LiveRun → ℕ → Option LiveCcb → Option (Reply × World)
+finishes world run code None = None
+finishes world run code (Some live) = Some (answers (ended_with world live.ccb code) run (Finish code) (answer_number 0))
 
 -- what the run's queue has, as 16 bytes from the address on
 abbrev pub info_answer : World → LiveRun → ℕ → Answer
@@ -59,8 +81,11 @@ info_answer world run address =
 
 -- what a call does
 abbrev pub step_request : World → LiveRun → Request → Option (Reply × World)
+step_request world run (FreezeQueue queue) = Some (takes world run queue)
 step_request world run (Release freeze) = releases world run (entry_of freeze world.freezes)
+step_request world run (ReleaseAfter freeze milliseconds) = hands_over world run milliseconds (entry_of freeze world.freezes)
 step_request world run (Requeue retries) = requeues world run retries (ccb_of run.ccb world.live)
+step_request world run (Finish code) = finishes world run code (ccb_of run.ccb world.live)
 step_request world run (QueueInfo address) = Some (answers world run (QueueInfo address) (info_answer world run address))
 step_request world run (Trace address bytes) = Some (answers world run (Trace address bytes) (answer_number 0))
 

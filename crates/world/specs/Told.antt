@@ -1,9 +1,10 @@
--- What the history tells of a helper call: which helper is called, and of a trace call its bytes.
-use Rattle.std.specs.Prelude.{ℕ, Bool, false, List, bytes_eq}
+-- What the history tells of a helper call: which helper is called, of a trace call its bytes, and of one that finishes the
+-- CCB its final code.
+use Rattle.std.specs.Prelude.{ℕ, ◌==◌, Bool, false, List, bytes_eq}
 use Rattle.helpers.specs.declared.helper.Helper.{Helper}
 use Rattle.helpers.specs.declared.helper.Helper.TheVariants as helpers
 use Rattle.helpers.specs.declared.request.Request.{Request}
-use Rattle.helpers.specs.declared.request.Request.TheVariants.{Release, Requeue, QueueInfo, Trace}
+use Rattle.helpers.specs.declared.request.Request.TheVariants.{Freeze, Release, ReleaseAfter, Requeue, Finish, QueueInfo, Trace}
 use Rattle.helpers.specs.Table.{is_helper}
 
 pub data Told : Type 0 where
@@ -11,10 +12,15 @@ pub data Told : Type 0 where
   plain : Helper → Told
   -- a call of helper 10, which puts these bytes into the history
   traces : List ℕ → Told
+  -- a call of helper 5, which finishes the CCB with this code
+  finishes : ℕ → Told
 
 abbrev pub told_of : Request → Told
+told_of (Freeze queue) = plain helpers.Freeze
 told_of (Release freeze) = plain helpers.Release
+told_of (ReleaseAfter freeze milliseconds) = plain helpers.ReleaseAfter
 told_of (Requeue retries) = plain helpers.Requeue
+told_of (Finish code) = finishes code
 told_of (QueueInfo address) = plain helpers.QueueInfo
 told_of (Trace address bytes) = traces bytes
 
@@ -22,5 +28,10 @@ told_of (Trace address bytes) = traces bytes
 abbrev pub is_told : Told → Told → Bool
 is_told (plain a) (plain b) = is_helper a b
 is_told (plain a) (traces b) = false
+is_told (plain a) (finishes b) = false
 is_told (traces a) (plain b) = false
 is_told (traces a) (traces b) = bytes_eq a b
+is_told (traces a) (finishes b) = false
+is_told (finishes a) (plain b) = false
+is_told (finishes a) (traces b) = false
+is_told (finishes a) (finishes b) = a == b

@@ -1,23 +1,33 @@
 -- The freezes that a run got and gave up, read along a run of the world.
 use Rattle.std.specs.Prelude.{ℕ, ◌==◌, ◌&&◌, not, if◌then◌else◌, List, [], ◌∷◌, ◌++◌, Option, Some, None}
+use Rattle.helpers.specs.declared.helper.Helper.TheVariants as helpers
 use Rattle.helpers.specs.declared.request.Request.{Request}
-use Rattle.helpers.specs.declared.request.Request.TheVariants.{Release, Requeue, QueueInfo, Trace}
+use Rattle.helpers.specs.declared.request.Request.TheVariants.{Freeze, Release, ReleaseAfter, Requeue, Finish, QueueInfo, Trace}
 use Rattle.bpf_machine.specs.Step.{request_at}
 use Rattle.world.specs.World.{Setup, LiveRun, World}
 use Rattle.world.specs.Lookups.{run_of}
-use Rattle.world.specs.Event.{Instruction, private, call, exit, Event, instruction_of, Reply, run_started}
+use Rattle.world.specs.Told.{plain}
+use Rattle.world.specs.Event.{Instruction, private, call, exit, Event, complete, executes, instruction_of, Reply, run_started, result}
 use Rattle.world.specs.WorldRun.{Leads}
 
--- the freeze that an event gives to this run by its reply: that of its start, if it got one
+-- a freeze of that number was given to that run, if it is this one; 0 is none
+abbrev pub given_to : ℕ → ℕ → ℕ → List ℕ
+given_to run number freeze = if number == run && not (freeze == 0) then freeze ∷ [] else []
+
+-- the freeze that an event gives to this run by its reply: that of its start, and that which its call takes
 abbrev pub taken_by : ℕ → Event → Reply → List ℕ
-taken_by run event (run_started number freeze) = if number == run && not (freeze == 0) then freeze ∷ [] else []
+taken_by run (complete outcome) (run_started number freeze) = given_to run number freeze
+taken_by run (executes number (call (plain helpers.Freeze))) (result freeze) = given_to run number freeze
 taken_by run event reply = []
 
--- the freeze that a helper call asks to give back
+-- the freeze that a helper call asks to give back or to hand over
 abbrev pub asked : Option Request → List ℕ
 asked None = []
+asked (Some (Freeze queue)) = []
 asked (Some (Release freeze)) = freeze ∷ []
+asked (Some (ReleaseAfter freeze milliseconds)) = freeze ∷ []
 asked (Some (Requeue retries)) = []
+asked (Some (Finish code)) = []
 asked (Some (QueueInfo address)) = []
 asked (Some (Trace address bytes)) = []
 

@@ -21,10 +21,12 @@ pub enum Completed {
 /// Where a run stopped, as the history tells it.
 #[derive(Debug, Drop)]
 pub enum StoppedAt {
-    /// A call of this helper, which is not the trace helper.
+    /// A call of this helper, of which no more is told.
     Helper(Helper),
     /// A call of the trace helper, which put these bytes into the history.
     Trace(TracedBytes),
+    /// A call of the helper that finishes the run's CCB, with its final code, 0 to 63.
+    Finish(u8),
     /// The outermost exit.
     Exit,
 }

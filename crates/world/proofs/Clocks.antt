@@ -1,5 +1,5 @@
 -- The clock goes on, and a freeze that a timer holds goes by a clock reading and by nothing else.
-use Rattle.std.proofs.Common.{◌≡◌, ℕ, ◌≤◌, List, [], ◌∷◌, ◌++◌, length, true, false, not, leb, Some, None, ◌⊎◌, inl, inr, ap, sym, ◌∙◌, arith}
+use Rattle.std.proofs.Common.{◌≡◌, ℕ, ◌≤◌, List, [], ◌∷◌, ◌++◌, ◌+◌, length, true, false, not, leb, Some, None, ◌⊎◌, inl, inr, refl, ap, sym, subst, ◌∙◌, arith}
 use Rattle.std.proofs.lemmas.Bool.{cases_Bool, cond-true, cond-false, not_from_true, not_from_false}
 use Rattle.freeze_ledger.specs.declared.freeze.Holder.{Holder}
 use Rattle.freeze_ledger.specs.declared.freeze.Holder.TheVariants.{Timer}
@@ -13,11 +13,10 @@ use Rattle.world.specs.RunSteps.{is_run}
 use Rattle.world.specs.WorldRun.{Leads}
 use Rattle.world.specs.Limits.{KeepsLimits}
 use Rattle.world.specs.ClockLaws.{ClockGoesOn, lets_go, KeepsTime, TimersKeepTime}
-use Rattle.world.proofs.Lists.Found.{found_push, found_in_filter, leave_other}
+use Rattle.world.proofs.Lists.Found.{put, found_key, found_push, found_in_filter, put_other, leave_other}
 use Rattle.world.proofs.Lists.Rising.{filtered_out}
-use Rattle.world.proofs.Lists.Entries.{freeze_key}
-use Rattle.world.proofs.Steps.Cases.{ReadsClock, Case, case_of, refuses, submits, dispatches, finishes_one, recovers_one, recovers_unfrozen, freezes_one, releases_one, reads_clock, goes_on_one, gives_back, requeues_one, asks_one, exits}
-use Rattle.world.proofs.Steps.Effects.{same_entry}
+use Rattle.world.proofs.Lists.Entries.{freeze_key, handed_is_put}
+use Rattle.world.proofs.Steps.Cases.{ReadsClock, FreezeDeed, leaves_freezes, takes_one, gives_one_back, hands_one_over, Asks, Case, case_of, refuses, submits, dispatches, finishes_one, recovers_one, recovers_unfrozen, freezes_one, releases_one, reads_clock, goes_on_one, asks_one, exits}
 use Rattle.world.proofs.Leads.{limits_are_kept}
 
 -- a step leaves the clock, or it reads what is neither before it nor after the last reading
@@ -37,9 +36,7 @@ clock_move setup before event reply after (reads_clock it) =
     let is : after.clock ≡ it.reading = ap (λ (w : World). w.clock) it.after_is in
     inr (rw is it.on, rw is it.within)
 clock_move setup before event reply after (goes_on_one it) = inl (ap (λ (w : World). w.clock) it.after_is)
-clock_move setup before event reply after (gives_back it) = inl (ap (λ (x : Reply × World). x.1.clock) it.answer)
-clock_move setup before event reply after (requeues_one it) = inl (ap (λ (x : Reply × World). x.1.clock) it.answer)
-clock_move setup before event reply after (asks_one it) = inl (ap (λ (x : Reply × World). x.1.clock) it.answer)
+clock_move setup before event reply after (asks_one it) = inl (ap (λ (x : Reply × World). x.1.clock) it.answer ∙ it.clock_is)
 clock_move setup before event reply after (exits it) = inl (ap (λ (w : World). w.clock) it.after_is)
 
 moved_on : (before after : World) → ClockMove before after → before.clock ≤ last_reading → (before.clock ≤ after.clock) × (after.clock ≤ last_reading)
@@ -73,15 +70,28 @@ one_more before event reply after new calm e =
     ap (entry_of freeze.number) e
     ∙ (found_push freeze_key freeze.number before.freezes new freeze found ∙ sym (cond-false (lets_go due reply event) None (Some freeze) (calm due)))
 
+-- what no timer holds is not what a timer holds
+other_one : (before : World) (number : ℕ) (it : Freeze) → entry_of number before.freezes ≡ Some it → ((due : ℕ) → it.holder ≡ Timer due → ⊥) → (freeze : Freeze) (due : ℕ) → entry_of freeze.number before.freezes ≡ Some freeze → freeze.holder ≡ Timer due → number ≡ freeze.number → ⊥
+other_one before number it entry others freeze due found timer same =
+    let both : Some it ≡ Some freeze = sym entry ∙ (ap (λ (n : ℕ). entry_of n before.freezes) same ∙ found) in
+    let is : it ≡ freeze = cc in
+    others due (ap (λ (f : Freeze). f.holder) is ∙ timer)
+
 -- or one is gone that no timer holds
-one_fewer : (before : World) (event : Event) (reply : Reply) (after : World) (number : ℕ) (gone : Freeze) → ((due : ℕ) → lets_go due reply event ≡ false) → after.freezes ≡ without gone.number before.freezes → entry_of number before.freezes ≡ Some gone → ((due : ℕ) → gone.holder ≡ Timer due → ⊥) → KeepsTime before event reply after
+one_fewer : (before : World) (event : Event) (reply : Reply) (after : World) (number : ℕ) (gone : Freeze) → ((due : ℕ) → lets_go due reply event ≡ false) → after.freezes ≡ without number before.freezes → entry_of number before.freezes ≡ Some gone → ((due : ℕ) → gone.holder ≡ Timer due → ⊥) → KeepsTime before event reply after
 one_fewer before event reply after number gone calm e entry others =
     λ freeze due found timer.
-    let apart : gone.number ≡ freeze.number → ⊥ = λ same.
-    let is : gone ≡ freeze = same_entry before.freezes number freeze.number gone freeze entry found same in
-    others due (ap (λ (f : Freeze). f.holder) is ∙ timer) in
     ap (entry_of freeze.number) e
-    ∙ (leave_other freeze_key gone.number freeze.number before.freezes apart ∙ (found ∙ sym (cond-false (lets_go due reply event) None (Some freeze) (calm due))))
+    ∙ (leave_other freeze_key number freeze.number before.freezes (other_one before number gone entry others freeze due found timer)
+    ∙ (found ∙ sym (cond-false (lets_go due reply event) None (Some freeze) (calm due))))
+
+-- or one has another holder now, and no timer held it
+one_changed : (before : World) (event : Event) (reply : Reply) (after : World) (old new : Freeze) → ((due : ℕ) → lets_go due reply event ≡ false) → after.freezes ≡ put freeze_key new before.freezes → entry_of new.number before.freezes ≡ Some old → ((due : ℕ) → old.holder ≡ Timer due → ⊥) → KeepsTime before event reply after
+one_changed before event reply after old new calm e entry others =
+    λ freeze due found timer.
+    ap (entry_of freeze.number) e
+    ∙ (put_other freeze_key new freeze.number before.freezes (other_one before new.number old entry others freeze due found timer)
+    ∙ (found ∙ sym (cond-false (lets_go due reply event) None (Some freeze) (calm due))))
 
 guests_no_timer : (holder : Holder) → is_guest holder ≡ true → (due : ℕ) → holder ≡ Timer due → ⊥
 guests_no_timer holder guests due timer = let bad : false ≡ true = sym (ap is_guest timer) ∙ guests in cc
@@ -106,6 +116,20 @@ by_the_clock setup before event reply after kept it = λ freeze due found timer.
           ∙ sym (cond-false (lets_go due reply event) None (Some freeze) (tests ∙ later)))
     ]
 
+-- a call of a helper lets nothing go that a timer holds
+by_a_call : (setup : Setup) (before : World) (event : Event) (reply : Reply) (after : World) → KeepsLimits setup before → (it : Asks setup before event reply after) → FreezeDeed setup before it.it.run it.request it.given it.between → KeepsTime before event reply after
+by_a_call setup before event reply after kept it (leaves_freezes deed) = as_before before event reply after (λ due. ap (λ (x : Reply × World). lets_go due x.0 event) it.answer) (ap (λ (x : Reply × World). x.1.freezes) it.answer ∙ deed.freezes_is)
+by_a_call setup before event reply after kept it (takes_one deed) = one_more before event reply after _ (λ due. ap (λ (x : Reply × World). lets_go due x.0 event) it.answer) (ap (λ (x : Reply × World). x.1.freezes) it.answer ∙ deed.freezes_is)
+by_a_call setup before event reply after kept it (gives_one_back deed) =
+    one_fewer before event reply after deed.number deed.freeze (λ due. ap (λ (x : Reply × World). lets_go due x.0 event) it.answer) (ap (λ (x : Reply × World). x.1.freezes) it.answer ∙ deed.freezes_is) deed.entry (runs_no_timer it.it.run.number deed.freeze.holder deed.its)
+by_a_call setup before event reply after kept it (hands_one_over deed) =
+    let old : Freeze = deed.freeze in
+    let due : ℕ = before.clock + deed.milliseconds in
+    one_changed before event reply after old (record old { holder = Timer due }) (λ due. ap (λ (x : Reply × World). lets_go due x.0 event) it.answer)
+    (ap (λ (x : Reply × World). x.1.freezes) it.answer ∙ (deed.freezes_is ∙ handed_is_put deed.number due 0 before.freezes before.greatest_freeze old kept.freezes.numbered deed.entry))
+    (subst (λ (n : ℕ). entry_of n before.freezes ≡ Some old) (sym (found_key freeze_key deed.number before.freezes old deed.entry)) deed.entry)
+    (runs_no_timer it.it.run.number old.holder deed.its)
+
 case_keeps_time : (setup : Setup) (before : World) (event : Event) (reply : Reply) (after : World) → KeepsLimits setup before → Case setup before event reply after → KeepsTime before event reply after
 case_keeps_time setup before event reply after kept (refuses it) = as_before before event reply after (λ due. ap (λ (r : Reply). lets_go due r event) it.reply_is) (ap (λ (w : World). w.freezes) it.after_is)
 case_keeps_time setup before event reply after kept (submits it) = as_before before event reply after (λ due. ap (λ (r : Reply). lets_go due r event) it.reply_is) (ap (λ (w : World). w.freezes) it.after_is)
@@ -118,10 +142,7 @@ case_keeps_time setup before event reply after kept (releases_one it) =
     one_fewer before event reply after it.number it.freeze (λ due. ap (λ (r : Reply). lets_go due r event) it.reply_is) (ap (λ (w : World). w.freezes) it.after_is) it.entry (guests_no_timer it.freeze.holder it.guests)
 case_keeps_time setup before event reply after kept (reads_clock it) = by_the_clock setup before event reply after kept it
 case_keeps_time setup before event reply after kept (goes_on_one it) = as_before before event reply after (λ due. ap (λ (r : Reply). lets_go due r event) it.reply_is) (ap (λ (w : World). w.freezes) it.after_is)
-case_keeps_time setup before event reply after kept (gives_back it) =
-    one_fewer before event reply after it.number it.freeze (λ due. ap (λ (x : Reply × World). lets_go due x.0 event) it.answer) (ap (λ (x : Reply × World). x.1.freezes) it.answer) it.entry (runs_no_timer it.it.run.number it.freeze.holder it.held)
-case_keeps_time setup before event reply after kept (requeues_one it) = as_before before event reply after (λ due. ap (λ (x : Reply × World). lets_go due x.0 event) it.answer) (ap (λ (x : Reply × World). x.1.freezes) it.answer)
-case_keeps_time setup before event reply after kept (asks_one it) = as_before before event reply after (λ due. ap (λ (x : Reply × World). lets_go due x.0 event) it.answer) (ap (λ (x : Reply × World). x.1.freezes) it.answer)
+case_keeps_time setup before event reply after kept (asks_one it) = by_a_call setup before event reply after kept it it.freezes
 case_keeps_time setup before event reply after kept (exits it) = as_before before event reply after (λ due. ap (λ (r : Reply). lets_go due r event) it.reply_is) (ap (λ (w : World). w.freezes) it.after_is)
 
 pub timers_keep_time : TimersKeepTime

@@ -4,26 +4,48 @@ use Rattle.std.proofs.lemmas.Bool.{ne_eqb}
 use Rattle.freeze_ledger.specs.declared.freeze.Freeze.{Freeze}
 use Rattle.freeze_ledger.specs.Freezes.{frozen, entry_of, without, due_at}
 use Rattle.world.specs.FreezeSteps.{frozen_with}
-use Rattle.world.specs.World.{Setup, World}
-use Rattle.world.specs.Event.{Event, Reply, run_started}
+use Rattle.helpers.specs.declared.request.Request.{Request}
+use Rattle.helpers.specs.declared.request.Request.TheVariants.{Freeze as FreezeQueue, Release}
+use Rattle.helpers.specs.declared.request.Answer.{Answer}
+use Rattle.world.specs.World.{Setup, LiveRun, World}
+use Rattle.world.specs.Told.{told_of}
+use Rattle.world.specs.Event.{call, Event, executes, Reply, run_started, result}
 use Rattle.world.specs.Limits.{KeepsLimits}
-use Rattle.world.specs.FreezeLaws.{OneFewer, MovesCounts, CountsAreEntries}
-use Rattle.world.proofs.Lists.Entries.{frozen_push, frozen_without, frozen_due, entry_bounds}
-use Rattle.world.proofs.Steps.Cases.{Case, case_of, refuses, submits, dispatches, finishes_one, recovers_one, recovers_unfrozen, freezes_one, releases_one, reads_clock, goes_on_one, gives_back, requeues_one, asks_one, exits}
+use Rattle.world.specs.FreezeLaws.{OneFewer, Calls, MovesCounts, CountsAreEntries}
+use Rattle.world.proofs.Lists.Entries.{frozen_push, frozen_without, frozen_handed_over, frozen_due}
+use Rattle.world.proofs.Steps.Cases.{FreezeDeed, leaves_freezes, takes_one, gives_one_back, hands_one_over, Case, case_of, refuses, submits, dispatches, finishes_one, recovers_one, recovers_unfrozen, freezes_one, releases_one, reads_clock, goes_on_one, asks_one, exits}
 use Rattle.world.proofs.Leads.{limits_are_kept}
 
 -- the count after the freeze of this number went
-goes : (setup : Setup) (before after : World) (number : ℕ) (freeze : Freeze) → KeepsLimits setup before → entry_of number before.freezes ≡ Some freeze → after.freezes ≡ without freeze.number before.freezes → OneFewer before number (frozen_with freeze (without freeze.number before.freezes)) after
+goes : (setup : Setup) (before after : World) (number : ℕ) (freeze : Freeze) → KeepsLimits setup before → entry_of number before.freezes ≡ Some freeze → after.freezes ≡ without number before.freezes → OneFewer before number (frozen_with freeze (without number before.freezes)) after
 goes setup before after number freeze kept entry e =
-    let is = entry_bounds 0 before.freezes before.greatest_freeze number freeze kept.freezes.numbered entry in
     record {
       freeze = freeze;
       entry = entry;
       count_is = sym (ap (frozen_with freeze) e);
       fewer = λ other.
           ap (λ (fs : List Freeze). frozen other fs + cond {A = ℕ} (eqb freeze.queue.0 other) 1 0) e
-          ∙ frozen_without other 0 before.freezes before.greatest_freeze freeze.number freeze kept.freezes.numbered (subst (λ (n : ℕ). entry_of n before.freezes ≡ Some freeze) (sym is.0) entry);
+          ∙ frozen_without other 0 before.freezes before.greatest_freeze number freeze kept.freezes.numbered entry;
     }
+
+-- what a call of a helper does, by the freeze that it takes, gives back or hands over
+call_moves : (setup : Setup) (before after : World) (number : ℕ) (run : LiveRun) (request : Request) (given : Answer) (between : World) → KeepsLimits setup before → Calls before number request → after.freezes ≡ between.freezes → FreezeDeed setup before run request given between → MovesCounts before (executes number (call (told_of request))) (result given.r0) after
+call_moves setup before after number run request given between kept calls same (leaves_freezes deed) = deed.moves number after calls (same ∙ deed.freezes_is)
+call_moves setup before after number run request given between kept calls same (takes_one deed) =
+    let above : eqb (before.greatest_freeze + 1) 0 ≡ false = ne_eqb _ _ (λ e. omega (arith, e)) in
+    let asks : Calls before number (FreezeQueue deed.queue) = subst (Calls before number) deed.request_is calls in
+    rw (deed.request_is, deed.given_is) (record {
+      queue = deed.queue;
+      freeze = before.greatest_freeze + 1;
+      asks = asks;
+      reply_is = refl;
+      more = rw above (λ other. ap (frozen other) (same ∙ deed.freezes_is) ∙ frozen_push other before.freezes _);
+    })
+call_moves setup before after number run request given between kept calls same (gives_one_back deed) =
+    let asks : Calls before number (Release deed.number) = subst (Calls before number) deed.request_is calls in
+    rw (deed.request_is, deed.given_is) (deed.number, _, asks, refl, goes setup before after deed.number deed.freeze kept deed.entry (same ∙ deed.freezes_is))
+call_moves setup before after number run request given between kept calls same (hands_one_over deed) =
+    rw deed.request_is (λ other. ap (frozen other) (same ∙ deed.freezes_is) ∙ frozen_handed_over other deed.number (before.clock + deed.milliseconds) before.freezes)
 
 pub case_moves : (setup : Setup) (before : World) (event : Event) (reply : Reply) (after : World) → KeepsLimits setup before → Case setup before event reply after → MovesCounts before event reply after
 case_moves setup before event reply after kept (refuses it) = rw (it.reply_is, it.after_is) it.moves
@@ -52,10 +74,9 @@ case_moves setup before event reply after kept (reads_clock it) =
       fewer = λ other. ap (λ (w : World). frozen other w.freezes + frozen other (due_at it.reading before.freezes)) it.after_is ∙ frozen_due other it.reading before.freezes;
     })
 case_moves setup before event reply after kept (goes_on_one it) = rw it.it.event_is (ap (λ (w : World). w.freezes) it.after_is)
-case_moves setup before event reply after kept (gives_back it) =
-    rw it.it.event_is (it.number, _, (it.it.run, it.it.found, it.call_is), ap (λ (x : Reply × World). x.0) it.answer, goes setup before after it.number it.freeze kept it.entry (ap (λ (x : Reply × World). x.1.freezes) it.answer))
-case_moves setup before event reply after kept (requeues_one it) = rw it.it.event_is (ap (λ (x : Reply × World). x.1.freezes) it.answer)
-case_moves setup before event reply after kept (asks_one it) = rw it.it.event_is it.moves
+case_moves setup before event reply after kept (asks_one it) =
+    let reply_is : reply ≡ result it.given.r0 = ap (λ (x : Reply × World). x.0) it.answer in
+    rw (it.it.event_is, reply_is) (call_moves setup before after it.it.number it.it.run it.request it.given it.between kept (it.it.run, it.it.found, it.call_is) (ap (λ (x : Reply × World). x.1.freezes) it.answer) it.freezes)
 case_moves setup before event reply after kept (exits it) = rw it.it.event_is (ap (λ (w : World). w.freezes) it.after_is)
 
 pub counts_are_entries : CountsAreEntries

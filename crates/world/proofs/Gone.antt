@@ -1,22 +1,29 @@
--- A number that was given up, or whose freeze is gone, is never held again.
-use Rattle.std.proofs.Common.{◌≡◌, ℕ, ◌≤◌, List, [], ◌∷◌, not, Option, Some, None, IsSome, refl, ap, sym, subst, ◌∙◌, arith}
+-- A number that was given up, or whose freeze is gone, is never held again, and one that was handed over only by a timer.
+use Rattle.std.proofs.Common.{◌≡◌, ℕ, ◌+◌, ◌≤◌, List, [], ◌∷◌, true, false, not, Option, Some, None, IsSome, inl, inr, refl, ap, sym, subst, ◌∙◌, arith}
+use Rattle.std.proofs.lemmas.Bool.{cases_eq}
 use Rattle.helpers.specs.declared.helper.Helper.TheVariants as helpers
+use Rattle.freeze_ledger.specs.declared.freeze.Holder.TheVariants.{Timer}
 use Rattle.freeze_ledger.specs.declared.freeze.Freeze.{Freeze}
 use Rattle.freeze_ledger.specs.Freezes.{entry_of, without}
-use Rattle.helpers.specs.declared.request.Request.TheVariants.{Release}
+use Rattle.helpers.specs.declared.request.Request.{Request}
+use Rattle.helpers.specs.declared.request.Request.TheVariants.{Freeze as FreezeQueue, Release, ReleaseAfter}
+use Rattle.helpers.specs.declared.request.Answer.{Answer}
 use Rattle.bpf_machine.specs.Step.{request_at}
 use Rattle.world.specs.World.{Setup, LiveRun, World, opening}
 use Rattle.world.specs.Lookups.{run_of}
-use Rattle.world.specs.Told.{plain}
+use Rattle.world.specs.Told.{Told, plain, told_of}
 use Rattle.world.specs.Event.{call, Event, Reply, guest_release, executes}
+use Rattle.world.specs.FreezeSteps.{is_timer}
 use Rattle.world.specs.Step.{WorldStep}
 use Rattle.world.specs.WorldRun.{Leads}
 use Rattle.world.specs.Limits.{KeepsLimits}
-use Rattle.world.specs.FreezeLaws.{IsHeld, AsksFor, GivenUpStaysGivenUp, GivenUpByRunStaysGivenUp, GoneStaysGone}
-use Rattle.world.proofs.Lists.Found.{missing_filter}
-use Rattle.world.proofs.Lists.Entries.{freeze_key, entry_push, entry_removed, entry_bounds, none_since}
-use Rattle.world.proofs.Steps.Cases.{case_of, guest_release_parts, release_parts}
-use Rattle.world.proofs.Steps.Moves.{FreezeMove, freezes_stay, freeze_enters, freezes_leave}
+use Rattle.world.specs.FreezeLaws.{IsHeld, Calls, GivenUpStaysGivenUp, GivenUpByRunStaysGivenUp, HandedOverStaysHandedOver, GoneStaysGone}
+use Rattle.world.specs.TookGave.{asked}
+use Rattle.world.proofs.Lists.Found.{put, found_in_push, put_same, put_other, missing_filter}
+use Rattle.world.proofs.Lists.Rising.{found_unfiltered}
+use Rattle.world.proofs.Lists.Entries.{freeze_key, entry_push, entry_removed, entry_bounds, handed_is_put, none_since}
+use Rattle.world.proofs.Steps.Cases.{LeavesFreezes, FreezeDeed, leaves_freezes, takes_one, gives_one_back, hands_one_over, Asks, case_of, guest_release_parts, asks_of}
+use Rattle.world.proofs.Steps.Moves.{FreezeMove, freezes_stay, freeze_enters, freezes_leave, freeze_changes}
 use Rattle.world.proofs.Steps.Effects.{effect_of}
 use Rattle.world.proofs.Kept.{step_keeps}
 use Rattle.world.proofs.Leads.{leads_split, leads_keeps, limits_are_kept}
@@ -32,11 +39,16 @@ move_past setup before event after number (freeze_enters queue holder known room
     record { given = rw g (omega (arith, past.given)); none = rw e (entry_push number before.freezes _ (λ same. omega (arith, same, past.given)) past.none) }
 move_past setup before event after number (freezes_leave gone e g from) past =
     record { given = rw g past.given; none = rw e (missing_filter freeze_key (λ (f : Freeze). not (gone f)) number before.freezes past.none) }
+move_past setup before event after number (freeze_changes old new found queue_is e g hands) past =
+    let apart : new.number ≡ number → ⊥ = λ same.
+    let bad : None ≡ Some old = sym past.none ∙ (ap (λ (n : ℕ). entry_of n before.freezes) (sym same) ∙ found) in cc in
+    record { given = rw g past.given; none = ap (entry_of number) e ∙ (put_other freeze_key new number before.freezes apart ∙ past.none) }
 
-move_rises : (setup : Setup) (before : World) (event : Event) (after : World) → FreezeMove setup before event after → before.greatest_freeze ≤ after.greatest_freeze
+pub move_rises : (setup : Setup) (before : World) (event : Event) (after : World) → FreezeMove setup before event after → before.greatest_freeze ≤ after.greatest_freeze
 move_rises setup before event after (freezes_stay e g) = omega (arith, g)
 move_rises setup before event after (freeze_enters queue holder known room e g comes) = omega (arith, g)
 move_rises setup before event after (freezes_leave gone e g from) = omega (arith, g)
+move_rises setup before event after (freeze_changes old new found queue_is e g hands) = omega (arith, g)
 
 step_freezes : (setup : Setup) (before : World) (event : Event) (reply : Reply) (after : World) → KeepsLimits setup before → WorldStep setup before event reply after → FreezeMove setup before event after
 step_freezes setup before event reply after kept e = (effect_of setup before event reply after kept (case_of setup before event reply after e)).freezes
@@ -61,12 +73,11 @@ held_given setup world number None kept is some = absurd (let bad : IsSome {T = 
 held_given setup world number (Some f) kept is some = (entry_bounds 0 world.freezes world.greatest_freeze number f kept.freezes.numbered is).2
 
 -- the freeze of a number was taken out, so the number is past
-removed_past : (setup : Setup) (before after : World) (number : ℕ) (freeze : Freeze) → KeepsLimits setup before → entry_of number before.freezes ≡ Some freeze → after.freezes ≡ without freeze.number before.freezes → after.greatest_freeze ≡ before.greatest_freeze → IsPast number after
+removed_past : (setup : Setup) (before after : World) (number : ℕ) (freeze : Freeze) → KeepsLimits setup before → entry_of number before.freezes ≡ Some freeze → after.freezes ≡ without number before.freezes → after.greatest_freeze ≡ before.greatest_freeze → IsPast number after
 removed_past setup before after number freeze kept entry e g =
-    let is = entry_bounds 0 before.freezes before.greatest_freeze number freeze kept.freezes.numbered entry in
     record {
-      given = rw g is.2;
-      none = rw e (subst (λ (n : ℕ). entry_of number (without n before.freezes) ≡ None) (sym is.0) (entry_removed number before.freezes));
+      given = rw g (entry_bounds 0 before.freezes before.greatest_freeze number freeze kept.freezes.numbered entry).2;
+      none = rw e (entry_removed number before.freezes);
     }
 
 pub given_up_stays_given_up : GivenUpStaysGivenUp
@@ -78,27 +89,113 @@ given_up_stays_given_up setup xs ys number reply world run held =
     let it = guest_release_parts setup before number reply after parts.2.1 in
     let same : it.number ≡ number = let e : guest_release number ≡ guest_release it.number = it.event_is in cc in
     let past = removed_past setup before after number it.freeze kept (subst (λ (n : ℕ). entry_of n before.freezes ≡ Some it.freeze) same it.entry)
-    (ap (λ (w : World). w.freezes) it.after_is) (ap (λ (w : World). w.greatest_freeze) it.after_is) in
+    (ap (λ (w : World). w.freezes) it.after_is ∙ ap (λ (n : ℕ). without n before.freezes) same) (ap (λ (w : World). w.greatest_freeze) it.after_is) in
     none_held number world (leads_past setup after ys world number (step_keeps setup before (guest_release number) reply after parts.2.1 kept) parts.2.2 past).none held
 
--- two requests of one run at one moment are one
-same_request : (world : World) (run number other : ℕ) (it : LiveRun) → run_of run world.runs ≡ Some it → request_at it.program it.machine ≡ Some (Release other) → AsksFor world run number → other ≡ number
-same_request world run number other it found call_is asks =
-    let runs : Some it ≡ Some asks.0 = sym found ∙ asks.1 in
-    let same : it ≡ asks.0 = cc in
-    let calls : Some (Release other) ≡ Some (Release number) = sym call_is ∙ (ap (λ (r : LiveRun). request_at r.program r.machine) same ∙ asks.2) in
+-- the call that is an event is the one at which the run stands
+the_call : (setup : Setup) (before : World) (run : ℕ) (told : Told) (reply : Reply) (after : World) (request : Request) → Calls before run request → (it : Asks setup before (executes run (call told)) reply after) → it.request ≡ request
+the_call setup before run told reply after request calls it =
+    let e : executes run (call told) ≡ executes it.it.number (call (told_of it.request)) = it.it.event_is in
+    let named : it.it.number ≡ run = cc in
+    let runs : Some it.it.run ≡ Some calls.0 = sym it.it.found ∙ (ap (λ (n : ℕ). run_of n before.runs) named ∙ calls.1) in
+    let same : it.it.run ≡ calls.0 = cc in
+    let requests : Some it.request ≡ Some request = sym it.call_is ∙ (ap (λ (r : LiveRun). request_at r.program r.machine) same ∙ calls.2) in
     cc
+
+-- a call gives back or hands over the freeze that it asks for
+asked_for_one : (before : World) (run : LiveRun) (request : Request) (given : Answer) (between : World) (number : ℕ) → asked (Some request) ≡ number ∷ [] → LeavesFreezes before run request given between → ⊥
+asked_for_one before run request given between number is deed = let bad : [] ≡ number ∷ [] = sym deed.keeps ∙ is in cc
+
+given_back_past : (setup : Setup) (before after : World) (number : ℕ) (run : LiveRun) (request : Request) (given : Answer) (between : World) → KeepsLimits setup before → request ≡ Release number → after.freezes ≡ between.freezes → after.greatest_freeze ≡ between.greatest_freeze → FreezeDeed setup before run request given between → IsPast number after
+given_back_past setup before after number run request given between kept is e g (leaves_freezes deed) = absurd (asked_for_one before run request given between number (ap (λ (r : Request). asked (Some r)) is) deed)
+given_back_past setup before after number run request given between kept is e g (takes_one deed) = absurd (let bad : FreezeQueue deed.queue ≡ Release number = sym deed.request_is ∙ is in cc)
+given_back_past setup before after number run request given between kept is e g (gives_one_back deed) =
+    let both : Release deed.number ≡ Release number = sym deed.request_is ∙ is in
+    let same : deed.number ≡ number = cc in
+    removed_past setup before after number deed.freeze kept (subst (λ (n : ℕ). entry_of n before.freezes ≡ Some deed.freeze) same deed.entry)
+    (e ∙ (deed.freezes_is ∙ ap (λ (n : ℕ). without n before.freezes) same)) (g ∙ deed.greatest_is)
+given_back_past setup before after number run request given between kept is e g (hands_one_over deed) = absurd (let bad : ReleaseAfter deed.number deed.milliseconds ≡ Release number = sym deed.request_is ∙ is in cc)
 
 pub given_up_by_run_stays_given_up : GivenUpByRunStaysGivenUp
 given_up_by_run_stays_given_up setup xs ys run number reply before world first asks second held =
     let after : World = second.0 in
     let kept = limits_are_kept setup xs before first in
-    let it = release_parts setup before run reply after second.1 in
-    let named : it.it.number ≡ run = let e : executes run (call (plain helpers.Release)) ≡ executes it.it.number (call (plain helpers.Release)) = it.it.event_is in cc in
-    let same : it.number ≡ number = same_request before run number it.number it.it.run (subst (λ (n : ℕ). run_of n before.runs ≡ Some it.it.run) named it.it.found) it.call_is asks in
-    let past = removed_past setup before after number it.freeze kept (subst (λ (n : ℕ). entry_of n before.freezes ≡ Some it.freeze) same it.entry)
-    (ap (λ (x : Reply × World). x.1.freezes) it.answer) (ap (λ (x : Reply × World). x.1.greatest_freeze) it.answer) in
+    let it = asks_of setup before run (plain helpers.Release) reply after second.1 in
+    let past = given_back_past setup before after number it.it.run it.request it.given it.between kept (the_call setup before run (plain helpers.Release) reply after (Release number) asks it)
+    (ap (λ (x : Reply × World). x.1.freezes) it.answer) (ap (λ (x : Reply × World). x.1.greatest_freeze) it.answer) it.freezes in
     none_held number world (leads_past setup after ys world number (step_keeps setup before (executes run (call (plain helpers.Release))) reply after second.1 kept) second.2 past).none held
+
+-- a number was given, and what bears it, if anything does, is a timer's
+record IsTimed (number : ℕ) (world : World) : Type 0 where
+  given : number ≤ world.greatest_freeze
+  timer : (freeze : Freeze) → entry_of number world.freezes ≡ Some freeze → is_timer freeze.holder ≡ true
+
+move_timed : (setup : Setup) (before : World) (event : Event) (after : World) (number : ℕ) → KeepsLimits setup before → FreezeMove setup before event after → IsTimed number before → IsTimed number after
+move_timed setup before event after number kept (freezes_stay e g) timed = record { given = rw g timed.given; timer = λ f found. timed.timer f (sym (ap (entry_of number) e) ∙ found) }
+move_timed setup before event after number kept (freeze_enters queue holder known room e g comes) timed =
+    record {
+      given = rw g (omega (arith, timed.given));
+      timer = λ f found.
+          elim (found_in_push freeze_key number before.freezes _ f (sym (ap (entry_of number) e) ∙ found)) [
+            | inl old ↦ timed.timer f old
+            | inr new ↦ absurd (omega (arith, new.1, timed.given))
+          ];
+    }
+move_timed setup before event after number kept (freezes_leave gone e g from) timed =
+    record {
+      given = rw g timed.given;
+      timer = λ f found. timed.timer f (found_unfiltered freeze_key (λ (x : Freeze). not (gone x)) 0 before.freezes before.greatest_freeze number f kept.freezes.numbered (sym (ap (entry_of number) e) ∙ found));
+    }
+move_timed setup before event after number kept (freeze_changes old new was queue_is e g hands) timed =
+    record {
+      given = rw g timed.given;
+      timer = λ f found.
+          let there : entry_of number (put freeze_key new before.freezes) ≡ Some f = sym (ap (entry_of number) e) ∙ found in
+          elim (cases_eq new.number number) [
+            | inl same ↦
+                let both : Some new ≡ Some f = sym (subst (λ (n : ℕ). entry_of n (put freeze_key new before.freezes) ≡ Some new) same (put_same freeze_key new before.freezes old was)) ∙ there in
+                let is : new ≡ f = cc in
+                subst (λ (x : Freeze). is_timer x.holder ≡ true) is hands.timed
+            | inr apart ↦ timed.timer f (sym (put_other freeze_key new number before.freezes apart) ∙ there)
+          ];
+    }
+
+leads_timed : (setup : Setup) (before : World) (xs : List (Event × Reply)) (after : World) (number : ℕ) → KeepsLimits setup before → Leads setup before xs after → IsTimed number before → IsTimed number after
+leads_timed setup before [] after number kept run timed = subst (IsTimed number) run timed
+leads_timed setup before (x ∷ xs) after number kept run timed =
+    leads_timed setup run.0 xs after number (step_keeps setup before x.0 x.1 run.0 run.1 kept) run.2
+    (move_timed setup before x.0 run.0 number kept (step_freezes setup before x.0 x.1 run.0 kept run.1) timed)
+
+handed_over_timed : (setup : Setup) (before after : World) (number milliseconds : ℕ) (run : LiveRun) (request : Request) (given : Answer) (between : World) → KeepsLimits setup before → request ≡ ReleaseAfter number milliseconds → after.freezes ≡ between.freezes → after.greatest_freeze ≡ between.greatest_freeze → FreezeDeed setup before run request given between → IsTimed number after
+handed_over_timed setup before after number milliseconds run request given between kept is e g (leaves_freezes deed) = absurd (asked_for_one before run request given between number (ap (λ (r : Request). asked (Some r)) is) deed)
+handed_over_timed setup before after number milliseconds run request given between kept is e g (takes_one deed) = absurd (let bad : FreezeQueue deed.queue ≡ ReleaseAfter number milliseconds = sym deed.request_is ∙ is in cc)
+handed_over_timed setup before after number milliseconds run request given between kept is e g (gives_one_back deed) = absurd (let bad : Release deed.number ≡ ReleaseAfter number milliseconds = sym deed.request_is ∙ is in cc)
+handed_over_timed setup before after number milliseconds run request given between kept is e g (hands_one_over deed) =
+    let both : ReleaseAfter deed.number deed.milliseconds ≡ ReleaseAfter number milliseconds = sym deed.request_is ∙ is in
+    let same : deed.number ≡ number = cc in
+    let old : Freeze = deed.freeze in
+    let due : ℕ = before.clock + deed.milliseconds in
+    let new : Freeze = record old { holder = Timer due } in
+    let bounds = entry_bounds 0 before.freezes before.greatest_freeze deed.number old kept.freezes.numbered deed.entry in
+    let freezes_is : after.freezes ≡ put freeze_key new before.freezes = e ∙ (deed.freezes_is ∙ handed_is_put deed.number due 0 before.freezes before.greatest_freeze old kept.freezes.numbered deed.entry) in
+    let there : entry_of old.number after.freezes ≡ Some new = ap (entry_of old.number) freezes_is ∙ put_same freeze_key new before.freezes old (subst (λ (n : ℕ). entry_of n before.freezes ≡ Some old) (sym bounds.0) deed.entry) in
+    record {
+      given = omega (arith, same, bounds.2, g, deed.greatest_is);
+      timer = λ f found.
+          let one : Some new ≡ Some f = sym there ∙ (ap (λ (n : ℕ). entry_of n after.freezes) (bounds.0 ∙ same) ∙ found) in
+          let is_new : new ≡ f = cc in
+          ap (λ (x : Freeze). is_timer x.holder) (sym is_new);
+    }
+
+pub handed_over_stays_handed_over : HandedOverStaysHandedOver
+handed_over_stays_handed_over setup xs ys run number reply before world first hands second owned =
+    let after : World = second.0 in
+    let kept = limits_are_kept setup xs before first in
+    let it = asks_of setup before run (plain helpers.ReleaseAfter) reply after second.1 in
+    let timed = handed_over_timed setup before after number hands.0 it.it.run it.request it.given it.between kept (the_call setup before run (plain helpers.ReleaseAfter) reply after (ReleaseAfter number hands.0) hands.1 it)
+    (ap (λ (x : Reply × World). x.1.freezes) it.answer) (ap (λ (x : Reply × World). x.1.greatest_freeze) it.answer) it.freezes in
+    let later = leads_timed setup after ys world number (step_keeps setup before (executes run (call (plain helpers.ReleaseAfter))) reply after second.1 kept) second.2 timed in
+    let bad : false ≡ true = sym owned.2 ∙ later.timer owned.0 owned.1 in cc
 
 pub gone_stays_gone : GoneStaysGone
 gone_stays_gone setup xs ys zs number held gone later first was second not_there third is_there =

@@ -1,7 +1,6 @@
 -- The laws of runs, read off their lives.
 use Rattle.std.proofs.Common.{◌≡◌, ℕ, ◌+◌, ◌<◌, ◌≤◌, List, [], ◌∷◌, Bool, true, false, not, cond, eqb, Some, None, inl, inr, refl, ap, sym, subst, ◌∙◌, arith}
 use Rattle.std.specs.Prelude.{◌&&◌}
-use Rattle.std.specs.Option.{is_some}
 use Rattle.std.proofs.lemmas.Bool.{cases_Bool, eq-eqb}
 use Rattle.ccb.specs.Completion.{Outcome}
 use Rattle.bpf_machine.specs.Reached.{Reached}
@@ -11,20 +10,20 @@ use Rattle.world.specs.Lookups.{ccb_of, run_of}
 use Rattle.world.specs.Event.{complete, Event, Reply, run_started}
 use Rattle.world.specs.WorldRun.{Leads}
 use Rattle.world.specs.Headline.{is_step_of, steps_of, disposals_of, exits_of, StartedRun, KeepsWithin, WithinBudget, InRecoveryBy, DisposedOnce, OthersLeaveIt, GoneRunStaysGone, times_in, ExactFreezes}
-use Rattle.world.proofs.Lists.Found.{found_key}
+use Rattle.world.proofs.Lists.Found.{found_key, found_push, put_other, leave_other}
 use Rattle.world.proofs.Steps.Cases.{case_of}
 use Rattle.world.specs.Limits.{KeepsLimits}
-use Rattle.world.proofs.Steps.Moves.{ccb_key, Begins}
+use Rattle.world.proofs.Steps.Moves.{ccb_key, run_key, Begins, RunMove, runs_stay, run_enters, run_changes, run_leaves}
 use Rattle.world.proofs.Steps.Effects.{begun_found, effect_of}
 use Rattle.world.proofs.Kept.{step_keeps}
 use Rattle.world.proofs.Leads.{leads_keeps, limits_are_kept}
 use Rattle.world.proofs.Held.{live_given, others_entries}
-use Rattle.world.proofs.Steps.Fates.{Fate, stands, goes, leaves_world, fate_of}
 use Rattle.world.proofs.Steps.Beginnings.{no_some, started_begins, begins_at_entry}
 use Rattle.world.proofs.Reaching.{same_found}
 use Rattle.world.proofs.Sound.{IsSound, step_sound, run_sound, leads_sound}
+use Rattle.world.specs.FreezeLaws.{held_by}
 use Rattle.world.specs.TookGave.{taken_by, took}
-use Rattle.world.proofs.Exact.{has, times_append, times_one, balance_leads, live_balance, gone_balance}
+use Rattle.world.proofs.Exact.{has, times_append, times_one, times_above, IsGotOnce, balance_leads, live_balance, gone_balance}
 use Rattle.world.proofs.Lives.{Life, alive, over, recount, rises, stays_over, life_leads, within}
 
 -- a run from its start on
@@ -116,7 +115,7 @@ disposed_once setup lawful outcome run ys world it =
 start_balance : (setup : Setup) (before : World) (event : Event) (reply : Reply) (after : World) (run : ℕ) (start : LiveRun) (n : ℕ) → before.greatest_run + 1 ≡ run → Begins setup before event reply after start → (times_in n (taken_by run event reply) ≡ times_in n start.machine.held) × (times_in n (taken_by run event reply) ≤ 1)
 start_balance setup before event reply after run start n named it =
     let got : taken_by run event reply ≡ cond (not (eqb it.freeze 0)) (it.freeze ∷ []) [] =
-    ap (taken_by run event) it.reply_is
+    (λ i. taken_by run (it.event_is i) (it.reply_is i))
     ∙ ap (λ (b : Bool). cond (b && not (eqb it.freeze 0)) (it.freeze ∷ []) []) (eq-eqb _ _ named) in
     let held : start.machine.held ≡ cond (eqb it.freeze 0) [] (it.freeze ∷ []) = ap (λ (r : LiveRun). r.machine.held) it.run_is in
     let same : taken_by run event reply ≡ start.machine.held = got ∙ (turned (eqb it.freeze 0) ∙ sym held) in
@@ -148,35 +147,45 @@ exact_freezes setup lawful outcome run ys world it =
     let named : before.greatest_run + 1 ≡ run = cc in
     let there = subst (λ (n : ℕ). run_of n started.runs ≡ Some begun.0) named (begun_found setup before event reply started begun.0 sound.kept.runs begun.1) in
     let after_start = step_sound setup before event reply started lawful it.step sound in
-    let given = live_given setup started run begun.0 after_start.kept there in
     let at_start = λ (n : ℕ). start_balance setup before event reply started run begun.0 n named begun.1 in
+    let got_once : (n : ℕ) → IsGotOnce n (times_in n (taken_by run event reply)) started = λ (n : ℕ). record {
+      once = (at_start n).1;
+      later = λ above.
+          let held : times_in n begun.0.machine.held ≡ times_in n (held_by run started.freezes) = ap (times_in n) (after_start.held.machines run begun.0 there) in
+          omega (arith, (at_start n).0, held, times_above run n 0 started.freezes started.greatest_freeze after_start.kept.freezes.numbered above);
+    } in
     let balanced = λ (n : ℕ).
-    balance_leads setup n run (times_in n (taken_by run event reply)) 0 started ys world lawful after_start given it.goes_on
+    balance_leads setup n run (times_in n (taken_by run event reply)) 0 started ys world lawful after_start (got_once n) it.goes_on
     (has begun.0 there (omega (arith, (at_start n).0))) in
     let all = λ (n : ℕ). times_append n (taken_by run event reply) (took run ys) in
     record {
-      once = λ n. omega (arith, all n, (balanced n).nothing_more, (at_start n).1);
+      once = λ n. omega (arith, all n, (balanced n).got_once.once);
       live = λ now found n.
           let now_is = live_balance n run _ _ world now found (balanced n).balance in
-          omega (arith, all n, (balanced n).nothing_more, now_is);
+          omega (arith, all n, now_is);
       gone = λ none n.
           let then_is = gone_balance n run _ _ world none (balanced n).balance in
-          omega (arith, all n, (balanced n).nothing_more, then_is);
+          omega (arith, all n, then_is);
     }
 
--- a step that is not the run's
-not_its_step : (before : World) (event : Event) (after : World) (number : ℕ) (run : LiveRun) → is_step_of number event ≡ false → Fate before event after number run → run_of number after.runs ≡ Some run
-not_its_step before event after number run other (stands idle is) = is
-not_its_step before event after number run other (goes instruction machine event_is no_exit steps is deed) = absurd (let bad : true ≡ false = sym (ap is_some event_is) ∙ other in cc)
-not_its_step before event after number run other (leaves_world r0 event_is exit_is none) = absurd (let bad : true ≡ false = sym (ap is_some event_is) ∙ other in cc)
+-- a step of one run is none of another
+not_one : (number another : ℕ) (event : Event) → is_step_of number event ≡ false → is_step_of another event ≡ true → another ≡ number → ⊥
+not_one number another event other its same = let bad : false ≡ true = sym other ∙ subst (λ (n : ℕ). is_step_of n event ≡ true) same its in cc
+
+-- a step that is not the run's leaves it
+not_its_step : (setup : Setup) (before : World) (event : Event) (reply : Reply) (after : World) (number : ℕ) (run : LiveRun) → is_step_of number event ≡ false → run_of number before.runs ≡ Some run → RunMove setup before event reply after → run_of number after.runs ≡ Some run
+not_its_step setup before event reply after number run other found (runs_stay e g quiet) = ap (run_of number) e ∙ found
+not_its_step setup before event reply after number run other found (run_enters fresh begins known room g) = ap (run_of number) begins.runs_is ∙ found_push run_key number before.runs fresh run found
+not_its_step setup before event reply after number run other found (run_changes another machine there e g quiet its) =
+    ap (run_of number) e ∙ (put_other run_key (record another { machine = machine }) number before.runs (not_one number another.number event other its) ∙ found)
+not_its_step setup before event reply after number run other found (run_leaves another there e g quiet its) =
+    ap (run_of number) e ∙ (leave_other run_key another.number number before.runs (not_one number another.number event other its) ∙ found)
 
 pub others_leave_it : OthersLeaveIt
 others_leave_it setup xs before first event reply after e number run found other =
     let kept = limits_are_kept setup xs before first in
-    let it = case_of setup before event reply after e in (
-      not_its_step before event after number run other (fate_of setup before event reply after number run kept.freezes found it),
-      others_entries setup before event after number run kept found other (effect_of setup before event reply after kept it).freezes,
-    )
+    let effect = effect_of setup before event reply after kept (case_of setup before event reply after e) in
+    (not_its_step setup before event reply after number run other found effect.runs, others_entries setup before event after number run kept found other effect.freezes)
 
 -- run numbers only rise, and a run that is over stays over
 leads_over : (setup : Setup) (before : World) (xs : List (Event × Reply)) (after : World) (number : ℕ) → KeepsLimits setup before → Leads setup before xs after → run_of number before.runs ≡ None → number ≤ before.greatest_run → run_of number after.runs ≡ None

@@ -1,6 +1,5 @@
 -- What the machine of each run holds is what the entries say, through every step.
 use Rattle.std.proofs.Common.{◌≡◌, ℕ, ◌+◌, ◌≤◌, List, [], ◌∷◌, ◌++◌, map, true, false, not, cond, eqb, Option, Some, None, IsSome, ◌⊎◌, inl, inr, refl, ap, sym, subst, ◌∙◌, arith}
-use Rattle.std.specs.List.{filter}
 use Rattle.std.specs.Option.{is_some}
 use Rattle.std.proofs.lemmas.Bool.{cases_Bool, cond-true, cond-false, eq-eqb, ne_eqb}
 use Rattle.freeze_ledger.specs.declared.freeze.Freeze.{Freeze}
@@ -10,21 +9,22 @@ use Rattle.world.specs.World.{Setup, LiveRun, World}
 use Rattle.world.specs.Lawful.{IsLawful}
 use Rattle.world.specs.Lookups.{run_of}
 use Rattle.bpf_machine.specs.MachineState.{MachineState}
+use Rattle.bpf_machine.specs.Step.{held_without}
 use Rattle.world.specs.Event.{Instruction, Event, Reply}
 use Rattle.world.specs.RunSteps.{is_run}
 use Rattle.world.specs.Limits.{KeepsLimits}
 use Rattle.world.specs.FreezeLaws.{entries_of, held_by, HoldsWhatEntriesSay}
 use Rattle.world.specs.Headline.{is_step_of}
-use Rattle.world.proofs.Lists.Found.{found_in_push}
+use Rattle.world.proofs.Lists.Found.{put, found_in_push, put_same, put_other}
 use Rattle.world.proofs.Lists.Rising.{found_bounds, found_unfiltered}
 use Rattle.world.proofs.Lists.Entries.{freeze_key}
 use Rattle.world.proofs.Steps.Cases.{Case}
-use Rattle.world.proofs.Steps.Moves.{run_key, FreezeMove, freezes_stay, freeze_enters, freezes_leave, Begins, Effect}
-use Rattle.world.proofs.Steps.Effects.{effect_of}
-use Rattle.world.proofs.Steps.Fates.{machine_of, Deed, touches_nothing, gives_one_back, disposes_of_it, Fate, stands, goes, leaves_world, fate_of}
+use Rattle.world.proofs.Steps.Moves.{run_key, FreezeMove, freezes_stay, freeze_enters, freezes_leave, freeze_changes, Begins, Effect}
+use Rattle.world.proofs.Steps.Effects.{timer_is_none, effect_of}
+use Rattle.world.proofs.Steps.Fates.{machine_of, Holding, holds_the_same, holds_one_more, holds_one_fewer, Fate, stands, goes, leaves_world, fate_of}
 use Rattle.world.proofs.Steps.Beginnings.{no_some, new_run}
 use Rattle.world.proofs.Reaching.{AllReached, same_found, reached_goes, lawful_exit}
-use Rattle.world.proofs.Lists.HeldBy.{held_push_own, entries_push_other, held_without_own, entries_kept, held_none, is_among}
+use Rattle.world.proofs.Lists.HeldBy.{held_push_own, entries_push_other, held_without_own, entries_kept, entries_without_other, entries_put, held_none, is_among}
 
 -- the number of a live run was given
 pub live_given : (setup : Setup) (world : World) (number : ℕ) (run : LiveRun) → KeepsLimits setup world → run_of number world.runs ≡ Some run → number ≤ world.greatest_run
@@ -51,6 +51,14 @@ others_entries setup before event after number run kept found other (freezes_lea
       | inl leaves ↦ absurd (let bad : true ≡ false = sym (from n f entry leaves number its) ∙ other in cc)
       | inr stays ↦ stays
     ])
+others_entries setup before event after number run kept found other (freeze_changes old new was queue_is e g hands) =
+    let not_its : is_run number old.holder ≡ false = elim (cases_Bool (is_run number old.holder)) [
+      | inl its ↦ absurd (let bad : true ≡ false = sym (hands.whose number its) ∙ other in cc)
+      | inr apart ↦ apart
+    ] in
+    ap (entries_of number) e
+    ∙ (entries_put number new before.freezes (timer_is_none number new.holder hands.timed)
+    ∙ entries_without_other number new.number 0 before.freezes before.greatest_freeze old kept.freezes.numbered was not_its)
 
 -- the entries that name a run that was not there before
 nothing_held : (setup : Setup) (before : World) (number : ℕ) → KeepsLimits setup before → HoldsWhatEntriesSay before → run_of number before.runs ≡ None → held_by number before.freezes ≡ []
@@ -84,28 +92,31 @@ machines_hold setup before event reply after kept held it number now some = spli
     effect : Effect setup before event reply after
     effect = effect_of setup before event reply after kept it
 
-    by_deed : (run : LiveRun) (instruction : Instruction) (machine : MachineState) → run_of number before.runs ≡ Some run → Deed before after number run instruction machine → machine.held ≡ held_by number after.freezes
-    by_deed run instruction machine found (touches_nothing same disposed freezes live gives calm) = same ∙ (held.machines number run found ∙ sym (ap (held_by number) freezes))
-    by_deed run instruction machine found (gives_one_back wanted freeze entry own fewer disposed freezes live gives calm) =
+    by_holding : (run : LiveRun) (instruction : Instruction) (machine : MachineState) → run_of number before.runs ≡ Some run → Holding before event reply after number run instruction machine → machine.held ≡ held_by number after.freezes
+    by_holding run instruction machine found (holds_the_same same freezes gives takes) = same ∙ (held.machines number run found ∙ sym (ap (held_by number) freezes))
+    by_holding run instruction machine found (holds_one_more freeze next own more freezes greatest gives takes) =
+        more
+        ∙ (ap (λ (ns : List ℕ). ns ++ freeze.number ∷ []) (held.machines number run found)
+        ∙ sym (ap (held_by number) freezes ∙ held_push_own number before.freezes freeze own))
+    by_holding run instruction machine found (holds_one_fewer wanted freeze entry own fewer entries gives takes) =
         fewer
-        ∙ (ap (filter (λ (k : ℕ). not (eqb k freeze.number))) (held.machines number run found)
-        ∙ sym (ap (held_by number) freezes ∙ held_without_own number freeze.number before.freezes))
-    by_deed run instruction machine found (disposes_of_it same fresh spent freezes gives disposal) = same ∙ (held.machines number run found ∙ sym (ap (held_by number) freezes))
+        ∙ (ap (λ (ns : List ℕ). held_without ns wanted) (held.machines number run found)
+        ∙ sym (ap (map freeze_key) entries ∙ held_without_own number wanted before.freezes))
 
-    by_fate : (run : LiveRun) → run_of number before.runs ≡ Some run → Fate before event after number run → now.machine.held ≡ held_by number after.freezes
+    by_fate : (run : LiveRun) → run_of number before.runs ≡ Some run → Fate before event reply after number run → now.machine.held ≡ held_by number after.freezes
     by_fate run found (stands idle is) =
         let same = same_found after number run now is some in
         sym (ap (λ (r : LiveRun). r.machine.held) same) ∙ (held.machines number run found ∙ sym (ap (map freeze_key) (others_entries setup before event after number run kept found (ap is_some idle) effect.freezes)))
-    by_fate run found (goes instruction machine event_is no_exit steps is deed) =
+    by_fate run found (goes instruction machine event_is no_exit steps is holding disposing) =
         let same = same_found after number (machine_of run machine) now is some in
-        sym (ap (λ (r : LiveRun). r.machine.held) same) ∙ by_deed run instruction machine found deed
-    by_fate run found (leaves_world r0 event_is exit_is none) = absurd (no_some (run_of number after.runs) now none some)
+        sym (ap (λ (r : LiveRun). r.machine.held) same) ∙ by_holding run instruction machine found holding
+    by_fate run found (leaves_world r0 event_is exit_is none takes) = absurd (no_some (run_of number after.runs) now none some)
 
     split : (o : Option LiveRun) → run_of number before.runs ≡ o → now.machine.held ≡ held_by number after.freezes
     split None none =
         let it_is = new_run setup before event reply after number now effect.runs none some in
         held_at_start setup before event reply after number now (nothing_held setup before number kept held none) it_is.number_is it_is.begins
-    split (Some run) found = by_fate run found (fate_of setup before event reply after number run kept.freezes found it)
+    split (Some run) found = by_fate run found (fate_of setup before event reply after number run kept.freezes held found it)
 
 -- where an entry that names a run comes from: it was there before, or it came for a run that is there
 entry_source : (setup : Setup) (before : World) (event : Event) (after : World) (n r : ℕ) (f : Freeze) → KeepsLimits setup before → entry_of n after.freezes ≡ Some f → is_run r f.holder ≡ true → FreezeMove setup before event after → (entry_of n before.freezes ≡ Some f) ⊎ IsSome (run_of r after.runs)
@@ -117,6 +128,13 @@ entry_source setup before event after n r f kept some its (freeze_enters queue h
     ]
 entry_source setup before event after n r f kept some its (freezes_leave gone e g from) =
     inl (found_unfiltered freeze_key (λ (x : Freeze). not (gone x)) 0 before.freezes before.greatest_freeze n f kept.freezes.numbered (sym (ap (entry_of n) e) ∙ some))
+entry_source setup before event after n r f kept some its (freeze_changes old new was queue_is e g hands) =
+    inl (sym (put_other freeze_key new n before.freezes (λ same.
+    let now : entry_of n after.freezes ≡ Some new = ap (entry_of n) e ∙ subst (λ (k : ℕ). entry_of k (put freeze_key new before.freezes) ≡ Some new) same (put_same freeze_key new before.freezes old was) in
+    let both : Some new ≡ Some f = sym now ∙ some in
+    let is : new ≡ f = cc in
+    let bad : false ≡ true = sym (timer_is_none r new.holder hands.timed) ∙ subst (λ (x : Freeze). is_run r x.holder ≡ true) (sym is) its in cc))
+    ∙ (sym (ap (entry_of n) e) ∙ some))
 
 some_there : (o : Option LiveRun) (run : LiveRun) → o ≡ Some run → IsSome o
 some_there o run e = subst (λ (x : Option LiveRun). IsSome x) (sym e) refl
@@ -128,10 +146,10 @@ entries_live setup before event reply after lawful kept reached held it n r f so
       | inr live ↦ live
     ]
   where
-    by_fate : entry_of n before.freezes ≡ Some f → (run : LiveRun) → run_of r before.runs ≡ Some run → Fate before event after r run → IsSome (run_of r after.runs)
+    by_fate : entry_of n before.freezes ≡ Some f → (run : LiveRun) → run_of r before.runs ≡ Some run → Fate before event reply after r run → IsSome (run_of r after.runs)
     by_fate old run found (stands idle is) = some_there (run_of r after.runs) _ is
-    by_fate old run found (goes instruction machine event_is no_exit steps is deed) = some_there (run_of r after.runs) _ is
-    by_fate old run found (leaves_world r0 event_is exit_is none) =
+    by_fate old run found (goes instruction machine event_is no_exit steps is holding disposing) = some_there (run_of r after.runs) _ is
+    by_fate old run found (leaves_world r0 event_is exit_is none takes) =
         let unstuck = reached_goes setup lawful before kept.runs r run found (reached r run found) in
         let empty : held_by r before.freezes ≡ [] = sym (held.machines r run found) ∙ (lawful_exit run.program setup.limits run.machine r0 unstuck exit_is).0 in
         absurd (let bad : false ≡ true = sym (ap (λ (ns : List ℕ). is_held ns n) empty) ∙ is_among r n before.freezes f old its in cc)
@@ -140,7 +158,7 @@ entries_live setup before event reply after lawful kept reached held it n r f so
     split old None none =
         let live : IsSome (run_of r before.runs) = held.entries n r f old its in
         absurd (let bad : IsSome {T = LiveRun} None = subst (λ (o : Option LiveRun). IsSome o) none live in cc)
-    split old (Some run) found = by_fate old run found (fate_of setup before event reply after r run kept.freezes found it)
+    split old (Some run) found = by_fate old run found (fate_of setup before event reply after r run kept.freezes held found it)
 
 pub case_holds : (setup : Setup) (before : World) (event : Event) (reply : Reply) (after : World) → IsLawful setup → KeepsLimits setup before → AllReached before → HoldsWhatEntriesSay before → Case setup before event reply after → HoldsWhatEntriesSay after
 case_holds setup before event reply after lawful kept reached held it =

@@ -6,6 +6,7 @@ use Rattle.std.proofs.lemmas.Bool.{leb-false, or_parts, cases_eq, eq-eqb, ne_eqb
 use Rattle.std.proofs.lemmas.List.Elements.{All-push, All-filter}
 use Rattle.std.proofs.lemmas.List.Sums.{sum_by_push, length-filter, count_by-le-length}
 use Rattle.ccb.specs.Ccb.{submitted}
+use Rattle.ccb.specs.declared.QueueId.{QueueId}
 use Rattle.freeze_ledger.specs.declared.freeze.Freeze.{Freeze}
 use Rattle.freeze_ledger.specs.Freezes.{frozen, names, meets_limit}
 use Rattle.world.specs.declared.ccb_state.CcbState.TheVariants.{Waiting}
@@ -20,7 +21,7 @@ use Rattle.world.proofs.Lists.Rising.{rising_push, rising_filter, rising_leave, 
 use Rattle.world.proofs.Lists.Each.{all_found, all_put, put_length}
 use Rattle.world.proofs.Lists.Entries.{freeze_key, frozen_push}
 use Rattle.world.proofs.Steps.Cases.{Case, case_of}
-use Rattle.world.proofs.Steps.Moves.{ccb_key, run_key, CcbMove, ccbs_stay, ccb_enters, ccb_changes, ccb_leaves, FreezeMove, freezes_stay, freeze_enters, freezes_leave, RunMove, runs_stay, run_enters, run_changes, run_leaves}
+use Rattle.world.proofs.Steps.Moves.{ccb_key, run_key, CcbMove, ccbs_stay, ccb_enters, ccb_changes, ccb_leaves, FreezeMove, freezes_stay, freeze_enters, freezes_leave, freeze_changes, RunMove, runs_stay, run_enters, run_changes, run_leaves}
 use Rattle.world.proofs.Steps.Effects.{effect_of}
 
 -- below every limit of freezes
@@ -42,7 +43,7 @@ FreezesWithin setup freezes greatest = FreezeLimits setup (record (opening setup
 freezes_from : (setup : Setup) (world : World) (freezes : List Freeze) (greatest : ℕ) → world.freezes ≡ freezes → world.greatest_freeze ≡ greatest → FreezesWithin setup freezes greatest → FreezeLimits setup world
 freezes_from setup world freezes greatest e g kept =
     record {
-      queues = rw e kept.queues;
+      queues = λ agreed. rw e (kept.queues agreed);
       a_queue = λ q. rw e (kept.a_queue q);
       ledger = rw e kept.ledger;
       numbered = rw (e, g) kept.numbered;
@@ -60,7 +61,7 @@ freezes_kept setup before event after (freeze_enters queue holder known full e g
       | inr apart ↦ rw (ne_eqb queue q apart) (omega (arith, kept.a_queue q))
     ] in
     freezes_from setup after (before.freezes ++ f ∷ []) (before.greatest_freeze + 1) e g (record {
-      queues = All-push (λ (x : Freeze). x.queue.0 < queue_count setup) before.freezes f kept.queues known;
+      queues = λ agreed. All-push (λ (x : Freeze). x.queue.0 < queue_count setup) before.freezes f (kept.queues agreed) (known agreed);
       a_queue = λ q. omega (arith, frozen_push q before.freezes f, one_more q);
       ledger = omega (arith, room.ledger, length-append before.freezes (f ∷ []));
       numbered = rising_push freeze_key 0 before.freezes before.greatest_freeze f kept.numbered refl;
@@ -69,10 +70,21 @@ freezes_kept setup before event after (freeze_enters queue holder known full e g
 freezes_kept setup before event after (freezes_leave gone e g from) kept =
     let stays : Freeze → Bool = λ x. not (gone x) in
     freezes_from setup after (filter stays before.freezes) before.greatest_freeze e g (record {
-      queues = All-filter stays (λ (x : Freeze). x.queue.0 < queue_count setup) before.freezes kept.queues;
+      queues = λ agreed. All-filter stays (λ (x : Freeze). x.queue.0 < queue_count setup) before.freezes (kept.queues agreed);
       a_queue = λ q. omega (arith, kept.a_queue q, count_filter freeze_key (names q) stays before.freezes);
       ledger = omega (arith, kept.ledger, length-filter stays before.freezes, count_by-le-length stays before.freezes);
       numbered = rising_filter freeze_key stays 0 before.freezes before.greatest_freeze kept.numbered;
+      numbers = kept.numbers;
+    })
+freezes_kept setup before event after (freeze_changes old new found queue_is e g hands) kept =
+    let named : (q : ℕ) → names q new ≡ names q old = λ q. ap (λ (x : QueueId). eqb x.0 q) queue_is in
+    freezes_from setup after (put freeze_key new before.freezes) before.greatest_freeze e g (record {
+      queues = λ agreed.
+          let known : new.queue.0 < queue_count setup = rw queue_is (all_found freeze_key (λ (x : Freeze). x.queue.0 < queue_count setup) new.number before.freezes old (kept.queues agreed) found) in
+          all_put freeze_key (λ (x : Freeze). x.queue.0 < queue_count setup) new before.freezes known (kept.queues agreed);
+      a_queue = λ q. omega (arith, kept.a_queue q, count_put freeze_key (names q) 0 before.freezes before.greatest_freeze new old kept.numbered found, ap (λ (b : Bool). cond {A = ℕ} b 1 0) (named q));
+      ledger = omega (arith, kept.ledger, put_length freeze_key new before.freezes);
+      numbered = rw (put_keys freeze_key new before.freezes) kept.numbered;
       numbers = kept.numbers;
     })
 
@@ -205,7 +217,7 @@ runs_kept setup before event reply after (run_enters run begins known full g) ke
       rising = rising_push run_key 0 before.runs before.greatest_run run kept.rising number;
       numbers = omega (arith, left);
     })
-runs_kept setup before event reply after (run_changes run machine found e g quiet) kept =
+runs_kept setup before event reply after (run_changes run machine found e g quiet its) kept =
     let changed : LiveRun = record run { machine = machine } in
     runs_from setup after (put run_key changed before.runs) before.greatest_run e g (record {
       queues = all_put run_key (IsKnown setup) changed before.runs (all_found run_key (IsKnown setup) run.number before.runs run kept.queues found) kept.queues;
@@ -214,7 +226,7 @@ runs_kept setup before event reply after (run_changes run machine found e g quie
       rising = rw (put_keys run_key changed before.runs) kept.rising;
       numbers = kept.numbers;
     })
-runs_kept setup before event reply after (run_leaves run found e g quiet) kept =
+runs_kept setup before event reply after (run_leaves run found e g quiet its) kept =
     runs_from setup after (leave run_key run.number before.runs) before.greatest_run e g (record {
       queues = All-filter (λ (x : LiveRun). not (eqb x.number run.number)) (IsKnown setup) before.runs kept.queues;
       programs = All-filter (λ (x : LiveRun). not (eqb x.number run.number)) (IsOfProgram setup) before.runs kept.programs;
@@ -238,7 +250,7 @@ step_keeps setup before event reply after e kept = case_keeps setup before event
 pub opening_keeps : (setup : Setup) → KeepsLimits setup (opening setup)
 opening_keeps setup =
     record {
-      freezes = record { queues = λ k d below. absurd (omega arith); a_queue = λ q. omega arith; ledger = omega arith; numbered = omega arith; numbers = omega arith };
+      freezes = record { queues = λ agreed k d below. absurd (omega arith); a_queue = λ q. omega arith; ledger = omega arith; numbered = omega arith; numbers = omega arith };
       ccbs = record { queues = λ k d below. absurd (omega arith); a_queue = λ q. omega arith; active = λ q. omega arith; openings = refl; all = omega arith; rising = omega arith; numbers = omega arith };
       runs = record { queues = λ k d below. absurd (omega arith); programs = λ k d below. absurd (omega arith); all = omega arith; rising = omega arith; numbers = omega arith };
     }

@@ -17,7 +17,7 @@ use Rattle.world.proofs.Lists.Each.{all_found}
 use Rattle.world.proofs.Steps.Cases.{case_of}
 use Rattle.world.proofs.Steps.Moves.{run_key, RunMove, runs_stay, run_enters, run_changes, run_leaves, Effect}
 use Rattle.world.proofs.Steps.Effects.{effect_of}
-use Rattle.world.proofs.Steps.Fates.{machine_of, Deed, touches_nothing, gives_one_back, disposes_of_it, Fate, stands, goes, leaves_world, fate_of}
+use Rattle.world.proofs.Steps.Fates.{machine_of, Disposing, leaves_its_ccb, disposes_of_it, Fate, stands, goes, leaves_world, fate_of}
 use Rattle.world.proofs.Steps.Beginnings.{new_run}
 use Rattle.world.proofs.Reaching.{lawful_queue, reached_goes, lawful_exit}
 use Rattle.world.proofs.Held.{live_given}
@@ -65,8 +65,8 @@ gone_stands setup before event reply after number none it = split (instruction_o
 pub rises : (setup : Setup) (before : World) (event : Event) (reply : Reply) (after : World) → RunMove setup before event reply after → before.greatest_run ≤ after.greatest_run
 rises setup before event reply after (runs_stay e g quiet) = omega (arith, g)
 rises setup before event reply after (run_enters run begins known room g) = omega (arith, g)
-rises setup before event reply after (run_changes run machine found e g quiet) = omega (arith, g)
-rises setup before event reply after (run_leaves run found e g quiet) = omega (arith, g)
+rises setup before event reply after (run_changes run machine found e g quiet its) = omega (arith, g)
+rises setup before event reply after (run_leaves run found e g quiet its) = omega (arith, g)
 
 -- a run that is over stays over
 pub stays_over : (setup : Setup) (before : World) (event : Event) (reply : Reply) (after : World) (number : ℕ) → run_of number before.runs ≡ None → number ≤ before.greatest_run → RunMove setup before event reply after → (run_of number after.runs ≡ None) × (number ≤ after.greatest_run)
@@ -101,10 +101,10 @@ same_disposal : (run : LiveRun) (machine : MachineState) (j : ℕ) → machine.d
 same_disposal run machine j same (inl p) = inl (same ∙ p.0, p.1)
 same_disposal run machine j same (inr p) = inr (same ∙ p.0, p.1)
 
-alive_step : (setup : Setup) (start : LiveRun) (number k j e : ℕ) (before : World) (event : Event) (reply : Reply) (after : World) → IsLawful setup → IsSound setup before → Effect setup before event reply after → (now : LiveRun) → run_of number before.runs ≡ Some now → now.queue ≡ start.queue → now.ccb ≡ start.ccb → Reached now.program k now.machine → Disposed now j → e ≡ 0 → Fate before event after number now → Later setup start number k j e event after
+alive_step : (setup : Setup) (start : LiveRun) (number k j e : ℕ) (before : World) (event : Event) (reply : Reply) (after : World) → IsLawful setup → IsSound setup before → Effect setup before event reply after → (now : LiveRun) → run_of number before.runs ≡ Some now → now.queue ≡ start.queue → now.ccb ≡ start.ccb → Reached now.program k now.machine → Disposed now j → e ≡ 0 → Fate before event reply after number now → Later setup start number k j e event after
 alive_step setup start number k j e before event reply after lawful sound effect now found queue ccb reached disposed none_yet (stands idle is) =
     not_counted setup start number k j e event after idle (alive now is queue ccb reached disposed none_yet)
-alive_step setup start number k j e before event reply after lawful sound effect now found queue ccb reached disposed none_yet (goes instruction machine event_is no_exit steps is deed) = by_deed deed
+alive_step setup start number k j e before event reply after lawful sound effect now found queue ccb reached disposed none_yet (goes instruction machine event_is no_exit steps is holding disposing) = by_disposing disposing
   where
     counted : one (is_step_of number event) ≡ 1
     counted = ap (λ (o : Option Instruction). one (is_some o)) event_is
@@ -121,15 +121,14 @@ alive_step setup start number k j e before event reply after lawful sound effect
         recount setup start number (k + 1) j e _ _ _ after (omega (arith, counted)) (omega (arith, again)) (omega (arith, gone))
         (alive (machine_of now machine) is queue ccb (further now.program k now.machine machine reached steps) (same_disposal now machine j same disposed) none_yet)
 
-    by_deed : Deed before after number now instruction machine → Later setup start number k j e event after
-    by_deed (touches_nothing held same freezes live gives calm) = goes_calmly calm same
-    by_deed (gives_one_back wanted freeze entry own fewer same freezes live gives calm) = goes_calmly calm same
-    by_deed (disposes_of_it held fresh used freezes gives disposal) =
+    by_disposing : Disposing before after now instruction machine → Later setup start number k j e event after
+    by_disposing (leaves_its_ccb same live calm) = goes_calmly calm same
+    by_disposing (disposes_of_it fresh used disposal) =
         let again : one (is_disposal_of number event) ≡ 1 = again_is ∙ ap one disposal in
         let zero_yet = unspent now j disposed fresh in
         recount setup start number (k + 1) 1 e _ _ _ after (omega (arith, counted)) (omega (arith, again, zero_yet)) (omega (arith, gone))
         (alive (machine_of now machine) is queue ccb (further now.program k now.machine machine reached steps) (inr (used, refl)) none_yet)
-alive_step setup start number k j e before event reply after lawful sound effect now found queue ccb reached disposed none_yet (leaves_world r0 event_is exit_is none) =
+alive_step setup start number k j e before event reply after lawful sound effect now found queue ccb reached disposed none_yet (leaves_world r0 event_is exit_is none takes) =
     let counted : one (is_step_of number event) ≡ 1 = ap (λ (o : Option Instruction). one (is_some o)) event_is in
     let again : one (is_disposal_of number event) ≡ 0 = ap (λ (o : Option Instruction). one (is_disposal o)) event_is in
     let gone : one (is_exit_of number event) ≡ 1 = ap (λ (o : Option Instruction). one (is_exit o)) event_is in
@@ -145,7 +144,7 @@ life_step : (setup : Setup) (start : LiveRun) (number k j e : ℕ) (before : Wor
 life_step setup start number k j e before event reply after lawful sound step (alive now found queue ccb reached disposed none_yet) =
     let it = case_of setup before event reply after step in
     alive_step setup start number k j e before event reply after lawful sound (effect_of setup before event reply after sound.kept it) now found queue ccb reached disposed none_yet
-    (fate_of setup before event reply after number now sound.kept.freezes found it)
+    (fate_of setup before event reply after number now sound.kept.freezes sound.held found it)
 life_step setup start number k j e before event reply after lawful sound step (over none given most used gone) =
     let it = effect_of setup before event reply after sound.kept (case_of setup before event reply after step) in
     let still = stays_over setup before event reply after number none given it.runs in

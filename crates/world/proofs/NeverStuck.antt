@@ -2,8 +2,10 @@
 use Rattle.std.proofs.Common.{◌≡◌, ℕ, List, true, false, not, Option, Some, None, inl, inr, refl, ap, sym, subst, ◌∙◌}
 use Rattle.std.specs.Option.{option_map, option_and_then}
 use Rattle.std.proofs.lemmas.Bool.{cond-true, and_from, and_parts, not-true}
+use Rattle.freeze_ledger.specs.declared.freeze.Freeze.{Freeze}
+use Rattle.freeze_ledger.specs.Freezes.{entry_of}
 use Rattle.helpers.specs.declared.request.Request.{Request}
-use Rattle.helpers.specs.declared.request.Request.TheVariants.{Release, Requeue, QueueInfo, Trace}
+use Rattle.helpers.specs.declared.request.Request.TheVariants.{Freeze as FreezeQueue, Release, ReleaseAfter, Requeue, Finish, QueueInfo, Trace}
 use Rattle.bpf_machine.specs.Calls.{is_held, meets_rule}
 use Rattle.bpf_machine.specs.MachineState.{MachineState}
 use Rattle.bpf_machine.specs.Step.{private_step, request_at, exit_at}
@@ -14,7 +16,7 @@ use Rattle.world.specs.World.{Setup, LiveRun, World}
 use Rattle.world.specs.Lookups.{run_of}
 use Rattle.world.specs.Told.{told_of}
 use Rattle.world.specs.Event.{Instruction, private, call, exit, executes, Reply}
-use Rattle.world.specs.RunSteps.{is_run, may_call, step_request, step_call, step_run, step_executes, releases, requeues}
+use Rattle.world.specs.RunSteps.{is_run, may_call, step_request, step_call, step_run, step_executes, releases, hands_over, requeues, finishes}
 use Rattle.world.specs.Step.{WorldStep}
 use Rattle.world.specs.Headline.{HasOneStep, NeverStuck}
 use Rattle.world.proofs.Lists.Found.{found_key}
@@ -95,17 +97,29 @@ at_this_call setup world number run found out request call_is rule no_step no_ex
     only (call told) at = ap call (at.2 ∙ ap told_of (same_call _ _ (sym at.1 ∙ call_is)))
     only exit at = absurd (absent _ _ no_exit at.1)
 
--- each call leads somewhere: a freeze that is given back is there and is the run's, and so is a CCB that waits again
-leads_on : (setup : Setup) (world : World) (number : ℕ) (run : LiveRun) → IsSound setup world → run_of number world.runs ≡ Some run → (request : Request) → meets_rule setup.limits run.machine request ≡ true → (p : Reply × World) × (step_request world run request ≡ Some p)
-leads_on setup world number run sound found (Release f) rule =
-    let among = among_is number f 0 world.freezes world.greatest_freeze sound.kept.freezes.numbered
-    (sym (ap (λ (ns : List ℕ). is_held ns f) (sound.held.machines number run found)) ∙ (and_parts _ _ rule).0) in
+-- the freeze that a run holds is there, and is the run's
+its_entry : (setup : Setup) (world : World) (number : ℕ) (run : LiveRun) → IsSound setup world → run_of number world.runs ≡ Some run → (f : ℕ) → is_held run.machine.held f ≡ true → (freeze : Freeze) × (entry_of f world.freezes ≡ Some freeze) × (is_run run.number freeze.holder ≡ true)
+its_entry setup world number run sound found f held =
+    let among = among_is number f 0 world.freezes world.greatest_freeze sound.kept.freezes.numbered (sym (ap (λ (ns : List ℕ). is_held ns f) (sound.held.machines number run found)) ∙ held) in
     let named : run.number ≡ number = found_key run_key number world.runs run found in
-    let its : is_run run.number among.0.holder ≡ true = subst (λ (n : ℕ). is_run n among.0.holder ≡ true) (sym named) among.2 in
-    (_, ap (releases world run) among.1 ∙ cond-true (is_run run.number among.0.holder) _ None its)
+    (among.0, among.1, subst (λ (n : ℕ). is_run n among.0.holder ≡ true) (sym named) among.2)
+
+-- each call leads somewhere: a freeze that is given back or handed over is there and is the run's, and so is a CCB that
+-- waits again or is finished
+leads_on : (setup : Setup) (world : World) (number : ℕ) (run : LiveRun) → IsSound setup world → run_of number world.runs ≡ Some run → (request : Request) → meets_rule setup.limits run.machine request ≡ true → (p : Reply × World) × (step_request world run request ≡ Some p)
+leads_on setup world number run sound found (FreezeQueue queue) rule = (_, refl)
+leads_on setup world number run sound found (Release f) rule =
+    let its = its_entry setup world number run sound found f (and_parts _ _ rule).0 in
+    (_, ap (releases world run) its.1 ∙ cond-true (is_run run.number its.0.holder) _ None its.2)
+leads_on setup world number run sound found (ReleaseAfter f milliseconds) rule =
+    let its = its_entry setup world number run sound found f (and_parts _ _ rule).0 in
+    (_, ap (hands_over world run milliseconds) its.1 ∙ cond-true (is_run run.number its.0.holder) _ None its.2)
 leads_on setup world number run sound found (Requeue n) rule =
     let recovery = sound.recovering.ccbs number run found (not-true _ (and_parts (not run.machine.disposed) _ rule).0) in
     (_, ap (requeues world run n) recovery.found)
+leads_on setup world number run sound found (Finish code) rule =
+    let recovery = sound.recovering.ccbs number run found (not-true _ (and_parts (not run.machine.disposed) _ rule).0) in
+    (_, ap (finishes world run code) recovery.found)
 leads_on setup world number run sound found (QueueInfo address) rule = (_, refl)
 leads_on setup world number run sound found (Trace address bytes) rule = (_, refl)
 

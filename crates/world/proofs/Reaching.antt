@@ -12,6 +12,7 @@ use Rattle.world.specs.Lawful.{IsLawfulQueue, IsLawful}
 use Rattle.world.specs.Lookups.{run_of}
 use Rattle.world.specs.Event.{Event, Reply}
 use Rattle.world.specs.Limits.{RunLimits, KeepsLimits}
+use Rattle.world.specs.FreezeLaws.{HoldsWhatEntriesSay}
 use Rattle.world.proofs.Lists.Each.{all_found}
 use Rattle.world.proofs.Steps.Cases.{Case}
 use Rattle.world.proofs.Steps.Moves.{run_key}
@@ -32,18 +33,18 @@ abbrev pub AllReached : World → Type 0
 AllReached world = (number : ℕ) (run : LiveRun) → run_of number world.runs ≡ Some run → (n : ℕ) × Reached run.program n run.machine
 
 -- a run that stands or goes on was reached after the step where it was reached before
-from_fate : (before : World) (event : Event) (after : World) (number : ℕ) (run : LiveRun) (now : LiveRun) → ((n : ℕ) × Reached run.program n run.machine) → run_of number after.runs ≡ Some now → Fate before event after number run → (n : ℕ) × Reached now.program n now.machine
-from_fate before event after number run now reached some (stands idle is) =
+from_fate : (before : World) (event : Event) (reply : Reply) (after : World) (number : ℕ) (run : LiveRun) (now : LiveRun) → ((n : ℕ) × Reached run.program n run.machine) → run_of number after.runs ≡ Some now → Fate before event reply after number run → (n : ℕ) × Reached now.program n now.machine
+from_fate before event reply after number run now reached some (stands idle is) =
     subst (λ (r : LiveRun). (n : ℕ) × Reached r.program n r.machine) (same_found after number run now is some) reached
-from_fate before event after number run now reached some (goes instruction machine event_is no_exit steps is deed) = from_steps after number run now machine reached some steps is
-from_fate before event after number run now reached some (leaves_world r0 event_is exit_is none) = absurd (let bad : None ≡ Some now = sym none ∙ some in cc)
+from_fate before event reply after number run now reached some (goes instruction machine event_is no_exit steps is holding disposing) = from_steps after number run now machine reached some steps is
+from_fate before event reply after number run now reached some (leaves_world r0 event_is exit_is none takes) = absurd (let bad : None ≡ Some now = sym none ∙ some in cc)
 
-pub case_reaches : (setup : Setup) (before : World) (event : Event) (reply : Reply) (after : World) → KeepsLimits setup before → Case setup before event reply after → AllReached before → AllReached after
-case_reaches setup before event reply after kept it reached number now some = split (run_of number before.runs) refl
+pub case_reaches : (setup : Setup) (before : World) (event : Event) (reply : Reply) (after : World) → KeepsLimits setup before → HoldsWhatEntriesSay before → Case setup before event reply after → AllReached before → AllReached after
+case_reaches setup before event reply after kept held it reached number now some = split (run_of number before.runs) refl
   where
     split : (o : Option LiveRun) → run_of number before.runs ≡ o → (n : ℕ) × Reached now.program n now.machine
     split None none = (0, begins_at_entry setup before event reply after now (new_run setup before event reply after number now (effect_of setup before event reply after kept it).runs none some).begins)
-    split (Some run) found = from_fate before event after number run now (reached number run found) some (fate_of setup before event reply after number run kept.freezes found it)
+    split (Some run) found = from_fate before event reply after number run now (reached number run found) some (fate_of setup before event reply after number run kept.freezes held found it)
 
 -- the queue of a live run is lawful
 pub lawful_queue : (setup : Setup) → IsLawful setup → (queue : ℕ) → queue < queue_count setup → IsLawfulQueue setup.limits (queue_setup setup queue)

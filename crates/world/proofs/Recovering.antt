@@ -9,12 +9,13 @@ use Rattle.world.specs.World.{Setup, LiveCcb, LiveRun, World}
 use Rattle.world.specs.Lookups.{is_active, ccb_of, with_ccb, run_of}
 use Rattle.world.specs.Event.{Instruction, Event, Reply}
 use Rattle.world.specs.Limits.{KeepsLimits}
+use Rattle.world.specs.FreezeLaws.{HoldsWhatEntriesSay}
 use Rattle.world.specs.Headline.{is_step_of}
 use Rattle.world.proofs.Lists.Found.{found_key, found_push, put_same, put_other, leave_other}
 use Rattle.world.proofs.Steps.Cases.{Case}
 use Rattle.world.proofs.Steps.Moves.{ccb_key, ccb_found, MayTouch, CcbMove, ccbs_stay, ccb_enters, ccb_changes, ccb_leaves, Begins, Effect}
 use Rattle.world.proofs.Steps.Effects.{effect_of}
-use Rattle.world.proofs.Steps.Fates.{machine_of, Deed, touches_nothing, gives_one_back, disposes_of_it, Fate, stands, goes, leaves_world, fate_of, Newly}
+use Rattle.world.proofs.Steps.Fates.{machine_of, Disposing, leaves_its_ccb, disposes_of_it, Fate, stands, goes, leaves_world, fate_of, Newly}
 use Rattle.world.proofs.Steps.Beginnings.{no_some, new_run}
 use Rattle.world.proofs.Reaching.{same_found}
 
@@ -89,26 +90,25 @@ pub record Continues (before : World) (number : ℕ) (now : LiveRun) : Type 0 wh
   pub ccb_is : now.ccb ≡ run.ccb
   pub fresh : now.machine.disposed ≡ false → run.machine.disposed ≡ false
 
-was_fresh : (before after : World) (number : ℕ) (run : LiveRun) (instruction : Instruction) (machine : MachineState) → Deed before after number run instruction machine → machine.disposed ≡ false → run.machine.disposed ≡ false
-was_fresh before after number run instruction machine (touches_nothing same disposed freezes live gives calm) e = sym disposed ∙ e
-was_fresh before after number run instruction machine (gives_one_back wanted freeze entry own fewer disposed freezes live gives calm) e = sym disposed ∙ e
-was_fresh before after number run instruction machine (disposes_of_it same fresh spent freezes gives disposal) e = fresh
+was_fresh : (before after : World) (run : LiveRun) (instruction : Instruction) (machine : MachineState) → Disposing before after run instruction machine → machine.disposed ≡ false → run.machine.disposed ≡ false
+was_fresh before after run instruction machine (leaves_its_ccb same live calm) e = sym same ∙ e
+was_fresh before after run instruction machine (disposes_of_it fresh spent disposal) e = fresh
 
-continues : (before : World) (event : Event) (after : World) (number : ℕ) (run now : LiveRun) → run_of number before.runs ≡ Some run → run_of number after.runs ≡ Some now → Fate before event after number run → Continues before number now
-continues before event after number run now found some (stands idle is) =
+continues : (before : World) (event : Event) (reply : Reply) (after : World) (number : ℕ) (run now : LiveRun) → run_of number before.runs ≡ Some run → run_of number after.runs ≡ Some now → Fate before event reply after number run → Continues before number now
+continues before event reply after number run now found some (stands idle is) =
     let same = same_found after number run now is some in
     record { run = run; found = found; ccb_is = sym (ap (λ (r : LiveRun). r.ccb) same); fresh = λ e. ap (λ (r : LiveRun). r.machine.disposed) same ∙ e }
-continues before event after number run now found some (goes instruction machine event_is no_exit steps is deed) =
+continues before event reply after number run now found some (goes instruction machine event_is no_exit steps is holding disposing) =
     let same = same_found after number (machine_of run machine) now is some in
-    record { run = run; found = found; ccb_is = sym (ap (λ (r : LiveRun). r.ccb) same); fresh = λ e. was_fresh before after number run instruction machine deed (ap (λ (r : LiveRun). r.machine.disposed) same ∙ e) }
-continues before event after number run now found some (leaves_world r0 event_is exit_is none) = absurd (no_some (run_of number after.runs) now none some)
+    record { run = run; found = found; ccb_is = sym (ap (λ (r : LiveRun). r.ccb) same); fresh = λ e. was_fresh before after run instruction machine disposing (ap (λ (r : LiveRun). r.machine.disposed) same ∙ e) }
+continues before event reply after number run now found some (leaves_world r0 event_is exit_is none takes) = absurd (no_some (run_of number after.runs) now none some)
 
-origin : (setup : Setup) (before : World) (event : Event) (reply : Reply) (after : World) (number : ℕ) (now : LiveRun) → KeepsLimits setup before → Case setup before event reply after → run_of number after.runs ≡ Some now → Continues before number now ⊎ Newly setup before event reply after number now
-origin setup before event reply after number now kept it some = split (run_of number before.runs) refl
+origin : (setup : Setup) (before : World) (event : Event) (reply : Reply) (after : World) (number : ℕ) (now : LiveRun) → KeepsLimits setup before → HoldsWhatEntriesSay before → Case setup before event reply after → run_of number after.runs ≡ Some now → Continues before number now ⊎ Newly setup before event reply after number now
+origin setup before event reply after number now kept held it some = split (run_of number before.runs) refl
   where
     split : (o : Option LiveRun) → run_of number before.runs ≡ o → Continues before number now ⊎ Newly setup before event reply after number now
     split None none = inr (new_run setup before event reply after number now (effect_of setup before event reply after kept it).runs none some)
-    split (Some run) found = inl (continues before event after number run now found some (fate_of setup before event reply after number run kept.freezes found it))
+    split (Some run) found = inl (continues before event reply after number run now found some (fate_of setup before event reply after number run kept.freezes held found it))
 
 -- the CCB of a run that begins is in recovery
 pub begun_recovers : (setup : Setup) (before : World) (event : Event) (reply : Reply) (after : World) (run : LiveRun) → Begins setup before event reply after run → IsInRecovery run.ccb after
@@ -118,42 +118,41 @@ begun_recovers setup before event reply after run it =
     let there : ccb_of it.live.ccb.number.0 after.live ≡ Some new = ap (ccb_of it.live.ccb.number.0) it.live_is ∙ put_same ccb_key new before.live it.live (ccb_found it.outcome.ccb.0 before.live it.live it.found) in
     record { live = new; found = subst (λ (n : ℕ). ccb_of n after.live ≡ Some new) named there; state = refl }
 
-ccbs_recover : (setup : Setup) (before : World) (event : Event) (reply : Reply) (after : World) → KeepsLimits setup before → Recovering before → Case setup before event reply after → (number : ℕ) (now : LiveRun) → run_of number after.runs ≡ Some now → now.machine.disposed ≡ false → IsInRecovery now.ccb after
-ccbs_recover setup before event reply after kept recovering it number now some fresh_now = split (run_of number before.runs) refl
+ccbs_recover : (setup : Setup) (before : World) (event : Event) (reply : Reply) (after : World) → KeepsLimits setup before → HoldsWhatEntriesSay before → Recovering before → Case setup before event reply after → (number : ℕ) (now : LiveRun) → run_of number after.runs ≡ Some now → now.machine.disposed ≡ false → IsInRecovery now.ccb after
+ccbs_recover setup before event reply after kept held recovering it number now some fresh_now = split (run_of number before.runs) refl
   where
     effect : Effect setup before event reply after
     effect = effect_of setup before event reply after kept it
 
-    by_deed : (run : LiveRun) (instruction : Instruction) (machine : MachineState) → run_of number before.runs ≡ Some run → machine.disposed ≡ false → Deed before after number run instruction machine → IsInRecovery run.ccb after
-    by_deed run instruction machine found fresh (touches_nothing same disposed freezes live gives calm) = same_live run.ccb before after live (recovering.ccbs number run found (sym disposed ∙ fresh))
-    by_deed run instruction machine found fresh (gives_one_back wanted freeze entry own fewer disposed freezes live gives calm) = same_live run.ccb before after live (recovering.ccbs number run found (sym disposed ∙ fresh))
-    by_deed run instruction machine found fresh (disposes_of_it same was spent freezes gives disposal) = absurd (let bad : true ≡ false = sym spent ∙ fresh in cc)
+    by_disposing : (run : LiveRun) (instruction : Instruction) (machine : MachineState) → run_of number before.runs ≡ Some run → machine.disposed ≡ false → Disposing before after run instruction machine → IsInRecovery run.ccb after
+    by_disposing run instruction machine found fresh (leaves_its_ccb same live calm) = same_live run.ccb before after live (recovering.ccbs number run found (sym same ∙ fresh))
+    by_disposing run instruction machine found fresh (disposes_of_it was spent disposal) = absurd (let bad : true ≡ false = sym spent ∙ fresh in cc)
 
-    by_fate : (run : LiveRun) → run_of number before.runs ≡ Some run → Fate before event after number run → IsInRecovery now.ccb after
+    by_fate : (run : LiveRun) → run_of number before.runs ≡ Some run → Fate before event reply after number run → IsInRecovery now.ccb after
     by_fate run found (stands idle is) =
         let same = same_found after number run now is some in
         subst (λ (r : LiveRun). IsInRecovery r.ccb after) same
         (others_ccb setup before event reply after number run recovering found (ap (λ (r : LiveRun). r.machine.disposed) same ∙ fresh_now) (ap is_some idle) effect.ccbs)
-    by_fate run found (goes instruction machine event_is no_exit steps is deed) =
+    by_fate run found (goes instruction machine event_is no_exit steps is holding disposing) =
         let same = same_found after number (machine_of run machine) now is some in
         subst (λ (r : LiveRun). IsInRecovery r.ccb after) same
-        (by_deed run instruction machine found (ap (λ (r : LiveRun). r.machine.disposed) same ∙ fresh_now) deed)
-    by_fate run found (leaves_world r0 event_is exit_is none) = absurd (no_some (run_of number after.runs) now none some)
+        (by_disposing run instruction machine found (ap (λ (r : LiveRun). r.machine.disposed) same ∙ fresh_now) disposing)
+    by_fate run found (leaves_world r0 event_is exit_is none takes) = absurd (no_some (run_of number after.runs) now none some)
 
     split : (o : Option LiveRun) → run_of number before.runs ≡ o → IsInRecovery now.ccb after
     split None none = begun_recovers setup before event reply after now (new_run setup before event reply after number now effect.runs none some).begins
-    split (Some run) found = by_fate run found (fate_of setup before event reply after number run kept.freezes found it)
+    split (Some run) found = by_fate run found (fate_of setup before event reply after number run kept.freezes held found it)
 
-runs_alone : (setup : Setup) (before : World) (event : Event) (reply : Reply) (after : World) → KeepsLimits setup before → Recovering before → Case setup before event reply after → (n m : ℕ) (a b : LiveRun) → run_of n after.runs ≡ Some a → run_of m after.runs ≡ Some b → a.ccb ≡ b.ccb → a.machine.disposed ≡ false → b.machine.disposed ≡ false → n ≡ m
-runs_alone setup before event reply after kept recovering it n m a b first second same fresh fresh_too =
-    elim (origin setup before event reply after n a kept it first) [
+runs_alone : (setup : Setup) (before : World) (event : Event) (reply : Reply) (after : World) → KeepsLimits setup before → HoldsWhatEntriesSay before → Recovering before → Case setup before event reply after → (n m : ℕ) (a b : LiveRun) → run_of n after.runs ≡ Some a → run_of m after.runs ≡ Some b → a.ccb ≡ b.ccb → a.machine.disposed ≡ false → b.machine.disposed ≡ false → n ≡ m
+runs_alone setup before event reply after kept held recovering it n m a b first second same fresh fresh_too =
+    elim (origin setup before event reply after n a kept held it first) [
       | inl old ↦
-          elim (origin setup before event reply after m b kept it second) [
+          elim (origin setup before event reply after m b kept held it second) [
             | inl older ↦ recovering.alone n m old.run older.run old.found older.found (sym old.ccb_is ∙ (same ∙ older.ccb_is)) (old.fresh fresh) (older.fresh fresh_too)
             | inr new ↦ absurd (not_new old.run n b new.begins old.found (old.fresh fresh) (sym old.ccb_is ∙ same))
           ]
       | inr new ↦
-          elim (origin setup before event reply after m b kept it second) [
+          elim (origin setup before event reply after m b kept held it second) [
             | inl old ↦ absurd (not_new old.run m a new.begins old.found (old.fresh fresh_too) (sym old.ccb_is ∙ sym same))
             | inr newer ↦ new.number_is ∙ sym newer.number_is
           ]
@@ -164,6 +163,6 @@ runs_alone setup before event reply after kept recovering it n m a b first secon
         not_active_one run.ccb begins.outcome.ccb.0 before begins.live (recovering.ccbs number run found unspent) begins.found begins.is_active
         (sym (ap (λ (r : LiveRun). r.ccb) begins.run_is) ∙ sym ccb_is)
 
-pub case_recovers : (setup : Setup) (before : World) (event : Event) (reply : Reply) (after : World) → KeepsLimits setup before → Recovering before → Case setup before event reply after → Recovering after
-case_recovers setup before event reply after kept recovering it =
-    record { ccbs = ccbs_recover setup before event reply after kept recovering it; alone = runs_alone setup before event reply after kept recovering it }
+pub case_recovers : (setup : Setup) (before : World) (event : Event) (reply : Reply) (after : World) → KeepsLimits setup before → HoldsWhatEntriesSay before → Recovering before → Case setup before event reply after → Recovering after
+case_recovers setup before event reply after kept held recovering it =
+    record { ccbs = ccbs_recover setup before event reply after kept held recovering it; alone = runs_alone setup before event reply after kept held recovering it }

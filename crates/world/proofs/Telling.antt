@@ -2,7 +2,7 @@
 use Rattle.std.proofs.Common.{◌≡◌, ℕ, ◌<◌, ◌%◌, List, [], ◌∷◌, ◌++◌, true, false, refl, ap, arith}
 use Rattle.std.specs.List.{All}
 use Rattle.std.specs.Cmp.Lexicographic.{bytes_decides}
-use Rattle.std.proofs.lemmas.Bool.{eq-eqb}
+use Rattle.std.proofs.lemmas.Bool.{eq-eqb, eqb-true}
 use Rattle.std.proofs.lemmas.List.Elements.{All-nil, All-cons}
 use Rattle.std.specs.Int.{byte_at}
 use Rattle.byteorder.specs.Endian.{little_bytes}
@@ -11,17 +11,23 @@ use Rattle.helpers.proofs.Numbers.{same_helper}
 use Rattle.bpf_machine.specs.Step.{Wrote}
 use Rattle.world.specs.declared.queue_info.QueueInfo.{QueueInfo}
 use Rattle.world.specs.QueueInfo.{info_bytes}
-use Rattle.world.specs.Told.{Told, plain, traces, is_told}
+use Rattle.world.specs.Told.{Told, plain, traces, finishes, is_told}
 
 pub same_told : (a b : Told) → is_told a b ≡ true → a ≡ b
 same_told (plain a) (plain b) e = ap plain (same_helper a b e)
 same_told (plain a) (traces b) e = absurd (let bad : false ≡ true = e in cc)
 same_told (traces a) (plain b) e = absurd (let bad : false ≡ true = e in cc)
+same_told (plain a) (finishes b) e = absurd (let bad : false ≡ true = e in cc)
 same_told (traces a) (traces b) e = ap traces ((bytes_decides a b).0 e)
+same_told (traces a) (finishes b) e = absurd (let bad : false ≡ true = e in cc)
+same_told (finishes a) (plain b) e = absurd (let bad : false ≡ true = e in cc)
+same_told (finishes a) (traces b) e = absurd (let bad : false ≡ true = e in cc)
+same_told (finishes a) (finishes b) e = ap finishes (eqb-true a b e)
 
 pub told_itself : (a : Told) → is_told a a ≡ true
 told_itself (plain a) = eq-eqb (number_of a) (number_of a) refl
 told_itself (traces a) = (bytes_decides a a).1 refl
+told_itself (finishes a) = eq-eqb a a refl
 
 low : (n : ℕ) → n % 256 < 256
 low n = omega arith

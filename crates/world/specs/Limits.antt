@@ -8,9 +8,14 @@ use Rattle.world.specs.Lookups.{live_count, active_count}
 use Rattle.world.specs.Event.{Event, Reply}
 use Rattle.world.specs.WorldRun.{WorldRun}
 
--- Each freeze is of a queue that exists, no queue has too many, nor has the ledger, and numbers rise.
+-- the limits of the helper calls name no queue that there is not
+abbrev pub NamesNoOther : Setup → Type 0
+NamesNoOther setup = setup.limits.queues ≤ queue_count setup
+
+-- Each freeze is of a queue that exists, where calls name no other; no queue has too many, nor has the ledger, and
+-- numbers rise.
 pub record FreezeLimits (setup : Setup) (world : World) : Type 0 where
-  pub queues : All (λ freeze. freeze.queue.0 < queue_count setup) world.freezes
+  pub queues : NamesNoOther setup → All (λ freeze. freeze.queue.0 < queue_count setup) world.freezes
   pub a_queue : (queue : ℕ) → frozen queue world.freezes ≤ most_freezes_of_queue
   pub ledger : length world.freezes ≤ most_freezes
   pub numbered : AreRising 0 (map (λ freeze. freeze.number) world.freezes) world.greatest_freeze

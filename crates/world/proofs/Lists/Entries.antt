@@ -1,12 +1,14 @@
--- Lists of freezes: what one more at the end, and one fewer by its number, leave.
-use Rattle.std.proofs.Common.{◌≡◌, ℕ, ◌+◌, ◌<◌, ◌≤◌, List, [], ◌∷◌, ◌++◌, map, cond, Option, Some, None, IsSome, not, refl, ◌∙◌, arith}
-use Rattle.std.proofs.lemmas.List.Sums.{sum_by_push}
+-- Lists of freezes: what one more at the end, one fewer by its number, and one that is handed over leave.
+use Rattle.std.proofs.Common.{◌≡◌, ℕ, ◌+◌, ◌<◌, ◌≤◌, List, [], ◌∷◌, ◌++◌, map, Bool, true, false, cond, eqb, Option, Some, None, IsSome, not, inl, inr, refl, ap, sym, ◌∙◌, arith}
+use Rattle.std.proofs.lemmas.Bool.{cases_eq, cond-true, cond-false, eq-eqb, ne_eqb}
+use Rattle.std.proofs.lemmas.List.Sums.{sum_by_push, sum_by-cons}
 use Rattle.std.proofs.lemmas.List.Filters.{sum_by-filter_both}
 use Rattle.ccb.specs.Rising.{AreRising}
+use Rattle.freeze_ledger.specs.declared.freeze.Holder.TheVariants.{Timer}
 use Rattle.freeze_ledger.specs.declared.freeze.Freeze.{Freeze}
-use Rattle.freeze_ledger.specs.Freezes.{names, frozen, entry_of, without, is_due, due_at, not_due_at}
-use Rattle.world.proofs.Lists.Found.{at_tail, found_key, missing_push, leave_same}
-use Rattle.world.proofs.Lists.Rising.{found_bounds, count_gone}
+use Rattle.freeze_ledger.specs.Freezes.{names, frozen, entry_of, without, handed_over, is_due, due_at, not_due_at}
+use Rattle.world.proofs.Lists.Found.{put, at_head, at_tail, put_tail, found_key, missing_push, leave_same}
+use Rattle.world.proofs.Lists.Rising.{put_here, found_bounds, count_gone}
 
 abbrev pub freeze_key : Freeze → ℕ
 freeze_key freeze = freeze.number
@@ -35,6 +37,52 @@ entry_bounds low fs high n f h e =
 -- a removal takes one from the count of what the freeze names
 pub frozen_without : (q low : ℕ) (fs : List Freeze) (high n : ℕ) (f : Freeze) → FreezesRise low fs high → entry_of n fs ≡ Some f → frozen q (without n fs) + cond (names q f) 1 0 ≡ frozen q fs
 frozen_without q low fs high n f h e = count_gone freeze_key (names q) low fs high n f h e
+
+-- a number that all are above is handed over nowhere
+handed_low : (n due low : ℕ) (fs : List Freeze) (high : ℕ) → n ≤ low → FreezesRise low fs high → handed_over n due fs ≡ fs
+handed_low n due low [] high le h = refl
+handed_low n due low (g ∷ fs) high le h =
+    let kept : cond {A = Freeze} (eqb g.number n) (record g { holder = Timer due }) g ≡ g = cond-false (eqb g.number n) _ _ (ne_eqb g.number n (λ e. omega (arith, h.0, e, le))) in
+    λ i. kept i ∷ handed_low n due g.number fs high (omega (arith, h.0, le)) h.1 i
+
+-- so handing over changes the one freeze of that number
+pub handed_is_put : (n due low : ℕ) (fs : List Freeze) (high : ℕ) (f : Freeze) → FreezesRise low fs high → entry_of n fs ≡ Some f → handed_over n due fs ≡ put freeze_key (record f { holder = Timer due }) fs
+handed_is_put n due low [] high f h e = absurd (let bad : None ≡ Some f = e in cc)
+handed_is_put n due low (g ∷ fs) high f h e =
+    elim (cases_eq g.number n) [
+      | inl same ↦
+          let both : Some g ≡ Some f = sym (at_head freeze_key n g fs same) ∙ e in
+          let is : g ≡ f = cc in
+          let changed : cond {A = Freeze} (eqb g.number n) (record g { holder = Timer due }) g ≡ record g { holder = Timer due } = cond-true (eqb g.number n) _ _ (eq-eqb _ _ same) in
+          let others = handed_low n due g.number fs high (omega (arith, same)) h.1 in
+          (λ i. changed i ∷ others i)
+          ∙ (ap (λ (x : Freeze). record x { holder = Timer due } ∷ fs) is
+          ∙ sym (put_here freeze_key low fs high (record f { holder = Timer due }) g h (ap freeze_key is)))
+      | inr apart ↦
+          let rest_is = sym (at_tail freeze_key n g fs apart) ∙ e in
+          let named : f.number ≡ n = found_key freeze_key n fs f rest_is in
+          let kept : cond {A = Freeze} (eqb g.number n) (record g { holder = Timer due }) g ≡ g = cond-false (eqb g.number n) _ _ (ne_eqb _ _ apart) in
+          let rest = handed_is_put n due g.number fs high f h.1 rest_is in
+          (λ i. kept i ∷ rest i) ∙ sym (put_tail freeze_key (record f { holder = Timer due }) g fs (λ same. apart (same ∙ named)))
+    ]
+
+-- it moves no count, since the queue stays
+pub frozen_handed_over : (q n due : ℕ) (fs : List Freeze) → frozen q (handed_over n due fs) ≡ frozen q fs
+frozen_handed_over q n due [] = refl
+frozen_handed_over q n due (g ∷ fs) =
+    let now : Freeze = cond {A = Freeze} (eqb g.number n) (record g { holder = Timer due }) g in
+    let same : names q now ≡ names q g = either (eqb g.number n) in
+    omega (
+      arith,
+      sum_by-cons (λ (x : Freeze). cond {A = ℕ} (names q x) 1 0) now (handed_over n due fs),
+      sum_by-cons (λ (x : Freeze). cond {A = ℕ} (names q x) 1 0) g fs,
+      ap (λ (b : Bool). cond {A = ℕ} b 1 0) same,
+      frozen_handed_over q n due fs,
+    )
+  where
+    either : (b : Bool) → names q (cond {A = Freeze} b (record g { holder = Timer due }) g) ≡ names q g
+    either true = refl
+    either false = refl
 
 -- the freezes whose timers are due are as many fewer
 pub frozen_due : (q reading : ℕ) (fs : List Freeze) → frozen q (not_due_at reading fs) + frozen q (due_at reading fs) ≡ frozen q fs

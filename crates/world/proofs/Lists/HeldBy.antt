@@ -1,5 +1,5 @@
--- The freezes that a run holds, as the entries say, after one entry more and one fewer.
-use Rattle.std.proofs.Common.{◌≡◌, ℕ, List, [], ◌∷◌, ◌++◌, map, Bool, true, false, not, eqb, Some, None, inl, inr, refl, ap, sym, subst, ◌∙◌, arith}
+-- The freezes that a run holds, as the entries say, after one entry more, one fewer, and one that gets another holder.
+use Rattle.std.proofs.Common.{◌≡◌, ℕ, ◌<◌, List, [], ◌∷◌, ◌++◌, map, Bool, true, false, not, eqb, Some, None, inl, inr, refl, ap, sym, subst, ◌∙◌, arith}
 use Rattle.std.specs.List.{filter}
 use Rattle.std.specs.Prelude.{◌||◌}
 use Rattle.std.proofs.lemmas.Bool.{or_left, cases_Bool, cases_eq, cond-true, cond-false, eq-eqb, ne_eqb, not_from_true, not_from_false}
@@ -8,7 +8,7 @@ use Rattle.freeze_ledger.specs.Freezes.{entry_of, without}
 use Rattle.bpf_machine.specs.Calls.{is_held}
 use Rattle.world.specs.RunSteps.{is_run}
 use Rattle.world.specs.FreezeLaws.{entries_of, held_by}
-use Rattle.world.proofs.Lists.Found.{at_head, at_tail, found_key, filter_yes, filter_no, filter_swap}
+use Rattle.world.proofs.Lists.Found.{put, at_head, at_tail, put_head, put_tail, leave_head, leave_tail, found_key, filter_yes, filter_no, filter_swap}
 use Rattle.world.proofs.Lists.Entries.{freeze_key, FreezesRise, entry_bounds}
 
 -- the first entry is the run's, or it is not
@@ -103,6 +103,24 @@ entries_without_other r n low fs high f h entry e =
     let is : g ≡ f = cc in
     let bad : true ≡ false = sym (subst (λ (x : Freeze). is_run r x.holder ≡ true) is its) ∙ e in cc))
 
+-- one that gets another holder, which is not the run, is one fewer to it
+pub entries_put : (r : ℕ) (new : Freeze) (fs : List Freeze) → is_run r new.holder ≡ false → entries_of r (put freeze_key new fs) ≡ entries_of r (without new.number fs)
+entries_put r new [] e = refl
+entries_put r new (g ∷ fs) e =
+    let rest = entries_put r new fs e in
+    elim (cases_eq g.number new.number) [
+      | inl same ↦
+          ap (entries_of r) (put_head freeze_key new g fs same)
+          ∙ (entries_tail r new (put freeze_key new fs) e ∙ (rest ∙ sym (ap (entries_of r) (leave_head freeze_key new.number g fs same))))
+      | inr apart ↦
+          ap (entries_of r) (put_tail freeze_key new g fs apart)
+          ∙ (elim (cases_Bool (is_run r g.holder)) [
+            | inl its ↦ entries_head r g (put freeze_key new fs) its ∙ (ap (λ (gs : List Freeze). g ∷ gs) rest ∙ sym (entries_head r g (without new.number fs) its))
+            | inr other ↦ entries_tail r g (put freeze_key new fs) other ∙ (rest ∙ sym (entries_tail r g (without new.number fs) other))
+          ]
+          ∙ sym (ap (entries_of r) (leave_tail freeze_key new.number g fs apart)))
+    ]
+
 -- a run that no entry names holds nothing
 pub held_none : (r low : ℕ) (fs : List Freeze) (high : ℕ) → FreezesRise low fs high → ((n : ℕ) (f : Freeze) → entry_of n fs ≡ Some f → is_run r f.holder ≡ false) → held_by r fs ≡ []
 held_none r low [] high h none = refl
@@ -148,4 +166,15 @@ among_is r n low (g ∷ fs) high h e =
             | inr apart ↦ further (sym (ap (λ (ns : List ℕ). is_held ns n) (held_head r g fs its) ∙ later_is n g.number (held_by r fs) apart) ∙ e)
           ]
       | inr other ↦ further (sym (ap (λ (ns : List ℕ). is_held ns n) (held_tail r g fs other)) ∙ e)
+    ]
+
+-- a number that is still to be given is not held
+pub none_above : (r n : ℕ) (fs : List Freeze) (high : ℕ) → FreezesRise 0 fs high → high < n → is_held (held_by r fs) n ≡ false
+none_above r n fs high h above =
+    elim (cases_Bool (is_held (held_by r fs) n)) [
+      | inl held ↦
+          let it = among_is r n 0 fs high h held in
+          let up = entry_bounds 0 fs high n it.0 h it.1 in
+          absurd (omega (arith, above, up.2))
+      | inr free ↦ free
     ]

@@ -6,7 +6,7 @@ use Rattle.std.proofs.lemmas.List.Elements.{All-nil, All-cons}
 use Rattle.std.proofs.lemmas.Bool.{cases_Bool, cond-false, eq-eqb, not_from_true}
 use Rattle.helpers.specs.declared.limits.HelperLimits.{HelperLimits}
 use Rattle.helpers.specs.declared.request.Request.{Request}
-use Rattle.helpers.specs.declared.request.Request.TheVariants.{Release, Requeue, QueueInfo, Trace}
+use Rattle.helpers.specs.declared.request.Request.TheVariants.{Release, Requeue}
 use Rattle.helpers.specs.declared.request.Answer.{Answer}
 use Rattle.bpf_machine.specs.MachineState.{MachineState, entry, unwritten_frame, context_address, frame_pointer}
 use Rattle.bpf_machine.specs.Step.{private_step, request_at, Allowed}
@@ -61,21 +61,18 @@ jumps n context freeze m' first e =
           ∙ (ap (λ (b : Bool). machine (cond b 3 1) (None ∷ Some context_address ∷ Some freeze ∷ others) context (cond b [] (freeze ∷ [])) false) some_one))
     ]
 
-released : (n : ℕ) (context : List ℕ) (freeze : ℕ) (m' : MachineState) (request : Request) (answer : Answer) → n ≡ 2 → Some (Release freeze) ≡ Some request → Allowed request answer (machine 2 (None ∷ Some freeze ∷ Some freeze ∷ others) context (freeze ∷ []) false) m' → Known (suc n) m'
-released n context freeze m' (Release number) answer third e allowed =
-    let same : freeze ≡ number = cc in
+-- the machine after the call at which it stands
+called : (request other : Request) (answer : Answer) (m m' : MachineState) → Some request ≡ Some other → Allowed other answer m m' → Allowed request answer m m'
+called request other answer m m' e allowed = subst (λ (r : Request). Allowed r answer m m') (some_value request other e) allowed
+
+released : (n : ℕ) (context : List ℕ) (freeze : ℕ) (m' : MachineState) (answer : Answer) → n ≡ 2 → Allowed (Release freeze) answer (machine 2 (None ∷ Some freeze ∷ Some freeze ∷ others) context (freeze ∷ []) false) m' → Known (suc n) m'
+released n context freeze m' answer third allowed =
     at_constant context (Some answer.r0) None _ (omega (arith, third))
     (allowed.1 ∙ ap (λ (held : List ℕ). machine 3 (Some answer.r0 ∷ None ∷ None ∷ None ∷ None ∷ None ∷ None ∷ None ∷ None ∷ None ∷ Some (frame_pointer 0) ∷ []) context held false)
-    (cond-false (not (eqb freeze number)) (freeze ∷ []) [] (not_from_true _ (eq-eqb _ _ same))))
-released n context freeze m' (Requeue retries) answer third e allowed = absurd (let bad : Some (Release freeze) ≡ Some (Requeue retries) = e in cc)
-released n context freeze m' (QueueInfo address) answer third e allowed = absurd (let bad : Some (Release freeze) ≡ Some (QueueInfo address) = e in cc)
-released n context freeze m' (Trace address bytes) answer third e allowed = absurd (let bad : Some (Release freeze) ≡ Some (Trace address bytes) = e in cc)
+    (cond-false (not (eqb freeze freeze)) (freeze ∷ []) [] (not_from_true _ (eq-eqb freeze freeze refl))))
 
-requeued : (n : ℕ) (context : List ℕ) (r0 : Option ℕ) (rest : List (Option ℕ)) (m' : MachineState) (request : Request) (answer : Answer) → n ≤ 4 → Some (Requeue 1) ≡ Some request → Allowed request answer (machine 4 (r0 ∷ Some 1 ∷ rest) context [] false) m' → Known (suc n) m'
-requeued n context r0 rest m' (Release number) answer few e allowed = absurd (let bad : Some (Requeue 1) ≡ Some (Release number) = e in cc)
-requeued n context r0 rest m' (QueueInfo address) answer few e allowed = absurd (let bad : Some (Requeue 1) ≡ Some (QueueInfo address) = e in cc)
-requeued n context r0 rest m' (Trace address bytes) answer few e allowed = absurd (let bad : Some (Requeue 1) ≡ Some (Trace address bytes) = e in cc)
-requeued n context r0 rest m' (Requeue retries) answer few e allowed = at_result context (Some answer.r0) _ (omega (arith, few)) allowed.1
+requeued : (n : ℕ) (context : List ℕ) (r0 : Option ℕ) (rest : List (Option ℕ)) (m' : MachineState) (answer : Answer) → n ≤ 4 → Allowed (Requeue 1) answer (machine 4 (r0 ∷ Some 1 ∷ rest) context [] false) m' → Known (suc n) m'
+requeued n context r0 rest m' answer few allowed = at_result context (Some answer.r0) _ (omega (arith, few)) allowed.1
 
 -- one instruction on
 onward : (n : ℕ) (m m' : MachineState) → Known n m → Steps program m m' → Known (suc n) m'
@@ -85,12 +82,12 @@ onward n m m' (at_copy context freeze second is) (inl e) = at_release context fr
 onward n m m' (at_copy context freeze second is) (inr call) = absurd (none_some call.0 (sym (ap (request_at program) is) ∙ call.2))
 onward n m m' (at_release context freeze third is) (inl e) = absurd (none_some m' (sym (ap (private_step program) is) ∙ e))
 onward n m m' (at_release context freeze third is) (inr call) =
-    released n context freeze m' call.0 call.1 third (sym (ap (request_at program) is) ∙ call.2) (subst (λ (x : MachineState). Allowed call.0 call.1 x m') is call.3)
+    released n context freeze m' call.1 third (called (Release freeze) call.0 call.1 _ m' (sym (ap (request_at program) is) ∙ call.2) (subst (λ (x : MachineState). Allowed call.0 call.1 x m') is call.3))
 onward n m m' (at_constant context r0 r1 rest few is) (inl e) = at_requeue context r0 rest (omega (arith, few)) (some_value _ m' (sym (ap (private_step program) is) ∙ e))
 onward n m m' (at_constant context r0 r1 rest few is) (inr call) = absurd (none_some call.0 (sym (ap (request_at program) is) ∙ call.2))
 onward n m m' (at_requeue context r0 rest few is) (inl e) = absurd (none_some m' (sym (ap (private_step program) is) ∙ e))
 onward n m m' (at_requeue context r0 rest few is) (inr call) =
-    requeued n context r0 rest m' call.0 call.1 few (sym (ap (request_at program) is) ∙ call.2) (subst (λ (x : MachineState). Allowed call.0 call.1 x m') is call.3)
+    requeued n context r0 rest m' call.1 few (called (Requeue 1) call.0 call.1 _ m' (sym (ap (request_at program) is) ∙ call.2) (subst (λ (x : MachineState). Allowed call.0 call.1 x m') is call.3))
 onward n m m' (at_result context r0 rest few is) (inl e) = at_exit context rest (omega (arith, few)) (some_value _ m' (sym (ap (private_step program) is) ∙ e))
 onward n m m' (at_result context r0 rest few is) (inr call) = absurd (none_some call.0 (sym (ap (request_at program) is) ∙ call.2))
 onward n m m' (at_exit context rest few is) (inl e) = absurd (none_some m' (sym (ap (private_step program) is) ∙ e))

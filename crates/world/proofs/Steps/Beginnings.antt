@@ -51,8 +51,8 @@ newly_from setup before event reply after number run it none some =
 pub new_run : (setup : Setup) (before : World) (event : Event) (reply : Reply) (after : World) (number : ℕ) (run : LiveRun) → RunMove setup before event reply after → run_of number before.runs ≡ None → run_of number after.runs ≡ Some run → Newly setup before event reply after number run
 new_run setup before event reply after number run (runs_stay e g quiet) none some = absurd (none_new before after number run e none some)
 new_run setup before event reply after number run (run_enters fresh begins known room g) none some = newly_from setup before event reply after number run (fresh, begins) none some
-new_run setup before event reply after number run (run_changes other machine found e g quiet) none some = absurd (none_new_changed before after number run other machine found e none some)
-new_run setup before event reply after number run (run_leaves other found e g quiet) none some =
+new_run setup before event reply after number run (run_changes other machine found e g quiet its) none some = absurd (none_new_changed before after number run other machine found e none some)
+new_run setup before event reply after number run (run_leaves other found e g quiet its) none some =
     let is = ap (run_of number) e in
     absurd (elim (cases_eq other.number number) [
       | inl same ↦ no_some (run_of number after.runs) run (is ∙ subst (λ (n : ℕ). run_of number (leave run_key n before.runs) ≡ None) (sym same) (leave_same run_key number before.runs)) some
@@ -63,8 +63,8 @@ new_run setup before event reply after number run (run_leaves other found e g qu
 pub started_begins : (setup : Setup) (before : World) (outcome : Outcome) (number freeze : ℕ) (after : World) → RunMove setup before (complete outcome) (run_started number freeze) after → (run : LiveRun) × Begins setup before (complete outcome) (run_started number freeze) after run
 started_begins setup before outcome number freeze after (runs_stay e g quiet) = absurd (let bad : true ≡ false = quiet in cc)
 started_begins setup before outcome number freeze after (run_enters fresh begins known room g) = (fresh, begins)
-started_begins setup before outcome number freeze after (run_changes other machine found e g quiet) = absurd (let bad : true ≡ false = quiet in cc)
-started_begins setup before outcome number freeze after (run_leaves other found e g quiet) = absurd (let bad : true ≡ false = quiet in cc)
+started_begins setup before outcome number freeze after (run_changes other machine found e g quiet its) = absurd (let bad : true ≡ false = quiet in cc)
+started_begins setup before outcome number freeze after (run_leaves other found e g quiet its) = absurd (let bad : true ≡ false = quiet in cc)
 
 -- what a completion brings
 record Brought (outcome : Outcome) : Type 0 where

@@ -1,5 +1,5 @@
 -- What a step can do to each list of the world. The laws go by these moves, and not by the kinds of events.
-use Rattle.std.proofs.Common.{◌≡◌, ℕ, ◌+◌, ◌<◌, ◌≤◌, List, [], ◌∷◌, ◌++◌, map, Bool, true, false, not, Some, IsSome, ◌⊎◌, sym, subst, slice_index}
+use Rattle.std.proofs.Common.{◌≡◌, ℕ, ◌+◌, ◌<◌, ◌≤◌, List, [], ◌∷◌, ◌++◌, map, Bool, true, false, not, Some, None, IsSome, ◌⊎◌, sym, subst, slice_index}
 use Rattle.std.specs.Prelude.{◌&&◌}
 use Rattle.std.specs.List.{filter}
 use Rattle.std.proofs.lemmas.Bool.{and_parts, eqb-true}
@@ -17,12 +17,15 @@ use Rattle.world.specs.World.{Setup, queue_count, queue_setup, LiveCcb, LiveRun,
 use Rattle.world.specs.Lookups.{is_active, is_waiting, is_of, active_count, ccb_of, with_ccb, next_waiting, run_of, with_run}
 use Rattle.world.specs.Event.{Instruction, Event, complete, instruction_of, Reply, ccb_given, done, run_started, freeze_given, count_left, expired, went_on, result, refused}
 use Rattle.world.specs.CcbSteps.{ccb_meets_limit, run_meets_limit, is_completion}
+use Rattle.world.specs.FreezeSteps.{is_timer}
 use Rattle.world.specs.RunSteps.{is_run}
 use Rattle.world.specs.TookGave.{taken_by}
 use Rattle.world.specs.CcbLaws.{finished_by}
 use Rattle.world.specs.Headline.{is_step_of}
-use Rattle.world.proofs.Lists.Found.{leave, found_key}
+use Rattle.world.specs.Limits.{NamesNoOther}
+use Rattle.world.proofs.Lists.Found.{put, leave, found_key}
 use Rattle.world.proofs.Lists.Rising.{found_among}
+use Rattle.world.proofs.Lists.Entries.{freeze_key}
 
 abbrev pub ccb_key : LiveCcb → ℕ
 ccb_key live = live.ccb.number.0
@@ -82,10 +85,17 @@ pub record Comes (before : World) (event : Event) (after : World) (holder : Hold
 abbrev pub GoesFrom : World → Event → (Freeze → Bool) → Type 0
 GoesFrom before event gone = (n : ℕ) (f : Freeze) → entry_of n before.freezes ≡ Some f → gone f ≡ true → (run : ℕ) → is_run run f.holder ≡ true → is_step_of run event ≡ true
 
+-- A freeze gets a timer as its holder, and had none; where it was a run's, that is by its own step.
+pub record ChangesHands (event : Event) (old new : Holder) : Type 0 where
+  pub owned : is_timer old ≡ false
+  pub timed : is_timer new ≡ true
+  pub whose : (run : ℕ) → is_run run old ≡ true → is_step_of run event ≡ true
+
 pub data FreezeMove (setup : Setup) (before : World) (event : Event) (after : World) : Type 0 where
   freezes_stay : after.freezes ≡ before.freezes → after.greatest_freeze ≡ before.greatest_freeze → FreezeMove setup before event after
-  freeze_enters : (queue : ℕ) (holder : Holder) → queue < queue_count setup → meets_limit queue before.freezes before.greatest_freeze ≡ false → after.freezes ≡ before.freezes ++ record { number = before.greatest_freeze + 1; queue = record { 0 = queue }; holder = holder } ∷ [] → after.greatest_freeze ≡ before.greatest_freeze + 1 → Comes before event after holder → FreezeMove setup before event after
+  freeze_enters : (queue : ℕ) (holder : Holder) → (NamesNoOther setup → queue < queue_count setup) → meets_limit queue before.freezes before.greatest_freeze ≡ false → after.freezes ≡ before.freezes ++ record { number = before.greatest_freeze + 1; queue = record { 0 = queue }; holder = holder } ∷ [] → after.greatest_freeze ≡ before.greatest_freeze + 1 → Comes before event after holder → FreezeMove setup before event after
   freezes_leave : (gone : Freeze → Bool) → after.freezes ≡ filter (λ f. not (gone f)) before.freezes → after.greatest_freeze ≡ before.greatest_freeze → GoesFrom before event gone → FreezeMove setup before event after
+  freeze_changes : (old new : Freeze) → entry_of new.number before.freezes ≡ Some old → new.queue ≡ old.queue → after.freezes ≡ put freeze_key new before.freezes → after.greatest_freeze ≡ before.greatest_freeze → ChangesHands event old.holder new.holder → FreezeMove setup before event after
 
 -- the runs
 
@@ -130,15 +140,16 @@ tells_start (refused refusal) = false
 pub data RunMove (setup : Setup) (before : World) (event : Event) (reply : Reply) (after : World) : Type 0 where
   runs_stay : after.runs ≡ before.runs → after.greatest_run ≡ before.greatest_run → tells_start reply ≡ false → RunMove setup before event reply after
   run_enters : (run : LiveRun) → Begins setup before event reply after run → run.queue < queue_count setup → run_meets_limit before ≡ false → after.greatest_run ≡ before.greatest_run + 1 → RunMove setup before event reply after
-  run_changes : (run : LiveRun) (machine : MachineState) → run_of run.number before.runs ≡ Some run → after.runs ≡ with_run (record run { machine = machine }) before.runs → after.greatest_run ≡ before.greatest_run → tells_start reply ≡ false → RunMove setup before event reply after
-  run_leaves : (run : LiveRun) → run_of run.number before.runs ≡ Some run → after.runs ≡ leave run_key run.number before.runs → after.greatest_run ≡ before.greatest_run → tells_start reply ≡ false → RunMove setup before event reply after
+  run_changes : (run : LiveRun) (machine : MachineState) → run_of run.number before.runs ≡ Some run → after.runs ≡ with_run (record run { machine = machine }) before.runs → after.greatest_run ≡ before.greatest_run → tells_start reply ≡ false → is_step_of run.number event ≡ true → RunMove setup before event reply after
+  run_leaves : (run : LiveRun) → run_of run.number before.runs ≡ Some run → after.runs ≡ leave run_key run.number before.runs → after.greatest_run ≡ before.greatest_run → tells_start reply ≡ false → is_step_of run.number event ≡ true → RunMove setup before event reply after
 
--- all that a step does: to each list, whom its instruction is of, and what it gives to runs that were there
+-- all that a step does: to each list, whom its instruction is of, and that it gives a freeze to no other run that was
+-- there
 pub record Effect (setup : Setup) (before : World) (event : Event) (reply : Reply) (after : World) : Type 0 where
   pub ccbs : CcbMove setup before event reply after
   pub ended : after.ended ≡ before.ended ++ finished_by before event reply
   pub freezes : FreezeMove setup before event after
   pub runs : RunMove setup before event reply after
   pub openings : after.openings ≡ before.openings
-  pub taken : (run : ℕ) → run ≤ before.greatest_run → taken_by run event reply ≡ []
+  pub taken : (run : ℕ) → run ≤ before.greatest_run → instruction_of run event ≡ None → taken_by run event reply ≡ []
   pub acts : (run : ℕ) (instruction : Instruction) → instruction_of run event ≡ Some instruction → IsSome (run_of run before.runs)

@@ -2,7 +2,7 @@
 
 ghost use Rattle.world.specs.Limits.{LimitsAreKept};
 ghost use Rattle.world.specs.FreezeLaws.{CountsAreEntries, HeldAreEntries};
-ghost use Rattle.world.specs.FreezeLaws.{GivenUpStaysGivenUp, GivenUpByRunStaysGivenUp, GoneStaysGone};
+ghost use Rattle.world.specs.FreezeLaws.{GivenUpStaysGivenUp, GivenUpByRunStaysGivenUp, HandedOverStaysHandedOver, GoneStaysGone};
 ghost use Rattle.world.specs.CcbLaws.{EachIsLiveOrEnded};
 ghost use Rattle.world.specs.ClockLaws.{ClockGoesOn, TimersKeepTime};
 ghost use Rattle.world.specs.Flat.{EmptyAdvanceIsNone};
@@ -10,12 +10,13 @@ ghost use Rattle.world.specs.Headline.{NeverStuck, MachinesAreReached, WithinBud
 
 /// The headline. For every setup of accepted programs and every interleaving, instruction by instruction, of
 /// submissions, dispatches, completions, timers, guests and runs: no run is ever stuck, and each that is out has
-/// exactly one next step; each executes at most its budget; if it ends it has released exactly the freezes
-/// that it took, and it disposed of its CCB once; and every queue's frozen count is at every moment the number
-/// of entries that name it. And: each live run's machine is one that its program reaches; what a machine holds
-/// is what the entries say of its run; no limit is passed; each CCB number is of a live CCB or of one that
-/// ended, once, with its code; a step of anyone else leaves a run as it is; a freeze that was given up, a
-/// freeze number that is gone and a run that is gone never come back; the clock never goes back, and a freeze
+/// exactly one next step; each executes at most its budget; if it ends it has released or handed over exactly
+/// the freezes that it took, and it disposed of its CCB once; and every queue's frozen count is at every moment
+/// the number of entries that name it. And: each live run's machine is one that its program reaches; what a
+/// machine holds is what the entries say of its run; no limit is passed; each CCB number is of a live CCB or of
+/// one that ended, once, with its code; a step of anyone else leaves a run as it is; a freeze that was given up,
+/// a freeze number that is gone and a run that is gone never come back; a freeze that was handed over is a
+/// timer's as long as it is there, and never a run's or a guest's again; the clock never goes back, and a freeze
 /// that a timer holds goes by the first reading at or after its time and by nothing else; and an advance of no
 /// instruction stands for no event.
 pub fn headline()
@@ -31,6 +32,7 @@ pub fn headline()
     ensures others { OthersLeaveIt }
     ensures given_up { GivenUpStaysGivenUp }
     ensures given_up_by_run { GivenUpByRunStaysGivenUp }
+    ensures handed_over { HandedOverStaysHandedOver }
     ensures gone { GoneStaysGone }
     ensures gone_run { GoneRunStaysGone }
     ensures clock { ClockGoesOn }

@@ -1,5 +1,5 @@
 -- The clock goes on, and a freeze that a timer holds goes by a clock reading and by nothing else.
-use Rattle.std.proofs.Common.{◌≡◌, ℕ, ◌≤◌, List, [], ◌∷◌, ◌++◌, ◌+◌, length, true, false, not, leb, Some, None, ◌⊎◌, inl, inr, refl, ap, sym, subst, ◌∙◌, arith}
+use Rattle.std.proofs.Common.{◌≡◌, ℕ, ◌≤◌, List, [], ◌∷◌, ◌++◌, ◌+◌, length, true, false, not, leb, Some, None, ◌⊎◌, inl, inr, ap, sym, subst, ◌∙◌, arith}
 use Rattle.std.proofs.lemmas.Bool.{cases_Bool, cond-true, cond-false, not_from_true, not_from_false}
 use Rattle.freeze_ledger.specs.declared.freeze.Holder.{Holder}
 use Rattle.freeze_ledger.specs.declared.freeze.Holder.TheVariants.{Timer}

@@ -6,3 +6,5 @@ pub mod Ccbs
 pub mod Runs
 pub mod Lawful
 pub mod Telling
+pub mod Calls
+pub mod Handing

@@ -159,7 +159,7 @@ pub record LeavesFreezes (before : World) (run : LiveRun) (request : Request) (g
   pub keeps : asked (Some request) ≡ []
   pub allowed : IsAnswer run.machine request given
   pub held : (answered request given run.machine).held ≡ run.machine.held
-  pub taken : (run number : ℕ) → taken_by run (executes number (call (told_of request))) (result given.r0) ≡ []
+  pub taken : (other number : ℕ) → taken_by other (executes number (call (told_of request))) (result given.r0) ≡ []
   pub moves : (number : ℕ) (after : World) → Calls before number request → after.freezes ≡ before.freezes → MovesCounts before (executes number (call (told_of request))) (result given.r0) after
   pub freezes_is : between.freezes ≡ before.freezes
   pub greatest_is : between.greatest_freeze ≡ before.greatest_freeze
@@ -564,7 +564,7 @@ freeze_asks setup before event reply after queue it call_is known e =
             keeps = refl;
             allowed = inl refl;
             held = refl;
-            taken = λ run number. ap (λ (b : Bool). cond b (0 ∷ []) []) (and_right (eqb number run) false refl);
+            taken = λ other number. ap (λ (b : Bool). cond b (0 ∷ []) []) (and_right (eqb number other) false refl);
             moves = λ number after calls same. record { queue = queue; freeze = 0; asks = calls; reply_is = refl; more = λ other. omega (arith, ap (frozen other) same) };
             freezes_is = refl;
             greatest_is = refl;
@@ -641,7 +641,7 @@ requeue_asks setup before event reply after retries it call_is fresh (Some live)
       given = answer_number 0;
       between = record before { live = with_ccb (record { ccb = requeued live.ccb retries; state = Waiting }) before.live };
       answer = some_is _ _ e;
-      freezes = leaves_freezes (record { keeps = refl; allowed = refl; held = refl; taken = λ run number. refl; moves = λ number after calls same. same; freezes_is = refl; greatest_is = refl });
+      freezes = leaves_freezes (record { keeps = refl; allowed = refl; held = refl; taken = λ other number. refl; moves = λ number after calls same. same; freezes_is = refl; greatest_is = refl });
       ccbs = requeues_one (record { retries = retries; request_is = refl; its = record { fresh = fresh; live = live; found = found }; live_is = refl; ended_is = refl; greatest_is = refl });
       runs_is = refl;
       greatest_is = refl;
@@ -659,7 +659,7 @@ finish_asks setup before event reply after code it call_is fresh (Some live) fou
       given = answer_number 0;
       between = ended_with before live.ccb code;
       answer = some_is _ _ e;
-      freezes = leaves_freezes (record { keeps = refl; allowed = refl; held = refl; taken = λ run number. refl; moves = λ number after calls same. same; freezes_is = refl; greatest_is = refl });
+      freezes = leaves_freezes (record { keeps = refl; allowed = refl; held = refl; taken = λ other number. refl; moves = λ number after calls same. same; freezes_is = refl; greatest_is = refl });
       ccbs = ends_one (record { code = code; request_is = refl; its = record { fresh = fresh; live = live; found = found }; live_is = refl; ended_is = refl; greatest_is = refl });
       runs_is = refl;
       greatest_is = refl;
@@ -677,12 +677,12 @@ by_request setup before event reply after (Requeue retries) it call_is rule e = 
 by_request setup before event reply after (Finish code) it call_is rule e = finish_asks setup before event reply after code it call_is (not-true _ (and_parts (not it.run.machine.disposed) _ rule).0) (ccb_of it.run.ccb before.live) refl e
 by_request setup before event reply after (QueueInfo address) it call_is rule e =
     asks_alone setup before event reply after (QueueInfo address) it call_is (info_answer before it.run address)
-    (record { keeps = refl; allowed = (refl, info_wrote address (queue_info before it.run.queue)); held = refl; taken = λ run number. refl; moves = λ number after calls same. same; freezes_is = refl; greatest_is = refl })
+    (record { keeps = refl; allowed = (refl, info_wrote address (queue_info before it.run.queue)); held = refl; taken = λ other number. refl; moves = λ number after calls same. same; freezes_is = refl; greatest_is = refl })
     (record { calm = refl; disposed = refl; live_is = refl; ended_is = refl; greatest_is = refl })
     refl e
 by_request setup before event reply after (Trace address bytes) it call_is rule e =
     asks_alone setup before event reply after (Trace address bytes) it call_is (answer_number 0)
-    (record { keeps = refl; allowed = refl; held = refl; taken = λ run number. refl; moves = λ number after calls same. same; freezes_is = refl; greatest_is = refl })
+    (record { keeps = refl; allowed = refl; held = refl; taken = λ other number. refl; moves = λ number after calls same. same; freezes_is = refl; greatest_is = refl })
     (record { calm = refl; disposed = refl; live_is = refl; ended_is = refl; greatest_is = refl })
     refl e
 

@@ -225,8 +225,7 @@ call_ccbs setup before event reply after it (requeues_one deed) =
     let live_is : after.live ≡ with_ccb new before.live = ap (λ (x : Reply × World). x.1.live) it.answer ∙ deed.live_is in
     let greatest_is : after.greatest_ccb ≡ before.greatest_ccb = ap (λ (x : Reply × World). x.1.greatest_ccb) it.answer ∙ deed.greatest_is in
     let ended_is : after.ended ≡ before.ended = ap (λ (x : Reply × World). x.1.ended) it.answer ∙ deed.ended_is in
-    let none : finished_by before event reply ≡ [] = finished_by_call setup before event reply after (told_of (Requeue deed.retries)) it (ap told_of deed.request_is) in
-    (
+    let none : finished_by before event reply ≡ [] = finished_by_call setup before event reply after (told_of (Requeue deed.retries)) it (ap told_of deed.request_is) in (
       ccb_changes deed.its.live new (ccb_found _ before.live deed.its.live deed.its.found) refl (inl refl) (its_ccb before event _ it.it deed.its) live_is greatest_is none,
       none_ended before after event reply none ended_is,
     )
@@ -237,8 +236,7 @@ call_ccbs setup before event reply after it (ends_one deed) =
     let named : old.ccb.number.0 ≡ it.it.run.ccb = found_key ccb_key it.it.run.ccb before.live old deed.its.found in
     let one : finished_by before event reply ≡ one_ended old.ccb.number.0 deed.code =
     finished_by_call setup before event reply after (told_of (Finish deed.code)) it (ap told_of deed.request_is)
-    ∙ (ap (finished_by_run deed.code) it.it.found ∙ ap (λ (n : ℕ). one_ended n deed.code) (sym named)) in
-    (
+    ∙ (ap (finished_by_run deed.code) it.it.found ∙ ap (λ (n : ℕ). one_ended n deed.code) (sym named)) in (
       ccb_leaves old.ccb.number.0 deed.code old (ccb_found _ before.live old deed.its.found) (its_ccb before event _ it.it deed.its) live_is greatest_is one,
       ap (λ (x : Reply × World). x.1.ended) it.answer ∙ (deed.ended_is ∙ sym (ap (λ (l : List EndedCcb). before.ended ++ l) one)),
     )

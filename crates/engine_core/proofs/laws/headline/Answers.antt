@@ -6,7 +6,7 @@ use Rattle.world.proofs.Leads.{limits_are_kept}
 use Rattle.world.proofs.Empty.{empty_advance_is_none}
 use Rattle.world.proofs.Clocks.{clock_goes_on, timers_keep_time}
 use Rattle.world.proofs.Accounts.{each_is_live_or_ended}
-use Rattle.world.proofs.Gone.{given_up_stays_given_up, given_up_by_run_stays_given_up, gone_stays_gone}
+use Rattle.world.proofs.Gone.{given_up_stays_given_up, given_up_by_run_stays_given_up, handed_over_stays_handed_over, gone_stays_gone}
 use Rattle.engine_core.proofs.laws.headline.Goals as goal
 
 pub returns : goal.returns
@@ -23,6 +23,7 @@ returns c = record {
   others = others_leave_it;
   given_up = given_up_stays_given_up;
   given_up_by_run = given_up_by_run_stays_given_up;
+  handed_over = handed_over_stays_handed_over;
   gone = gone_stays_gone;
   gone_run = gone_run_stays_gone;
   clock = clock_goes_on;

@@ -16,7 +16,8 @@ use Rattle.world.specs.ClockLaws.{ClockGoesOn, lets_go, KeepsTime, TimersKeepTim
 use Rattle.world.proofs.Lists.Found.{put, found_key, found_push, found_in_filter, put_other, leave_other}
 use Rattle.world.proofs.Lists.Rising.{filtered_out}
 use Rattle.world.proofs.Lists.Entries.{freeze_key, handed_is_put}
-use Rattle.world.proofs.Steps.Cases.{ReadsClock, FreezeDeed, leaves_freezes, takes_one, gives_one_back, hands_one_over, Asks, Case, case_of, refuses, submits, dispatches, finishes_one, recovers_one, recovers_unfrozen, freezes_one, releases_one, reads_clock, goes_on_one, asks_one, exits}
+use Rattle.world.proofs.Steps.Calls.{FreezeDeed, leaves_freezes, takes_one, gives_one_back, hands_one_over, Asks}
+use Rattle.world.proofs.Steps.Cases.{ReadsClock, Case, case_of, refuses, submits, dispatches, finishes_one, recovers_one, recovers_unfrozen, freezes_one, releases_one, reads_clock, goes_on_one, asks_one, exits}
 use Rattle.world.proofs.Leads.{limits_are_kept}
 
 -- a step leaves the clock, or it reads what is neither before it nor after the last reading
@@ -36,7 +37,7 @@ clock_move setup before event reply after (reads_clock it) =
     let is : after.clock ≡ it.reading = ap (λ (w : World). w.clock) it.after_is in
     inr (rw is it.on, rw is it.within)
 clock_move setup before event reply after (goes_on_one it) = inl (ap (λ (w : World). w.clock) it.after_is)
-clock_move setup before event reply after (asks_one it) = inl (ap (λ (x : Reply × World). x.1.clock) it.answer ∙ it.clock_is)
+clock_move setup before event reply after (asks_one it) = inl (ap (λ (x : Reply × World). x.1.clock) it.answer ∙ it.rest.clock_is)
 clock_move setup before event reply after (exits it) = inl (ap (λ (w : World). w.clock) it.after_is)
 
 moved_on : (before after : World) → ClockMove before after → before.clock ≤ last_reading → (before.clock ≤ after.clock) × (after.clock ≤ last_reading)

@@ -13,7 +13,8 @@ use Rattle.world.specs.Event.{call, Event, executes, Reply, run_started, result}
 use Rattle.world.specs.Limits.{KeepsLimits}
 use Rattle.world.specs.FreezeLaws.{OneFewer, Calls, MovesCounts, CountsAreEntries}
 use Rattle.world.proofs.Lists.Entries.{frozen_push, frozen_without, frozen_handed_over, frozen_due}
-use Rattle.world.proofs.Steps.Cases.{FreezeDeed, leaves_freezes, takes_one, gives_one_back, hands_one_over, Case, case_of, refuses, submits, dispatches, finishes_one, recovers_one, recovers_unfrozen, freezes_one, releases_one, reads_clock, goes_on_one, asks_one, exits}
+use Rattle.world.proofs.Steps.Calls.{FreezeDeed, leaves_freezes, takes_one, gives_one_back, hands_one_over}
+use Rattle.world.proofs.Steps.Cases.{Case, case_of, refuses, submits, dispatches, finishes_one, recovers_one, recovers_unfrozen, freezes_one, releases_one, reads_clock, goes_on_one, asks_one, exits}
 use Rattle.world.proofs.Leads.{limits_are_kept}
 
 -- the count after the freeze of this number went

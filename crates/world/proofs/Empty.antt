@@ -6,7 +6,8 @@ use Rattle.world.specs.Told.{Told, plain, traces, finishes}
 use Rattle.world.specs.Event.{call, executes, went_on, result, Reply}
 use Rattle.world.specs.Step.{WorldStep}
 use Rattle.world.specs.Flat.{EmptyAdvanceIsNone}
-use Rattle.world.proofs.Steps.Cases.{asks_of, exit_parts}
+use Rattle.world.proofs.Steps.Running.{exit_parts}
+use Rattle.world.proofs.Steps.Calls.{asks_of}
 
 -- a helper call is answered
 no_call_goes_on : (setup : Setup) (before : World) (run : ℕ) (told : Told) (after : World) → WorldStep setup before (executes run (call told)) went_on after → ⊥

@@ -22,7 +22,8 @@ use Rattle.world.specs.TookGave.{asked}
 use Rattle.world.proofs.Lists.Found.{put, found_in_push, put_same, put_other, missing_filter}
 use Rattle.world.proofs.Lists.Rising.{found_unfiltered}
 use Rattle.world.proofs.Lists.Entries.{freeze_key, entry_push, entry_removed, entry_bounds, handed_is_put, none_since}
-use Rattle.world.proofs.Steps.Cases.{LeavesFreezes, FreezeDeed, leaves_freezes, takes_one, gives_one_back, hands_one_over, Asks, case_of, guest_release_parts, asks_of}
+use Rattle.world.proofs.Steps.Calls.{LeavesFreezes, FreezeDeed, leaves_freezes, takes_one, gives_one_back, hands_one_over, Asks, asks_of}
+use Rattle.world.proofs.Steps.Cases.{case_of, guest_release_parts}
 use Rattle.world.proofs.Steps.Moves.{FreezeMove, freezes_stay, freeze_enters, freezes_leave, freeze_changes}
 use Rattle.world.proofs.Steps.Effects.{effect_of}
 use Rattle.world.proofs.Kept.{step_keeps}

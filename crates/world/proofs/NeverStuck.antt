@@ -21,7 +21,7 @@ use Rattle.world.specs.Step.{WorldStep}
 use Rattle.world.specs.Headline.{HasOneStep, NeverStuck}
 use Rattle.world.proofs.Lists.Found.{found_key}
 use Rattle.world.proofs.Telling.{told_itself}
-use Rattle.world.proofs.Steps.Cases.{some_is, Executes, private_parts, call_parts, exit_parts}
+use Rattle.world.proofs.Steps.Running.{some_is, Executes, private_parts, call_parts, exit_parts}
 use Rattle.world.proofs.Steps.Moves.{run_key}
 use Rattle.world.proofs.Steps.Fates.{same_run}
 use Rattle.world.proofs.Reaching.{reached_goes}

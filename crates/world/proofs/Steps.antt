@@ -1,4 +1,6 @@
--- One step of the world: its cases, what it does to each list, and what it makes of one run.
+-- One step of the world: its cases, what the calls of helpers do, what it does to each list, and what it makes of one run.
+pub mod Running
+pub mod Calls
 pub mod Cases
 pub mod Moves
 pub mod Waiting

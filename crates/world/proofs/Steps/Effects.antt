@@ -29,7 +29,9 @@ use Rattle.world.proofs.Lists.Found.{leave, found_key, missing_push, at_head, pu
 use Rattle.world.proofs.Lists.Rising.{missing_high}
 use Rattle.world.proofs.Lists.Each.{all_found}
 use Rattle.world.proofs.Lists.Entries.{freeze_key, handed_is_put}
-use Rattle.world.proofs.Steps.Cases.{Recovers, RecoversUnfrozen, Executes, FreezeDeed, leaves_freezes, takes_one, gives_one_back, hands_one_over, HasItsCcb, CcbDeed, leaves_ccbs, requeues_one, ends_one, Asks, Case, refuses, submits, dispatches, finishes_one, recovers_one, recovers_unfrozen, freezes_one, releases_one, reads_clock, goes_on_one, asks_one, exits, pair_parts}
+use Rattle.world.proofs.Steps.Running.{Executes, pair_parts}
+use Rattle.world.proofs.Steps.Calls.{FreezeDeed, leaves_freezes, takes_one, gives_one_back, hands_one_over, HasItsCcb, CcbDeed, leaves_ccbs, requeues_one, ends_one, Asks}
+use Rattle.world.proofs.Steps.Cases.{Recovers, RecoversUnfrozen, Case, refuses, submits, dispatches, finishes_one, recovers_one, recovers_unfrozen, freezes_one, releases_one, reads_clock, goes_on_one, asks_one, exits}
 use Rattle.world.proofs.Steps.Moves.{ccb_key, run_key, ccb_found, run_found, next_found, MayTouch, CcbMove, ccbs_stay, ccb_enters, ccb_changes, ccb_leaves, Comes, FreezeMove, freezes_stay, freeze_enters, freezes_leave, freeze_changes, Begins, tells_start, runs_stay, run_enters, run_changes, run_leaves, Effect}
 
 -- the queue of a live CCB exists
@@ -181,7 +183,7 @@ given_to_other run number freeze apart = ap (λ (b : Bool). cond (b && not (eqb 
 -- the run that calls goes on with the answer, and the others stand
 pub call_runs : (setup : Setup) (before : World) (event : Event) (reply : Reply) (after : World) → (it : Asks setup before event reply after) → after.runs ≡ with_run (record it.it.run { machine = answered it.request it.given it.it.run.machine }) before.runs
 call_runs setup before event reply after it =
-    ap (λ (x : Reply × World). x.1.runs) it.answer ∙ ap (with_run (record it.it.run { machine = answered it.request it.given it.it.run.machine })) it.runs_is
+    ap (λ (x : Reply × World). x.1.runs) it.answer ∙ ap (with_run (record it.it.run { machine = answered it.request it.given it.it.run.machine })) it.rest.runs_is
 
 -- what it gives to a run, by its request and its answer alone
 pub call_takes : (setup : Setup) (before : World) (event : Event) (reply : Reply) (after : World) → (it : Asks setup before event reply after) → (run : ℕ) (request : Request) (given : Answer) → it.request ≡ request → it.given ≡ given → taken_by run event reply ≡ taken_by run (executes it.it.number (call (told_of request))) (result given.r0)
@@ -439,8 +441,8 @@ effect_of setup before event reply after kept (asks_one it) =
       ccbs = ccbs.0;
       ended = ccbs.1;
       freezes = call_freezes setup before event reply after kept it it.freezes;
-      runs = run_changes it.it.run _ (run_found _ before.runs it.it.run it.it.found) (call_runs setup before event reply after it) (ap (λ (w : World). w.greatest_run) parts.1 ∙ it.greatest_is) (ap tells_start parts.0) (its_own_step before event _ it.it);
-      openings = ap (λ (w : World). w.openings) parts.1 ∙ it.openings_is;
+      runs = run_changes it.it.run _ (run_found _ before.runs it.it.run it.it.found) (call_runs setup before event reply after it) (ap (λ (w : World). w.greatest_run) parts.1 ∙ it.rest.greatest_is) (ap tells_start parts.0) (its_own_step before event _ it.it);
+      openings = ap (λ (w : World). w.openings) parts.1 ∙ it.rest.openings_is;
       taken = λ run given idle. call_taken setup before event reply after run idle it it.freezes;
       acts = executes_acts before event _ it.it;
     }

@@ -27,7 +27,9 @@ use Rattle.world.proofs.Lists.Found.{leave, found_key, found_push, put_same, put
 use Rattle.world.proofs.Lists.Entries.{freeze_key, frozen_without, entry_bounds, handed_is_put}
 use Rattle.world.proofs.Lists.HeldBy.{entries_put, none_above}
 use Rattle.world.proofs.Kept.{room_from}
-use Rattle.world.proofs.Steps.Cases.{Executes, FreezeDeed, leaves_freezes, takes_one, gives_one_back, hands_one_over, CcbDeed, leaves_ccbs, requeues_one, ends_one, Asks, Case, refuses, submits, dispatches, finishes_one, recovers_one, recovers_unfrozen, freezes_one, releases_one, reads_clock, goes_on_one, asks_one, exits}
+use Rattle.world.proofs.Steps.Running.{Executes}
+use Rattle.world.proofs.Steps.Calls.{FreezeDeed, leaves_freezes, takes_one, gives_one_back, hands_one_over, CcbDeed, leaves_ccbs, requeues_one, ends_one, Asks}
+use Rattle.world.proofs.Steps.Cases.{Case, refuses, submits, dispatches, finishes_one, recovers_one, recovers_unfrozen, freezes_one, releases_one, reads_clock, goes_on_one, asks_one, exits}
 use Rattle.world.proofs.Steps.Moves.{run_key, run_found, Begins}
 use Rattle.world.proofs.Steps.Effects.{its_instruction, not_others, call_runs, call_takes}
 use Rattle.world.proofs.Steps.Private.{private_keeps}

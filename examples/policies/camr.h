@@ -33,7 +33,10 @@ struct queue_counts {
     u32 openings;
 };
 
+static u64 (*const freeze_queue)(u64 queue) = (void *)1;
 static u64 (*const release)(u64 freeze) = (void *)2;
+static u64 (*const release_after)(u64 freeze, u64 milliseconds) = (void *)3;
 static u64 (*const requeue)(u64 retries_used) = (void *)4;
+static u64 (*const finish)(u64 code) = (void *)5;
 static u64 (*const queue_info)(void *to) = (void *)9;
 static u64 (*const trace)(const void *bytes, u64 length) = (void *)10;

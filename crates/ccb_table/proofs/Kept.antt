@@ -81,6 +81,12 @@ recovering_there list queues number x h found is =
     let told = ap (λ (q : QueueState). q.recovering) (h.told x.ccb.queue.0 (known_queue list queues number x h found)) in
     omega (arith, told, counted is_recovering number list.live x InRecovery found is refl)
 
+-- one of them, for a CCB that does not wait
+pub counted_there : (list : ListState) (queues : List QueueState) (number : ℕ) (x : LiveCcb) (s : CcbState) → KeepsTable list queues → ccb_of number list.live ≡ Some x → x.state ≡ s → is_waiting s ≡ false → 1 ≤ cond (is_active s) (queue_at queues x.ccb.queue.0).active (queue_at queues x.ccb.queue.0).recovering
+counted_there list queues number x Waiting h found is stands = absurd (let bad : true ≡ false = stands in cc)
+counted_there list queues number x Active h found is stands = active_there list queues number x h found is
+counted_there list queues number x InRecovery h found is stands = recovering_there list queues number x h found is
+
 pub waits_not : (list : ListState) (queues : List QueueState) (number : CcbId) (x : LiveCcb) → KeepsTable list queues → ccb_of number.0 list.live ≡ Some x → x.state ≡ InRecovery → waits number (queue_at queues x.ccb.queue.0).waiting ≡ false
 waits_not list queues number x h found is =
     ap (λ (q : QueueState). waits number q.waiting) (h.told x.ccb.queue.0 (known_queue list queues number.0 x h found))

@@ -1,5 +1,5 @@
 -- What each call leaves: what the table keeps, and what contracts see of it.
-use Rattle.std.proofs.Common.{◌≡◌, ℕ, ◌+◌, ◌<◌, List, [], ◌∷◌, ◌++◌, length, set, true, false, Option, Some, refl, ap, sym, subst, ◌∙◌, arith}
+use Rattle.std.proofs.Common.{◌≡◌, ℕ, ◌+◌, ◌<◌, List, [], ◌∷◌, ◌++◌, length, set, Bool, true, false, Option, Some, refl, ap, sym, subst, ◌∙◌, arith}
 use Rattle.ccb.specs.declared.CcbId.{CcbId}
 use Rattle.ccb.specs.declared.ccb.Ccb.{Ccb}
 use Rattle.ccb.specs.Ccb.{started}
@@ -7,12 +7,12 @@ use Rattle.dev_queue.specs.Waiting.{IsLeastNumber}
 use Rattle.dev_queue.specs.State.{QueueState, with_waiting, with_started, with_stopped, with_left}
 use Rattle.world.specs.declared.ccb_state.CcbState.TheVariants.{Waiting, Active, InRecovery}
 use Rattle.world.specs.World.{LiveCcb}
-use Rattle.world.specs.Lookups.{ccb_of, with_ccb, next_waiting}
+use Rattle.world.specs.Lookups.{is_waiting, is_active, ccb_of, with_ccb, next_waiting}
 use Rattle.world.proofs.Lists.Found.{leave}
 use Rattle.world.proofs.Steps.Moves.{ccb_key, ccb_found}
 use Rattle.ccb_table.specs.CcbsState.{CcbsState}
 use Rattle.ccb_table.specs.Listed.{ListState}
-use Rattle.ccb_table.specs.Queues.{queue_at}
+use Rattle.ccb_table.specs.Queues.{queue_at, with_gone}
 use Rattle.ccb_table.specs.Invariant.{KeepsTable, seen}
 use Rattle.ccb_table.proofs.Listed.{listed_as}
 use Rattle.ccb_table.proofs.Told.{entered_is, started_is, recovering_is, requeued_is, finished_is}
@@ -27,6 +27,10 @@ pub record After (list : ListState) (queues : List QueueState) (state : CcbsStat
 seen_set : (list : ListState) (queues : List QueueState) (queue : ℕ) (new : QueueState) → new.openings ≡ (queue_at queues queue).openings → seen list (set queues queue new) ≡ seen list queues
 seen_set list queues queue new e = λ i. record { live = list.live; openings = openings_set queues queue new e i; greatest = list.greatest }
 
+openings_gone : (active : Bool) (queue : QueueState) → (with_gone active queue).openings ≡ queue.openings
+openings_gone true queue = refl
+openings_gone false queue = refl
+
 -- said of what equals the list, the queues and the number of the queue
 carried : (f : QueueState → QueueState) (list after : ListState) (queues queues_after : List QueueState) (queue known_as : ℕ) (state : CcbsState) → after ≡ list → queues_after ≡ set queues known_as (f (queue_at queues known_as)) → known_as ≡ queue → After list (set queues queue (f (queue_at queues queue))) state → After after queues_after state
 carried f list after queues queues_after queue known_as state e es same h =
@@ -34,14 +38,16 @@ carried f list after queues queues_after queue known_as state e es same h =
     let there : After list queues_after state = subst (λ (qs : List QueueState). After list qs state) (sym es) here in
     subst (λ (l : ListState). After l queues_after state) (sym e) there
 
-pub finished : (list after : ListState) (queues queues_after : List QueueState) (number known_as : ℕ) (x : LiveCcb) → KeepsTable list queues → ccb_of number list.live ≡ Some x → x.state ≡ Active → after ≡ listed_as list.greatest (leave ccb_key number list.live) → queues_after ≡ set queues known_as (with_stopped false (queue_at queues known_as)) → known_as ≡ x.ccb.queue.0 → After after queues_after (seen (listed_as list.greatest (leave ccb_key number list.live)) queues)
-finished list after queues queues_after number known_as x h found is e es same =
+pub finished : (list after : ListState) (queues queues_after : List QueueState) (number known_as : ℕ) (active : Bool) (x : LiveCcb) → KeepsTable list queues → ccb_of number list.live ≡ Some x → is_waiting x.state ≡ false → active ≡ is_active x.state → after ≡ listed_as list.greatest (leave ccb_key number list.live) → queues_after ≡ set queues known_as (with_gone active (queue_at queues known_as)) → known_as ≡ x.ccb.queue.0 → After after queues_after (seen (listed_as list.greatest (leave ccb_key number list.live)) queues)
+finished list after queues queues_after number known_as active x h found stands is e es same =
+    let out : QueueState → QueueState = with_gone (is_active x.state) in
     let told = h.told x.ccb.queue.0 (known_queue list queues number x h found) in
-    let new = finished_is x.ccb.queue.0 (queue_at queues x.ccb.queue.0).openings list.live list.greatest number x h.rising found refl is ∙ ap (with_stopped false) (sym told) in
-    carried (with_stopped false) (listed_as list.greatest (leave ccb_key number list.live)) after queues queues_after x.ccb.queue.0 known_as _ e es same
+    let new = finished_is x.ccb.queue.0 (queue_at queues x.ccb.queue.0).openings list.live list.greatest number x x.state h.rising found refl refl stands ∙ ap out (sym told) in
+    carried out (listed_as list.greatest (leave ccb_key number list.live)) after queues queues_after x.ccb.queue.0 known_as _ e
+    (es ∙ ap (λ (b : Bool). set queues known_as (with_gone b (queue_at queues known_as))) is) same
     (record {
-      kept = kept_left list queues number x (with_stopped false (queue_at queues x.ccb.queue.0)) h found new;
-      seen_is = seen_set (listed_as list.greatest (leave ccb_key number list.live)) queues x.ccb.queue.0 (with_stopped false (queue_at queues x.ccb.queue.0)) refl;
+      kept = kept_left list queues number x (out (queue_at queues x.ccb.queue.0)) h found new;
+      seen_is = seen_set (listed_as list.greatest (leave ccb_key number list.live)) queues x.ccb.queue.0 (out (queue_at queues x.ccb.queue.0)) (openings_gone (is_active x.state) (queue_at queues x.ccb.queue.0));
     })
 
 pub recovered : (list after : ListState) (queues queues_after : List QueueState) (known_as : ℕ) (c x : LiveCcb) → KeepsTable list queues → ccb_of c.ccb.number.0 list.live ≡ Some x → x.state ≡ Active → c.state ≡ InRecovery → c.ccb.queue.0 ≡ x.ccb.queue.0 → after ≡ listed_as list.greatest (with_ccb c list.live) → queues_after ≡ set queues known_as (with_stopped true (queue_at queues known_as)) → known_as ≡ x.ccb.queue.0 → After after queues_after (seen (listed_as list.greatest (with_ccb c list.live)) queues)

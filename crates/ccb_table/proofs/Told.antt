@@ -14,7 +14,7 @@ use Rattle.world.specs.Lookups.{is_waiting, is_active, is_of, live_count, active
 use Rattle.world.proofs.Lists.Found.{leave}
 use Rattle.world.proofs.Lists.Rising.{count_put, count_gone}
 use Rattle.world.proofs.Steps.Moves.{ccb_key}
-use Rattle.ccb_table.specs.Queues.{is_recovering, pairs_of, waits_on, recovers_on, queue_state_of}
+use Rattle.ccb_table.specs.Queues.{is_recovering, pairs_of, waits_on, recovers_on, queue_state_of, with_gone}
 use Rattle.ccb_table.proofs.Pairs.{pairs_no, pairs_length, pairs_push_yes, pairs_push_no, pairs_put_out, pairs_put_in, pairs_put_no, pairs_gone}
 
 -- the CCB is of the queue, and in a state of this kind
@@ -117,12 +117,17 @@ requeued_is queue openings ccbs high c x rising found of was_of is was =
     (omega (arith, moved is_active queue ccbs high c x rising found false false (on_is is_active queue c Waiting of is) (on_is is_active queue x InRecovery was_of was)))
     (omega (arith, moved is_recovering queue ccbs high c x rising found false true (on_is is_recovering queue c Waiting of is) (on_is is_recovering queue x InRecovery was_of was))) refl
 
--- an active CCB is finished
-pub finished_is : (queue openings : ℕ) (ccbs : List LiveCcb) (high number : ℕ) (x : LiveCcb) → AreRising 0 (map ccb_key ccbs) high → ccb_of number ccbs ≡ Some x → x.ccb.queue.0 ≡ queue → x.state ≡ Active → queue_state_of queue openings (leave ccb_key number ccbs) ≡ with_stopped false (queue_state_of queue openings ccbs)
-finished_is queue openings ccbs high number x rising found was_of was =
+-- a CCB that does not wait is finished
+pub finished_is : (queue openings : ℕ) (ccbs : List LiveCcb) (high number : ℕ) (x : LiveCcb) (s : CcbState) → AreRising 0 (map ccb_key ccbs) high → ccb_of number ccbs ≡ Some x → x.ccb.queue.0 ≡ queue → x.state ≡ s → is_waiting s ≡ false → queue_state_of queue openings (leave ccb_key number ccbs) ≡ with_gone (is_active s) (queue_state_of queue openings ccbs)
+finished_is queue openings ccbs high number x Waiting rising found was_of was stands = absurd (let bad : true ≡ false = stands in cc)
+finished_is queue openings ccbs high number x Active rising found was_of was stands =
     same_queue _ _ (pairs_gone (waits_on queue) 0 ccbs high number x rising found (on_is is_waiting queue x Active was_of was))
     (omega (arith, gone is_active queue ccbs high number x rising found true (on_is is_active queue x Active was_of was)))
     (omega (arith, gone is_recovering queue ccbs high number x rising found false (on_is is_recovering queue x Active was_of was))) refl
+finished_is queue openings ccbs high number x InRecovery rising found was_of was stands =
+    same_queue _ _ (pairs_gone (waits_on queue) 0 ccbs high number x rising found (on_is is_waiting queue x InRecovery was_of was))
+    (omega (arith, gone is_active queue ccbs high number x rising found false (on_is is_active queue x InRecovery was_of was)))
+    (omega (arith, gone is_recovering queue ccbs high number x rising found true (on_is is_recovering queue x InRecovery was_of was))) refl
 
 pub finished_other : (queue openings : ℕ) (ccbs : List LiveCcb) (high number : ℕ) (x : LiveCcb) → AreRising 0 (map ccb_key ccbs) high → ccb_of number ccbs ≡ Some x → (x.ccb.queue.0 ≡ queue → ⊥) → queue_state_of queue openings (leave ccb_key number ccbs) ≡ queue_state_of queue openings ccbs
 finished_other queue openings ccbs high number x rising found apart =

@@ -1,7 +1,7 @@
 -- What a device queue has to know of the live CCBs: which of its own wait, and how many are active or in recovery.
-use Rattle.std.specs.Prelude.{◌≡◌, ℕ, ◌<◌, ◌&&◌, Bool, true, false, List, length, map, filter, count_by, slice_index_or}
+use Rattle.std.specs.Prelude.{◌≡◌, ℕ, ◌<◌, ◌&&◌, Bool, true, false, List, length, map, filter, count_by, slice_index_or, if◌then◌else◌}
 use Rattle.dev_queue.specs.declared.waiting_ccb.WaitingCcb.{WaitingCcb}
-use Rattle.dev_queue.specs.State.{QueueState, empty_queue}
+use Rattle.dev_queue.specs.State.{QueueState, empty_queue, with_stopped, with_left}
 use Rattle.world.specs.declared.ccb_state.CcbState.{CcbState}
 use Rattle.world.specs.declared.ccb_state.CcbState.TheVariants.{Waiting, Active, InRecovery}
 use Rattle.world.specs.World.{LiveCcb}
@@ -34,6 +34,10 @@ queue_state_of queue openings ccbs = record {
   recovering = count_by (recovers_on queue) ccbs;
   openings = openings;
 }
+
+-- a CCB that was active, or else in recovery, is out
+abbrev pub with_gone : Bool → QueueState → QueueState
+with_gone was_active queue = if was_active then with_stopped false queue else with_left queue
 
 -- the queue of a number; behind the last stands one without openings
 abbrev pub queue_at : List QueueState → ℕ → QueueState

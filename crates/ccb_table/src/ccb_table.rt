@@ -2,12 +2,12 @@
 // recovery, and made to wait again. It relies on `ccb_list` for the CCBs and on `queue_list` for the
 // queues.
 
-ghost use Rattle.std.specs.Prelude.{◌≡◌, ℕ, ◌<◌, ◌≤◌, ◌++◌, [], ◌∷◌, ◌==◌, not, true, length, filter, count_by, Some, IfOk, IfSome, OnOk, OnErr};
+ghost use Rattle.std.specs.Prelude.{◌≡◌, ℕ, ◌<◌, ◌≤◌, ◌++◌, [], ◌∷◌, ◌==◌, not, true, false, length, filter, count_by, Some, IfOk, IfSome, OnOk, OnErr};
 ghost use Rattle.ccb.specs.Ccb.{requeued};
 ghost use Rattle.world.specs.declared.ccb_state.CcbState.TheVariants.{Waiting, InRecovery};
 ghost use Rattle.world.specs.World.{Setup, World, queue_count, LiveCcb as WorldCcb};
 ghost use Rattle.world.specs.Capacities.{most_queues, most_ccbs};
-ghost use Rattle.world.specs.Lookups.{is_active, ccb_of, with_ccb};
+ghost use Rattle.world.specs.Lookups.{is_waiting, is_active, ccb_of, with_ccb};
 ghost use Rattle.world.specs.CcbSteps.{step_submit, step_dispatch};
 ghost use Rattle.world.specs.QueueInfo.{queue_info};
 ghost use Rattle.world.specs.Flat.{ccb_reply};
@@ -120,16 +120,16 @@ impl CcbTable {
         self.ccbs.get(ccb)
     }
 
-    /// The CCB of this number is finished and gone. It asks for an active one.
+    /// The CCB of this number is finished and gone. It asks for an active one, or one in recovery.
     pub fn finish(&mut self, ccb: CcbId)
-        requires { (it : WorldCcb) × (ccb_of ccb.0 self.old.live ≡ Some it) × (is_active it.state ≡ true) }
+        requires { (it : WorldCcb) × (ccb_of ccb.0 self.old.live ≡ Some it) × (is_waiting it.state ≡ false) }
         ensures { self.new ≡ record self.old { live = filter (λ live. not (live.ccb.number.0 == ccb.0)) self.old.live } }
     {
         let Some(live) = self.ccbs.get(ccb) else {
             unreachable!()
         };
         self.ccbs.remove(ccb);
-        self.queues.stop(live.ccb().queue, false);
+        self.queues.leave(live.ccb().queue, live.is_active());
     }
 
     /// The CCB, with what its completion brought, is in recovery, in the place of the active one of its number and

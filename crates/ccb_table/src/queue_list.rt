@@ -1,11 +1,11 @@
 // The device queues as a plain list: what a call of one of them changes. It relies on `dev_queue` for the queues.
 
-ghost use Rattle.std.specs.Prelude.{◌≡◌, ◌<◌, ◌≤◌, ◌++◌, [], ◌∷◌, false, nat_le, length, slice_set, IfOk, OnOk, OnErr};
+ghost use Rattle.std.specs.Prelude.{◌≡◌, ◌<◌, ◌≤◌, ◌++◌, [], ◌∷◌, false, nat_le, length, slice_set, if◌then◌else◌, IfOk, OnOk, OnErr};
 ghost use Rattle.std.specs.Result.{result_err};
 ghost use Rattle.dev_queue.specs.Waiting.{IsLeastNumber, waits};
 ghost use Rattle.dev_queue.specs.State.{empty_queue, live, with_waiting, with_started, with_stopped, with_left};
 ghost use Rattle.dev_queue.specs.Faults.{insert_fault, start_fault};
-ghost use Rattle.ccb_table.specs.Queues.{queue_at};
+ghost use Rattle.ccb_table.specs.Queues.{queue_at, with_gone};
 ghost use Rattle.ccb_table.specs.Refusals.{refusal_of};
 
 use ccb::{CcbId, QueueId};
@@ -123,6 +123,19 @@ impl QueueList {
         ensures { self.new ≡ slice_set self.old queue.0 (with_stopped stays (queue_at self.old queue.0)) }
     {
         self.queues[queue.0 as usize].stop(stays);
+    }
+
+    /// A CCB of the queue, active or else in recovery, is out.
+    pub(crate) fn leave(&mut self, queue: QueueId, active: bool)
+        requires known { queue.0 < length self.old }
+        requires there { 1 ≤ (if active then (queue_at self.old queue.0).active else (queue_at self.old queue.0).recovering) }
+        ensures { self.new ≡ slice_set self.old queue.0 (with_gone active (queue_at self.old queue.0)) }
+    {
+        if active {
+            self.stop(queue, false);
+        } else {
+            self.queues[queue.0 as usize].leave();
+        }
     }
 
     /// A CCB of the queue that is in recovery waits again.

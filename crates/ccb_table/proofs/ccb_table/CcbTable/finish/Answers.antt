@@ -1,39 +1,40 @@
-use Rattle.std.proofs.Common.{◌≡◌, ◌<◌, ◌≤◌, length, true, ap, sym, subst}
+use Rattle.std.proofs.Common.{◌≡◌, ◌<◌, ◌≤◌, length, Bool, false, cond, refl, ap, sym, subst}
 use Rattle.ccb.specs.declared.ccb.Ccb.{Ccb}
-use Rattle.world.specs.declared.ccb_state.CcbState.TheVariants.{Active}
 use Rattle.world.specs.World.{LiveCcb}
-use Rattle.world.specs.Lookups.{is_active}
+use Rattle.world.specs.Lookups.{is_waiting, is_active}
 use Rattle.world.proofs.Lists.Found.{leave}
 use Rattle.world.proofs.Steps.Moves.{ccb_key}
 use Rattle.ccb_table.specs.CcbsState.{CcbsState}
 use Rattle.ccb_table.specs.Queues.{queue_at}
 use Rattle.ccb_table.specs.Invariant.{seen}
-use Rattle.ccb_table.proofs.Kept.{meant, known_queue, active_there, active_found}
-use Rattle.ccb_table.proofs.Steps.{finished}
+use Rattle.ccb_table.proofs.Kept.{meant, known_queue, counted_there}
+use Rattle.ccb_table.proofs.Steps.{After, finished}
+use Rattle.ccb_table.proofs.Listed.{listed_as}
 use Rattle.ccb_table.proofs.ccb_table.CcbTable.finish.Goals as goal
 
-pub stop-requires-clause-known : goal.stop-requires-clause-known
-stop-requires-clause-known c =
+pub leave-requires-clause-known : goal.leave-requires-clause-known
+leave-requires-clause-known c =
     let m = meant c.self.inside.ccbs c.self.inside.queues c.args.self.now c.args.ccb.0 c.get.result c.in-Some.live c.requires.0 c.self.view_is c.requires.1 c.get.ensures c.in-Some.is in
     subst (λ (b : Ccb). b.queue.0 < length c.self.inside.queues) (sym c.ccb.ensures) (known_queue c.self.inside.ccbs c.self.inside.queues c.args.ccb.0 c.in-Some.live c.self.invariant m.found)
 
-pub stop-requires-clause-active : goal.stop-requires-clause-active
-stop-requires-clause-active c =
+pub leave-requires-clause-there : goal.leave-requires-clause-there
+leave-requires-clause-there c =
     let m = meant c.self.inside.ccbs c.self.inside.queues c.args.self.now c.args.ccb.0 c.get.result c.in-Some.live c.requires.0 c.self.view_is c.requires.1 c.get.ensures c.in-Some.is in
-    let state : c.in-Some.live.state ≡ Active = active_found c.in-Some.live (subst (λ (l : LiveCcb). is_active l.state ≡ true) (sym m.same) c.requires.2) in
-    subst (λ (b : Ccb). 1 ≤ (queue_at c.self.inside.queues b.queue.0).active) (sym c.ccb.ensures) (active_there c.self.inside.ccbs c.self.inside.queues c.args.ccb.0 c.in-Some.live c.self.invariant m.found state)
+    let stands : is_waiting c.in-Some.live.state ≡ false = subst (λ (l : LiveCcb). is_waiting l.state ≡ false) (sym m.same) c.requires.2 in
+    let there = counted_there c.self.inside.ccbs c.self.inside.queues c.args.ccb.0 c.in-Some.live c.in-Some.live.state c.self.invariant m.found refl stands in
+    subst (λ (active : Bool). 1 ≤ cond active (queue_at c.self.inside.queues c.ccb.result.queue.0).active (queue_at c.self.inside.queues c.ccb.result.queue.0).recovering) (sym c.is_active.ensures)
+    (subst (λ (b : Ccb). 1 ≤ cond (is_active c.in-Some.live.state) (queue_at c.self.inside.queues b.queue.0).active (queue_at c.self.inside.queues b.queue.0).recovering) (sym c.ccb.ensures) there)
+
+-- what is left
+after : (c : goal.After-leave) → After c.remove.new.self c.leave.new.self (seen (listed_as c.self.inside.ccbs.greatest (leave ccb_key c.args.ccb.0 c.self.inside.ccbs.live)) c.self.inside.queues)
+after c =
+    let m = meant c.self.inside.ccbs c.self.inside.queues c.args.self.now c.args.ccb.0 c.get.result c.in-Some.live c.requires.0 c.self.view_is c.requires.1 c.get.ensures c.in-Some.is in
+    let stands : is_waiting c.in-Some.live.state ≡ false = subst (λ (l : LiveCcb). is_waiting l.state ≡ false) (sym m.same) c.requires.2 in
+    finished c.self.inside.ccbs c.remove.new.self c.self.inside.queues c.leave.new.self c.args.ccb.0 c.ccb.result.queue.0 c.is_active.result c.in-Some.live c.self.invariant m.found stands c.is_active.ensures
+    c.remove.ensures c.leave.ensures (ap (λ (b : Ccb). b.queue.0) c.ccb.ensures)
 
 pub invariant_of-self : goal.invariant_of-self
-invariant_of-self c =
-    let m = meant c.self.inside.ccbs c.self.inside.queues c.args.self.now c.args.ccb.0 c.get.result c.in-Some.live c.requires.0 c.self.view_is c.requires.1 c.get.ensures c.in-Some.is in
-    let state : c.in-Some.live.state ≡ Active = active_found c.in-Some.live (subst (λ (l : LiveCcb). is_active l.state ≡ true) (sym m.same) c.requires.2) in
-    (finished c.self.inside.ccbs c.remove.new.self c.self.inside.queues c.stop.new.self c.args.ccb.0 c.ccb.result.queue.0 c.in-Some.live c.self.invariant m.found state
-    c.remove.ensures c.stop.ensures (ap (λ (b : Ccb). b.queue.0) c.ccb.ensures)).kept
+invariant_of-self c = (after c).kept
 
 pub returns : goal.returns
-returns c =
-    let m = meant c.self.inside.ccbs c.self.inside.queues c.args.self.now c.args.ccb.0 c.get.result c.in-Some.live c.requires.0 c.self.view_is c.requires.1 c.get.ensures c.in-Some.is in
-    let state : c.in-Some.live.state ≡ Active = active_found c.in-Some.live (subst (λ (l : LiveCcb). is_active l.state ≡ true) (sym m.same) c.requires.2) in
-    subst (λ (s : CcbsState). seen c.remove.new.self c.stop.new.self ≡ record s { live = leave ccb_key c.args.ccb.0 s.live }) c.self.view_is
-    (finished c.self.inside.ccbs c.remove.new.self c.self.inside.queues c.stop.new.self c.args.ccb.0 c.ccb.result.queue.0 c.in-Some.live c.self.invariant m.found state
-    c.remove.ensures c.stop.ensures (ap (λ (b : Ccb). b.queue.0) c.ccb.ensures)).seen_is
+returns c = subst (λ (s : CcbsState). seen c.remove.new.self c.leave.new.self ≡ record s { live = leave ccb_key c.args.ccb.0 s.live }) c.self.view_is (after c).seen_is

@@ -7,20 +7,21 @@ use Rattle.std.proofs.lemmas.List.{map_push, get_or-set_same, get_or-set_other}
 use Rattle.std.proofs.lemmas.List.Elements.{All-push, All-set, All-weaker, All-filter, All-append, All-take, All-drop}
 use Rattle.std.proofs.lemmas.List.Edits.{length-remove}
 use Rattle.std.proofs.Math.ListN.{length-set}
-use Rattle.freeze_ledger.specs.declared.freeze.Holder.TheVariants.{Run}
+use Rattle.freeze_ledger.specs.declared.freeze.Holder.TheVariants.{Run, Timer}
 use Rattle.freeze_ledger.specs.declared.freeze.Freeze.{Freeze}
-use Rattle.freeze_ledger.specs.Freezes.{entry_of, without, is_due, not_due_at}
+use Rattle.freeze_ledger.specs.Freezes.{entry_of, without, handed_over, is_due, not_due_at}
 use Rattle.freeze_ledger.specs.State.{LedgerState, with_entry, with_freezes}
 use Rattle.world.specs.World.{LiveRun}
 use Rattle.ccb.specs.Rising.{AreRising}
 use Rattle.world.specs.RunSteps.{is_run}
 use Rattle.world.specs.FreezeSteps.{is_guest}
 use Rattle.world.specs.FreezeLaws.{entries_of}
-use Rattle.world.proofs.Lists.Found.{put_keys}
+use Rattle.world.proofs.Lists.Found.{put, put_keys, found_key}
+use Rattle.world.proofs.Lists.Each.{all_put}
 use Rattle.world.proofs.Lists.Rising.{rising_push, rising_leave, rising_filter}
 use Rattle.world.proofs.Lists.Placed.{below, apart}
-use Rattle.world.proofs.Lists.Entries.{freeze_key, FreezesRise}
-use Rattle.world.proofs.Lists.HeldBy.{entries_push_other, entries_kept, entries_without_other}
+use Rattle.world.proofs.Lists.Entries.{freeze_key, FreezesRise, handed_is_put}
+use Rattle.world.proofs.Lists.HeldBy.{entries_push_other, entries_kept, entries_without_other, entries_put}
 use Rattle.recoveries.specs.declared.run_record.RunRecord.{RunRecord}
 use Rattle.recoveries.specs.RecoveryState.{tokens_of}
 use Rattle.recoveries.specs.LiveRuns.{live_of, lives_of, number_of}
@@ -136,29 +137,73 @@ kept_changed rs capacity greatest i before r c k l is number tokens = record {
   room = k.room;
 }
 
--- a run that gave one of its freezes back
-pub kept_released : (rs : List RunRecord) (capacity greatest i n : ℕ) (before : LedgerState) (r c : RunRecord) (f : Freeze) → KeepsRecoveries rs capacity before greatest → i < length rs → r ≡ get_or rs i r → c.number ≡ r.number → c.tokens.items ≡ tokens_of (entries_of r.number (without n before.freezes)) → entry_of n before.freezes ≡ Some f → is_run r.number f.holder ≡ true → KeepsRecoveries (set rs i c) capacity (with_freezes before (without n before.freezes)) greatest
-kept_released rs capacity greatest i n before r c f k l is number tokens entry its = record {
+-- without a freeze of a run the others hold what they held
+others_stay : (n : ℕ) (before : LedgerState) (f : Freeze) → FreezesRise 0 before.freezes before.greatest → (r : ℕ) → entry_of n before.freezes ≡ Some f → is_run r f.holder ≡ true → (m : ℕ) → (m ≡ r → ⊥) → entries_of m (without n before.freezes) ≡ entries_of m before.freezes
+others_stay n before f numbered r entry its m other = entries_without_other m n 0 before.freezes before.greatest f numbered entry (other_run m r f.holder its other)
+
+-- a run whose tokens changed with the entries that name it, where those that name others are the same
+kept_own : (rs : List RunRecord) (capacity greatest i : ℕ) (before after : LedgerState) (r c : RunRecord) → KeepsRecoveries rs capacity before greatest → i < length rs → r ≡ get_or rs i r → c.number ≡ r.number → c.tokens.items ≡ tokens_of (entries_of r.number after.freezes) → ((n : ℕ) → (n ≡ r.number → ⊥) → entries_of n after.freezes ≡ entries_of n before.freezes) → All (NamesStarted greatest) after.freezes → FreezesRise 0 after.freezes after.greatest → KeepsRecoveries (set rs i c) capacity after greatest
+kept_own rs capacity greatest i before after r c k l is number tokens others started numbered = record {
   rising = rising_changed rs greatest i c r k.rising l (sym (ap key_of is) ∙ sym number);
   tokens = λ j d lj.
       let within : j < length rs = omega (arith, length-set rs i c, lj) in
-      let P : RunRecord → Type 0 = HoldsItsEntries (without n before.freezes) in
+      let P : RunRecord → Type 0 = HoldsItsEntries after.freezes in
       elim (cases_eq j i) [
         | inl same ↦
-            let now : P c = tokens ∙ ap (λ (m : ℕ). tokens_of (entries_of m (without n before.freezes))) (sym number) in
+            let now : P c = tokens ∙ ap (λ (m : ℕ). tokens_of (entries_of m after.freezes)) (sym number) in
             subst P (sym (ap (λ (x : ℕ). get_or (set rs i c) x d) same ∙ get_or-set_same rs i c d l)) now
         | inr other ↦
             let different : (get_or rs j d).number ≡ r.number → ⊥ = λ e. apart key_of 0 rs greatest j i d r within l other (own rs greatest k.rising) (e ∙ ap key_of is) in
-            let now : P (get_or rs j d) =
-            k.tokens j d within
-            ∙ ap tokens_of (sym (entries_without_other (get_or rs j d).number n 0 before.freezes before.greatest f k.numbered entry (other_run _ r.number f.holder its different))) in
+            let now : P (get_or rs j d) = k.tokens j d within ∙ ap tokens_of (sym (others (get_or rs j d).number different)) in
             subst P (sym (get_or-set_other rs i j c d other)) now
       ];
-  started = All-filter _ (NamesStarted greatest) before.freezes k.started;
-  numbered = rising_leave freeze_key 0 before.freezes before.greatest n k.numbered;
+  started = started;
+  numbered = numbered;
   within = omega (arith, length-set rs i c, k.within);
   room = k.room;
 }
+
+-- the run started
+has_started : (rs : List RunRecord) (capacity greatest i : ℕ) (before : LedgerState) (r : RunRecord) → KeepsRecoveries rs capacity before greatest → i < length rs → r ≡ get_or rs i r → r.number ≤ greatest
+has_started rs capacity greatest i before r k l is =
+    let up = below key_of 0 rs greatest i r l (own rs greatest k.rising) in
+    omega (arith, up, ap key_of is)
+
+-- it took a freeze
+pub kept_held : (rs : List RunRecord) (capacity greatest i : ℕ) (before : LedgerState) (r c : RunRecord) (f : Freeze) → KeepsRecoveries rs capacity before greatest → i < length rs → r ≡ get_or rs i r → c.number ≡ r.number → c.tokens.items ≡ r.tokens.items ++ Some f ∷ [] → f.number ≡ before.greatest + 1 → f.holder ≡ Run r.number → KeepsRecoveries (set rs i c) capacity (with_entry before f) greatest
+kept_held rs capacity greatest i before r c f k l is number tokens next holder =
+    let mine : r.tokens.items ≡ tokens_of (entries_of r.number before.freezes) = subst (HoldsItsEntries before.freezes) (sym is) (k.tokens i r l) in
+    kept_own rs capacity greatest i before (with_entry before f) r c k l is number
+    (tokens ∙ (ap (λ (ts : List (Option Freeze)). ts ++ Some f ∷ []) mine
+    ∙ (sym (map_push (λ (x : Freeze). Some x) (entries_of r.number before.freezes) f)
+    ∙ ap tokens_of (sym (entries_push_own r.number before.freezes f (is_its r.number r.number f holder refl))))))
+    (λ n other. entries_push_other n before.freezes f (is_not_its n r.number f holder (λ e. other (sym e))))
+    (All-push (NamesStarted greatest) before.freezes f k.started
+    (λ n its.
+    let same : r.number ≡ n = named_by n r.number f holder its in
+    let up = has_started rs capacity greatest i before r k l is in
+    omega (arith, same, up)))
+    (numbered_after before r.number (Some f) k.numbered (next, holder))
+
+-- it gave a freeze back
+pub kept_released : (rs : List RunRecord) (capacity greatest i n : ℕ) (before : LedgerState) (r c : RunRecord) (f : Freeze) → KeepsRecoveries rs capacity before greatest → i < length rs → r ≡ get_or rs i r → c.number ≡ r.number → c.tokens.items ≡ tokens_of (entries_of r.number (without n before.freezes)) → entry_of n before.freezes ≡ Some f → is_run r.number f.holder ≡ true → KeepsRecoveries (set rs i c) capacity (with_freezes before (without n before.freezes)) greatest
+kept_released rs capacity greatest i n before r c f k l is number tokens entry its =
+    kept_own rs capacity greatest i before (with_freezes before (without n before.freezes)) r c k l is number tokens
+    (others_stay n before f k.numbered r.number entry its) (All-filter _ (NamesStarted greatest) before.freezes k.started) (rising_leave freeze_key 0 before.freezes before.greatest n k.numbered)
+
+-- it handed a freeze over to a timer
+pub kept_handed_over : (rs : List RunRecord) (capacity greatest i n due : ℕ) (before : LedgerState) (r c : RunRecord) (f : Freeze) → KeepsRecoveries rs capacity before greatest → i < length rs → r ≡ get_or rs i r → c.number ≡ r.number → c.tokens.items ≡ tokens_of (entries_of r.number (without n before.freezes)) → entry_of n before.freezes ≡ Some f → is_run r.number f.holder ≡ true → KeepsRecoveries (set rs i c) capacity (with_freezes before (handed_over n due before.freezes)) greatest
+kept_handed_over rs capacity greatest i n due before r c f k l is number tokens entry its =
+    let timed : Freeze = record f { holder = Timer due } in
+    let named : f.number ≡ n = found_key freeze_key n before.freezes f entry in
+    let after : List Freeze = put freeze_key timed before.freezes in
+    let fewer : (m : ℕ) → entries_of m after ≡ entries_of m (without n before.freezes) = λ m.
+    entries_put m timed before.freezes refl ∙ ap (λ (x : ℕ). entries_of m (without x before.freezes)) named in
+    subst (λ (fs : List Freeze). KeepsRecoveries (set rs i c) capacity (with_freezes before fs) greatest) (sym (handed_is_put n due 0 before.freezes before.greatest f k.numbered entry))
+    (kept_own rs capacity greatest i before (with_freezes before after) r c k l is number (tokens ∙ ap tokens_of (sym (fewer r.number)))
+    (λ m other. fewer m ∙ others_stay n before f k.numbered r.number entry its m other)
+    (all_put freeze_key (NamesStarted greatest) timed before.freezes (λ m its_now. absurd (let bad : false ≡ true = its_now in cc)) k.started)
+    (subst (λ (ns : List ℕ). AreRising 0 ns before.greatest) (sym (put_keys freeze_key timed before.freezes)) k.numbered))
 
 -- one run fewer
 pub kept_ended : (rs : List RunRecord) (capacity greatest i n : ℕ) (before : LedgerState) (d : RunRecord) → KeepsRecoveries rs capacity before greatest → i < length rs → (get_or rs i d).number ≡ n → KeepsRecoveries (remove rs i) capacity before greatest

@@ -4,3 +4,4 @@ pub mod Kept
 pub mod Worlds
 pub mod Guests
 pub mod Releases
+pub mod Taking

@@ -1,4 +1,5 @@
 pub mod RecoveryState
+pub mod Tokens
 pub mod LiveRuns
 pub mod RunPlaces
 pub mod Invariant

@@ -1,7 +1,10 @@
 -- What contracts see of the freezes of all device queues, and of the live runs that hold some of them.
-use Rattle.std.specs.Prelude.{ℕ, true, List, [], map, Option, Some, None, Result, Ok, Err}
+use Rattle.std.specs.Prelude.{ℕ, ◌+◌, true, if◌then◌else◌, List, [], ◌∷◌, ◌++◌, map, Option, Some, None, Result, Ok, Err}
 use Rattle.ccb.specs.declared.ccb.Ccb.{Ccb}
+use Rattle.ccb.specs.declared.QueueId.{QueueId}
+use Rattle.freeze_ledger.specs.declared.freeze.Holder.TheVariants.{Run}
 use Rattle.freeze_ledger.specs.declared.freeze.Freeze.{Freeze}
+use Rattle.freeze_ledger.specs.Freezes.{meets_limit}
 use Rattle.freeze_ledger.specs.State.{LedgerState}
 use Rattle.bpf_insn.specs.declared.program.Slot.{Slot}
 use Rattle.bpf_machine.specs.MachineState.{MachineState}
@@ -63,6 +66,20 @@ told (Some freeze) = freeze.number
 -- the tokens that a run has of these freezes, in its list
 abbrev pub tokens_of : List Freeze → List (Option Freeze)
 tokens_of freezes = map (λ freeze. Some freeze) freezes
+
+-- what the taking of a freeze of the queue for a run answers and leaves: the new freeze's number, or 0 where a further one
+-- meets a limit
+abbrev pub taken_for : RecoveryState → ℕ → QueueId → ℕ × RecoveryState
+taken_for state run queue =
+    let number = state.greatest_freeze + 1 in
+    if meets_limit queue.0 state.freezes state.greatest_freeze then (0, state)
+    else (
+      number,
+      record state {
+        freezes = state.freezes ++ record { number = number; queue = queue; holder = Run run } ∷ [];
+        greatest_freeze = number;
+      },
+    )
 
 -- the run of a number for a CCB, which is out
 abbrev pub run_for : ℕ → Ccb → List Slot → MachineState → LiveRun

@@ -1,9 +1,12 @@
 // The rights of one run to give its freezes back: a list of at most eight, which takes no memory. It relies on
 // `freeze_ledger` for tokens, on `bpf_machine` for how many there may be, and on `arrayvec` for the list.
 
-ghost use Rattle.std.specs.Prelude.{◌≡◌, ℕ, ◌<◌, ◌≢◌, length, Some, None, IfSome, IfNone, slice_index_or};
+ghost use Rattle.std.specs.Prelude.{◌≡◌, ℕ, ◌<◌, ◌≢◌, ◌++◌, [], ◌∷◌, List, length, Some, None, IfSome, IfNone, slice_index_or};
 ghost use Rattle.std.specs.Option.{option_to_list};
+ghost use Rattle.freeze_ledger.specs.declared.freeze.Freeze.{Freeze};
+ghost use Rattle.freeze_ledger.specs.Freezes.{without};
 ghost use Rattle.recoveries.specs.RecoveryState.{told, tokens_of};
+ghost use Rattle.recoveries.specs.Tokens.{AreTokensWith};
 
 use arrayvec::ArrayVec;
 use bpf_machine::MAX_HELD;
@@ -45,8 +48,8 @@ impl HeldToken {
         self.0.number()
     }
 
-    /// The token itself.
-    pub(crate) fn into_token(self) -> FreezeToken
+    // The token itself.
+    fn into_token(self) -> FreezeToken
         ensures { result ≡ self }
     {
         let HeldToken(token) = self;
@@ -64,6 +67,17 @@ fn number_told(token: &Option<HeldToken>) -> u32
     }
 }
 
+/// Adds the right to give a freeze back, for which there is room: the number of the freeze.
+pub(crate) fn hold(tokens: &mut HeldTokens, token: FreezeToken) -> u32
+    requires { length tokens.old.items < MAX_HELD }
+    ensures number { result ≡ token.number }
+    ensures tokens { tokens.new.items ≡ tokens.old.items ++ Some token ∷ [] }
+{
+    let number = token.number();
+    tokens.push(Some(HeldToken::new(token)));
+    number
+}
+
 /// What a run that starts may give back: the freeze that was taken for it, or nothing; with the number that it is told,
 /// 0 where there is none.
 pub(crate) fn taken_at_start(token: Option<FreezeToken>) -> (u32, HeldTokens)
@@ -73,16 +87,28 @@ pub(crate) fn taken_at_start(token: Option<FreezeToken>) -> (u32, HeldTokens)
     let mut tokens = HeldTokens::new();
     match token {
         Some(token) => {
-            let number = token.number();
-            tokens.push(Some(HeldToken::new(token)));
+            let number = hold(&mut tokens, token);
             (number, tokens)
         }
         None => (0, tokens),
     }
 }
 
-/// Where the token of that freeze stands, if it is there.
-pub(crate) fn place_of_token(tokens: &[Option<HeldToken>], freeze: u32) -> Option<usize>
+/// Takes out the right to give that freeze back, which is there.
+pub(crate) fn let_go(tokens: &mut HeldTokens, freeze: u32) -> FreezeToken
+    requires { (freezes : List Freeze) × AreTokensWith tokens.old.items freezes freeze }
+    ensures { (freezes : List Freeze) (it : AreTokensWith tokens.old.items freezes freeze) →
+        (result ≡ it.entry) × (tokens.new.items ≡ tokens_of (without freeze freezes)) }
+{
+    let at = place_of_token(tokens.as_slice(), freeze).unwrap();
+    let Some(held) = tokens.remove(at) else {
+        unreachable!()
+    };
+    held.into_token()
+}
+
+// Where the token of that freeze stands, if it is there.
+fn place_of_token(tokens: &[Option<HeldToken>], freeze: u32) -> Option<usize>
     ensures within { IfSome result (λ place. place < length tokens.now) }
     ensures found { IfSome result (λ place. told (slice_index_or tokens.now place None) ≡ freeze) }
     ensures none { IfNone result ((k : ℕ) → k < length tokens.now → told (slice_index_or tokens.now k None) ≢ freeze) }

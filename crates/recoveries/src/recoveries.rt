@@ -1,31 +1,31 @@
 // The freezes, the live runs and the clock. It relies on `freeze_ledger` for freezes, on `timer_events` for those that a
 // clock reading lets go, on `run_record` for what is recorded of a run, and on `world` for what each call means.
 
-ghost use Rattle.std.specs.Prelude.{◌≡◌, ℕ, ◌<◌, ◌≤◌, ◌==◌, ◌↔◌, true, false, not, List, [], length, filter, Contains, Some, None, IsTrue, IsSome, IfSome, IfOk, Bool};
+ghost use Rattle.std.specs.Prelude.{◌≡◌, ℕ, ◌+◌, ◌<◌, ◌≤◌, ◌==◌, ◌↔◌, true, false, not, List, [], length, filter, Contains, Some, None, IsTrue, IsSome, IfSome, IfOk, Bool};
 ghost use Rattle.std.specs.Arc.{arc_value};
 ghost use Rattle.ccb.specs.Ccb.{completed};
 ghost use Rattle.freeze_ledger.specs.declared.freeze.Freeze.{Freeze};
 ghost use Rattle.freeze_ledger.specs.declared.freeze.Holder.TheVariants.{Guest};
-ghost use Rattle.freeze_ledger.specs.Freezes.{entry_of, without};
+ghost use Rattle.freeze_ledger.specs.Freezes.{entry_of, without, handed_over};
+ghost use Rattle.bpf_machine.specs.declared.held_freezes.TheConstants.{MAX_HELD};
 ghost use Rattle.bpf_machine.specs.Reached.{IsEntry};
-ghost use Rattle.bpf_machine.specs.Step.{IsAnswer, answered};
+ghost use Rattle.bpf_machine.specs.Step.{IsAnswer, HasRoomFor, answered};
 ghost use Rattle.interpreter.specs.Segments.{StandsAt};
 ghost use Rattle.world.specs.declared.ccb_state.CcbState.TheVariants.{InRecovery};
 ghost use Rattle.world.specs.World.{Setup, queue_count, queue_setup, LiveRun, World};
-ghost use Rattle.world.specs.Capacities.{most_runs};
+ghost use Rattle.world.specs.Capacities.{most_runs, last_reading};
 ghost use Rattle.world.specs.Lookups.{run_of, with_run, with_ccb};
 ghost use Rattle.world.specs.Event.{run_started, count_left};
 ghost use Rattle.world.specs.FreezeSteps.{frozen_with, is_guest, step_guest_freeze, step_guest_release, step_clock_reads};
 ghost use Rattle.world.specs.Flat.{clock_reply};
 ghost use Rattle.world.specs.CcbSteps.{recovers, run_meets_limit};
-ghost use Rattle.world.specs.RunSteps.{is_run};
 ghost use Rattle.world.specs.FreezeLaws.{entries_of};
-ghost use Rattle.recoveries.specs.RecoveryState.{no_recoveries, with_recoveries, ledger_of, taken_reply, run_for};
+ghost use Rattle.recoveries.specs.RecoveryState.{no_recoveries, with_recoveries, ledger_of, taken_reply, taken_for, run_for};
 ghost use Rattle.recoveries.specs.Admits.{IsNextOut, IsOutAs};
 ghost use Rattle.recoveries.specs.LiveRuns.{live_of};
-ghost use Rattle.recoveries.specs.RunPlaces.{HasRunAt};
+ghost use Rattle.recoveries.specs.RunPlaces.{HasRunAt, HoldsFreeze};
 
-use crate::held_tokens::{place_of_token, taken_at_start};
+use crate::held_tokens::{hold, let_go, taken_at_start};
 use crate::places::place_of;
 use crate::run_record::RunRecord;
 use crate::started::Started;
@@ -270,19 +270,30 @@ impl Recoveries {
         &self.runs[place].machine
     }
 
+    /// Freezes a queue that there is once more for the run at this place, which holds fewer than eight freezes: the number
+    /// of the freeze, which the run holds then, or 0 exactly at a limit, where nothing changes.
+    pub fn take(&mut self, place: usize, queue: QueueId) -> u32
+        requires run { (it : LiveRun) × HasRunAt self.old.runs place it × (length (entries_of it.number self.old.freezes) < MAX_HELD) }
+        requires known { queue.0 < self.old.queues }
+        ensures { (it : LiveRun) → HasRunAt self.old.runs place it → (result, self.new) ≡ taken_for self.old it.number queue }
+    {
+        let holder = Holder::Run(self.runs[place].number);
+        let Some(token) = self.ledger.take(queue, holder) else {
+            return 0;
+        };
+        hold(&mut self.runs[place].tokens, token)
+    }
+
     /// Gives the freeze of that number back, which the run at this place holds: how many freezes its queue has then, at
     /// most 254.
     pub fn release(&mut self, place: usize, freeze: u32) -> u32
-        requires { (it : LiveRun) × (entry : Freeze) × HasRunAt self.old.runs place it × (entry_of freeze self.old.freezes ≡ Some entry) × (is_run it.number entry.holder ≡ true) }
+        requires { HoldsFreeze self.old place freeze }
         ensures freezes { self.new ≡ record self.old { freezes = without freeze self.old.freezes } }
         ensures count { (entry : Freeze) → entry_of freeze self.old.freezes ≡ Some entry → result ≡ frozen_with entry self.new.freezes }
     {
         let it = &mut self.runs[place];
-        let at = place_of_token(it.tokens.as_slice(), freeze).unwrap();
-        let Some(held) = it.tokens.remove(at) else {
-            unreachable!()
-        };
-        match self.ledger.give_back(held.into_token()) {
+        let held = let_go(&mut it.tokens, freeze);
+        match self.ledger.give_back(held) {
             Ok(count) => count,
             Err(token) => {
                 token.forfeit();
@@ -291,11 +302,28 @@ impl Recoveries {
         }
     }
 
+    /// Makes a timer the holder of the freeze of that number, which the run at this place holds. It is due so many
+    /// milliseconds after the last clock reading.
+    pub fn hand_over(&mut self, place: usize, freeze: u32, milliseconds: u32)
+        requires holds { HoldsFreeze self.old place freeze }
+        requires clock { self.old.clock ≤ last_reading }
+        ensures { self.new ≡ record self.old { freezes = handed_over freeze (self.old.clock + milliseconds) self.old.freezes } }
+    {
+        let due = self.clock + u64::from(milliseconds);
+        let it = &mut self.runs[place];
+        let held = let_go(&mut it.tokens, freeze);
+        if let Err(token) = self.ledger.hand_over(held, due) {
+            token.forfeit();
+            unreachable!()
+        }
+    }
+
     /// The run at this place goes on behind the helper call at which `to` stands, with an answer that the call may get.
     pub fn go_on(&mut self, place: usize, to: &Machine, request: &Request, answer: &Answer)
         requires run { (it : LiveRun) × HasRunAt self.old.runs place it }
         requires stands { StandsAt to.now request.now }
         requires allowed { IsAnswer to.now request.now answer.now }
+        requires room { HasRoomFor to.now request.now }
         ensures goes { (it : LiveRun) → HasRunAt self.old.runs place it →
             self.new ≡ record self.old { runs = with_run (record it { machine = answered request.now answer.now to.now }) self.old.runs } }
         ensures place { (it : LiveRun) → HasRunAt self.old.runs place it →

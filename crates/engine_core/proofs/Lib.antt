@@ -6,4 +6,5 @@ pub mod Reported
 pub mod Deciding
 pub mod OneMore
 pub mod StopEnds
+pub mod Calls
 pub mod Going

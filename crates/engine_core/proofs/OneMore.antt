@@ -17,13 +17,13 @@ use Rattle.world.specs.World.{Setup, World, queue_count}
 use Rattle.world.specs.Event.{submit, dispatch, complete, guest_freeze, guest_release, clock_reads, done, count_left}
 use Rattle.world.specs.FreezeSteps.{step_guest_freeze, step_guest_release, step_clock_reads}
 use Rattle.world.specs.CcbSteps.{step_submit, step_dispatch, step_complete, finishes}
-use Rattle.world.specs.WorldRun.{Leads}
 use Rattle.world.specs.Flat.{ccb_reply, completed_reply, freeze_reply, clock_reply, events_of}
 use Rattle.world.proofs.Lists.Found.{leave}
 use Rattle.world.proofs.Steps.Moves.{ccb_key}
-use Rattle.engine_core.specs.EngineState.{world_of}
+use Rattle.engine_core.specs.EngineState.{world_of, IsWorldOf}
 use Rattle.engine_core.specs.Invariant.{KeepsEngine}
-use Rattle.engine_core.proofs.Recording.{IsWorldOf, Goes, goes, goes_once, opening_count}
+use Rattle.engine_core.specs.TakingOver.{LeadsTo}
+use Rattle.engine_core.proofs.Recording.{Goes, goes, goes_once, opening_count}
 
 pub submits : (setup : Setup) (history later : List Record) (ccbs more : CcbsState) (recoveries : RecoveryState) (queue : QueueId) (priority retries : ℕ) (answer : Result CcbId Refusal) → KeepsEngine setup history ccbs recoveries → later ≡ history ++ Submit queue priority retries answer ∷ [] → ((setup : Setup) (world : World) → queue_count setup ≡ length ccbs.openings → step_submit setup (with_ccbs ccbs world) queue.0 priority retries ≡ (ccb_reply answer, with_ccbs more world)) → Goes setup history later ccbs more recoveries recoveries (Submit queue priority retries answer)
 submits setup history later ccbs more recoveries queue priority retries answer kept is step =
@@ -67,6 +67,6 @@ completes_finally setup history later ccbs more recoveries outcome ccb kept is f
     (sym (ap (λ (m : CcbsState). with_ccbs m (with_recoveries recoveries end)) fewer))
 
 -- a segment that was taken over
-pub advances : (setup : Setup) (history later : List Record) (ccbs more : CcbsState) (recoveries after : RecoveryState) (run steps : ℕ) (stop : StoppedAt) (r0 : ℕ) → KeepsEngine setup history ccbs recoveries → later ≡ history ++ Advance run steps stop r0 ∷ [] → after.queues ≡ recoveries.queues → Leads setup (world_of setup history ccbs recoveries) (events_of (Advance run steps stop r0)) (world_of setup history more after) → Goes setup history later ccbs more recoveries after (Advance run steps stop r0)
-advances setup history later ccbs more recoveries after run steps stop r0 kept is same leads =
-    goes setup history later ccbs more recoveries after (Advance run steps stop r0) (world_of setup history more after) kept is same leads refl
+pub advances : (setup : Setup) (history later : List Record) (ccbs more : CcbsState) (recoveries after : RecoveryState) (run steps : ℕ) (stop : StoppedAt) (r0 : ℕ) → KeepsEngine setup history ccbs recoveries → later ≡ history ++ Advance run steps stop r0 ∷ [] → after.queues ≡ recoveries.queues → LeadsTo setup (world_of setup history ccbs recoveries) (events_of (Advance run steps stop r0)) more after → Goes setup history later ccbs more recoveries after (Advance run steps stop r0)
+advances setup history later ccbs more recoveries after run steps stop r0 kept is same it =
+    goes setup history later ccbs more recoveries after (Advance run steps stop r0) it.world kept is same it.leads it.fields

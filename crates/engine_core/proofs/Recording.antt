@@ -13,15 +13,11 @@ use Rattle.world.specs.WorldRun.{Leads, WorldRun}
 use Rattle.world.specs.Flat.{events_of, flat}
 use Rattle.world.proofs.Leads.{leads_append, world_after_leads}
 use Rattle.world.proofs.Sound.{IsSound, run_sound}
-use Rattle.engine_core.specs.EngineState.{world_of}
+use Rattle.engine_core.specs.EngineState.{world_of, IsWorldOf}
 use Rattle.engine_core.specs.Invariant.{KeepsEngine}
 
 flat_push : (history : List Record) (r : Record) → flat (history ++ r ∷ []) ≡ flat history ++ events_of r
 flat_push history r = flat_map-append events_of history (r ∷ []) ∙ ap (λ xs. flat history ++ xs) (append-nil (events_of r))
-
--- these are the CCBs, freezes and runs of the world
-abbrev pub IsWorldOf : World → CcbsState → RecoveryState → Type 0
-IsWorldOf world ccbs recoveries = world ≡ with_ccbs ccbs (with_recoveries recoveries world)
 
 -- a world to which the history leads, and which has what the fields say, is the fields read as a world
 world_is : (setup : Setup) (history : List Record) (ccbs : CcbsState) (recoveries : RecoveryState) (world : World) → WorldRun setup (flat history) world → IsWorldOf world ccbs recoveries → world_of setup history ccbs recoveries ≡ world

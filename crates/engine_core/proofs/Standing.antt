@@ -3,27 +3,21 @@ use Rattle.std.proofs.Common.{◌≡◌, ℕ, ◌≤◌, List, [], ◌∷◌, ma
 use Rattle.std.specs.Option.{option_map, option_and_then}
 use Rattle.std.proofs.lemmas.Bool.{cond-true, and_from}
 use Rattle.freeze_ledger.specs.declared.freeze.Freeze.{Freeze}
-use Rattle.freeze_ledger.specs.Freezes.{entry_of, without}
+use Rattle.freeze_ledger.specs.Freezes.{entry_of}
 use Rattle.helpers.specs.declared.limits.HelperLimits.{HelperLimits}
-use Rattle.helpers.specs.Table.{answer_number}
 use Rattle.helpers.specs.declared.request.Request.{Request}
-use Rattle.helpers.specs.declared.helper.Helper.TheVariants as helpers
-use Rattle.helpers.specs.declared.request.Request.TheVariants.{Release, Requeue}
 use Rattle.bpf_machine.specs.Calls.{is_held, meets_rule}
-use Rattle.ccb.specs.Ccb.{requeued}
 use Rattle.bpf_machine.specs.declared.stop.Stop.{Stop}
 use Rattle.bpf_machine.specs.declared.stop.Stop.TheVariants.{Helper, Exit}
 use Rattle.bpf_machine.specs.Step.{request_at, exit_at}
 use Rattle.bpf_machine.specs.Stops.{stop_of, stop_at}
 use Rattle.bpf_machine.proofs.Progress.{progress_lem}
-use Rattle.world.specs.declared.ccb_state.CcbState.TheVariants.{Waiting}
-use Rattle.world.specs.World.{Setup, LiveCcb, LiveRun, World}
+use Rattle.world.specs.World.{Setup, LiveRun, World}
 use Rattle.world.specs.Lawful.{IsLawful}
-use Rattle.world.specs.Lookups.{ccb_of, with_ccb, run_of}
-use Rattle.world.specs.Told.{plain, told_of}
+use Rattle.world.specs.Lookups.{run_of}
+use Rattle.world.specs.Told.{told_of}
 use Rattle.world.specs.Event.{call, exit, executes, Reply, result}
-use Rattle.world.specs.FreezeSteps.{frozen_with, thawed}
-use Rattle.world.specs.RunSteps.{is_run, answers, releases, requeues, ends, step_request, may_call, step_call, step_run, step_executes}
+use Rattle.world.specs.RunSteps.{is_run, ends, step_request, may_call, step_call, step_run, step_executes}
 use Rattle.world.specs.Step.{WorldStep}
 use Rattle.world.specs.FreezeLaws.{entries_of}
 use Rattle.world.proofs.Lists.Entries.{entry_bounds}
@@ -77,20 +71,6 @@ call_step setup world run request p found out call_is rule leads =
     ∙ (cond-true run.out (step_run setup.limits world run (call (told_of request))) None out
     ∙ (ap (option_and_then (step_call setup.limits world run (told_of request))) call_is
     ∙ (cond-true (may_call setup.limits run (told_of request) request) (step_request world run request) None (and_from _ _ (told_itself (told_of request)) rule) ∙ leads)))
-
--- so is its call of helper 2
-pub release_step : (setup : Setup) (world : World) (run : LiveRun) (freeze count : ℕ) → run_of run.number world.runs ≡ Some run → run.out ≡ true → request_at run.program run.machine ≡ Some (Release freeze) → meets_rule setup.limits run.machine (Release freeze) ≡ true → (it : GivesBack world run freeze) → count ≡ frozen_with it.entry (without freeze world.freezes) → WorldStep setup world (executes run.number (call (plain helpers.Release))) (result count) (answers (thawed world freeze) run (Release freeze) (answer_number count)).1
-release_step setup world run freeze count found out call_is rule it count_is =
-    let given : releases world run (Some it.entry) ≡ Some (answers (thawed world it.entry.number) run (Release it.entry.number) (answer_number (frozen_with it.entry (thawed world it.entry.number).freezes))) = cond-true (is_run run.number it.entry.holder) _ None it.its in
-    let named : releases world run (Some it.entry) ≡ Some (answers (thawed world freeze) run (Release freeze) (answer_number count)) =
-    given ∙ (ap (λ (n : ℕ). Some (answers (thawed world n) run (Release n) (answer_number (frozen_with it.entry (thawed world n).freezes)))) it.number_is
-    ∙ ap (λ (k : ℕ). Some (answers (thawed world freeze) run (Release freeze) (answer_number k))) (sym count_is)) in
-    call_step setup world run (Release freeze) (answers (thawed world freeze) run (Release freeze) (answer_number count)) found out call_is rule (ap (releases world run) it.found ∙ named)
-
--- and that of helper 4
-pub requeue_step : (setup : Setup) (world : World) (run : LiveRun) (retries : ℕ) (live : LiveCcb) → run_of run.number world.runs ≡ Some run → run.out ≡ true → request_at run.program run.machine ≡ Some (Requeue retries) → meets_rule setup.limits run.machine (Requeue retries) ≡ true → ccb_of run.ccb world.live ≡ Some live → WorldStep setup world (executes run.number (call (plain helpers.Requeue))) (result 0) (answers (record world { live = with_ccb (record { ccb = requeued live.ccb retries; state = Waiting }) world.live }) run (Requeue retries) (answer_number 0)).1
-requeue_step setup world run retries live found out call_is rule there =
-    call_step setup world run (Requeue retries) (answers (record world { live = with_ccb (record { ccb = requeued live.ccb retries; state = Waiting }) world.live }) run (Requeue retries) (answer_number 0)) found out call_is rule (ap (requeues world run retries) there)
 
 -- its exit is a step
 pub exit_step : (setup : Setup) (world : World) (run : LiveRun) (r0 : ℕ) → run_of run.number world.runs ≡ Some run → run.out ≡ true → exit_at run.program run.machine ≡ Some r0 → WorldStep setup world (executes run.number exit) (result r0) (ends world run)

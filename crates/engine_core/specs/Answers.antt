@@ -1,13 +1,15 @@
 -- What the answers of a completion and of an advance say.
-use Rattle.std.specs.Prelude.{◌≡◌, ℕ}
+use Rattle.std.specs.Prelude.{◌≡◌, ℕ, ◌≤◌}
+use Rattle.helpers.specs.declared.request.Request.{Request}
+use Rattle.helpers.specs.declared.request.Request.TheVariants.{Finish as FinishCcb}
 use Rattle.bpf_machine.specs.declared.stop.Stop.{Stop}
 use Rattle.bpf_machine.specs.declared.stop.Stop.TheVariants.{Helper as at_helper, Exit as at_exit}
 use Rattle.interpreter.specs.Segments.{SegmentState}
 use Rattle.world.specs.declared.record.Completed.{Completed}
 use Rattle.world.specs.declared.record.Completed.TheVariants.{Done as is_done, Started as is_started}
 use Rattle.world.specs.declared.record.StoppedAt.{StoppedAt}
-use Rattle.world.specs.declared.record.StoppedAt.TheVariants.{Helper, Trace, Exit}
-use Rattle.world.specs.Told.{Told, plain, traces, told_of}
+use Rattle.world.specs.declared.record.StoppedAt.TheVariants.{Helper, Trace, Finish, Exit}
+use Rattle.world.specs.Told.{Told, plain, traces, finishes, told_of}
 use Rattle.world.specs.World.{Setup, World}
 use Rattle.engine_core.specs.declared.answers.CompleteAnswer.{CompleteAnswer}
 use Rattle.engine_core.specs.declared.answers.CompleteAnswer.TheVariants.{Done, Started}
@@ -29,11 +31,21 @@ StartsOut setup world (Started run freeze) = IsOutUnder setup world run
 abbrev pub recorded : Told → StoppedAt
 recorded (plain helper) = Helper helper
 recorded (traces bytes) = Trace bytes
+recorded (finishes code) = Finish code
 
 -- the helper call or exit at which a run stopped
 abbrev pub stopped_at : Stop → StoppedAt
 stopped_at (at_helper request) = recorded (told_of request)
 stopped_at (at_exit r0) = Exit
+
+-- a final code that is recorded is one of the 64 that there are
+abbrev pub NamesCode : Request → Type 0
+NamesCode (FinishCcb code) = code ≤ 63
+NamesCode request = Unit {0}
+
+abbrev pub StopsByCode : Stop → Type 0
+StopsByCode (at_helper request) = NamesCode request
+StopsByCode (at_exit r0) = Unit {0}
 
 -- R0 after the stop
 abbrev pub r0_of : AdvanceAnswer → ℕ

@@ -1,8 +1,8 @@
 -- What contracts see of an engine: its setup, its history, and the world that its fields are.
 use Rattle.std.specs.Prelude.{◌≡◌, true, List, [], ◌∷◌, ◌++◌, Contains}
 use Rattle.freeze_ledger.specs.declared.freeze.Freeze.{Freeze}
-use Rattle.ccb_table.specs.CcbsState.{CcbsState}
-use Rattle.recoveries.specs.RecoveryState.{RecoveryState}
+use Rattle.ccb_table.specs.CcbsState.{CcbsState, with_ccbs}
+use Rattle.recoveries.specs.RecoveryState.{RecoveryState, with_recoveries}
 use Rattle.world.specs.declared.record.Record.{Record}
 use Rattle.world.specs.World.{Setup, World, opening}
 use Rattle.world.specs.Lawful.{IsLawful}
@@ -28,6 +28,10 @@ world_of setup history ccbs recoveries = record {
   greatest_freeze = recoveries.greatest_freeze;
   clock = recoveries.clock;
 }
+
+-- these are the CCBs, freezes and runs of the world
+abbrev pub IsWorldOf : World → CcbsState → RecoveryState → Type 0
+IsWorldOf world ccbs recoveries = world ≡ with_ccbs ccbs (with_recoveries recoveries world)
 
 abbrev pub opened : Setup → EngineState
 opened setup = record { setup = setup; history = []; world = opening setup }

@@ -1,7 +1,10 @@
 -- What it takes to take a segment over, and what that leaves.
 use Rattle.std.specs.Prelude.{◌≡◌, ℕ, List, Some}
+use Rattle.helpers.specs.declared.request.Request.{Request}
+use Rattle.helpers.specs.declared.request.Answer.{Answer}
 use Rattle.bpf_insn.specs.declared.program.Slot.{Slot}
 use Rattle.bpf_machine.specs.MachineState.{MachineState}
+use Rattle.bpf_machine.specs.Step.{IsAnswer}
 use Rattle.bpf_machine.specs.declared.stop.Stop.{Stop}
 use Rattle.bpf_machine.specs.declared.stop.Stop.TheVariants.{Helper as at_helper, Exit as at_exit}
 use Rattle.interpreter.specs.Segments.{SegmentState}
@@ -12,11 +15,13 @@ use Rattle.recoveries.specs.Admits.{IsOutAs}
 use Rattle.world.specs.declared.record.StoppedAt.{StoppedAt}
 use Rattle.world.specs.declared.record.Record.{Record}
 use Rattle.world.specs.declared.record.Record.TheVariants.{Advance}
-use Rattle.world.specs.World.{Setup, LiveRun}
-use Rattle.world.specs.Lookups.{run_of}
+use Rattle.world.specs.World.{Setup, LiveRun, World}
+use Rattle.world.specs.Lookups.{run_of, with_run}
+use Rattle.world.specs.Event.{Event, Reply}
+use Rattle.world.specs.RunSteps.{goes_on, answers, step_request}
 use Rattle.world.specs.WorldRun.{Leads}
 use Rattle.world.specs.Flat.{events_of}
-use Rattle.engine_core.specs.EngineState.{world_of}
+use Rattle.engine_core.specs.EngineState.{world_of, IsWorldOf}
 use Rattle.engine_core.specs.Invariant.{KeepsEngine}
 
 -- these are the CCBs and runs of an engine, in which the segment is the next stretch of the run at this place
@@ -28,13 +33,41 @@ pub record IsAdmitted (ccbs : CcbsState) (recoveries : RecoveryState) (number pl
   pub out : IsOutAs recoveries.runs number program segment
   pub there : HasRunAt recoveries.runs place out.it
 
+-- the events lead to a world that has these CCBs, freezes and runs
+pub record LeadsTo (setup : Setup) (before : World) (events : List (Event × Reply)) (ccbs : CcbsState) (recoveries : RecoveryState) : Type 0 where
+  pub world : World
+  pub leads : Leads setup before events world
+  pub fields : IsWorldOf world ccbs recoveries
+
 -- The record of the run's advance stands for what leads from these CCBs and runs to those, in each engine that they
 -- are of.
 abbrev pub LeadsBy : StoppedAt → ℕ → ℕ → SegmentState → CcbsState → RecoveryState → CcbsState → RecoveryState → Type 0
 LeadsBy stop r0 place segment ccbs recoveries more after =
     (number : ℕ) → IsAdmitted ccbs recoveries number place segment →
     (setup : Setup) (history : List Record) → KeepsEngine setup history ccbs recoveries →
-    Leads setup (world_of setup history ccbs recoveries) (events_of (Advance number segment.steps stop r0)) (world_of setup history more after)
+    LeadsTo setup (world_of setup history ccbs recoveries) (events_of (Advance number segment.steps stop r0)) more after
+
+-- The call of a run that stands there gets this answer, in a world that has these CCBs, freezes and runs once the call is
+-- carried out, but before the run goes on.
+pub record IsCarriedOut (before : World) (run : LiveRun) (request : Request) (given : Answer) (ccbs : CcbsState) (recoveries : RecoveryState) : Type 0 where
+  pub world : World
+  pub step : step_request before run request ≡ Some (answers world run request given)
+  pub fields : IsWorldOf world ccbs recoveries
+
+-- the run as it stands at the stop of its segment
+abbrev pub at_stop : LiveRun → SegmentState → LiveRun
+at_stop run segment = record run { machine = segment.to }
+
+-- What a call does before its run goes on: it gets an answer that the run may get, and the runs are as they were. In each
+-- engine of these CCBs and runs it is the world's step of the run that stands there.
+pub record Does (place : ℕ) (segment : SegmentState) (request : Request) (given : Answer) (ccbs : CcbsState) (recoveries : RecoveryState) (more : CcbsState) (after : RecoveryState) : Type 0 where
+  pub allowed : IsAnswer segment.to request given
+  pub runs : after.runs ≡ recoveries.runs
+  pub queues : after.queues ≡ recoveries.queues
+  pub step : (number : ℕ) → (a : IsAdmitted ccbs recoveries number place segment) →
+      (setup : Setup) (history : List Record) → KeepsEngine setup history ccbs recoveries →
+      IsCarriedOut (goes_on (world_of setup history ccbs recoveries) a.out.it segment.to) (at_stop a.out.it segment) request given
+      more (record after { runs = with_run (at_stop a.out.it segment) after.runs })
 
 -- the run at this place goes on there with its next machine, and is otherwise as it was
 pub record GoesOn (recoveries after : RecoveryState) (place : ℕ) : Type 0 where

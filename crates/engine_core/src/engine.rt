@@ -191,10 +191,21 @@ impl Engine {
     }
 
     /// Takes over what a run did: the private instructions of the segment, and the helper call or exit at its end,
-    /// with R0 after it. A run that goes on comes back with its next machine; one that exited is gone. C4, which is
-    /// not recorded, exactly where no run of that number is out in this engine, or the run's program, the segment's
-    /// program or the segment's start is not the recorded one; programs are compared by their instructions. Every
-    /// fault hands the run and the segment back and changes nothing.
+    /// with R0 after it. A run that goes on comes back with its next machine; one that exited is gone. What a call
+    /// does, by the number of its helper:
+    ///
+    /// 1. A queue is frozen once more, and the run holds the freeze: R0 is its number, or 0 exactly where that meets a
+    ///    limit, and then nothing is frozen.
+    /// 2. A freeze that the run holds is given back: R0 is how many freezes its queue has then.
+    /// 3. A timer has a freeze that the run holds from now on, due so many milliseconds after the last clock reading.
+    /// 4. The run's CCB waits again with so many retries fewer.
+    /// 5. The run's CCB is finished and gone, with the final code that the record tells.
+    /// 9. What the run's queue has is written to the run's stack.
+    /// 10. The call's bytes are in the record.
+    ///
+    /// R0 is 0 after helpers 3 to 10. C4, which is not recorded, exactly where no run of that number is out in this
+    /// engine, or the run's program, the segment's program or the segment's start is not the recorded one; programs are
+    /// compared by their instructions. Every fault hands the run and the segment back and changes nothing.
     pub fn advance(
         &mut self,
         run: Run,

@@ -1,9 +1,17 @@
-use Rattle.std.proofs.Common.{refl, rules}
+use Rattle.std.proofs.Common.{refl, sym, subst, rules}
 use Rattle.recoveries.specs.Admits.{IsOutAs}
 use Rattle.engine_core.specs.EngineState.{world_of}
-use Rattle.engine_core.specs.Answers.{stopped_at}
+use Rattle.engine_core.specs.Answers.{stopped_at, StopsByCode}
+use Rattle.engine_core.proofs.StopEnds.{code_of}
 use Rattle.engine_core.proofs.Going.{is_admitted, taken_over, goes_further, reaches_further, goes_out}
 use Rattle.engine_core.proofs.engine.Engine.advance.Goals as goal
+
+-- the code that a final call names is one
+pub recorded-requires : goal.recorded-requires
+recorded-requires c =
+    let out : IsOutAs c.self.inside.recoveries.runs c.number-number.result c.args.run.program.program c.args.segment = search rules in
+    let admitted = is_admitted c.self.inside.config c.self.inside.history.items c.self.inside.ccbs c.self.inside.recoveries c.number-number.result c.in-Some.place c.args.run.program.program c.args.segment c.self.invariant out c.in-Some.ensures.place in
+    subst StopsByCode (sym c.stop-stop.ensures.value) (code_of c.self.inside.ccbs c.self.inside.recoveries c.in-Some.place c.args.segment c.stop-stop.ensures.segment c.number-number.result admitted)
 
 pub take_over-r0-requires : goal.take_over-r0-requires
 take_over-r0-requires c =

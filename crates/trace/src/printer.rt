@@ -1,5 +1,5 @@
 // The trace as text, version 1: a header, a line a record, and the sums. It relies on `world` for records, and on
-// `helpers` for the number of the trace helper.
+// `helpers` for the numbers of the helpers of whose calls more is told.
 
 use ccb::CcbId;
 use helpers::Helper;
@@ -67,6 +67,7 @@ fn print_stop<W: Write>(stop: &StoppedAt, out: &mut W) -> io::Result<()> {
             write!(out, "helper {} ", Helper::Trace.number())?;
             print_bytes(bytes.as_slice(), out)
         }
+        StoppedAt::Finish(code) => write!(out, "helper {} {code:02x}", Helper::Finish.number()),
         StoppedAt::Exit => write!(out, "exit"),
     }
 }

@@ -6,10 +6,11 @@ use Rattle.reg_domain.specs.declared.cause.Cause.{Cause}
 use Rattle.reg_domain.specs.declared.kind.Kind.TheVariants.{Address}
 use Rattle.reg_domain.specs.declared.region.Region.{Region}
 use Rattle.reg_domain.specs.declared.region.Offsets.{Offsets}
+use Rattle.reg_domain.specs.Freezes.{FreezeNumbers}
 use Rattle.reg_domain.specs.Kinds.{HoldsKind, LiesAt}
 
 -- an offset that a match gives back is the one that was passed
-pub reached : (r : Result Access Cause) (region : Region) (offsets : Offsets) (stored offset : ℤ) → stored ≡ offset → IfOk r (λ access. (address : ℕ) → LiesAt region offsets address → LiesAt access.region access.offsets (address_at address stored)) → IfOk r (λ access. (freeze : ℕ) (o : Option ℕ) → HoldsKind freeze (Address region offsets) o → (start : ℕ) × (o ≡ Some start) × LiesAt access.region access.offsets (address_at start offset))
+pub reached : (r : Result Access Cause) (region : Region) (offsets : Offsets) (stored offset : ℤ) → stored ≡ offset → IfOk r (λ access. (address : ℕ) → LiesAt region offsets address → LiesAt access.region access.offsets (address_at address stored)) → IfOk r (λ access. (numbers : FreezeNumbers) (o : Option ℕ) → HoldsKind numbers (Address region offsets) o → (start : ℕ) × (o ≡ Some start) × LiesAt access.region access.offsets (address_at start offset))
 reached (Ok access) region offsets stored offset same means =
-    λ freeze o (address, is, lies). (address, is, subst (λ (z : ℤ). LiesAt access.region access.offsets (address_at address z)) same (means address lies))
+    λ numbers o (address, is, lies). (address, is, subst (λ (z : ℤ). LiesAt access.region access.offsets (address_at address z)) same (means address lies))
 reached (Err cause) region offsets stored offset same means = means

@@ -3,25 +3,27 @@ use Rattle.std.proofs.Common.{◌≡◌, ℕ, zero, suc, ◌<◌, List, [], ◌�
 use Rattle.std.specs.Prelude.{false, replicate}
 use Rattle.std.proofs.lemmas.List.{length-replicate}
 use Rattle.bpf_insn.specs.declared.reg.Reg.TheVariants.{R0, R1, R2, R3, R4, R5, R6, R7, R8, R9, R10}
-use Rattle.bpf_machine.specs.MachineState.{MachineState, context_address, frame_pointer, unwritten_frame}
+use Rattle.bpf_machine.specs.MachineState.{MachineState, context_address, entry, frame_pointer, unwritten_frame}
 use Rattle.bpf_machine.specs.Reached.{IsEntry}
 use Rattle.stack_domain.specs.Stack.{Covers as CoversFrames}
-use Rattle.reg_domain.specs.declared.description.Held.TheVariants as helds
 use Rattle.reg_domain.specs.declared.description.Description.{Description}
-use Rattle.reg_domain.specs.declared.kind.Certainty.TheVariants as certainties
+use Rattle.reg_domain.specs.declared.freeze_name.FreezeName.TheVariants as names
+use Rattle.reg_domain.specs.declared.held.HeldFreeze.{HeldFreeze}
 use Rattle.reg_domain.specs.declared.kind.Kind.{Kind}
 use Rattle.reg_domain.specs.declared.kind.Kind.TheVariants.{Unwritten, Address, Freeze}
 use Rattle.reg_domain.specs.declared.region.Region.TheVariants.{Context, Frame}
 use Rattle.reg_domain.specs.Changes.{HoldAtEntry}
 use Rattle.reg_domain.specs.Description.{Describes}
+use Rattle.reg_domain.specs.Freezes.{AreHeld, numbers_at_start, open_freeze}
+use Rattle.reg_domain.proofs.Freezes.{held_at_start}
 
 abbrev entry_kinds : List Kind
-entry_kinds = Unwritten ∷ Address Context (record { least = 0; most = 0 }) ∷ Freeze certainties.Open ∷ Unwritten ∷ Unwritten ∷ Unwritten ∷ Unwritten ∷ Unwritten ∷ Unwritten ∷ Unwritten ∷ Address (Frame 0) (record { least = 512; most = 512 }) ∷ []
+entry_kinds = Unwritten ∷ Address Context (record { least = 0; most = 0 }) ∷ Freeze names.Start ∷ Unwritten ∷ Unwritten ∷ Unwritten ∷ Unwritten ∷ Unwritten ∷ Unwritten ∷ Unwritten ∷ Address (Frame 0) (record { least = 512; most = 512 }) ∷ []
 
 pub hold_at_entry : HoldAtEntry entry_kinds
 hold_at_entry context freeze R0 = tt
 hold_at_entry context freeze R1 = (context_address, refl, (0, refl, omega arith, omega arith, omega arith))
-hold_at_entry context freeze R2 = (refl, tt)
+hold_at_entry context freeze R2 = (freeze, refl, refl)
 hold_at_entry context freeze R3 = tt
 hold_at_entry context freeze R4 = tt
 hold_at_entry context freeze R5 = tt
@@ -42,18 +44,17 @@ no_byte zero offset byte is = absurd (none_there 512 offset byte is)
 no_byte (suc zero) offset byte is = absurd cc
 no_byte (suc (suc k)) offset byte is = absurd cc
 
-pub describes_entry : (d : Description) → HoldAtEntry d.registers → ((frame : List (Option ℕ)) → length frame ≡ 512 → CoversFrames d.stack (frame ∷ [])) → d.held ≡ helds.Open → d.disposed ≡ false → (m : MachineState) → IsEntry m → Describes d m
+pub describes_entry : (d : Description) → HoldAtEntry d.registers → ((frame : List (Option ℕ)) → length frame ≡ 512 → CoversFrames d.stack (frame ∷ [])) → d.held ≡ open_freeze names.Start ∷ [] → d.disposed ≡ false → (m : MachineState) → IsEntry m → Describes d m
 describes_entry d hold covers held disposed m is = subst (Describes d) (sym is.is) (
-  is.freeze,
+  numbers_at_start is.freeze,
   record {
     registers = hold is.context is.freeze;
     count = refl;
     frames = covers unwritten_frame (length-replicate {A = Option ℕ} 512 None);
     bytes = no_byte;
     context = is.bytes;
-    held = rw held refl;
+    held = subst (λ (l : List HeldFreeze). AreHeld (numbers_at_start is.freeze) l (entry is.context is.freeze).held) (sym held) (held_at_start is.freeze is.number);
     disposal = sym disposed;
     calls = refl;
-    number = is.number;
   },
 )

@@ -14,9 +14,10 @@ use Rattle.reg_domain.specs.declared.description.Description.{Description}
 use Rattle.reg_domain.specs.declared.following.Way.{Way}
 use Rattle.reg_domain.specs.declared.following.Way.TheVariants.{FallThrough, Taken}
 use Rattle.reg_domain.specs.declared.kind.Kind.{Kind}
-use Rattle.reg_domain.specs.Description.{DescribesWith, kind_at}
+use Rattle.reg_domain.specs.Description.{Describes, DescribesWith, kind_at}
 use Rattle.reg_domain.specs.Finds.{FindsWay, Found}
 use Rattle.reg_domain.specs.Follows.{Follows, GoesBy, jumps, jumps_if}
+use Rattle.reg_domain.specs.Freezes.{FreezeNumbers}
 use Rattle.reg_domain.specs.GoesOn.{is_taken}
 use Rattle.reg_domain.specs.Kinds.{HoldsKind}
 use Rattle.reg_domain.proofs.Described.{moved_described}
@@ -29,16 +30,16 @@ goes_as m insn Taken goes = goes
 -- what a finding tells of the machines of which it is true
 abbrev pub Learns : Description → Reg → Operand → Finding → Bool → Description → Type 0
 Learns d dst src finding is_open there =
-    (freeze a b : ℕ) (m : MachineState) → DescribesWith freeze d m → register m dst ≡ Some a → operand m src ≡ Some b → Found freeze a b finding →
-    (is_open ≡ true) × DescribesWith freeze there m
+    (numbers : FreezeNumbers) (a b : ℕ) (m : MachineState) → DescribesWith numbers d m → register m dst ≡ Some a → operand m src ≡ Some b → Found numbers a b finding →
+    (is_open ≡ true) × Describes there m
 
-pub jump_follows : (d there : Description) (width : Width) (condition : Condition) (dst : Reg) (src : Operand) (way : Way) (offset : ℤ) (first second : Kind) (finding : Finding) (is_open : Bool) → first ≡ kind_at d dst → ((freeze : ℕ) (m : MachineState) → DescribesWith freeze d m → HoldsKind freeze second (operand m src)) → ((freeze : ℕ) → FindsWay freeze width condition (is_taken way) first second finding) → Learns d dst src finding is_open there → Follows (JumpIf width condition dst src offset) way d is_open there
-jump_follows d there width condition dst src way offset first second finding is_open first_is holds finds learns = λ m m' (freeze, is) goes steps.
-    let words = finds freeze (register m dst) (operand m src) (rw first_is (is.registers dst)) (holds freeze m is) in
+pub jump_follows : (d there : Description) (width : Width) (condition : Condition) (dst : Reg) (src : Operand) (way : Way) (offset : ℤ) (first second : Kind) (finding : Finding) (is_open : Bool) → first ≡ kind_at d dst → ((numbers : FreezeNumbers) (m : MachineState) → DescribesWith numbers d m → HoldsKind numbers second (operand m src)) → ((numbers : FreezeNumbers) → FindsWay numbers width condition (is_taken way) first second finding) → Learns d dst src finding is_open there → Follows (JumpIf width condition dst src offset) way d is_open there
+jump_follows d there width condition dst src way offset first second finding is_open first_is holds finds learns = λ m m' (numbers, is) goes steps.
+    let words = finds numbers (register m dst) (operand m src) (rw first_is (is.registers dst)) (holds numbers m is) in
     let goes_if : jumps_if width condition (register m dst) (operand m src) ≡ holds_of width condition words.0 words.1 = ap (λ o. jumps_if width condition o (operand m src)) words.2 ∙ ap (jumps_if width condition (Some words.0)) words.3 in
-    let known = learns freeze words.0 words.1 m is words.2 words.3 (words.4 (sym goes_if ∙ goes_as m (JumpIf width condition dst src offset) way goes)) in
+    let known = learns numbers words.0 words.1 m is words.2 words.3 (words.4 (sym goes_if ∙ goes_as m (JumpIf width condition dst src offset) way goes)) in
     let steps_to = ap (λ o. jump_if m width condition offset o (operand m src)) words.2 ∙ ap (jump_if m width condition offset (Some words.0)) words.3 in
     elim steps [
-      | inl e ↦ (known.0, (freeze, subst (DescribesWith freeze there) (some_same _ _ (sym steps_to ∙ e)) (moved_described freeze there m _ known.1)))
+      | inl e ↦ (known.0, (known.1.0, subst (DescribesWith known.1.0 there) (some_same _ _ (sym steps_to ∙ e)) (moved_described known.1.0 there m _ known.1.1)))
       | inr call ↦ let bad = call.2 in absurd cc
     ]

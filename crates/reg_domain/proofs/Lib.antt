@@ -1,3 +1,6 @@
+pub mod HeldPlaces
+pub mod SameHeld
+pub mod Freezes
 pub mod Shifts
 pub mod Sums
 pub mod Moves
@@ -9,7 +12,9 @@ pub mod Loading
 pub mod Writing
 pub mod Storing
 pub mod Tracing
+pub mod Giving
 pub mod Calling
+pub mod Leaving
 pub mod AtEntry
 pub mod RegisterPlaces
 pub mod Described

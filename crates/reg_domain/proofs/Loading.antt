@@ -10,14 +10,15 @@ use Rattle.bpf_machine.specs.Memory.{address_at, load_width, loaded}
 use Rattle.scalar_domain.specs.declared.scalars.Scalar.{Scalar}
 use Rattle.scalar_domain.specs.Scalar.{Has}
 use Rattle.reg_domain.specs.declared.kind.Kind.TheVariants.{Number}
+use Rattle.reg_domain.specs.Freezes.{FreezeNumbers}
 use Rattle.reg_domain.specs.Memory.{AreThere, IsLoaded}
 use Rattle.reg_domain.proofs.ByteNumbers.{number_below}
 
 -- what is read is the word of its bytes
-pub is_loaded : (freeze : ℕ) (m : MachineState) (form : LoadForm) (src : Reg) (offset : ℤ) (start : ℕ) (scalar : Scalar) → register m src ≡ Some start
+pub is_loaded : (numbers : FreezeNumbers) (m : MachineState) (form : LoadForm) (src : Reg) (offset : ℤ) (start : ℕ) (scalar : Scalar) → register m src ≡ Some start
     → AreThere m (address_at start offset) (byte_len (load_width form))
-    → ((word : ℕ) → word < 256 ^ byte_len (load_width form) → Has scalar (loaded form word)) → IsLoaded freeze m form src offset (Number scalar)
-is_loaded freeze m form src offset start scalar at there has =
+    → ((word : ℕ) → word < 256 ^ byte_len (load_width form) → Has scalar (loaded form word)) → IsLoaded numbers m form src offset (Number scalar)
+is_loaded numbers m form src offset start scalar at there has =
     let bytes : ℕ = byte_len (load_width form) in
     let word : ℕ = little_number bytes there.found in
     record {

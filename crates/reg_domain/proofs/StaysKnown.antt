@@ -14,25 +14,25 @@ pub same_stays : (before after : Kind) → after ≡ before → StaysKnown befor
 same_stays Unwritten after e = tt
 same_stays (Number scalar) after e = subst IsNumber (sym e) tt
 same_stays (Address region offsets) after e = e
-same_stays (Freeze certainty) after e = tt
+same_stays (Freeze name) after e = e
 
 number_stays : (before after : Kind) → IsNumber before → IsNumber after → StaysKnown before after
 number_stays Unwritten after before_is after_is = tt
 number_stays (Number scalar) after before_is after_is = after_is
 number_stays (Address region offsets) after before_is after_is = absurd before_is
-number_stays (Freeze certainty) after before_is after_is = tt
+number_stays (Freeze name) after before_is after_is = absurd before_is
 
 pub still_number : (before after : Kind) → IsNumber before → StaysKnown before after → IsNumber after
 still_number Unwritten after before_is stays = absurd before_is
 still_number (Number scalar) after before_is stays = stays
 still_number (Address region offsets) after before_is stays = absurd before_is
-still_number (Freeze certainty) after before_is stays = absurd before_is
+still_number (Freeze name) after before_is stays = absurd before_is
 
 stays_twice : (before between after : Kind) → StaysKnown before between → StaysKnown between after → StaysKnown before after
 stays_twice Unwritten between after first second = tt
 stays_twice (Number scalar) between after first second = still_number between after first second
 stays_twice (Address region offsets) between after first second = subst (λ kind. StaysKnown kind after) first second
-stays_twice (Freeze certainty) between after first second = tt
+stays_twice (Freeze name) between after first second = subst (λ kind. StaysKnown kind after) first second
 
 pub number_known : (d there : Description) (dst : Reg) → IsNumber (kind_at d dst) → IsNumber (kind_at there dst) → ChangesOnly dst d there → LeavesKnown d there
 number_known d there dst before after only = record {
@@ -52,4 +52,4 @@ known_twice d between there first second = record {
 }
 
 pub number_or_freeze : (kind : Kind) → IsNumber kind → IsFreeze kind → ⊥
-number_or_freeze kind number (certainty, is) = subst IsNumber is number
+number_or_freeze kind number (name, is) = subst IsNumber is number

@@ -11,13 +11,14 @@ use Rattle.reg_domain.specs.declared.kind.Kind.{Kind}
 use Rattle.reg_domain.specs.declared.kind.Kind.TheVariants.{Number, Address}
 use Rattle.reg_domain.specs.declared.region.Region.{Region}
 use Rattle.reg_domain.specs.declared.region.Offsets.{Offsets}
+use Rattle.reg_domain.specs.Freezes.{FreezeNumbers}
 use Rattle.reg_domain.specs.Kinds.{HoldsKind, LiesAt}
 use Rattle.reg_domain.specs.Computes.{CombinesKind}
 
 turned : (a b : ℕ) → (a + b) % 2 ^ 64 ≡ (b + a) % 2 ^ 64
 turned a b = omega arith
 
-pub number_first : (r : Result Kind Cause) (number : Scalar) (region : Region) (offsets : Offsets) → IfOk r (λ kind. (freeze address word : ℕ) → LiesAt region offsets address → Has number word → HoldsKind freeze kind (Some (low w64 (address + word)))) → IfOk r (λ kind. (freeze : ℕ) → CombinesKind freeze (alu_of Bits64 Add) (Number number) (Address region offsets) kind)
+pub number_first : (r : Result Kind Cause) (number : Scalar) (region : Region) (offsets : Offsets) → IfOk r (λ kind. (numbers : FreezeNumbers) (address word : ℕ) → LiesAt region offsets address → Has number word → HoldsKind numbers kind (Some (low w64 (address + word)))) → IfOk r (λ kind. (numbers : FreezeNumbers) → CombinesKind numbers (alu_of Bits64 Add) (Number number) (Address region offsets) kind)
 number_first (Ok kind) number region offsets means =
-    λ freeze o p (word, o_is, has) (address, p_is, lies). (word, address, o_is, p_is, subst (λ (n : ℕ). HoldsKind freeze kind (Some n)) (turned address word) (means freeze address word lies has))
+    λ numbers o p (word, o_is, has) (address, p_is, lies). (word, address, o_is, p_is, subst (λ (n : ℕ). HoldsKind numbers kind (Some n)) (turned address word) (means numbers address word lies has))
 number_first (Err cause) number region offsets means = means

@@ -1,5 +1,5 @@
 -- Which way an instruction leads that is no jump, and what an exit asks.
-use Rattle.std.proofs.Common.{◌≡◌, ℕ, ℤ, true, false, Bool, not, ◌||◌, [], Option, Result, Ok, Err, IfOk, refl, ap, sym, subst, ◌∙◌, inl, inr}
+use Rattle.std.proofs.Common.{◌≡◌, ℕ, ℤ, true, false, Bool, not, ◌||◌, [], Option, Result, Ok, Err, IfOk, refl, ap, sym, ◌∙◌, inl, inr}
 use Rattle.std.specs.Prelude.{is_none}
 use Rattle.bpf_insn.specs.declared.insn.Insn.{Insn}
 use Rattle.bpf_insn.specs.declared.insn.Callee.TheVariants.{Helper}
@@ -14,15 +14,14 @@ use Rattle.bpf_machine.specs.MachineState.{MachineState, register}
 use Rattle.bpf_machine.specs.Stuck.{exit_is_stuck, holds_none}
 use Rattle.reg_domain.specs.declared.cause.Cause.{Cause}
 use Rattle.reg_domain.specs.declared.description.Description.{Description}
-use Rattle.reg_domain.specs.declared.description.Held.{Held}
-use Rattle.reg_domain.specs.declared.description.Held.TheVariants.{Nothing}
 use Rattle.reg_domain.specs.declared.following.Way.{Way}
 use Rattle.reg_domain.specs.declared.following.Way.TheVariants.{FallThrough, Taken}
 use Rattle.reg_domain.specs.declared.kind.Kind.{Kind}
 use Rattle.reg_domain.specs.declared.kind.Kind.TheVariants.{Unwritten, Number, Address, Freeze}
 use Rattle.reg_domain.specs.Calls.{CallFollows}
-use Rattle.reg_domain.specs.Description.{HoldsFreeze, kind_at}
+use Rattle.reg_domain.specs.Description.{kind_at}
 use Rattle.reg_domain.specs.Follows.{Follows, NeverStuck, jumps}
+use Rattle.reg_domain.specs.Freezes.{FreezeNumbers, numbers_held}
 use Rattle.reg_domain.specs.GoesOn.{GoesOn, is_taken}
 use Rattle.reg_domain.specs.Kinds.{HoldsKind, IsNumber}
 
@@ -54,17 +53,17 @@ pub exit_never_stuck : (r : Result Bool Cause) (limits : HelperLimits) (d : Desc
 exit_never_stuck (Ok is_open) limits d never = never limits
 exit_never_stuck (Err cause) limits d never = never
 
-number_there : (freeze : ℕ) (kind : Kind) (o : Option ℕ) → IsNumber kind → HoldsKind freeze kind o → is_none o ≡ false
-number_there freeze Unwritten o number holds = absurd number
-number_there freeze (Number scalar) o number holds = ap is_none holds.1
-number_there freeze (Address region offsets) o number holds = absurd number
-number_there freeze (Freeze certainty) o number holds = absurd number
+number_there : (numbers : FreezeNumbers) (kind : Kind) (o : Option ℕ) → IsNumber kind → HoldsKind numbers kind o → is_none o ≡ false
+number_there numbers Unwritten o number holds = absurd number
+number_there numbers (Number scalar) o number holds = ap is_none holds.1
+number_there numbers (Address region offsets) o number holds = absurd number
+number_there numbers (Freeze name) o number holds = absurd number
 
 -- nothing is held, the CCB is disposed of, and R0 is a number
-pub exit_unstuck : (limits : HelperLimits) (d : Description) → d.held ≡ Nothing → d.disposed ≡ true → IsNumber (kind_at d R0) → NeverStuck limits Exit d
-exit_unstuck limits d nothing disposed number = λ m (freeze, is).
-    let none_held : m.held ≡ [] = subst (λ (held : Held). HoldsFreeze freeze held m.held) nothing is.held in
+pub exit_unstuck : (limits : HelperLimits) (d : Description) → d.held ≡ [] → d.disposed ≡ true → IsNumber (kind_at d R0) → NeverStuck limits Exit d
+exit_unstuck limits d nothing disposed number = λ m (numbers, is).
+    let none_held : m.held ≡ [] = is.held.are ∙ ap (numbers_held numbers) nothing in
     let held : not (holds_none m.held) ≡ false = ap (λ held. not (holds_none held)) none_held in
     let waits : not m.disposed ≡ false = ap not (is.disposal ∙ disposed) in
-    let r0 = number_there freeze (kind_at d R0) (register m R0) number (is.registers R0) in
+    let r0 = number_there numbers (kind_at d R0) (register m R0) number (is.registers R0) in
     ap (exit_is_stuck m) is.calls ∙ (ap (λ b. (b || not m.disposed) || is_none (register m R0)) held ∙ (ap (λ b. b || is_none (register m R0)) waits ∙ r0))

@@ -12,6 +12,7 @@ use Rattle.bpf_machine.specs.MachineState.{MachineState}
 use Rattle.bpf_machine.specs.Frames.{frame_start}
 use Rattle.reg_domain.specs.declared.description.Description.{Description}
 use Rattle.reg_domain.specs.Description.{DescribesWith}
+use Rattle.reg_domain.specs.Freezes.{FreezeNumbers}
 use Rattle.reg_domain.specs.Memory.{AreWritten}
 use Rattle.reg_domain.proofs.FramePlaces.{frame_stored}
 
@@ -58,10 +59,10 @@ bytes_kept frames k offset bytes live inside each was j = elim (cases_eq j k) [
 ]
 
 -- bytes are written in a live frame, and the stack is known to be as it is then
-pub are_written : (freeze : ℕ) (d : Description) (m : MachineState) (stack : List (List Bool)) (frame offset address : ℕ) (bytes : List ℕ) → DescribesWith freeze d m → frame < length m.frames
+pub are_written : (numbers : FreezeNumbers) (d : Description) (m : MachineState) (stack : List (List Bool)) (frame offset address : ℕ) (bytes : List ℕ) → DescribesWith numbers d m → frame < length m.frames
     → address ≡ frame_start frame + offset → offset + length bytes ≤ 512 → All (λ byte. byte < 256) bytes → CoversFrames stack (stored m.frames frame offset bytes)
-    → AreWritten freeze m address bytes (record d { stack = stack })
-are_written freeze d m stack frame offset address bytes is live at fits each covers = record {
+    → AreWritten numbers m address bytes (record d { stack = stack })
+are_written numbers d m stack frame offset address bytes is live at fits each covers = record {
   with_bytes = record m { frames = stored m.frames frame offset bytes };
   does = ap (option_map (λ frames. record m { frames = frames })) (frame_stored 0 m.frames frame address offset bytes live (omega (arith, at)) fits);
   describes = record {
@@ -73,6 +74,5 @@ are_written freeze d m stack frame offset address bytes is live at fits each cov
     held = is.held;
     disposal = is.disposal;
     calls = is.calls;
-    number = is.number;
   };
 }

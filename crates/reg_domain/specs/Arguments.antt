@@ -1,6 +1,8 @@
 -- What is known of the arguments of a helper call, and when each is sure to be as the helper asks.
-use Rattle.std.specs.Prelude.{◌≡◌, ℕ, ◌<◌, ◌≤◌, true, List, Option, Some, None, slice_index_or}
+use Rattle.std.specs.Prelude.{◌≡◌, ℕ, ◌<◌, ◌≤◌, true, List, length, Option, Some, None, slice_index_or}
+use Rattle.bpf_insn.specs.declared.reg.Reg.TheVariants.{R1, R2, R3}
 use Rattle.helpers.specs.declared.helper.Asked.{Asked}
+use Rattle.helpers.specs.declared.helper.Asked.TheVariants.{Queue, HeldFreeze, Within, Table, Index, Word, Room, Bytes}
 use Rattle.helpers.specs.declared.helper.Asks.{Asks}
 use Rattle.helpers.specs.declared.limits.HelperLimits.{HelperLimits}
 use Rattle.helpers.specs.declared.request.Arguments.{Arguments}
@@ -10,42 +12,41 @@ use Rattle.bpf_machine.specs.MachineState.{MachineState}
 use Rattle.reg_domain.specs.declared.arguments.Known.{Known}
 use Rattle.reg_domain.specs.declared.description.Description.{Description}
 use Rattle.reg_domain.specs.declared.kind.Kind.{Kind}
-use Rattle.reg_domain.specs.Description.{DescribesWith}
-use Rattle.reg_domain.specs.Kinds.{HoldsKind, IsWritten}
-
--- a number from `least` to `most`
-abbrev pub LiesWithin : ℕ → ℕ → Kind → Type 0
-LiesWithin least most kind = (freeze value : ℕ) → HoldsKind freeze kind (Some value) → (least ≤ value) × (value ≤ most)
+use Rattle.reg_domain.specs.Calls.{IsSureFreeze}
+use Rattle.reg_domain.specs.Description.{DescribesWith, kind_at}
+use Rattle.reg_domain.specs.Enough.{AreToldBytes, IsPlace}
+use Rattle.reg_domain.specs.Freezes.{FreezeNumbers}
+use Rattle.reg_domain.specs.Kinds.{HoldsKind, IsBelow, IsBetween, IsKnown, IsNumber, IsWritten}
 
 -- a number below a bound
 abbrev pub LiesBelow : ℕ → Kind → Type 0
-LiesBelow bound kind = (freeze value : ℕ) → HoldsKind freeze kind (Some value) → value < bound
+LiesBelow bound kind = (numbers : FreezeNumbers) (value : ℕ) → HoldsKind numbers kind (Some value) → value < bound
 
 -- the table of that number has so many words at least
 abbrev pub HasWords : List ℕ → Kind → ℕ → Type 0
-HasWords lengths table words = (freeze number : ℕ) → HoldsKind freeze table (Some number) → words ≤ slice_index_or lengths number 0
+HasWords lengths table words = (numbers : FreezeNumbers) (number : ℕ) → HoldsKind numbers table (Some number) → words ≤ slice_index_or lengths number 0
 
 -- so many bytes lie in one live frame from the address on
 abbrev pub HasRoom : Description → Kind → ℕ → Type 0
-HasRoom d kind bytes = (freeze : ℕ) (m : MachineState) (address : ℕ) → DescribesWith freeze d m → HoldsKind freeze kind (Some address) → has_room 0 m.frames address bytes ≡ true
+HasRoom d kind bytes = (numbers : FreezeNumbers) (m : MachineState) (address : ℕ) → DescribesWith numbers d m → HoldsKind numbers kind (Some address) → has_room 0 m.frames address bytes ≡ true
 
 -- and are written, as many as a number says
 abbrev pub HasBytes : Description → Kind → Kind → Type 0
 HasBytes d kind count =
-    (freeze : ℕ) (m : MachineState) (address bytes : ℕ) → DescribesWith freeze d m → HoldsKind freeze kind (Some address) →
-    HoldsKind freeze count (Some bytes) → has_written 0 m.frames address bytes ≡ true
+    (numbers : FreezeNumbers) (m : MachineState) (address bytes : ℕ) → DescribesWith numbers d m → HoldsKind numbers kind (Some address) →
+    HoldsKind numbers count (Some bytes) → has_written 0 m.frames address bytes ≡ true
 
 -- arguments of these kinds
-pub record AreArguments (freeze : ℕ) (known : Known) (arguments : Arguments) : Type 0 where
-  pub first : HoldsKind freeze known.first (Some arguments.first)
-  pub second : HoldsKind freeze known.second (Some arguments.second)
-  pub third : HoldsKind freeze known.third (Some arguments.third)
+pub record AreArguments (numbers : FreezeNumbers) (known : Known) (arguments : Arguments) : Type 0 where
+  pub first : HoldsKind numbers known.first (Some arguments.first)
+  pub second : HoldsKind numbers known.second (Some arguments.second)
+  pub third : HoldsKind numbers known.third (Some arguments.third)
 
 -- an argument of that kind is as asked
 abbrev pub Fits : HelperLimits → Description → Known → Asked → Kind → Type 0
 Fits limits d known asked kind =
-    (freeze : ℕ) (m : MachineState) (arguments : Arguments) (value : ℕ) → DescribesWith freeze d m → AreArguments freeze known arguments →
-    HoldsKind freeze kind (Some value) → is_as_asked limits m arguments asked value ≡ true
+    (numbers : FreezeNumbers) (m : MachineState) (arguments : Arguments) (value : ℕ) → DescribesWith numbers d m → AreArguments numbers known arguments →
+    HoldsKind numbers kind (Some value) → is_as_asked limits m arguments asked value ≡ true
 
 abbrev pub FitsAny : HelperLimits → Description → Known → Option Asked → Kind → Type 0
 FitsAny limits d known (Some asked) kind = Fits limits d known asked kind
@@ -59,3 +60,47 @@ pub record AllFit (limits : HelperLimits) (d : Description) (asks : Asks) (known
   pub first : FitsAny limits d known asks.first known.first
   pub second : FitsAny limits d known asks.second known.second
   pub third : FitsAny limits d known asks.third known.third
+
+-- what is known of an argument, where its register is known to be that
+abbrev pub IsKnownOf : Option Asked → Kind → Kind → Type 0
+IsKnownOf (Some asked) register kind = kind ≡ register
+IsKnownOf None register kind = IsWritten kind
+
+pub record AreKnownOf (d : Description) (asks : Asks) (known : Known) : Type 0 where
+  pub first : IsKnownOf asks.first (kind_at d R1) known.first
+  pub second : IsKnownOf asks.second (kind_at d R2) known.second
+  pub third : IsKnownOf asks.third (kind_at d R3) known.third
+
+-- what is enough for an argument of that kind to be as asked
+abbrev pub Suits : HelperLimits → Description → Known → Asked → Kind → Type 0
+Suits limits d known Queue kind = IsBelow limits.queues kind
+Suits limits d known HeldFreeze kind = IsSureFreeze d kind
+Suits limits d known (Within least most) kind = IsBetween least most kind
+Suits limits d known Table kind = IsBelow (length limits.table_lengths) kind
+Suits limits d known Index kind = (table : ℕ) × IsKnown table known.first × IsBelow (slice_index_or limits.table_lengths table 0) kind
+Suits limits d known Word kind = IsNumber kind
+Suits limits d known (Room bytes) kind = IsPlace d bytes kind
+Suits limits d known Bytes kind = AreToldBytes d kind known.second
+
+abbrev pub SuitsAny : HelperLimits → Description → Known → Option Asked → Kind → Type 0
+SuitsAny limits d known (Some asked) kind = Suits limits d known asked kind
+SuitsAny limits d known None kind = IsWritten kind
+
+pub record AllSuit (limits : HelperLimits) (d : Description) (asks : Asks) (known : Known) : Type 0 where
+  pub first : SuitsAny limits d known asks.first known.first
+  pub second : SuitsAny limits d known asks.second known.second
+  pub third : SuitsAny limits d known asks.third known.third
+
+-- whatever counts for an argument that is not taken
+abbrev pub RegistersSuit : HelperLimits → Description → Asks → Type 0
+RegistersSuit limits d asks = (known : Known) → AreKnownOf d asks known → AllSuit limits d asks known
+
+-- what is known of an argument that is as asked
+abbrev pub Shows : Description → Asked → Kind → Type 0
+Shows d HeldFreeze kind = IsSureFreeze d kind
+Shows d (Room bytes) kind = IsPlace d bytes kind
+Shows d asked kind = Unit {0}
+
+abbrev pub ShowsAny : Description → Option Asked → Kind → Type 0
+ShowsAny d (Some asked) kind = Shows d asked kind
+ShowsAny d None kind = Unit {0}

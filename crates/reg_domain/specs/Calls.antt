@@ -1,9 +1,9 @@
 -- What a helper call makes of the machines that are described, and that none of them is stuck there.
-use Rattle.std.specs.Prelude.{◌≡◌, ℕ, ℤ, ◌<◌, ◌≤◌, ◌^◌, true, false, List, ◌∷◌, ◌++◌, length, drop, replicate, Option, Some}
+use Rattle.std.specs.Prelude.{◌≡◌, ℕ, ℤ, ◌<◌, ◌≤◌, true, false, List, ◌∷◌, ◌++◌, length, drop, replicate, Some, None}
 use Rattle.bpf_insn.specs.declared.insn.Callee.TheVariants.{Helper as helper_call}
 use Rattle.bpf_insn.specs.declared.insn.Insn.TheVariants.{Call}
 use Rattle.bpf_insn.specs.declared.reg.Reg.{Reg}
-use Rattle.bpf_insn.specs.declared.reg.Reg.TheVariants.{R1}
+use Rattle.bpf_insn.specs.declared.reg.Reg.TheVariants.{R0, R1}
 use Rattle.bpf_insn.specs.Reg.{number_of}
 use Rattle.helpers.specs.declared.helper.Helper.{Helper}
 use Rattle.helpers.specs.declared.helper.Helper.TheVariants as helpers
@@ -11,19 +11,21 @@ use Rattle.helpers.specs.declared.limits.HelperLimits.{HelperLimits}
 use Rattle.helpers.specs.declared.request.Answer.{Answer}
 use Rattle.helpers.specs.declared.request.Arguments.{Arguments}
 use Rattle.helpers.specs.declared.request.Request.{Request}
-use Rattle.helpers.specs.declared.request.Request.TheVariants.{Release, Requeue, QueueInfo, Trace}
+use Rattle.helpers.specs.declared.request.Request.TheVariants as requests
+use Rattle.bpf_machine.specs.declared.held_freezes.TheConstants.{MAX_HELD}
 use Rattle.bpf_machine.specs.Calls.{arguments_at, obeys}
 use Rattle.bpf_machine.specs.MachineState.{MachineState, register}
-use Rattle.bpf_machine.specs.Step.{Allowed, IsAnswer, answered, request_in}
+use Rattle.bpf_machine.specs.Step.{Allowed, IsAnswer, IsNewFreeze, answered, request_in}
 use Rattle.bpf_machine.specs.Stuck.{call_is_stuck}
 use Rattle.stack_domain.specs.Stack.{Knows}
 use Rattle.reg_domain.specs.declared.description.Description.{Description}
-use Rattle.reg_domain.specs.declared.description.Held.TheVariants.{Nothing}
+use Rattle.reg_domain.specs.declared.freeze_name.FreezeName.{FreezeName}
+use Rattle.reg_domain.specs.declared.held.Certainty.TheVariants.{Sure}
 use Rattle.reg_domain.specs.declared.kind.Kind.{Kind}
-use Rattle.reg_domain.specs.declared.kind.Kind.TheVariants.{Unwritten}
-use Rattle.reg_domain.specs.Description.{Describes, DescribesWith, kind_at}
-use Rattle.reg_domain.specs.Enough.{LeavesInformation, LeavesZero, StaysKnown}
-use Rattle.reg_domain.specs.Kinds.{HoldsKind}
+use Rattle.reg_domain.specs.declared.kind.Kind.TheVariants.{Unwritten, Freeze}
+use Rattle.reg_domain.specs.Description.{Describes, kind_at}
+use Rattle.reg_domain.specs.Enough.{IsFreeze, IsPlace}
+use Rattle.reg_domain.specs.Freezes.{certainty_of}
 
 abbrev pub CallIsNeverStuck : HelperLimits → ℤ → Description → Type 0
 CallIsNeverStuck limits number d = (m : MachineState) → Describes d m → call_is_stuck limits m (request_in m (Call (helper_call number))) ≡ false
@@ -41,52 +43,75 @@ pub record IsLawfulCall (limits : HelperLimits) (m : MachineState) (helper : Hel
   pub obeys : obeys limits m helper arguments ≡ true
 
 abbrev pub Obeys : HelperLimits → Description → Helper → Type 0
-Obeys limits d helper = (freeze : ℕ) (m : MachineState) → DescribesWith freeze d m → IsLawfulCall limits m helper
+Obeys limits d helper = (m : MachineState) → Describes d m → IsLawfulCall limits m helper
 
 -- these are answered
 abbrev pub IsAnswered : Helper → Type 0
+IsAnswered helpers.Freeze = Unit {0}
 IsAnswered helpers.Release = Unit {0}
+IsAnswered helpers.ReleaseAfter = Unit {0}
 IsAnswered helpers.Requeue = Unit {0}
+IsAnswered helpers.Finish = Unit {0}
 IsAnswered helpers.QueueInfo = Unit {0}
 IsAnswered helpers.Trace = Unit {0}
 IsAnswered helper = ⊥
 
--- the machine after the call is described; the freeze that is given back is the one that is known
-abbrev pub Passes : Helper → Description → Description → Type 0
-Passes helpers.Release d there =
-    (freeze : ℕ) (m : MachineState) (answer : Answer) → DescribesWith freeze d m → answer.r0 ≤ 254 → DescribesWith freeze there (answered (Release freeze) answer m)
-Passes helpers.Requeue d there =
-    (freeze retries : ℕ) (m : MachineState) (answer : Answer) → DescribesWith freeze d m → answer.r0 ≡ 0 → DescribesWith freeze there (answered (Requeue retries) answer m)
-Passes helpers.QueueInfo d there =
-    (freeze address : ℕ) (m : MachineState) (answer : Answer) → DescribesWith freeze d m → register m R1 ≡ Some address →
-    IsAnswer m (QueueInfo address) answer → DescribesWith freeze there (answered (QueueInfo address) answer m)
-Passes helpers.Trace d there =
-    (freeze address : ℕ) (bytes : List ℕ) (m : MachineState) (answer : Answer) → DescribesWith freeze d m → answer.r0 ≡ 0 → DescribesWith freeze there (answered (Trace address bytes) answer m)
-Passes helper d there = Unit {0}
+-- a freeze that is held, and sure not to be 0
+abbrev pub IsSureFreeze : Description → Kind → Type 0
+IsSureFreeze d kind = (name : FreezeName) × (kind ≡ Freeze name) × (certainty_of d.held name ≡ Some Sure)
 
--- what a copy of a freeze that is given back is then
-pub record IsReleased (kind after : Kind) : Type 0 where
-  pub holds : (freeze : ℕ) (o : Option ℕ) → 0 < freeze → freeze < 2 ^ 32 → HoldsKind freeze kind o → HoldsKind freeze after o
-  pub known : StaysKnown kind after
+-- what a helper asks of the run, where a freeze that it takes gets that name
+abbrev pub RunMay : Description → FreezeName → Helper → Type 0
+RunMay d name helpers.Freeze = (length d.held < MAX_HELD) × (certainty_of d.held name ≡ None)
+RunMay d name helpers.Requeue = d.disposed ≡ false
+RunMay d name helpers.Finish = d.disposed ≡ false
+RunMay d name helper = Unit {0}
+
+-- what is known where a call of the helper may pass, as far as what is known behind it rests on that
+abbrev pub MayPass : Description → FreezeName → Helper → Type 0
+MayPass d name helpers.Freeze = RunMay d name helpers.Freeze
+MayPass d name helpers.Release = IsSureFreeze d (kind_at d R1)
+MayPass d name helpers.ReleaseAfter = IsSureFreeze d (kind_at d R1)
+MayPass d name helpers.QueueInfo = IsPlace d 16 (kind_at d R1)
+MayPass d name helper = Unit {0}
+
+-- The machine after the call is described, whatever the call is answered that it may be. A freeze that is given up is
+-- the one that R1 holds.
+abbrev pub Passes : Helper → Description → Description → Type 0
+Passes helpers.Freeze d there =
+    (queue : ℕ) (m : MachineState) (answer : Answer) → Describes d m → IsNewFreeze m.held answer.r0 → Describes there (answered (requests.Freeze queue) answer m)
+Passes helpers.Release d there =
+    (freeze : ℕ) (m : MachineState) (answer : Answer) → Describes d m → register m R1 ≡ Some freeze → answer.r0 ≤ 254 →
+    Describes there (answered (requests.Release freeze) answer m)
+Passes helpers.ReleaseAfter d there =
+    (freeze milliseconds : ℕ) (m : MachineState) (answer : Answer) → Describes d m → register m R1 ≡ Some freeze → answer.r0 ≡ 0 →
+    Describes there (answered (requests.ReleaseAfter freeze milliseconds) answer m)
+Passes helpers.Requeue d there =
+    (retries : ℕ) (m : MachineState) (answer : Answer) → Describes d m → answer.r0 ≡ 0 → Describes there (answered (requests.Requeue retries) answer m)
+Passes helpers.Finish d there =
+    (code : ℕ) (m : MachineState) (answer : Answer) → Describes d m → answer.r0 ≡ 0 → Describes there (answered (requests.Finish code) answer m)
+Passes helpers.QueueInfo d there =
+    (address : ℕ) (m : MachineState) (answer : Answer) → Describes d m → register m R1 ≡ Some address →
+    IsAnswer m (requests.QueueInfo address) answer → Describes there (answered (requests.QueueInfo address) answer m)
+Passes helpers.Trace d there =
+    (address : ℕ) (bytes : List ℕ) (m : MachineState) (answer : Answer) → Describes d m → answer.r0 ≡ 0 →
+    Describes there (answered (requests.Trace address bytes) answer m)
+Passes helper d there = Unit {0}
 
 -- the registers after a call
 abbrev pub after_call_kinds : List Kind → Kind → List Kind
 after_call_kinds registers r0 = r0 ∷ replicate 5 Unwritten ++ drop 6 registers
 
--- what is known after the calls of which it is said
-pub record LeavesRegisters (d there : Description) : Type 0 where
-  pub registers : (reg : Reg) → 6 ≤ number_of reg → StaysKnown (kind_at d reg) (kind_at there reg)
+-- the answer is in R0, and all else but R1 to R5 is known as before
+pub record LeavesAnswer (kind : Kind) (d there : Description) : Type 0 where
+  pub r0 : kind_at there R0 ≡ kind
+  pub registers : (reg : Reg) → 6 ≤ number_of reg → kind_at there reg ≡ kind_at d reg
   pub stack : there.stack ≡ d.stack
+  pub held : there.held ≡ d.held
+  pub disposal : there.disposed ≡ d.disposed
 
--- and where stack bytes are written
-pub record LeavesWritten (d there : Description) : Type 0 where
+-- what every call keeps: R6 to R10, but for freezes, and which stack bytes are written
+pub record KeepsOver (d there : Description) : Type 0 where
+  pub registers : (reg : Reg) → 6 ≤ number_of reg → (IsFreeze (kind_at d reg) → ⊥) → kind_at there reg ≡ kind_at d reg
   pub depth : length there.stack ≡ length d.stack
   pub known : (frame at : ℕ) → Knows d.stack frame at → Knows there.stack frame at
-  pub information : LeavesInformation d there
-
-abbrev pub LeavesOverCall : Helper → Description → Description → Type 0
-LeavesOverCall helpers.Release d there = LeavesRegisters d there × (there.held ≡ Nothing) × (there.disposed ≡ d.disposed)
-LeavesOverCall helpers.Requeue d there = LeavesRegisters d there × (there.held ≡ d.held) × (there.disposed ≡ true)
-LeavesOverCall helpers.QueueInfo d there = LeavesZero d there × LeavesWritten d there
-LeavesOverCall helpers.Trace d there = LeavesZero d there × (there.stack ≡ d.stack)
-LeavesOverCall helper d there = Unit {0}

@@ -1,7 +1,7 @@
 -- How a cause is printed: its code.
 use Rattle.std.specs.Prelude.{ℕ, List, codes}
 use Rattle.reg_domain.specs.declared.cause.Cause.{Cause}
-use Rattle.reg_domain.specs.declared.cause.Cause.TheVariants.{UnwrittenRegister, UnwrittenByte, AccessOutside, StoreToContext, AddressAsNumber, UnknownHelper, ArgumentAgainstRule, FreezeHeld, NotDisposed, DisposedTwice, PathsDisagree, AddressStored, NoResult}
+use Rattle.reg_domain.specs.declared.cause.Cause.TheVariants.{UnwrittenRegister, UnwrittenByte, AccessOutside, StoreToContext, AddressAsNumber, UnknownHelper, ArgumentAgainstRule, FreezeHeld, NotDisposed, DisposedTwice, PathsDisagree, TooManyFreezes, AddressStored, NoResult}
 
 abbrev pub cause_text : Cause → List ℕ
 cause_text UnwrittenRegister = codes "V1"
@@ -15,5 +15,6 @@ cause_text FreezeHeld = codes "V8"
 cause_text NotDisposed = codes "V9"
 cause_text DisposedTwice = codes "V10"
 cause_text PathsDisagree = codes "V11"
+cause_text TooManyFreezes = codes "V12"
 cause_text AddressStored = codes "V13"
 cause_text NoResult = codes "V14"

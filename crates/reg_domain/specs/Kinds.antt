@@ -1,4 +1,4 @@
--- What a kind says of a register, where the freeze of the run's start has that number, or is 0.
+-- What a kind says of a register, where the names of freezes stand for these numbers.
 use Rattle.std.specs.Prelude.{◌≡◌, ℕ, ◌+◌, ◌<◌, ◌≤◌, Option, Some, ⊤, ◌^◌}
 use Rattle.scalar_domain.specs.declared.scalars.Scalar.{Scalar}
 use Rattle.scalar_domain.specs.Scalar.{Has}
@@ -7,10 +7,9 @@ use Rattle.bpf_machine.specs.Frames.{frame_start}
 use Rattle.reg_domain.specs.declared.region.Region.{Region}
 use Rattle.reg_domain.specs.declared.region.Region.TheVariants.{Context, Frame}
 use Rattle.reg_domain.specs.declared.region.Offsets.{Offsets}
-use Rattle.reg_domain.specs.declared.kind.Certainty.{Certainty}
-use Rattle.reg_domain.specs.declared.kind.Certainty.TheVariants.{Open, Sure}
 use Rattle.reg_domain.specs.declared.kind.Kind.{Kind}
 use Rattle.reg_domain.specs.declared.kind.Kind.TheVariants.{Unwritten, Number, Address, Freeze}
+use Rattle.reg_domain.specs.Freezes.{FreezeNumbers}
 
 -- where a region begins
 abbrev pub start_of : Region → ℕ
@@ -27,57 +26,67 @@ abbrev pub LiesAt : Region → Offsets → ℕ → Type 0
 LiesAt region offsets address =
     (offset : ℕ) × (address ≡ start_of region + offset) × (offsets.least ≤ offset) × (offset ≤ offsets.most) × (offset ≤ size_of region)
 
--- a freeze of which that is known
-abbrev pub IsCertain : Certainty → ℕ → Type 0
-IsCertain Open freeze = ⊤
-IsCertain Sure freeze = 0 < freeze
-
 -- what a kind says of a register
-abbrev pub HoldsKind : ℕ → Kind → Option ℕ → Type 0
-HoldsKind freeze Unwritten o = ⊤
-HoldsKind freeze (Number scalar) o = (word : ℕ) × (o ≡ Some word) × Has scalar word
-HoldsKind freeze (Address region offsets) o = (address : ℕ) × (o ≡ Some address) × LiesAt region offsets address
-HoldsKind freeze (Freeze certainty) o = (o ≡ Some freeze) × IsCertain certainty freeze
+abbrev pub HoldsKind : FreezeNumbers → Kind → Option ℕ → Type 0
+HoldsKind numbers Unwritten o = ⊤
+HoldsKind numbers (Number scalar) o = (word : ℕ) × (o ≡ Some word) × Has scalar word
+HoldsKind numbers (Address region offsets) o = (address : ℕ) × (o ≡ Some address) × LiesAt region offsets address
+HoldsKind numbers (Freeze name) o = (number : ℕ) × (o ≡ Some number) × (numbers name ≡ Some number)
+
+-- what it is lies from `least` to `most`
+abbrev pub LiesWithin : ℕ → ℕ → Kind → Type 0
+LiesWithin least most kind = (numbers : FreezeNumbers) (value : ℕ) → HoldsKind numbers kind (Some value) → (least ≤ value) × (value ≤ most)
 
 abbrev pub IsNumber : Kind → Type 0
 IsNumber Unwritten = ⊥
 IsNumber (Number scalar) = ⊤
 IsNumber (Address region offsets) = ⊥
-IsNumber (Freeze certainty) = ⊥
+IsNumber (Freeze name) = ⊥
 
 -- an address in that region
 abbrev pub LiesIn : Region → Kind → Type 0
 LiesIn region Unwritten = ⊥
 LiesIn region (Number scalar) = ⊥
 LiesIn region (Address other offsets) = other ≡ region
-LiesIn region (Freeze certainty) = ⊥
+LiesIn region (Freeze name) = ⊥
 
 abbrev pub IsWritten : Kind → Type 0
 IsWritten Unwritten = ⊥
 IsWritten (Number scalar) = ⊤
 IsWritten (Address region offsets) = ⊤
-IsWritten (Freeze certainty) = ⊤
+IsWritten (Freeze name) = ⊤
+
+-- a number, and whatever it is lies from `least` to `most`
+abbrev pub IsNumberWithin : ℕ → ℕ → Kind → Type 0
+IsNumberWithin least most kind = IsNumber kind × LiesWithin least most kind
 
 -- a number of which just that one is possible
 abbrev pub IsKnown : ℕ → Kind → Type 0
 IsKnown n Unwritten = ⊥
 IsKnown n (Number scalar) = (scalar.unsigned.least ≡ n) × (scalar.unsigned.most ≡ n)
 IsKnown n (Address region offsets) = ⊥
-IsKnown n (Freeze certainty) = ⊥
+IsKnown n (Freeze name) = ⊥
 
 -- a number, and none above that one is possible
 abbrev pub IsAtMost : ℕ → Kind → Type 0
 IsAtMost n Unwritten = ⊥
 IsAtMost n (Number scalar) = scalar.unsigned.most ≤ n
 IsAtMost n (Address region offsets) = ⊥
-IsAtMost n (Freeze certainty) = ⊥
+IsAtMost n (Freeze name) = ⊥
+
+-- a number, and none from that one on is possible
+abbrev pub IsBelow : ℕ → Kind → Type 0
+IsBelow n Unwritten = ⊥
+IsBelow n (Number scalar) = scalar.unsigned.most < n
+IsBelow n (Address region offsets) = ⊥
+IsBelow n (Freeze name) = ⊥
 
 -- a number, and none below the one or above the other is possible
 abbrev pub IsBetween : ℕ → ℕ → Kind → Type 0
 IsBetween least most Unwritten = ⊥
 IsBetween least most (Number scalar) = (least ≤ scalar.unsigned.least) × (scalar.unsigned.most ≤ most)
 IsBetween least most (Address region offsets) = ⊥
-IsBetween least most (Freeze certainty) = ⊥
+IsBetween least most (Freeze name) = ⊥
 
 -- an address at these offsets is in its region, or behind its last byte, where one of these numbers is added; the ends
 -- of a signed range are places in the order of signed words, where 0 is at 2 ^ 63

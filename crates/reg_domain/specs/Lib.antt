@@ -1,4 +1,6 @@
 pub mod CauseText
+pub mod HeldPlaces
+pub mod Freezes
 pub mod Kinds
 pub mod Computes
 pub mod Finds

@@ -5,6 +5,7 @@ ghost use Rattle.std.specs.Int.{w64, cast_unsigned};
 ghost use Rattle.bpf_machine.specs.Memory.{address_at};
 ghost use Rattle.reg_domain.specs.Accesses.{BeginsAt};
 ghost use Rattle.reg_domain.specs.Enough.{IsAt};
+ghost use Rattle.reg_domain.specs.Freezes.{FreezeNumbers};
 ghost use Rattle.reg_domain.specs.Kinds.{HoldsKind, LiesAt, size_of};
 
 use crate::cause::Cause;
@@ -25,7 +26,7 @@ pub struct Access {
 /// # Errors
 /// `UnwrittenRegister`, and `AccessOutside` where the register has no address or a byte may lie outside its region.
 pub fn accessed(base: Kind, offset: i16, bytes: u16) -> Result<Access, Cause>
-    ensures address { IfOk result (λ access. (freeze : ℕ) (o : Option ℕ) → HoldsKind freeze base o → (start : ℕ) × (o ≡ Some start) × LiesAt access.region access.offsets (address_at start offset)) }
+    ensures address { IfOk result (λ access. (numbers : FreezeNumbers) (o : Option ℕ) → HoldsKind numbers base o → (start : ℕ) × (o ≡ Some start) × LiesAt access.region access.offsets (address_at start offset)) }
     ensures inside { IfOk result (λ access. access.offsets.most + bytes ≤ size_of access.region) }
     ensures unwritten { (base ≡ Kind.Unwritten) ↔ (result ≡ Err Cause.UnwrittenRegister) }
     ensures known { (region : Region) (at : ℕ) → IsAt region at base → address_at at offset + bytes ≤ size_of region → IsOkAnd result (BeginsAt region (address_at at offset)) }

@@ -7,6 +7,7 @@ ghost use Rattle.std.specs.Int.{w64};
 ghost use Rattle.bpf_machine.specs.Words.{alu_of, low};
 ghost use Rattle.scalar_domain.specs.Scalar.{Has};
 ghost use Rattle.reg_domain.specs.Computes.{CombinesKind};
+ghost use Rattle.reg_domain.specs.Freezes.{FreezeNumbers};
 ghost use Rattle.reg_domain.specs.Kinds.{HoldsKind, IsNumber, LiesAt, LiesIn, StaysAhead, StaysBehind};
 
 use crate::cause::Cause;
@@ -22,7 +23,7 @@ pub(crate) fn number_plus(
     number: Scalar,
     second: Kind,
 ) -> Result<Kind, Cause>
-    ensures means { IfOk result (λ kind. (freeze : ℕ) → CombinesKind freeze (alu_of width op) (Kind.Number number) second kind) }
+    ensures means { IfOk result (λ kind. (numbers : FreezeNumbers) → CombinesKind numbers (alu_of width op) (Kind.Number number) second kind) }
     ensures sums { (region : Region) (offsets : Offsets) → width ≡ Bits64 → op ≡ Add → second ≡ Kind.Address region offsets → StaysAhead region offsets number → IsOkAnd result (LiesIn region) }
     ensures unwritten { second ≡ Kind.Unwritten → result ≡ Err Cause.UnwrittenRegister }
     ensures numbers { IsNumber second → IsOkAnd result IsNumber }
@@ -42,7 +43,7 @@ fn plus_address(
     region: Region,
     offsets: Offsets,
 ) -> Result<Kind, Cause>
-    ensures means { IfOk result (λ kind. (freeze : ℕ) → CombinesKind freeze (alu_of width op) (Kind.Number number) (Kind.Address region offsets) kind) }
+    ensures means { IfOk result (λ kind. (numbers : FreezeNumbers) → CombinesKind numbers (alu_of width op) (Kind.Number number) (Kind.Address region offsets) kind) }
     ensures sums { width ≡ Bits64 → op ≡ Add → StaysAhead region offsets number → IsOkAnd result (LiesIn region) }
 {
     match width {
@@ -62,7 +63,7 @@ pub(crate) fn address_plus(
     offsets: Offsets,
     second: Kind,
 ) -> Result<Kind, Cause>
-    ensures means { IfOk result (λ kind. (freeze : ℕ) → CombinesKind freeze (alu_of width op) (Kind.Address region offsets) second kind) }
+    ensures means { IfOk result (λ kind. (numbers : FreezeNumbers) → CombinesKind numbers (alu_of width op) (Kind.Address region offsets) second kind) }
     ensures sums { (number : Scalar) → width ≡ Bits64 → op ≡ Add → second ≡ Kind.Number number → StaysAhead region offsets number → IsOkAnd result (LiesIn region) }
     ensures differences { (number : Scalar) → width ≡ Bits64 → op ≡ Sub → second ≡ Kind.Number number → StaysBehind region offsets number → IsOkAnd result (LiesIn region) }
     ensures unwritten { second ≡ Kind.Unwritten → result ≡ Err Cause.UnwrittenRegister }
@@ -81,7 +82,7 @@ fn address_and_number(
     offsets: Offsets,
     number: Scalar,
 ) -> Result<Kind, Cause>
-    ensures means { IfOk result (λ kind. (freeze : ℕ) → CombinesKind freeze (alu_of width op) (Kind.Address region offsets) (Kind.Number number) kind) }
+    ensures means { IfOk result (λ kind. (numbers : FreezeNumbers) → CombinesKind numbers (alu_of width op) (Kind.Address region offsets) (Kind.Number number) kind) }
     ensures sums { width ≡ Bits64 → op ≡ Add → StaysAhead region offsets number → IsOkAnd result (LiesIn region) }
     ensures differences { width ≡ Bits64 → op ≡ Sub → StaysBehind region offsets number → IsOkAnd result (LiesIn region) }
 {
@@ -97,7 +98,7 @@ fn address_and_number(
 
 // An address plus a number.
 fn ahead(region: Region, offsets: Offsets, number: Scalar) -> Result<Kind, Cause>
-    ensures means { IfOk result (λ kind. (freeze address word : ℕ) → LiesAt region offsets address → Has number word → HoldsKind freeze kind (Some (low w64 (address + word)))) }
+    ensures means { IfOk result (λ kind. (numbers : FreezeNumbers) (address word : ℕ) → LiesAt region offsets address → Has number word → HoldsKind numbers kind (Some (low w64 (address + word)))) }
     ensures stays { StaysAhead region offsets number → IsOkAnd result (LiesIn region) }
 {
     match offsets.advanced(region, number) {
@@ -108,7 +109,7 @@ fn ahead(region: Region, offsets: Offsets, number: Scalar) -> Result<Kind, Cause
 
 // An address minus a number.
 fn behind(region: Region, offsets: Offsets, number: Scalar) -> Result<Kind, Cause>
-    ensures means { IfOk result (λ kind. (freeze address word : ℕ) → LiesAt region offsets address → Has number word → HoldsKind freeze kind (Some (low w64 (address + (2 ^ 64 - word))))) }
+    ensures means { IfOk result (λ kind. (numbers : FreezeNumbers) (address word : ℕ) → LiesAt region offsets address → Has number word → HoldsKind numbers kind (Some (low w64 (address + (2 ^ 64 - word))))) }
     ensures stays { StaysBehind region offsets number → IsOkAnd result (LiesIn region) }
 {
     match offsets.receded(region, number) {

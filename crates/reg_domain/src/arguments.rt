@@ -5,16 +5,18 @@ ghost use Rattle.std.specs.Prelude.{◌≡◌, ◌↔◌, ℕ, ◌+◌, ◌<◌,
 ghost use Rattle.bpf_insn.specs.declared.reg.Reg.TheVariants.{R1, R2, R3};
 ghost use Rattle.bpf_machine.specs.Calls.{argument};
 ghost use Rattle.bpf_machine.specs.MachineState.{MachineState};
-ghost use Rattle.reg_domain.specs.declared.kind.Certainty.TheVariants.{Sure};
-ghost use Rattle.reg_domain.specs.Arguments.{AllFit, Fits, FitsAny, HasBytes, HasRoom, HasWords, LiesBelow, LiesWithin};
+ghost use Rattle.reg_domain.specs.Arguments.{AllFit, AllSuit, AreKnownOf, Fits, FitsAny, HasBytes, HasRoom, HasWords, IsKnownOf, LiesBelow, Shows, ShowsAny, Suits, SuitsAny};
+ghost use Rattle.reg_domain.specs.Calls.{IsSureFreeze};
 ghost use Rattle.reg_domain.specs.Description.{DescribesWith, kind_at};
 ghost use Rattle.reg_domain.specs.declared.region.Region.TheVariants.{Frame};
 ghost use Rattle.reg_domain.specs.Enough.{AreToldBytes, IsPlace, IsWrittenPlace};
-ghost use Rattle.reg_domain.specs.Kinds.{HoldsKind, IsAtMost, IsBetween, IsWritten};
+ghost use Rattle.reg_domain.specs.Freezes.{FreezeNumbers};
+ghost use Rattle.reg_domain.specs.Kinds.{HoldsKind, IsBelow, IsBetween, IsKnown, LiesWithin};
 
 use crate::cause::Cause;
-use crate::description::{Description, Held};
-use crate::kind::{Certainty, Kind};
+use crate::description::Description;
+use crate::held::Certainty;
+use crate::kind::Kind;
 use crate::region::{Offsets, Region};
 use bpf_insn::Reg;
 use helpers::{Asked, Asks, HelperLimits};
@@ -34,14 +36,10 @@ pub struct Known {
 impl Description {
     /// What is known of the arguments of a helper that asks this.
     pub(crate) fn arguments(&self, asks: Asks) -> Known
-        ensures first { (freeze : ℕ) (m : MachineState) → DescribesWith freeze self.now m → HoldsKind freeze result.first (argument m asks.first R1) }
-        ensures second { (freeze : ℕ) (m : MachineState) → DescribesWith freeze self.now m → HoldsKind freeze result.second (argument m asks.second R2) }
-        ensures third { (freeze : ℕ) (m : MachineState) → DescribesWith freeze self.now m → HoldsKind freeze result.third (argument m asks.third R3) }
-        ensures asked { asks.first ≡ None → IsWritten result.first }
-        ensures is_first { (asked : Asked) → asks.first ≡ Some asked → result.first ≡ kind_at self.now R1 }
-        ensures is_second { (asked : Asked) → asks.second ≡ Some asked → result.second ≡ kind_at self.now R2 }
-        ensures no_second { asks.second ≡ None → IsWritten result.second }
-        ensures no_third { asks.third ≡ None → IsWritten result.third }
+        ensures first { (numbers : FreezeNumbers) (m : MachineState) → DescribesWith numbers self.now m → HoldsKind numbers result.first (argument m asks.first R1) }
+        ensures second { (numbers : FreezeNumbers) (m : MachineState) → DescribesWith numbers self.now m → HoldsKind numbers result.second (argument m asks.second R2) }
+        ensures third { (numbers : FreezeNumbers) (m : MachineState) → DescribesWith numbers self.now m → HoldsKind numbers result.third (argument m asks.third R3) }
+        ensures known { AreKnownOf self.now asks result }
     {
         Known {
             first: self.argument(asks.first, Reg::R1),
@@ -52,9 +50,8 @@ impl Description {
 
     // What is known of an argument; one that the helper does not take counts as 0.
     fn argument(&self, asked: Option<Asked>, reg: Reg) -> Kind
-        ensures holds { (freeze : ℕ) (m : MachineState) → DescribesWith freeze self.now m → HoldsKind freeze result (argument m asked reg) }
-        ensures not_taken { asked ≡ None → IsWritten result }
-        ensures taken { (some : Asked) → asked ≡ Some some → result ≡ kind_at self.now reg }
+        ensures holds { (numbers : FreezeNumbers) (m : MachineState) → DescribesWith numbers self.now m → HoldsKind numbers result (argument m asked reg) }
+        ensures known { IsKnownOf asked (kind_at self.now reg) result }
     {
         match asked {
             Some(_) => self.kind(reg),
@@ -73,12 +70,8 @@ impl Description {
         known: &Known,
     ) -> Result<(), Cause>
         ensures fit { IfOk result (λ _. AllFit limits.now self.now asks known.now) }
-        ensures freeze { IfOk result (λ _. asks.first ≡ Some Asked.HeldFreeze → (known.now.first ≡ Kind.Freeze Sure) × (self.now.held ≡ Held.Sure)) }
-        ensures gives_back { asks.first ≡ Some Asked.HeldFreeze → asks.second ≡ None → asks.third ≡ None → known.now.first ≡ Kind.Freeze Sure → self.now.held ≡ Held.Sure → IsWritten known.now.second → IsWritten known.now.third → IsOk result }
-        ensures place { IfOk result (λ _. (bytes : ℕ) → asks.first ≡ Some (Asked.Room bytes) → IsPlace self.now bytes known.now.first) }
-        ensures informs { (bytes : ℕ) → asks.first ≡ Some (Asked.Room bytes) → asks.second ≡ None → asks.third ≡ None → IsPlace self.now bytes known.now.first → IsWritten known.now.second → IsWritten known.now.third → IsOk result }
-        ensures traces { (least most : ℕ) → asks.first ≡ Some Asked.Bytes → asks.second ≡ Some (Asked.Within least most) → asks.third ≡ None → AreToldBytes self.now known.now.first known.now.second → IsBetween least most known.now.second → IsWritten known.now.third → IsOk result }
-        ensures requeues { (most : ℕ) → asks.first ≡ Some (Asked.Within 0 most) → asks.second ≡ None → asks.third ≡ None → IsAtMost most known.now.first → IsWritten known.now.second → IsWritten known.now.third → IsOk result }
+        ensures shows { IfOk result (λ _. ShowsAny self.now asks.first known.now.first) }
+        ensures suit { AllSuit limits.now self.now asks known.now → IsOk result }
     {
         if !(known.first.is_written() && known.second.is_written() && known.third.is_written()) {
             return Err(Cause::UnwrittenRegister);
@@ -97,14 +90,8 @@ impl Description {
         kind: Kind,
     ) -> Result<(), Cause>
         ensures fits { IfOk result (λ _. FitsAny limits.now self.now known.now asked kind) }
-        ensures freeze { IfOk result (λ _. asked ≡ Some Asked.HeldFreeze → (kind ≡ Kind.Freeze Sure) × (self.now.held ≡ Held.Sure)) }
-        ensures place { IfOk result (λ _. (bytes : ℕ) → asked ≡ Some (Asked.Room bytes) → IsPlace self.now bytes kind) }
-        ensures room { (bytes : ℕ) → asked ≡ Some (Asked.Room bytes) → IsPlace self.now bytes kind → IsOk result }
-        ensures between { (least most : ℕ) → asked ≡ Some (Asked.Within least most) → IsBetween least most kind → IsOk result }
-        ensures told { asked ≡ Some Asked.Bytes → AreToldBytes self.now kind known.now.second → IsOk result }
-        ensures not_taken { asked ≡ None → IsOk result }
-        ensures sure { asked ≡ Some Asked.HeldFreeze → kind ≡ Kind.Freeze Sure → self.now.held ≡ Held.Sure → IsOk result }
-        ensures within { (most : ℕ) → asked ≡ Some (Asked.Within 0 most) → IsAtMost most kind → IsOk result }
+        ensures shows { IfOk result (λ _. ShowsAny self.now asked kind) }
+        ensures suits { SuitsAny limits.now self.now known.now asked kind → IsOk result }
     {
         match asked {
             Some(asked) => self.check_argument(limits, known, asked, kind),
@@ -121,13 +108,8 @@ impl Description {
         kind: Kind,
     ) -> Result<(), Cause>
         ensures fits { IfOk result (λ _. Fits limits.now self.now known.now asked kind) }
-        ensures freeze { IfOk result (λ _. asked ≡ Asked.HeldFreeze → (kind ≡ Kind.Freeze Sure) × (self.now.held ≡ Held.Sure)) }
-        ensures place { IfOk result (λ _. (bytes : ℕ) → asked ≡ Asked.Room bytes → IsPlace self.now bytes kind) }
-        ensures room { (bytes : ℕ) → asked ≡ Asked.Room bytes → IsPlace self.now bytes kind → IsOk result }
-        ensures between { (least most : ℕ) → asked ≡ Asked.Within least most → IsBetween least most kind → IsOk result }
-        ensures told { asked ≡ Asked.Bytes → AreToldBytes self.now kind known.now.second → IsOk result }
-        ensures sure { asked ≡ Asked.HeldFreeze → kind ≡ Kind.Freeze Sure → self.now.held ≡ Held.Sure → IsOk result }
-        ensures within { (most : ℕ) → asked ≡ Asked.Within 0 most → IsAtMost most kind → IsOk result }
+        ensures shows { IfOk result (λ _. Shows self.now asked kind) }
+        ensures suits { Suits limits.now self.now known.now asked kind → IsOk result }
     {
         match asked {
             Asked::Bytes => self.check_bytes(kind, known.second),
@@ -138,12 +120,8 @@ impl Description {
     // Whether an argument is as asked, where it is not the address of bytes that are read.
     fn is_fit(&self, limits: &HelperLimits, known: &Known, asked: Asked, kind: Kind) -> bool
         ensures fits { IsTrue result → Fits limits.now self.now known.now asked kind }
-        ensures freeze { IsTrue result → asked ≡ Asked.HeldFreeze → (kind ≡ Kind.Freeze Sure) × (self.now.held ≡ Held.Sure) }
-        ensures place { IsTrue result → (bytes : ℕ) → asked ≡ Asked.Room bytes → IsPlace self.now bytes kind }
-        ensures room { (bytes : ℕ) → asked ≡ Asked.Room bytes → IsPlace self.now bytes kind → IsTrue result }
-        ensures between { (least most : ℕ) → asked ≡ Asked.Within least most → IsBetween least most kind → IsTrue result }
-        ensures sure { asked ≡ Asked.HeldFreeze → kind ≡ Kind.Freeze Sure → self.now.held ≡ Held.Sure → IsTrue result }
-        ensures within { (most : ℕ) → asked ≡ Asked.Within 0 most → IsAtMost most kind → IsTrue result }
+        ensures shows { IsTrue result → Shows self.now asked kind }
+        ensures suits { (asked ≡ Asked.Bytes → ⊥) → Suits limits.now self.now known.now asked kind → IsTrue result }
     {
         match asked {
             Asked::Queue => kind.lies_below(u64::from(limits.queues)),
@@ -157,11 +135,14 @@ impl Description {
         }
     }
 
-    // Whether it is the freeze, and is sure to be held.
+    // Whether it is a freeze that is held, and sure not to be 0.
     fn is_sure_freeze(&self, kind: Kind) -> bool
-        ensures { IsTrue result ↔ ((kind ≡ Kind.Freeze Sure) × (self.now.held ≡ Held.Sure)) }
+        ensures { IsTrue result ↔ IsSureFreeze self.now kind }
     {
-        kind == Kind::Freeze(Certainty::Sure) && self.held == Held::Sure
+        match kind {
+            Kind::Freeze(name) => self.held.certainty(name) == Some(Certainty::Sure),
+            Kind::Unwritten | Kind::Number(_) | Kind::Address(_, _) => false,
+        }
     }
 
     // Whether so many bytes lie in one live frame, wherever the address is.
@@ -258,7 +239,6 @@ impl Kind {
     // Whether it is a number in this range, both ends included.
     fn lies_within(self, least: u64, most: u64) -> bool
         ensures means { IsTrue result → LiesWithin least most self }
-        ensures from_0 { least ≡ 0 → IsAtMost most self → IsTrue result }
         ensures between { IsBetween least most self → IsTrue result }
     {
         match self {
@@ -269,7 +249,8 @@ impl Kind {
 
     // Whether it is a number below this one.
     fn lies_below(self, bound: u64) -> bool
-        ensures { IsTrue result → LiesBelow bound self }
+        ensures means { IsTrue result → LiesBelow bound self }
+        ensures below { IsBelow bound self → IsTrue result }
     {
         match self {
             Kind::Number(scalar) => scalar.most() < bound,
@@ -292,7 +273,8 @@ fn told(is_fit: bool) -> Result<(), Cause>
 
 // How many words a table has that is known by one number, and 0 where it is not known or not there.
 fn words_of(lengths: &[u16], table: Kind) -> u64
-    ensures { HasWords lengths.now table result }
+    ensures words { HasWords lengths.now table result }
+    ensures known { (number : ℕ) → IsKnown number table → result ≡ slice_index_or lengths.now number 0 }
 {
     match table.known() {
         Some(number) => length_of(lengths, number),

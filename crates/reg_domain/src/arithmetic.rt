@@ -7,6 +7,7 @@ ghost use Rattle.bpf_machine.specs.Words.{alu_of, in_place, reads_dst, sign_exte
 ghost use Rattle.reg_domain.specs.declared.region.Region.{Region};
 ghost use Rattle.reg_domain.specs.declared.region.Offsets.{Offsets};
 ghost use Rattle.reg_domain.specs.Computes.{ComputesKind, CombinesKind, ChangesKind};
+ghost use Rattle.reg_domain.specs.Freezes.{FreezeNumbers};
 ghost use Rattle.reg_domain.specs.Kinds.{HoldsKind, IsNumber, IsWritten, LiesIn, StaysAhead, StaysBehind};
 
 use crate::addresses::{address_plus, number_plus};
@@ -22,7 +23,7 @@ use scalar_domain::{Scalar, alu, extend, in_place};
 /// `UnwrittenRegister` where an operand that is read may be unwritten, `AccessOutside` where an address may leave its
 /// region, and `AddressAsNumber` for all else that is computed with an address or a freeze.
 pub fn computed(width: Width, op: AluOp, first: Kind, second: Kind) -> Result<Kind, Cause>
-    ensures means { IfOk result (λ kind. (freeze : ℕ) → ComputesKind freeze width op first second kind) }
+    ensures means { IfOk result (λ kind. (numbers : FreezeNumbers) → ComputesKind numbers width op first second kind) }
     ensures sums { (region : Region) (offsets : Offsets) (number : Scalar) → width ≡ Bits64 → op ≡ Add → first ≡ Kind.Address region offsets → second ≡ Kind.Number number → StaysAhead region offsets number → IsOkAnd result (LiesIn region) }
     ensures turned_sums { (region : Region) (offsets : Offsets) (number : Scalar) → width ≡ Bits64 → op ≡ Add → first ≡ Kind.Number number → second ≡ Kind.Address region offsets → StaysAhead region offsets number → IsOkAnd result (LiesIn region) }
     ensures differences { (region : Region) (offsets : Offsets) (number : Scalar) → width ≡ Bits64 → op ≡ Sub → first ≡ Kind.Address region offsets → second ≡ Kind.Number number → StaysBehind region offsets number → IsOkAnd result (LiesIn region) }
@@ -43,7 +44,7 @@ pub fn computed(width: Width, op: AluOp, first: Kind, second: Kind) -> Result<Ki
 /// # Errors
 /// `UnwrittenRegister`, and `AddressAsNumber` where it is no number.
 pub fn changed(op: InPlaceOp, kind: Kind) -> Result<Kind, Cause>
-    ensures means { IfOk result (λ changed. (freeze : ℕ) → ChangesKind freeze (in_place op) kind changed) }
+    ensures means { IfOk result (λ changed. (numbers : FreezeNumbers) → ChangesKind numbers (in_place op) kind changed) }
     ensures unwritten { kind ≡ Kind.Unwritten → result ≡ Err Cause.UnwrittenRegister }
     ensures numbers { IsNumber kind → IsOkAnd result IsNumber }
 {
@@ -59,7 +60,7 @@ pub fn changed(op: InPlaceOp, kind: Kind) -> Result<Kind, Cause>
 /// # Errors
 /// `UnwrittenRegister`, and `AddressAsNumber` where it is no number.
 pub fn extended(extension: SignExtension, kind: Kind) -> Result<Kind, Cause>
-    ensures means { IfOk result (λ changed. (freeze : ℕ) → ChangesKind freeze (sign_extended extension) kind changed) }
+    ensures means { IfOk result (λ changed. (numbers : FreezeNumbers) → ChangesKind numbers (sign_extended extension) kind changed) }
     ensures unwritten { kind ≡ Kind.Unwritten → result ≡ Err Cause.UnwrittenRegister }
     ensures numbers { IsNumber kind → IsOkAnd result IsNumber }
 {
@@ -80,7 +81,7 @@ fn reads_first(op: AluOp) -> bool
 // What a move makes of its operand.
 fn moved(width: Width, op: AluOp, second: Kind) -> Result<Kind, Cause>
     requires { reads_dst op ≡ false }
-    ensures means { IfOk result (λ kind. (freeze : ℕ) (first : Kind) → ComputesKind freeze width op first second kind) }
+    ensures means { IfOk result (λ kind. (numbers : FreezeNumbers) (first : Kind) → ComputesKind numbers width op first second kind) }
     ensures unwritten { second ≡ Kind.Unwritten → result ≡ Err Cause.UnwrittenRegister }
     ensures numbers { IsNumber second → IsOkAnd result IsNumber }
     ensures moves { width ≡ Bits64 → IsWritten second → result ≡ Ok second }
@@ -94,7 +95,7 @@ fn moved(width: Width, op: AluOp, second: Kind) -> Result<Kind, Cause>
 // What a move of 32 bits makes of its operand.
 fn moved_low(op: AluOp, second: Kind) -> Result<Kind, Cause>
     requires { reads_dst op ≡ false }
-    ensures means { IfOk result (λ kind. (freeze : ℕ) (first : Kind) → ComputesKind freeze Bits32 op first second kind) }
+    ensures means { IfOk result (λ kind. (numbers : FreezeNumbers) (first : Kind) → ComputesKind numbers Bits32 op first second kind) }
     ensures unwritten { second ≡ Kind.Unwritten → result ≡ Err Cause.UnwrittenRegister }
     ensures numbers { IsNumber second → IsOkAnd result IsNumber }
 {
@@ -107,7 +108,7 @@ fn moved_low(op: AluOp, second: Kind) -> Result<Kind, Cause>
 // What a move of 64 bits makes of its operand.
 fn moved_whole(op: AluOp, second: Kind) -> Result<Kind, Cause>
     requires { reads_dst op ≡ false }
-    ensures means { IfOk result (λ kind. (freeze : ℕ) (first : Kind) → ComputesKind freeze Bits64 op first second kind) }
+    ensures means { IfOk result (λ kind. (numbers : FreezeNumbers) (first : Kind) → ComputesKind numbers Bits64 op first second kind) }
     ensures unwritten { second ≡ Kind.Unwritten → result ≡ Err Cause.UnwrittenRegister }
     ensures numbers { IsNumber second → IsOkAnd result IsNumber }
     ensures moves { IsWritten second → result ≡ Ok second }
@@ -121,7 +122,7 @@ fn moved_whole(op: AluOp, second: Kind) -> Result<Kind, Cause>
 
 // What any other operation makes of two operands.
 fn combined(width: Width, op: AluOp, first: Kind, second: Kind) -> Result<Kind, Cause>
-    ensures means { IfOk result (λ kind. (freeze : ℕ) → CombinesKind freeze (alu_of width op) first second kind) }
+    ensures means { IfOk result (λ kind. (numbers : FreezeNumbers) → CombinesKind numbers (alu_of width op) first second kind) }
     ensures sums { (region : Region) (offsets : Offsets) (number : Scalar) → width ≡ Bits64 → op ≡ Add → first ≡ Kind.Address region offsets → second ≡ Kind.Number number → StaysAhead region offsets number → IsOkAnd result (LiesIn region) }
     ensures turned_sums { (region : Region) (offsets : Offsets) (number : Scalar) → width ≡ Bits64 → op ≡ Add → first ≡ Kind.Number number → second ≡ Kind.Address region offsets → StaysAhead region offsets number → IsOkAnd result (LiesIn region) }
     ensures differences { (region : Region) (offsets : Offsets) (number : Scalar) → width ≡ Bits64 → op ≡ Sub → first ≡ Kind.Address region offsets → second ≡ Kind.Number number → StaysBehind region offsets number → IsOkAnd result (LiesIn region) }

@@ -1,105 +1,144 @@
-// Helper calls where a machine is described. It relies on `arguments` for what is known of their arguments, and on
-// `helpers` for what is asked of them.
+// Helper calls where a machine is described. It relies on `arguments` for what is known of their arguments, on `freeze` for
+// freezes that are taken or given up, and on `helpers` for what is asked of arguments.
 
-ghost use Rattle.std.specs.Prelude.{◌≡◌, ◌↔◌, ℕ, false, IfOk, IsOk, IsOkAnd, IsTrue, slice_index_or};
-ghost use Rattle.bpf_insn.specs.declared.reg.Reg.{Reg};
-ghost use Rattle.bpf_insn.specs.declared.reg.Reg.TheVariants.{R1, R2};
-ghost use Rattle.bpf_insn.specs.Reg.{number_of};
-ghost use Rattle.bpf_machine.specs.MachineState.{MachineState};
-ghost use Rattle.bpf_machine.specs.Step.{after_call as called};
+ghost use Rattle.std.specs.Prelude.{◌≡◌, ◌↔◌, ◌<◌, ℕ, false, length, IfOk, IfSome, IsOk, IsOkAnd, IsTrue, None, Some};
+ghost use Rattle.bpf_insn.specs.declared.insn.Callee.TheVariants.{Helper as helper_call};
+ghost use Rattle.bpf_insn.specs.declared.insn.Insn.TheVariants.{Call};
+ghost use Rattle.bpf_insn.specs.declared.reg.Reg.TheVariants.{R1};
+ghost use Rattle.bpf_machine.specs.MachineState.{MachineState, register};
+ghost use Rattle.bpf_machine.specs.Step.{after_call as called, held_without};
 ghost use Rattle.helpers.specs.declared.helper.Helper.TheVariants as helpers;
-ghost use Rattle.reg_domain.specs.declared.kind.Certainty.TheVariants.{Sure};
-ghost use Rattle.reg_domain.specs.Calls.{CallFollows, CallIsNeverStuck, IsAnswered, IsReleased, LeavesOverCall, Obeys, Passes, after_call_kinds};
-ghost use Rattle.reg_domain.specs.Description.{DescribesWith, kind_at};
-ghost use Rattle.reg_domain.specs.Enough.{AreToldBytes, AsksQueue, GivesBack, IsPlace, LeavesCalled, LeavesInformation, LeavesZero, Requeues, Traces};
-ghost use Rattle.reg_domain.specs.Kinds.{IsAtMost, IsBetween};
+ghost use Rattle.helpers.specs.Table.{asks, helper_of};
+ghost use Rattle.reg_domain.specs.declared.freeze_name.FreezeName.TheVariants as names;
+ghost use Rattle.reg_domain.specs.Arguments.{RegistersSuit};
+ghost use Rattle.reg_domain.specs.Calls.{CallFollows, CallIsNeverStuck, IsAnswered, IsSureFreeze, KeepsOver, LeavesAnswer, MayPass, Obeys, Passes, RunMay, after_call_kinds};
+ghost use Rattle.reg_domain.specs.Description.{Describes, DescribesWith, kind_at};
+ghost use Rattle.reg_domain.specs.Enough.{EnoughToCall, IsPlace, LeavesCalled, LeavesFirstGivenUp, LeavesInformation, LeavesOver, LeavesTaken, LeavesZero, Takes};
+ghost use Rattle.reg_domain.specs.Freezes.{FreezeNumbers, certainty_of};
+ghost use Rattle.reg_domain.specs.Kinds.{HoldsKind};
 ghost use Rattle.reg_domain.specs.Memory.{ChangesStack, WritesFrom};
 
 use crate::cause::Cause;
-use crate::description::{Description, Held};
+use crate::description::Description;
+use crate::freeze_name::FreezeName;
 use crate::kind::Kind;
 use crate::region::Region;
 use bpf_insn::Reg;
+use bpf_machine::MAX_HELD;
 use helpers::{Helper, HelperLimits};
 use scalar_domain::Scalar;
 
 /// The most freezes that a queue can have once one is given back.
 const MOST_FROZEN_LEFT: u64 = 254;
 
+/// The greatest freeze.
+const GREATEST_FREEZE: u64 = 0xffff_ffff;
+
 /// How many bytes tell what a queue has.
 const INFORMATION_BYTES: u16 = 16;
 
 impl Description {
-    /// Calls the helper of that number under these limits.
+    /// Calls the helper of that number under these limits. A freeze that it takes is named by the place.
     ///
     /// # Errors
     /// `UnknownHelper`; `UnwrittenRegister` for an argument, and `ArgumentAgainstRule` for one that may not be as the
-    /// helper asks, or `UnwrittenByte`; `DisposedTwice`.
-    pub(crate) fn call(&mut self, limits: &HelperLimits, number: i32) -> Result<(), Cause>
+    /// helper asks, or `UnwrittenByte`; `DisposedTwice`, and `TooManyFreezes`.
+    pub(crate) fn call(
+        &mut self,
+        limits: &HelperLimits,
+        number: i32,
+        place: u32,
+    ) -> Result<(), Cause>
         ensures unstuck { IfOk result (λ _. CallIsNeverStuck limits.now number self.old) }
         ensures follows { IfOk result (λ _. CallFollows number self.old self.new) }
-        ensures gives_back { GivesBack self.old number → IsOkAnd result (λ _. LeavesCalled self.old number self.new) }
-        ensures requeues { Requeues self.old number → IsOkAnd result (λ _. LeavesCalled self.old number self.new) }
-        ensures informs { AsksQueue self.old number → IsOkAnd result (λ _. LeavesCalled self.old number self.new) }
-        ensures traces { Traces self.old number → IsOkAnd result (λ _. LeavesCalled self.old number self.new) }
+        ensures leaves { EnoughToCall number self.old → IsOkAnd result (λ _. LeavesCalled self.old number self.new) }
+        ensures takes { Takes limits.now self.old (Call (helper_call number)) place → IsOkAnd result (λ _. LeavesTaken (names.Call place) self.old self.new) }
     {
-        let Some(helper) = Helper::with_number(number) else {
+        let Some(helper) = answered_helper(number) else {
             return Err(Cause::UnknownHelper);
         };
-        if !is_answered(helper) {
-            return Err(Cause::UnknownHelper);
-        }
-        self.check_call(limits, helper)?;
-        self.pass(helper);
+        let name = FreezeName::Call(place);
+        self.check_call(limits, helper, name)?;
+        self.pass(helper, name);
         Ok(())
     }
 
-    // Whether a call of the helper meets its rule.
-    fn check_call(&self, limits: &HelperLimits, helper: Helper) -> Result<(), Cause>
+    // Whether a call of the helper meets its rule, where a freeze that it takes gets that name.
+    fn check_call(
+        &self,
+        limits: &HelperLimits,
+        helper: Helper,
+        name: FreezeName,
+    ) -> Result<(), Cause>
         ensures obeys { IfOk result (λ _. IsAnswered helper → Obeys limits.now self.now helper) }
-        ensures sure { IfOk result (λ _. helper ≡ helpers.Release → (kind_at self.now R1 ≡ Kind.Freeze Sure) × (self.now.held ≡ Held.Sure)) }
-        ensures place { IfOk result (λ _. helper ≡ helpers.QueueInfo → IsPlace self.now INFORMATION_BYTES (kind_at self.now R1)) }
-        ensures gives_back { helper ≡ helpers.Release → kind_at self.now R1 ≡ Kind.Freeze Sure → self.now.held ≡ Held.Sure → IsOk result }
-        ensures requeues { helper ≡ helpers.Requeue → IsAtMost 1 (kind_at self.now R1) → self.now.disposed ≡ false → IsOk result }
-        ensures informs { helper ≡ helpers.QueueInfo → IsPlace self.now INFORMATION_BYTES (kind_at self.now R1) → IsOk result }
-        ensures traces { helper ≡ helpers.Trace → IsBetween 1 64 (kind_at self.now R2) → AreToldBytes self.now (kind_at self.now R1) (kind_at self.now R2) → IsOk result }
+        ensures found { IfOk result (λ _. MayPass self.now name helper) }
+        ensures suits { RegistersSuit limits.now self.now (asks helper) → RunMay self.now name helper → IsOk result }
     {
         let asks = helper.asks();
         let known = self.arguments(asks);
         self.check_arguments(limits, asks, &known)?;
-        self.check_run(helper)
+        self.check_run(helper, name)
     }
 
     // Whether what the helper asks of the run is so.
-    fn check_run(&self, helper: Helper) -> Result<(), Cause>
-        ensures may { IfOk result (λ _. (helper ≡ helpers.Requeue → self.now.disposed ≡ false) × (helper ≡ helpers.Finish → self.now.disposed ≡ false)) }
-        ensures release { helper ≡ helpers.Release → IsOk result }
-        ensures queue_info { helper ≡ helpers.QueueInfo → IsOk result }
-        ensures trace { helper ≡ helpers.Trace → IsOk result }
-        ensures requeue { self.now.disposed ≡ false → IsOk result }
+    fn check_run(&self, helper: Helper, name: FreezeName) -> Result<(), Cause>
+        ensures { IsOk result ↔ RunMay self.now name helper }
     {
         match helper {
-            Helper::Requeue | Helper::Finish if self.disposed => Err(Cause::DisposedTwice),
-            _ => Ok(()),
+            Helper::Freeze => self.check_room(name),
+            Helper::Requeue => self.check_waits(),
+            Helper::Finish => self.check_waits(),
+            Helper::Release
+            | Helper::ReleaseAfter
+            | Helper::TableGet
+            | Helper::TablePut
+            | Helper::TableAdd
+            | Helper::QueueInfo
+            | Helper::Trace
+            | Helper::Now
+            | Helper::SetOpenings => Ok(()),
         }
     }
 
-    // After a call of a helper that is answered.
-    fn pass(&mut self, helper: Helper)
-        requires sure { helper ≡ helpers.Release → self.old.held ≡ Held.Sure }
-        requires place { helper ≡ helpers.QueueInfo → IsPlace self.old INFORMATION_BYTES (kind_at self.old R1) }
+    // Whether one freeze more may be held by this name. It is held by none: a path comes to its place once.
+    fn check_room(&self, name: FreezeName) -> Result<(), Cause>
+        ensures { IsOk result ↔ ((length self.now.held < MAX_HELD) × (certainty_of self.now.held name ≡ None)) }
+    {
+        if self.held.len() < MAX_HELD && self.held.certainty(name).is_none() {
+            Ok(())
+        } else {
+            Err(Cause::TooManyFreezes)
+        }
+    }
+
+    // Whether the CCB is not disposed of.
+    fn check_waits(&self) -> Result<(), Cause>
+        ensures { IsOk result ↔ (self.now.disposed ≡ false) }
+    {
+        if self.disposed {
+            Err(Cause::DisposedTwice)
+        } else {
+            Ok(())
+        }
+    }
+
+    // After a call of a helper that is answered, where a freeze that it took gets that name.
+    fn pass(&mut self, helper: Helper, name: FreezeName)
+        requires { MayPass self.old name helper }
         ensures passes { Passes helper self.old self.new }
-        ensures leaves { IsAnswered helper → LeavesOverCall helper self.old self.new }
+        ensures leaves { LeavesOver helper self.old self.new }
+        ensures keeps { IsAnswered helper → KeepsOver self.old self.new }
+        ensures takes { helper ≡ helpers.Freeze → LeavesTaken name self.old self.new }
     {
         match helper {
+            Helper::Freeze => self.take_freeze(name),
             Helper::Release => self.release(),
+            Helper::ReleaseAfter => self.release_after(),
             Helper::Requeue => self.requeue(),
+            Helper::Finish => self.finish(),
             Helper::QueueInfo => self.queue_info(),
-            Helper::Trace => self.answer_zero(),
-            Helper::Freeze
-            | Helper::ReleaseAfter
-            | Helper::Finish
-            | Helper::TableGet
+            Helper::Trace => self.trace(),
+            Helper::TableGet
             | Helper::TablePut
             | Helper::TableAdd
             | Helper::Now
@@ -107,22 +146,64 @@ impl Description {
         }
     }
 
-    // The freeze is given back, and its copies are no freeze any more.
-    fn release(&mut self)
-        requires { self.old.held ≡ Held.Sure }
-        ensures passes { Passes helpers.Release self.old self.new }
-        ensures leaves { LeavesOverCall helpers.Release self.old self.new }
+    // A freeze was taken, or none was got.
+    fn take_freeze(&mut self, name: FreezeName)
+        requires { MayPass self.old name helpers.Freeze }
+        ensures passes { Passes helpers.Freeze self.old self.new }
+        ensures keeps { KeepsOver self.old self.new }
+        ensures takes { LeavesTaken name self.old self.new }
     {
-        let copies = released(self.registers);
-        let count = Kind::Number(Scalar::within(0, MOST_FROZEN_LEFT));
-        self.registers = after_call(copies, count);
-        self.held = Held::Nothing;
+        self.hold(name);
+        self.answer(Kind::Freeze(name));
+    }
+
+    // The freeze is given back.
+    fn release(&mut self)
+        requires { IsSureFreeze self.old (kind_at self.old R1) }
+        ensures passes { Passes helpers.Release self.old self.new }
+        ensures leaves { LeavesOver helpers.Release self.old self.new }
+        ensures keeps { KeepsOver self.old self.new }
+    {
+        self.give_up_first();
+        self.answer(Kind::Number(Scalar::within(0, MOST_FROZEN_LEFT)));
+    }
+
+    // The freeze is handed over to a timer.
+    fn release_after(&mut self)
+        requires { IsSureFreeze self.old (kind_at self.old R1) }
+        ensures passes { Passes helpers.ReleaseAfter self.old self.new }
+        ensures leaves { LeavesOver helpers.ReleaseAfter self.old self.new }
+        ensures keeps { KeepsOver self.old self.new }
+    {
+        self.give_up_first();
+        self.answer_zero();
+    }
+
+    // The freeze that R1 holds is held no more, and its copies are no freeze any more.
+    fn give_up_first(&mut self)
+        requires { IsSureFreeze self.old (kind_at self.old R1) }
+        ensures kept { (freeze : ℕ) (m : MachineState) → Describes self.old m → register m R1 ≡ Some freeze → Describes self.new (record m { held = held_without m.held freeze }) }
+        ensures leaves { LeavesFirstGivenUp 0 self.old self.new }
+    {
+        match self.kind(Reg::R1) {
+            Kind::Freeze(name) => self.give_up(name, Scalar::within(1, GREATEST_FREEZE)),
+            Kind::Unwritten | Kind::Number(_) | Kind::Address(_, _) => {}
+        }
     }
 
     // The CCB waits again.
     fn requeue(&mut self)
         ensures passes { Passes helpers.Requeue self.old self.new }
-        ensures leaves { LeavesOverCall helpers.Requeue self.old self.new }
+        ensures leaves { LeavesOver helpers.Requeue self.old self.new }
+    {
+        self.answer_zero();
+        self.disposed = true;
+    }
+
+    // The CCB is finished.
+    fn finish(&mut self)
+        ensures passes { Passes helpers.Finish self.old self.new }
+        ensures leaves { LeavesOver helpers.Finish self.old self.new }
     {
         self.answer_zero();
         self.disposed = true;
@@ -132,7 +213,8 @@ impl Description {
     fn queue_info(&mut self)
         requires { IsPlace self.old INFORMATION_BYTES (kind_at self.old R1) }
         ensures passes { Passes helpers.QueueInfo self.old self.new }
-        ensures leaves { LeavesOverCall helpers.QueueInfo self.old self.new }
+        ensures leaves { LeavesOver helpers.QueueInfo self.old self.new }
+        ensures keeps { KeepsOver self.old self.new }
     {
         self.write_information();
         self.answer_zero();
@@ -156,12 +238,39 @@ impl Description {
         }
     }
 
+    // Bytes were put into the history.
+    fn trace(&mut self)
+        ensures passes { Passes helpers.Trace self.old self.new }
+        ensures leaves { LeavesOver helpers.Trace self.old self.new }
+    {
+        self.answer_zero();
+    }
+
     // R0 is 0, R1 to R5 are unwritten, and all else is as before.
     fn answer_zero(&mut self)
-        ensures passes { (freeze r0 : ℕ) (m : MachineState) → DescribesWith freeze self.old m → r0 ≡ 0 → DescribesWith freeze self.new (called m r0) }
+        ensures passes { (numbers : FreezeNumbers) (r0 : ℕ) (m : MachineState) → DescribesWith numbers self.old m → r0 ≡ 0 → DescribesWith numbers self.new (called m r0) }
         ensures leaves { LeavesZero self.old self.new × (self.new.stack ≡ self.old.stack) }
     {
-        self.registers = after_call(self.registers, Kind::exactly(0));
+        self.answer(Kind::exactly(0));
+    }
+
+    // R0 is that, R1 to R5 are unwritten, and all else is as before.
+    fn answer(&mut self, kind: Kind)
+        ensures passes { (numbers : FreezeNumbers) (r0 : ℕ) (m : MachineState) → DescribesWith numbers self.old m → HoldsKind numbers kind (Some r0) → DescribesWith numbers self.new (called m r0) }
+        ensures leaves { LeavesAnswer kind self.old self.new }
+    {
+        self.registers = after_call(self.registers, kind);
+    }
+}
+
+// The helper of that number, where it is answered.
+fn answered_helper(number: i32) -> Option<Helper>
+    ensures found { IfSome result (λ helper. (helper_of number ≡ Some helper) × IsAnswered helper) }
+    ensures all { (helper : Helper) → helper_of number ≡ Some helper → IsAnswered helper → result ≡ Some helper }
+{
+    match Helper::with_number(number) {
+        Some(helper) if is_answered(helper) => Some(helper),
+        _ => None,
     }
 }
 
@@ -169,17 +278,20 @@ impl Description {
 fn is_answered(helper: Helper) -> bool
     ensures { IsTrue result ↔ IsAnswered helper }
 {
-    matches!(
-        helper,
-        Helper::Release | Helper::Requeue | Helper::QueueInfo | Helper::Trace
-    )
-}
-
-// The registers where the freeze is given back.
-fn released(registers: [Kind; 11]) -> [Kind; 11]
-    ensures { (reg : Reg) → IsReleased (slice_index_or registers (number_of reg) Kind.Unwritten) (slice_index_or result (number_of reg) Kind.Unwritten) }
-{
-    registers.map(Kind::released)
+    match helper {
+        Helper::Freeze
+        | Helper::Release
+        | Helper::ReleaseAfter
+        | Helper::Requeue
+        | Helper::Finish
+        | Helper::QueueInfo
+        | Helper::Trace => true,
+        Helper::TableGet
+        | Helper::TablePut
+        | Helper::TableAdd
+        | Helper::Now
+        | Helper::SetOpenings => false,
+    }
 }
 
 // The registers after a call: R0 is the answer and R1 to R5 are unwritten.

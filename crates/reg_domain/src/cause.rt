@@ -27,8 +27,10 @@ pub enum Cause {
     NotDisposed,
     /// V10: the CCB is disposed of twice.
     DisposedTwice,
-    /// V11: joining paths disagree on the freeze held or on the CCB's disposal.
+    /// V11: joining paths disagree on the freezes held or on the CCB's disposal.
     PathsDisagree,
+    /// V12: a freeze is taken where as many as a run holds are held, or may be.
+    TooManyFreezes,
     /// V13: an address or a freeze is stored.
     AddressStored,
     /// V14: R0 at the exit is no number.
@@ -54,6 +56,7 @@ impl fmt::Display for Cause {
             Cause::NotDisposed => "V9",
             Cause::DisposedTwice => "V10",
             Cause::PathsDisagree => "V11",
+            Cause::TooManyFreezes => "V12",
             Cause::AddressStored => "V13",
             Cause::NoResult => "V14",
         })

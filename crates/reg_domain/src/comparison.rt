@@ -4,12 +4,13 @@ ghost use Rattle.std.specs.Prelude.{◌≡◌, ℕ, ◌==◌, true, false, not, 
 ghost use Rattle.bpf_machine.specs.Words.{holds_of};
 ghost use Rattle.bpf_insn.specs.declared.insn.Condition.TheVariants.{Equal, NotEqual};
 ghost use Rattle.bpf_insn.specs.declared.insn.Width.TheVariants.{Bits64};
-ghost use Rattle.reg_domain.specs.declared.kind.Certainty.TheVariants.{Sure};
-ghost use Rattle.reg_domain.specs.Finds.{Found, FindsWay, IsOfFreeze, IsOfNumbers};
-ghost use Rattle.reg_domain.specs.Kinds.{HoldsKind, IsCertain, IsKnown, IsNumber};
+ghost use Rattle.reg_domain.specs.Finds.{Found, FindsWay, IsOfNumbers, found_of};
+ghost use Rattle.reg_domain.specs.Freezes.{FreezeNumbers};
+ghost use Rattle.reg_domain.specs.Kinds.{HoldsKind, IsKnown, IsNumber};
 
 use crate::cause::Cause;
-use crate::kind::{Certainty, Kind};
+use crate::freeze_name::FreezeName;
+use crate::kind::Kind;
 use bpf_insn::{Condition, Width};
 use scalar_domain::{Scalar, narrow};
 
@@ -20,10 +21,10 @@ pub enum Finding {
     NoWay,
     /// Both are numbers, the first and the second one of these.
     Numbers(Scalar, Scalar),
-    /// The freeze of the run's start is 0.
-    FreezeIsZero,
+    /// The freeze of that name is 0.
+    FreezeIsZero(FreezeName),
     /// It is not 0.
-    FreezeIsSure,
+    FreezeIsSure(FreezeName),
 }
 
 /// What is found where the condition holds of what `first` and `second` say, or with `taken` false where it does not.
@@ -40,11 +41,9 @@ pub fn compared(
     second: Kind,
     is_constant: bool,
 ) -> Result<Finding, Cause>
-    ensures means { IfOk result (λ finding. (freeze : ℕ) → FindsWay freeze width condition taken first second finding) }
-    ensures equal { (certainty : Certainty) → first ≡ Kind.Freeze certainty → width ≡ Bits64 → is_constant ≡ true → IsKnown 0 second → condition ≡ Equal → IsOkAnd result (IsOfFreeze taken) }
-    ensures not_equal { (certainty : Certainty) → first ≡ Kind.Freeze certainty → width ≡ Bits64 → is_constant ≡ true → IsKnown 0 second → condition ≡ NotEqual → IsOkAnd result (IsOfFreeze (not taken)) }
-    ensures sure_equal { first ≡ Kind.Freeze Sure → width ≡ Bits64 → is_constant ≡ true → IsKnown 0 second → condition ≡ Equal → taken ≡ true → result ≡ Ok Finding.NoWay }
-    ensures sure_not_equal { first ≡ Kind.Freeze Sure → width ≡ Bits64 → is_constant ≡ true → IsKnown 0 second → condition ≡ NotEqual → taken ≡ false → result ≡ Ok Finding.NoWay }
+    ensures means { IfOk result (λ finding. (numbers : FreezeNumbers) → FindsWay numbers width condition taken first second finding) }
+    ensures equal { (name : FreezeName) → first ≡ Kind.Freeze name → width ≡ Bits64 → is_constant ≡ true → IsKnown 0 second → condition ≡ Equal → result ≡ Ok (found_of name taken) }
+    ensures not_equal { (name : FreezeName) → first ≡ Kind.Freeze name → width ≡ Bits64 → is_constant ≡ true → IsKnown 0 second → condition ≡ NotEqual → result ≡ Ok (found_of name (not taken)) }
     ensures unwritten { second ≡ Kind.Unwritten → result ≡ Err Cause.UnwrittenRegister }
     ensures unwritten_first { first ≡ Kind.Unwritten → result ≡ Err Cause.UnwrittenRegister }
     ensures numbers { IsNumber first → IsNumber second → IsOkAnd result IsOfNumbers }
@@ -53,9 +52,9 @@ pub fn compared(
         Kind::Unwritten => Err(Cause::UnwrittenRegister),
         Kind::Number(left) => number_compared(width, condition, taken, left, second),
         Kind::Address(_, _) => Err(second.as_number()),
-        Kind::Freeze(certainty) => {
+        Kind::Freeze(name) => {
             if is_zero_constant(second, is_constant) {
-                freeze_tested(width, condition, taken, certainty, second)
+                freeze_tested(width, condition, taken, name, second)
             } else {
                 Err(second.as_number())
             }
@@ -65,7 +64,7 @@ pub fn compared(
 
 // Whether it is the constant 0.
 fn is_zero_constant(kind: Kind, is_constant: bool) -> bool
-    ensures means { IsTrue result → (freeze : ℕ) (o : Option ℕ) → HoldsKind freeze kind o → o ≡ Some 0 }
+    ensures means { IsTrue result → (numbers : FreezeNumbers) (o : Option ℕ) → HoldsKind numbers kind o → o ≡ Some 0 }
     ensures number { IsTrue result → IsNumber kind }
     ensures exists { is_constant ≡ true → IsKnown 0 kind → IsTrue result }
 {
@@ -84,7 +83,7 @@ fn number_compared(
     left: Scalar,
     second: Kind,
 ) -> Result<Finding, Cause>
-    ensures means { IfOk result (λ finding. (freeze : ℕ) → FindsWay freeze width condition taken (Kind.Number left) second finding) }
+    ensures means { IfOk result (λ finding. (numbers : FreezeNumbers) → FindsWay numbers width condition taken (Kind.Number left) second finding) }
     ensures unwritten { second ≡ Kind.Unwritten → result ≡ Err Cause.UnwrittenRegister }
     ensures numbers { IsNumber second → IsOkAnd result IsOfNumbers }
 {
@@ -102,7 +101,7 @@ fn numbers_compared(
     left: Scalar,
     right: Scalar,
 ) -> Finding
-    ensures means { (freeze : ℕ) → FindsWay freeze width condition taken (Kind.Number left) (Kind.Number right) result }
+    ensures means { (numbers : FreezeNumbers) → FindsWay numbers width condition taken (Kind.Number left) (Kind.Number right) result }
     ensures numbers { IsOfNumbers result }
 {
     match narrow(width, condition, taken, left, right) {
@@ -116,38 +115,32 @@ fn freeze_tested(
     width: Width,
     condition: Condition,
     taken: bool,
-    certainty: Certainty,
+    name: FreezeName,
     second: Kind,
 ) -> Result<Finding, Cause>
-    requires { (freeze : ℕ) (o : Option ℕ) → HoldsKind freeze second o → o ≡ Some 0 }
-    ensures means { IfOk result (λ finding. (freeze : ℕ) → FindsWay freeze width condition taken (Kind.Freeze certainty) second finding) }
-    ensures equal { width ≡ Bits64 → condition ≡ Equal → IsOkAnd result (IsOfFreeze taken) }
-    ensures not_equal { width ≡ Bits64 → condition ≡ NotEqual → IsOkAnd result (IsOfFreeze (not taken)) }
-    ensures sure_equal { certainty ≡ Sure → width ≡ Bits64 → condition ≡ Equal → taken ≡ true → result ≡ Ok Finding.NoWay }
-    ensures sure_not_equal { certainty ≡ Sure → width ≡ Bits64 → condition ≡ NotEqual → taken ≡ false → result ≡ Ok Finding.NoWay }
+    requires { (numbers : FreezeNumbers) (o : Option ℕ) → HoldsKind numbers second o → o ≡ Some 0 }
+    ensures means { IfOk result (λ finding. (numbers : FreezeNumbers) → FindsWay numbers width condition taken (Kind.Freeze name) second finding) }
+    ensures equal { width ≡ Bits64 → condition ≡ Equal → result ≡ Ok (found_of name taken) }
+    ensures not_equal { width ≡ Bits64 → condition ≡ NotEqual → result ≡ Ok (found_of name (not taken)) }
 {
     match width {
         Width::Bits32 => Err(Cause::AddressAsNumber),
         Width::Bits64 => match condition {
-            Condition::Equal => Ok(freeze_found(taken, certainty)),
-            Condition::NotEqual => Ok(freeze_found(!taken, certainty)),
+            Condition::Equal => Ok(freeze_found(name, taken)),
+            Condition::NotEqual => Ok(freeze_found(name, !taken)),
             _ => Err(Cause::AddressAsNumber),
         },
     }
 }
 
 // What is found of a freeze that is 0, or is not.
-fn freeze_found(is_zero: bool, certainty: Certainty) -> Finding
-    ensures means { (freeze : ℕ) → IsCertain certainty freeze → (freeze == 0) ≡ is_zero → Found freeze freeze 0 result }
-    ensures no_way { certainty ≡ Sure → is_zero ≡ true → result ≡ Finding.NoWay }
-    ensures freeze { IsOfFreeze is_zero result }
+fn freeze_found(name: FreezeName, is_zero: bool) -> Finding
+    ensures means { (numbers : FreezeNumbers) (number : ℕ) → numbers name ≡ Some number → (number == 0) ≡ is_zero → Found numbers number 0 result }
+    ensures found { result ≡ found_of name is_zero }
 {
-    if !is_zero {
-        Finding::FreezeIsSure
+    if is_zero {
+        Finding::FreezeIsZero(name)
     } else {
-        match certainty {
-            Certainty::Open => Finding::FreezeIsZero,
-            Certainty::Sure => Finding::NoWay,
-        }
+        Finding::FreezeIsSure(name)
     }
 }

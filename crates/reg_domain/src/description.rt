@@ -1,55 +1,21 @@
-// What holds of every machine that comes to a place: each register's kind, the written stack bytes, the freeze and the
-// CCB's disposal. It relies on `kind` for registers, on `registers` for changes of all of them, and on `stack_domain`
-// for the stack.
+// What holds of every machine that comes to a place: each register's kind, the written stack bytes, the freezes and the
+// CCB's disposal. It relies on `kind` for registers, on `registers` for all of them, on `held` for freezes, and on
+// `stack_domain` for the stack.
 
 ghost use Rattle.std.specs.Prelude.{◌≡◌, ℕ, ◌<◌, ◌↔◌, List, IfSome, IsSomeAnd, IsTrue};
 ghost use Rattle.bpf_machine.specs.MachineState.{MachineState};
 ghost use Rattle.bpf_machine.specs.Step.{operand as operand_of};
-ghost use Rattle.reg_domain.specs.declared.kind.Certainty.TheVariants as certainties;
-ghost use Rattle.reg_domain.specs.Description.{Covers, DescribesEntries, DescribesWith, HoldsFreeze, kind_at};
-ghost use Rattle.reg_domain.specs.Enough.{Agree, ChangesOnly, IsEntryKnown, IsFreeze, IsMoved, IsNumberOperand, JoinsTo, LeavesKnown};
+ghost use Rattle.reg_domain.specs.Description.{Covers, DescribesEntries, DescribesWith, kind_at};
+ghost use Rattle.reg_domain.specs.Enough.{Agree, ChangesOnly, IsEntryKnown, IsMoved, IsNumberOperand, JoinsTo};
+ghost use Rattle.reg_domain.specs.Freezes.{FreezeNumbers};
 ghost use Rattle.reg_domain.specs.GoesOn.{ReadsUnwritten};
 ghost use Rattle.reg_domain.specs.Kinds.{HoldsKind, IsNumber};
 
+use crate::held::Held;
 use crate::kind::Kind;
-use crate::registers::{entry_registers, join_registers, make_sure, make_zero};
+use crate::registers::{entry_registers, join_registers};
 use bpf_insn::{Operand, Reg};
 use stack_domain::Stack;
-
-/// Whether the run holds the freeze of its start.
-#[derive(Clone, Copy, Debug, PartialEq, Eq)]
-pub enum Held {
-    /// It does not.
-    Nothing,
-    /// It does where it got one.
-    Open,
-    /// It does.
-    Sure,
-}
-
-impl Held {
-    // What is held where the freeze was found not to be 0.
-    fn sure(self) -> Self
-        ensures kept { (freeze : ℕ) (numbers : List ℕ) → 0 < freeze → HoldsFreeze freeze self numbers → HoldsFreeze freeze result numbers }
-        ensures found { self ≡ Held.Open → result ≡ Held.Sure }
-    {
-        match self {
-            Held::Open => Held::Sure,
-            Held::Nothing | Held::Sure => self,
-        }
-    }
-
-    // And where it was found to be 0.
-    fn zero(self) -> Self
-        ensures kept { (numbers : List ℕ) → HoldsFreeze 0 self numbers → HoldsFreeze 0 result numbers }
-        ensures found { self ≡ Held.Open → result ≡ Held.Nothing }
-    {
-        match self {
-            Held::Open => Held::Nothing,
-            Held::Nothing | Held::Sure => self,
-        }
-    }
-}
 
 /// What is known of a machine where it comes to a place, between the calls of functions.
 #[derive(Clone, Copy, Debug)]
@@ -58,7 +24,7 @@ pub struct Description {
     pub registers: [Kind; 11],
     /// Which stack bytes are written.
     pub stack: Stack,
-    /// Whether the freeze of the run's start is held.
+    /// Which freezes the run holds.
     pub held: Held,
     /// Whether the CCB waits again or is finished.
     pub disposed: bool,
@@ -73,7 +39,7 @@ impl Description {
         Description {
             registers: entry_registers(),
             stack: Stack::outermost(),
-            held: Held::Open,
+            held: Held::at_start(),
             disposed: false,
         }
     }
@@ -87,7 +53,7 @@ impl Description {
 
     // What an operand is.
     pub(crate) fn operand(&self, src: Operand) -> Kind
-        ensures holds { (freeze : ℕ) (m : MachineState) → DescribesWith freeze self.now m → HoldsKind freeze result (operand_of m src) }
+        ensures holds { (numbers : FreezeNumbers) (m : MachineState) → DescribesWith numbers self.now m → HoldsKind numbers result (operand_of m src) }
         ensures moved { IsMoved self.now src result }
         ensures number { IsNumberOperand self.now src → IsNumber result }
         ensures unwritten { ReadsUnwritten self.now src → result ≡ Kind.Unwritten }
@@ -106,29 +72,8 @@ impl Description {
         self.registers[usize::from(reg.number())] = kind;
     }
 
-    // The freeze was found not to be 0.
-    pub(crate) fn freeze_is_sure(&mut self)
-        ensures kept { (freeze : ℕ) (m : MachineState) → 0 < freeze → DescribesWith freeze self.old m → DescribesWith freeze self.new m }
-        ensures known { LeavesKnown self.old self.new }
-        ensures freezes { (reg : Reg) → IsFreeze (kind_at self.old reg) → kind_at self.new reg ≡ Kind.Freeze certainties.Sure }
-        ensures held { self.old.held ≡ Held.Open → self.new.held ≡ Held.Sure }
-    {
-        make_sure(&mut self.registers);
-        self.held = self.held.sure();
-    }
-
-    // The freeze was found to be 0, so there is none.
-    pub(crate) fn freeze_is_zero(&mut self)
-        ensures kept { (m : MachineState) → DescribesWith 0 self.old m → DescribesWith 0 self.new m }
-        ensures known { LeavesKnown self.old self.new }
-        ensures held { self.old.held ≡ Held.Open → self.new.held ≡ Held.Nothing }
-    {
-        make_zero(&mut self.registers);
-        self.held = self.held.zero();
-    }
-
     /// What holds of a machine of which one or the other holds, as where two paths meet: None where they disagree on the
-    /// freeze, on the CCB's disposal, or on how many frames are live.
+    /// freezes, on the CCB's disposal, or on how many frames are live.
     pub fn join(&self, other: &Self) -> Option<Self>
         ensures first { IfSome result (Covers self.now) }
         ensures second { IfSome result (Covers other.now) }
@@ -141,7 +86,7 @@ impl Description {
         }
     }
 
-    // Whether they agree on the freeze, on the CCB's disposal, and on how many frames are live.
+    // Whether they agree on the freezes, on the CCB's disposal, and on how many frames are live.
     fn agrees(&self, other: &Self) -> bool
         ensures { IsTrue result ↔ Agree self.now other.now }
     {

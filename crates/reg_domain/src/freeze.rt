@@ -1,51 +1,77 @@
-// What the copies of a freeze are once it is known whether it is 0, and once it is given back. It relies on `kind`.
+// What becomes of what is known where a freeze is taken, is found to be 0 or not, or is held no more. It relies on `held`
+// for what is held, and on `registers` for copies of a freeze.
 
-ghost use Rattle.std.specs.Prelude.{◌≡◌, ℕ, ◌<◌, ◌^◌, Option};
-ghost use Rattle.reg_domain.specs.declared.kind.Certainty.{Certainty};
-ghost use Rattle.reg_domain.specs.declared.kind.Certainty.TheVariants.{Sure};
-ghost use Rattle.reg_domain.specs.Enough.{StaysKnown};
-ghost use Rattle.reg_domain.specs.Kinds.{HoldsKind};
+ghost use Rattle.std.specs.Prelude.{◌≡◌, ◌<◌, ◌++◌, ◌∷◌, [], ℕ, true, false, length, IsTrue, None, Option, Some};
+ghost use Rattle.bpf_machine.specs.MachineState.{MachineState};
+ghost use Rattle.bpf_machine.specs.Step.{IsNewFreeze, held_with, held_without};
+ghost use Rattle.scalar_domain.specs.Scalar.{Has};
+ghost use Rattle.reg_domain.specs.declared.following.Way.TheVariants.{FallThrough, Taken};
+ghost use Rattle.reg_domain.specs.Changes.{GivesUpKind};
+ghost use Rattle.reg_domain.specs.Description.{Describes, DescribesWith};
+ghost use Rattle.reg_domain.specs.Enough.{LeavesGivenUp, LeavesTested};
+ghost use Rattle.reg_domain.specs.Freezes.{FreezeNumbers, certainty_of, open_freeze, renumbered};
 
-use crate::kind::{Certainty, Kind};
+use crate::description::Description;
+use crate::freeze_name::FreezeName;
+use crate::held::{Certainty, HeldFreeze};
+use crate::kind::Kind;
+use crate::registers::give_up_copies;
+use bpf_machine::MAX_HELD;
 use scalar_domain::Scalar;
 
-/// The greatest freeze.
-const GREATEST_FREEZE: u64 = 0xffff_ffff;
-
 impl Kind {
-    /// What it says where the freeze was found not to be 0.
-    pub fn sure(self) -> Self
-        ensures kept { (freeze : ℕ) (o : Option ℕ) → 0 < freeze → HoldsKind freeze self o → HoldsKind freeze result o }
-        ensures no_less { (freeze : ℕ) (o : Option ℕ) → HoldsKind freeze result o → HoldsKind freeze self o }
-        ensures freezes { (certainty : Certainty) → self ≡ Kind.Freeze certainty → result ≡ Kind.Freeze Sure }
-        ensures stays { StaysKnown self result }
+    /// What it says where the freeze of that name is held no more and was one of these numbers: a copy of it is such a
+    /// number then, and no freeze.
+    pub fn given_up(self, name: FreezeName, copies: Scalar) -> Self
+        ensures { GivesUpKind name copies self result }
     {
         match self {
-            Kind::Freeze(_) => Kind::Freeze(Certainty::Sure),
+            Kind::Freeze(other) if other.is_same(name) => Kind::Number(copies),
             kind => kind,
         }
     }
+}
 
-    /// What it says where the freeze was found to be 0: each copy is that number, and no freeze any more.
-    pub fn zero(self) -> Self
-        ensures kept { (freeze : ℕ) (o : Option ℕ) → HoldsKind 0 self o → HoldsKind freeze result o }
-        ensures stays { StaysKnown self result }
+impl Description {
+    // A freeze was taken, or none was got: it is held by this name.
+    pub(crate) fn hold(&mut self, name: FreezeName)
+        requires room { length self.old.held < MAX_HELD }
+        requires fresh { certainty_of self.old.held name ≡ None }
+        ensures kept { (numbers : FreezeNumbers) (number : ℕ) (m : MachineState) → DescribesWith numbers self.old m → IsNewFreeze m.held number → DescribesWith (renumbered numbers name (Some number)) self.new (record m { held = held_with m.held number }) }
+        ensures held { self.new ≡ record self.old { held = self.old.held ++ open_freeze name ∷ [] } }
     {
-        match self {
-            Kind::Freeze(_) => Kind::exactly(0),
-            kind => kind,
-        }
+        self.held.push(HeldFreeze {
+            name,
+            certainty: Certainty::Open,
+        });
     }
 
-    /// What it says once the freeze is given back: each copy is a number from 1 to 4,294,967,295, and no freeze any
-    /// more.
-    pub fn released(self) -> Self
-        ensures known { StaysKnown self result }
-        ensures kept { (freeze any_freeze : ℕ) (o : Option ℕ) → 0 < freeze → freeze < 2 ^ 32 → HoldsKind freeze self o → HoldsKind any_freeze result o }
+    // The freeze of that name, which was one of these numbers, is held no more.
+    pub(crate) fn give_up(&mut self, name: FreezeName, copies: Scalar)
+        ensures kept { (numbers : FreezeNumbers) (number : ℕ) (m : MachineState) → DescribesWith numbers self.old m → numbers name ≡ Some number → Has copies number → DescribesWith (renumbered numbers name None) self.new (record m { held = held_without m.held number }) }
+        ensures leaves { LeavesGivenUp 0 name (Kind.Number copies) self.old self.new }
     {
-        match self {
-            Kind::Freeze(_) => Kind::Number(Scalar::within(1, GREATEST_FREEZE)),
-            kind => kind,
+        give_up_copies(&mut self.registers, name, copies);
+        self.held = self.held.without(name);
+    }
+
+    // The freeze of that name was found not to be 0.
+    pub(crate) fn freeze_is_sure(&mut self, name: FreezeName)
+        ensures kept { (numbers : FreezeNumbers) (number : ℕ) (m : MachineState) → DescribesWith numbers self.old m → numbers name ≡ Some number → 0 < number → DescribesWith numbers self.new m }
+        ensures leaves { LeavesTested FallThrough name self.old self.new }
+    {
+        self.held = self.held.with_sure(name);
+    }
+
+    // The freeze of that name was found to be 0, so there is none: the answer is whether that may be.
+    pub(crate) fn freeze_is_zero(&mut self, name: FreezeName) -> bool
+        ensures kept { (numbers : FreezeNumbers) (m : MachineState) → DescribesWith numbers self.old m → numbers name ≡ Some 0 → (result ≡ true) × Describes self.new m }
+        ensures leaves { IsTrue result → LeavesTested Taken name self.old self.new }
+    {
+        if self.held.certainty(name) == Some(Certainty::Sure) {
+            return false;
         }
+        self.give_up(name, Scalar::exactly(0));
+        true
     }
 }

@@ -1,5 +1,5 @@
-// Conditional jumps: what one way tells of the registers that are compared, or of the run's freeze. It relies on
-// `comparison` for what is found.
+// Conditional jumps: what one way tells of the registers that are compared, or of a freeze. It relies on `comparison`
+// for what is found, and on `freeze` for what a freeze that was tested is then.
 
 ghost use Rattle.std.specs.Prelude.{◌≡◌, ℕ, ℤ, ◌==◌, true, false, ◌⊎◌, IfOk, IsOkAnd, IsTrue, Some};
 ghost use Rattle.bpf_insn.specs.declared.insn.Insn.TheVariants.{JumpIf};
@@ -8,16 +8,18 @@ ghost use Rattle.bpf_machine.specs.MachineState.{MachineState, register};
 ghost use Rattle.bpf_machine.specs.Step.{operand as operand_of};
 ghost use Rattle.helpers.specs.declared.limits.HelperLimits.{HelperLimits};
 ghost use Rattle.scalar_domain.specs.Scalar.{Has};
-ghost use Rattle.reg_domain.specs.Description.{DescribesWith, kind_at};
-ghost use Rattle.reg_domain.specs.Enough.{ComparesNumbers, IsFreeze, LeavesCompared, LeavesKnown, LeavesTested, TestsFreeze};
-ghost use Rattle.reg_domain.specs.Finds.{Found, IsOfFreeze, IsOfNumbers};
+ghost use Rattle.reg_domain.specs.Description.{Describes, DescribesWith, kind_at};
+ghost use Rattle.reg_domain.specs.Enough.{ComparesNumbers, LeavesCompared, LeavesKnown, LeavesTested, TestsFreeze};
+ghost use Rattle.reg_domain.specs.Finds.{Found, IsOfNumbers, found_of};
 ghost use Rattle.reg_domain.specs.Follows.{Follows, NeverStuck};
+ghost use Rattle.reg_domain.specs.Freezes.{FreezeNumbers};
 ghost use Rattle.reg_domain.specs.GoesOn.{ReadsUnwritten, is_taken};
 
 use crate::cause::Cause;
 use crate::comparison::{Finding, compared};
-use crate::description::{Description, Held};
+use crate::description::Description;
 use crate::following::Way;
+use crate::freeze_name::FreezeName;
 use crate::kind::Kind;
 use bpf_insn::{Condition, Operand, Reg, Width};
 use scalar_domain::Scalar;
@@ -47,25 +49,24 @@ impl Description {
 
     // Takes in what is found of the operands: the answer is whether any machine goes that way.
     fn learn(&mut self, dst: Reg, src: Operand, finding: Finding) -> bool
-        ensures means { (freeze a b : ℕ) (m : MachineState) → DescribesWith freeze self.old m → register m dst ≡ Some a → operand_of m src ≡ Some b → Found freeze a b finding → (result ≡ true) × DescribesWith freeze self.new m }
+        ensures means { (numbers : FreezeNumbers) (a b : ℕ) (m : MachineState) → DescribesWith numbers self.old m → register m dst ≡ Some a → operand_of m src ≡ Some b → Found numbers a b finding → (result ≡ true) × Describes self.new m }
         ensures constant { (value : ℤ) (left right : Scalar) → finding ≡ Finding.Numbers left right → src ≡ Operand.Immediate value → kind_at self.new dst ≡ Kind.Number left }
         ensures right { (reg : Reg) (left right : Scalar) → finding ≡ Finding.Numbers left right → src ≡ Operand.Register reg → kind_at self.new reg ≡ Kind.Number right }
         ensures numbers { ComparesNumbers self.old dst src → IsOfNumbers finding → LeavesKnown self.old self.new × (self.new.held ≡ self.old.held) }
-        ensures freeze { (way : Way) → IsOfFreeze (is_taken way) finding → LeavesKnown self.old self.new }
-        ensures tested { (way : Way) → IsOfFreeze (is_taken way) finding → IsFreeze (kind_at self.old dst) → self.old.held ≡ Held.Open → result ≡ true → LeavesTested way dst self.new }
+        ensures tested { (way : Way) (name : FreezeName) → finding ≡ found_of name (is_taken way) → IsTrue result → LeavesTested way name self.old self.new }
     {
         match finding {
             Finding::NoWay => return false,
             Finding::Numbers(left, right) => self.narrow(dst, src, left, right),
-            Finding::FreezeIsZero => self.freeze_is_zero(),
-            Finding::FreezeIsSure => self.freeze_is_sure(),
+            Finding::FreezeIsZero(name) => return self.freeze_is_zero(name),
+            Finding::FreezeIsSure(name) => self.freeze_is_sure(name),
         }
         true
     }
 
     // The registers that are compared hold one of these numbers each.
     fn narrow(&mut self, dst: Reg, src: Operand, left: Scalar, right: Scalar)
-        ensures means { (freeze a b : ℕ) (m : MachineState) → DescribesWith freeze self.old m → register m dst ≡ Some a → operand_of m src ≡ Some b → Has left a → Has right b → DescribesWith freeze self.new m }
+        ensures means { (numbers : FreezeNumbers) (a b : ℕ) (m : MachineState) → DescribesWith numbers self.old m → register m dst ≡ Some a → operand_of m src ≡ Some b → Has left a → Has right b → DescribesWith numbers self.new m }
         ensures constant { (value : ℤ) → src ≡ Operand.Immediate value → kind_at self.new dst ≡ Kind.Number left }
         ensures left { (reg : Reg) → src ≡ Operand.Register reg → (number_of dst == number_of reg) ≡ false → kind_at self.new dst ≡ Kind.Number left }
         ensures right { (reg : Reg) → src ≡ Operand.Register reg → kind_at self.new reg ≡ Kind.Number right }

@@ -1,20 +1,13 @@
 // What is known of one register. It relies on `region` for addresses and on `scalar_domain` for numbers.
 
 ghost use Rattle.std.specs.Prelude.{◌≡◌, ℕ, ◌<◌, ◌≤◌, ◌↔◌, ⊤, IfSome, IsSome, IsTrue, Option, Some};
+ghost use Rattle.reg_domain.specs.Freezes.{FreezeNumbers};
 ghost use Rattle.reg_domain.specs.Kinds.{HoldsKind, IsAtMost, IsKnown, IsNumber, IsWritten, LiesIn};
 
 use crate::cause::Cause;
+use crate::freeze_name::FreezeName;
 use crate::region::{Offsets, Region};
 use scalar_domain::Scalar;
-
-/// Whether a freeze may be 0.
-#[derive(Clone, Copy, Debug, PartialEq, Eq)]
-pub enum Certainty {
-    /// It is 0 where the run got none.
-    Open,
-    /// It is not 0.
-    Sure,
-}
 
 /// What a register holds, as far as it is known.
 #[derive(Clone, Copy, Debug, PartialEq, Eq)]
@@ -25,15 +18,15 @@ pub enum Kind {
     Number(Scalar),
     /// An address in a region, or the one behind its last byte.
     Address(Region, Offsets),
-    /// The freeze of the run's start.
-    Freeze(Certainty),
+    /// The freeze of that name, or 0 where the run got none.
+    Freeze(FreezeName),
 }
 
 impl Kind {
     /// That number.
     pub fn exactly(value: u64) -> Self
-        ensures has { (freeze : ℕ) → HoldsKind freeze result (Some value) }
-        ensures only { (freeze : ℕ) (o : Option ℕ) → HoldsKind freeze result o → o ≡ Some value }
+        ensures has { (numbers : FreezeNumbers) → HoldsKind numbers result (Some value) }
+        ensures only { (numbers : FreezeNumbers) (o : Option ℕ) → HoldsKind numbers result o → o ≡ Some value }
         ensures number { IsNumber result }
         ensures known { IsKnown value result }
     {
@@ -59,7 +52,7 @@ impl Kind {
 
     /// The only number that it may be.
     pub fn known(self) -> Option<u64>
-        ensures only { IfSome result (λ n. (freeze : ℕ) (o : Option ℕ) → HoldsKind freeze self o → o ≡ Some n) }
+        ensures only { IfSome result (λ n. (numbers : FreezeNumbers) (o : Option ℕ) → HoldsKind numbers self o → o ≡ Some n) }
         ensures known { (n : ℕ) → IsKnown n self → result ≡ Some n }
         ensures number { IsSome result → IsNumber self }
     {
@@ -82,8 +75,8 @@ impl Kind {
     /// What holds of a register where one or the other does: two numbers are a number, and two addresses of a region
     /// one between them. Where both are of different kinds nothing is known.
     pub fn join(self, other: Kind) -> Self
-        ensures of_self { (freeze : ℕ) (o : Option ℕ) → HoldsKind freeze self o → HoldsKind freeze result o }
-        ensures of_other { (freeze : ℕ) (o : Option ℕ) → HoldsKind freeze other o → HoldsKind freeze result o }
+        ensures of_self { (numbers : FreezeNumbers) (o : Option ℕ) → HoldsKind numbers self o → HoldsKind numbers result o }
+        ensures of_other { (numbers : FreezeNumbers) (o : Option ℕ) → HoldsKind numbers other o → HoldsKind numbers result o }
         ensures equal { self ≡ other → result ≡ self }
         ensures numbers { IsNumber self → IsNumber other → IsNumber result }
         ensures addresses { (region : Region) → LiesIn region self → LiesIn region other → LiesIn region result }
@@ -102,8 +95,8 @@ impl Kind {
 
 // What holds where a register has one of those numbers or is of the other kind.
 fn join_number(scalar: Scalar, other: Kind) -> Kind
-    ensures of_self { (freeze : ℕ) (o : Option ℕ) → HoldsKind freeze (Kind.Number scalar) o → HoldsKind freeze result o }
-    ensures of_other { (freeze : ℕ) (o : Option ℕ) → HoldsKind freeze other o → HoldsKind freeze result o }
+    ensures of_self { (numbers : FreezeNumbers) (o : Option ℕ) → HoldsKind numbers (Kind.Number scalar) o → HoldsKind numbers result o }
+    ensures of_other { (numbers : FreezeNumbers) (o : Option ℕ) → HoldsKind numbers other o → HoldsKind numbers result o }
     ensures numbers { IsNumber other → IsNumber result }
     ensures bounds { (most : ℕ) → scalar.unsigned.most ≤ most → IsAtMost most other → IsAtMost most result }
 {
@@ -115,8 +108,8 @@ fn join_number(scalar: Scalar, other: Kind) -> Kind
 
 // What holds where a register has such an address or is of the other kind.
 fn join_address(region: Region, offsets: Offsets, other: Kind) -> Kind
-    ensures of_self { (freeze : ℕ) (o : Option ℕ) → HoldsKind freeze (Kind.Address region offsets) o → HoldsKind freeze result o }
-    ensures of_other { (freeze : ℕ) (o : Option ℕ) → HoldsKind freeze other o → HoldsKind freeze result o }
+    ensures of_self { (numbers : FreezeNumbers) (o : Option ℕ) → HoldsKind numbers (Kind.Address region offsets) o → HoldsKind numbers result o }
+    ensures of_other { (numbers : FreezeNumbers) (o : Option ℕ) → HoldsKind numbers other o → HoldsKind numbers result o }
     ensures addresses { LiesIn region other → LiesIn region result }
 {
     match other {

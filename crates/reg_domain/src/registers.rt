@@ -1,23 +1,25 @@
 // The kinds of all registers at once. It relies on `kind` and `freeze` for each of them.
 
 ghost use Rattle.std.specs.Prelude.{◌≡◌, ℕ};
-ghost use Rattle.reg_domain.specs.declared.kind.Certainty.TheVariants as certainties;
-ghost use Rattle.reg_domain.specs.Changes.{BecomesSure, BecomesZero, EachBecomes, EachJoins, HoldAtEntry, at};
+ghost use Rattle.reg_domain.specs.declared.freeze_name.FreezeName.TheVariants as names;
+ghost use Rattle.reg_domain.specs.Changes.{EachBecomes, EachJoins, GivesUpKind, HoldAtEntry, at};
 ghost use Rattle.reg_domain.specs.Enough.{IsAt};
 
-use crate::kind::{Certainty, Kind};
+use crate::freeze_name::FreezeName;
+use crate::kind::Kind;
 use crate::region::{Offsets, Region};
+use scalar_domain::Scalar;
 
 // At the entry of a program: R1 is the context's address, R2 the freeze, and R10 the frame pointer.
 pub(crate) fn entry_registers() -> [Kind; 11]
     ensures hold { HoldAtEntry result }
     ensures context { IsAt Region.Context 0 (at result 1) }
-    ensures freeze { at result 2 ≡ Kind.Freeze certainties.Open }
+    ensures freeze { at result 2 ≡ Kind.Freeze names.Start }
     ensures frame { IsAt (Region.Frame 0) 512 (at result 10) }
 {
     let mut registers = [Kind::Unwritten; 11];
     registers[1] = Kind::Address(Region::Context, Offsets { least: 0, most: 0 });
-    registers[2] = Kind::Freeze(Certainty::Open);
+    registers[2] = Kind::Freeze(FreezeName::Start);
     registers[10] = Kind::Address(
         Region::Frame(0),
         Offsets {
@@ -37,20 +39,11 @@ pub(crate) fn join_registers(registers: &mut [Kind; 11], other: &[Kind; 11])
     }
 }
 
-// Each copy of the freeze is sure not to be 0.
-pub(crate) fn make_sure(registers: &mut [Kind; 11])
-    ensures { EachBecomes BecomesSure registers.old registers.new }
+// Each copy of the freeze of that name is one of these numbers, and no freeze any more.
+pub(crate) fn give_up_copies(registers: &mut [Kind; 11], name: FreezeName, copies: Scalar)
+    ensures { EachBecomes (GivesUpKind name copies) registers.old registers.new }
 {
     for reg in 0..11 {
-        registers[reg] = registers[reg].sure();
-    }
-}
-
-// Each copy of the freeze is the number 0.
-pub(crate) fn make_zero(registers: &mut [Kind; 11])
-    ensures { EachBecomes BecomesZero registers.old registers.new }
-{
-    for reg in 0..11 {
-        registers[reg] = registers[reg].zero();
+        registers[reg] = registers[reg].given_up(name, copies);
     }
 }

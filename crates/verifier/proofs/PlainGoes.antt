@@ -1,7 +1,7 @@
 -- Of a plain program enough is known everywhere: at each place what holds there is enough for its instruction, and what
 -- is known behind that holds where it leads.
 use Rattle.std.proofs.Common.{◌≡◌, ℕ, ℤ, ◌+◌, ◌≤◌, true, false, List, length, Some, None, refl, ap, sym, subst, ◌∙◌, arith, ◌⊎◌, inl, inr}
-use Rattle.std.specs.Prelude.{pos, slice_get}
+use Rattle.std.specs.Prelude.{pos, slice_get, slice_index_or}
 use Rattle.std.specs.Int.{w64, cast_unsigned}
 use Rattle.std.proofs.lemmas.Bool.{ne_eqb}
 use Rattle.bpf_insn.specs.declared.insn.Insn.{Insn}
@@ -19,21 +19,24 @@ use Rattle.bpf_insn.specs.Reg.{number_of}
 use Rattle.bpf_insn.specs.Program.{insn_at}
 use Rattle.bpf_insn.specs.Target.{target}
 use Rattle.call_shape.specs.StaticPath.{outermost}
+use Rattle.helpers.specs.declared.helper.Helper.TheVariants as helpers
 use Rattle.reg_domain.specs.declared.description.Description.{Description}
 use Rattle.reg_domain.specs.declared.following.Way.{Way}
 use Rattle.reg_domain.specs.declared.following.Way.TheVariants.{FallThrough, Taken}
-use Rattle.reg_domain.specs.declared.kind.Certainty.TheVariants as certainties
+use Rattle.reg_domain.specs.declared.freeze_name.FreezeName.TheVariants.{Start}
+use Rattle.reg_domain.specs.declared.held.HeldFreeze.{HeldFreeze}
 use Rattle.reg_domain.specs.declared.kind.Kind.{Kind}
 use Rattle.reg_domain.specs.declared.kind.Kind.TheVariants.{Unwritten, Number, Address, Freeze}
 use Rattle.reg_domain.specs.declared.region.Region.TheVariants.{Context}
 use Rattle.reg_domain.specs.Description.{kind_at}
+use Rattle.reg_domain.specs.Freezes.{certainty_of, with_sure, without}
 use Rattle.reg_domain.specs.Kinds.{IsAtMost, IsKnown}
 use Rattle.reg_domain.specs.Enough.{Enough, Leaves, IsAt, IsEntryKnown, TestsFreeze, GivesBack, Requeues}
 use Rattle.verifier.specs.Arrives.{Arrives, enters, follows, joins, NeverLacks, goes_to}
 use Rattle.verifier.specs.Plain.{IsContextLoad, IsListed, IsPlain, is_free, is_kept, writes_register}
 use Rattle.verifier.proofs.PlainInsns.{length_plain, test, copy, release, Stands, loads_there, tests, copies, gives_back, lists, sets_retries, requeues_there, sets_answer, exits, stands}
 use Rattle.verifier.proofs.PlainShape.{test_target}
-use Rattle.verifier.proofs.PlainKnown.{IsStep, comes_on, free_not_one, computed_on, number_on, known_on, called_on}
+use Rattle.verifier.proofs.PlainKnown.{IsStep, comes_on, free_not_one, computed_on, given_up_keeps, number_on, known_on, called_on, sure_keeps}
 use Rattle.verifier.proofs.PlainList.{AtList, ReadsWritten, list_enough, list_leads, list_follows}
 use Rattle.verifier.proofs.PlainParts.{AtLoad, AtCopy, AtRelease, AtRequeue, AtAnswer, PlainAt, load_fits, copy_fits, release_fits, list_fits, requeue_fits, answer_fits, exit_fits, behind_fits, plain_joined, plain_agree}
 
@@ -108,31 +111,33 @@ load_follows program place to Exit way d there load at goes leaves is = absurd l
 -- the freeze is given back
 
 tests_freeze : (program : List Slot) (place : ℕ) (d : Description) → AtLoad program place d → TestsFreeze d Bits64 Equal R2 (Immediate (pos 0))
-tests_freeze program place d is = record { all = refl; equal = refl; zero_constant = refl; freeze = (certainties.Open, is.freeze) }
+tests_freeze program place d is = record { all = refl; equal = refl; zero_constant = refl; name = Start; freeze = is.freeze }
 
-gives_back_freeze : (program : List Slot) (place : ℕ) (d : Description) → AtRelease program place d → GivesBack d (pos 2)
-gives_back_freeze program place d is = record { release = refl; freeze = is.freeze; held = is.held }
+gives_back_freeze : (program : List Slot) (place : ℕ) (d : Description) → AtRelease program place d → GivesBack d
+gives_back_freeze program place d is = record { name = Start; freeze = is.freeze; sure = ap (λ (held : List HeldFreeze). certainty_of held Start) is.held }
 
 test_follows : (program : List Slot) (first size place to : ℕ) (way : Way) (d there : Description) → place ≡ first → place ≤ MAX_SLOTS → insn_at program place ≡ Some test → goes_to place test way ≡ Some to → Leaves test way d there → AtLoad program place d → PlainAt program first size to there
+unfolding tests_freeze
 test_follows program first size place to FallThrough d there here le at goes leaves is =
     let same : to ≡ place + 1 = sym (same_slot (place + 1) to goes) in
     let step : IsStep program place test to = record { at = at; leads = inl (ap outermost same) } in
-    let tested = leaves.tested (tests_freeze program place d is) is.held in
+    let tested = leaves.tested (tests_freeze program place d is) in
     copy_fits program first size to there (omega (arith, same, here)) (record {
       start = record {
-        common = known_on program place to test d there step (λ reg. refl) (λ byte. refl) leaves.known is.start.common;
+        common = known_on program place to test d there step (λ reg. refl) (λ byte. refl) (sure_keeps Start d there tested) is.start.common;
         low = λ reg free lt. comes_on (writes_register reg) program place to test step refl (is.start.low reg free lt);
       };
-      freeze = tested.0;
-      held = tested.1;
+      freeze = ap (λ kinds. slice_index_or kinds 2 Unwritten) tested.registers ∙ is.freeze;
+      held = tested.held ∙ ap (λ (held : List HeldFreeze). with_sure held Start) is.held;
     })
 test_follows program first size place to Taken d there here le at goes leaves is =
     let same : to ≡ target place (pos 2) = sym (same_slot (target place (pos 2)) to goes) in
     let step : IsStep program place test to = record { at = at; leads = inr (ap outermost same) } in
     let end : to ≡ place + 3 = same ∙ test_target place le in
+    let none = leaves.tested (tests_freeze program place d is) in
     list_fits program first size to there (omega (arith, end, here)) (omega (arith, end, here)) (record {
-      common = known_on program place to test d there step (λ reg. refl) (λ byte. refl) leaves.known is.start.common;
-      held = leaves.tested (tests_freeze program place d is) is.held;
+      common = known_on program place to test d there step (λ reg. refl) (λ byte. refl) (given_up_keeps Start none.1 d there none.3) is.start.common;
+      held = none.3.held ∙ ap (λ (held : List HeldFreeze). without held Start) is.held;
     })
 
 copy_follows : (program : List Slot) (first size place to : ℕ) (way : Way) (d there : Description) → place ≡ first + 1 → insn_at program place ≡ Some copy → goes_to place copy way ≡ Some to → Leaves copy way d there → AtCopy program place d → PlainAt program first size to there
@@ -154,10 +159,10 @@ release_follows program first size place to Taken d there here at goes leaves is
 release_follows program first size place to FallThrough d there here at goes leaves is =
     let same : to ≡ place + 1 = sym (same_slot (place + 1) to goes) in
     let step : IsStep program place release to = record { at = at; leads = ap outermost same } in
-    let released = leaves.released (gives_back_freeze program place d is) in
+    let released = ((leaves.by helpers.Release refl).1 Start is.freeze).2 in
     list_fits program first size to there (omega (arith, same, here)) (omega (arith, same, here)) (record {
-      common = called_on program place to (pos 2) d there step leaves released.1 is.start.low is.start.common;
-      held = released.0;
+      common = called_on program place to (pos 2) d there step leaves released.disposal is.start.low is.start.common;
+      held = released.held ∙ ap (λ (held : List HeldFreeze). without held Start) is.held;
     })
 
 -- behind the list
@@ -171,7 +176,7 @@ known_at_most : (n most : ℕ) (kind : Kind) → n ≤ most → IsKnown n kind �
 known_at_most n most (Number scalar) le known = omega (arith, le, known.1)
 known_at_most n most Unwritten le known = known
 known_at_most n most (Address region offsets) le known = known
-known_at_most n most (Freeze certainty) le known = known
+known_at_most n most (Freeze name) le known = known
 
 retries_follow : (program : List Slot) (first size place to : ℕ) (n : ℤ) (way : Way) (d there : Description) → place ≡ first + 3 + size → (n ≡ pos 0) ⊎ (n ≡ pos 1) → goes_to place (Alu Bits64 Mov R1 (Immediate n)) way ≡ Some to → Leaves (Alu Bits64 Mov R1 (Immediate n)) way d there → AtList program place d → PlainAt program first size to there
 retries_follow program first size place to n Taken d there here few goes leaves is = nowhere to goes
@@ -184,17 +189,17 @@ retries_follow program first size place to n FallThrough d there here few goes l
       few = known_at_most (cast_unsigned w64 n) 1 (kind_at there R1) (few_words n few) (leaves.moved refl refl);
     })
 
-requeues_ccb : (d : Description) → AtRequeue d → Requeues d (pos 4)
-requeues_ccb d is = record { requeue = refl; retries = is.few; waits_not = is.waits }
+requeues_ccb : (d : Description) → AtRequeue d → Requeues d
+requeues_ccb d is = record { retries = is.few; waits_not = is.waits }
 
 requeue_follows : (program : List Slot) (first size place to : ℕ) (way : Way) (d there : Description) → place ≡ first + 4 + size → goes_to place (Call (Helper (pos 4))) way ≡ Some to → Leaves (Call (Helper (pos 4))) way d there → AtRequeue d → PlainAt program first size to there
 requeue_follows program first size place to Taken d there here goes leaves is = nowhere to goes
 requeue_follows program first size place to FallThrough d there here goes leaves is =
     let same : to ≡ place + 1 = sym (same_slot (place + 1) to goes) in
-    let requeued = leaves.requeued (requeues_ccb d is) in
+    let requeued = (leaves.by helpers.Requeue refl).0 in
     answer_fits program first size to there (omega (arith, same, here)) (record {
-      held = requeued.0 ∙ is.held;
-      done = requeued.1;
+      held = requeued.held ∙ is.held;
+      done = requeued.disposal;
       depth = leaves.depth ∙ is.depth;
     })
 
@@ -233,14 +238,14 @@ enough_by : (program : List Slot) (is : IsPlain program) (place : ℕ) (insn : I
 enough_by program is place insn d fits (loads_there lt load) = load_enough program place insn d load (fits.at_load (omega (arith, lt)))
 enough_by program is place insn d fits (tests e it) = subst (λ (i : Insn). Enough i d) (sym it) (inr (tests_freeze program place d (fits.at_load (omega (arith, e)))))
 enough_by program is place insn d fits (copies e it) =
-    subst (λ (i : Insn). Enough i d) (sym it) (inr (refl, refl, R2, refl, (certainties.Sure, (fits.at_copy e).freeze)))
-enough_by program is place insn d fits (gives_back e it) = subst (λ (i : Insn). Enough i d) (sym it) (inl (gives_back_freeze program place d (fits.at_release e)))
+    subst (λ (i : Insn). Enough i d) (sym it) (inr (refl, refl, R2, refl, (Start, (fits.at_copy e).freeze)))
+enough_by program is place insn d fits (gives_back e it) = subst (λ (i : Insn). Enough i d) (sym it) (helpers.Release, refl, gives_back_freeze program place d (fits.at_release e))
 enough_by program is place insn d fits (lists i e lt there) =
     let end : ℕ = length is.loads + 3 + length is.list in
     let listed : IsListed place end insn = subst (λ (p : ℕ). IsListed p end insn) (sym e) (is.listed i insn there) in
     list_enough program place end insn d listed (reads_written program is place i insn e there) (fits.in_list (omega (arith, e)) (omega (arith, e, lt)))
 enough_by program is place insn d fits (sets_retries e it) = subst (λ (i : Insn). Enough i d) (sym it) (inl ((λ reads. absurd (let bad : false ≡ true = reads in cc)), tt))
-enough_by program is place insn d fits (requeues_there e it) = subst (λ (i : Insn). Enough i d) (sym it) (inr (inl (requeues_ccb d (fits.at_requeue e))))
+enough_by program is place insn d fits (requeues_there e it) = subst (λ (i : Insn). Enough i d) (sym it) (helpers.Requeue, refl, requeues_ccb d (fits.at_requeue e))
 enough_by program is place insn d fits (sets_answer e it) = subst (λ (i : Insn). Enough i d) (sym it) (inl ((λ reads. absurd (let bad : false ≡ true = reads in cc)), tt))
 enough_by program is place insn d fits (exits e it) =
     let last = fits.at_exit e in

@@ -13,13 +13,14 @@ use Rattle.bpf_insn.specs.Program.{insn_at}
 use Rattle.bpf_insn.specs.Reg.{number_of}
 use Rattle.call_shape.specs.StaticPath.{outermost, LeadsTo}
 use Rattle.reg_domain.specs.declared.description.Description.{Description}
+use Rattle.reg_domain.specs.declared.freeze_name.FreezeName.{FreezeName}
 use Rattle.reg_domain.specs.declared.kind.Kind.{Kind}
 use Rattle.reg_domain.specs.declared.kind.Kind.TheVariants.{Unwritten, Number, Address, Freeze}
 use Rattle.reg_domain.specs.declared.region.Region.{Region}
 use Rattle.reg_domain.specs.declared.region.Region.TheVariants.{Frame}
 use Rattle.reg_domain.specs.Description.{kind_at}
 use Rattle.reg_domain.specs.Kinds.{IsNumber}
-use Rattle.reg_domain.specs.Enough.{IsAt, AreKnown, StaysKnown, ChangesOnly, LeavesKnown, LeavesStored, LeavesCalled, JoinsTo}
+use Rattle.reg_domain.specs.Enough.{IsAt, AreKnown, StaysKnown, ChangesOnly, IsFreeze, LeavesGivenUp, LeavesKnown, LeavesStored, LeavesSure, LeavesCalled, JoinsTo}
 use Rattle.verifier.specs.Plain.{ComesUnwritten, is_free, byte_of, writes_register, writes_byte}
 
 -- some path comes to a place without writing something
@@ -83,10 +84,18 @@ pub stays_number : (before after : Kind) → StaysKnown before after → IsNumbe
 stays_number (Number scalar) after stays number = stays
 stays_number Unwritten after stays number = absurd number
 stays_number (Address region offsets) after stays number = absurd number
-stays_number (Freeze certainty) after stays number = absurd number
+stays_number (Freeze name) after stays number = absurd number
 
 pub stays_address : (region : Region) (at : ℕ) (before after : Kind) → StaysKnown before after → IsAt region at before → IsAt region at after
 stays_address region at before after stays is = subst (λ (k : Kind). StaysKnown k after) is stays
+
+-- a number is no freeze, and nor is an address
+
+number_is_none : (kind : Kind) → IsNumber kind → IsFreeze kind → ⊥
+number_is_none kind number (name, is) = subst IsNumber is number
+
+address_is_none : (kind : Kind) → IsAt (Frame 0) 512 kind → IsFreeze kind → ⊥
+address_is_none kind address (name, is) = absurd (let bad : Freeze name ≡ Address (Frame 0) (record { least = 512; most = 512 }) = sym is ∙ address in cc)
 
 -- one register is written, and no byte
 pub computed_on : (program : List Slot) (place to : ℕ) (insn : Insn) (dst : Reg) (d there : Description) → IsStep program place insn to
@@ -120,14 +129,48 @@ number_on program place to insn dst d there step writes spares free only number 
     computed_on program place to insn dst d there step writes spares (free_not_ten dst free) only
     (λ reg free_reg same. subst (λ (n : ℕ). IsNumber (slice_index_or there.registers n Unwritten)) same number) is
 
+-- what a jump keeps
+pub record KeepsCommon (d there : Description) : Type 0 where
+  pub frame : IsAt (Frame 0) 512 (kind_at d R10) → IsAt (Frame 0) 512 (kind_at there R10)
+  pub numbers : (reg : Reg) → IsNumber (kind_at d reg) → IsNumber (kind_at there reg)
+  pub stack : there.stack ≡ d.stack
+  pub disposal : there.disposed ≡ d.disposed
+
+pub compared_keeps : (d there : Description) → LeavesKnown d there → KeepsCommon d there
+compared_keeps d there leaves = record {
+  frame = stays_address (Frame 0) 512 (kind_at d R10) (kind_at there R10) (leaves.registers R10);
+  numbers = λ reg. stays_number (kind_at d reg) (kind_at there reg) (leaves.registers reg);
+  stack = leaves.stack;
+  disposal = leaves.disposal;
+}
+
+pub sure_keeps : (name : FreezeName) (d there : Description) → LeavesSure name d there → KeepsCommon d there
+sure_keeps name d there leaves = record {
+  frame = λ is. same R10 ∙ is;
+  numbers = λ reg is. subst IsNumber (sym (same reg)) is;
+  stack = leaves.stack;
+  disposal = leaves.disposal;
+}
+  where
+    same : (reg : Reg) → kind_at there reg ≡ kind_at d reg
+    same reg = ap (λ kinds. slice_index_or kinds (number_of reg) Unwritten) leaves.registers
+
+pub given_up_keeps : (name : FreezeName) (copy : Kind) (d there : Description) → LeavesGivenUp 0 name copy d there → KeepsCommon d there
+given_up_keeps name copy d there leaves = record {
+  frame = λ is. leaves.others R10 (omega arith) (λ same. address_is_none (kind_at d R10) is (name, same)) ∙ is;
+  numbers = λ reg is. subst IsNumber (sym (leaves.others reg (omega arith) (λ same. number_is_none (kind_at d reg) is (name, same)))) is;
+  stack = leaves.stack;
+  disposal = leaves.disposal;
+}
+
 -- nothing is written
-pub known_on : (program : List Slot) (place to : ℕ) (insn : Insn) (d there : Description) → IsStep program place insn to → ((reg : Reg) → writes_register reg insn ≡ false) → ((at : ℕ) → writes_byte at insn ≡ false) → LeavesKnown d there → IsCommon program place d → IsCommon program to there
+pub known_on : (program : List Slot) (place to : ℕ) (insn : Insn) (d there : Description) → IsStep program place insn to → ((reg : Reg) → writes_register reg insn ≡ false) → ((at : ℕ) → writes_byte at insn ≡ false) → KeepsCommon d there → IsCommon program place d → IsCommon program to there
 known_on program place to insn d there step writes spares leaves is = record {
-  frame = stays_address (Frame 0) 512 (kind_at d R10) (kind_at there R10) (leaves.registers R10) is.frame;
+  frame = leaves.frame is.frame;
   depth = ap length leaves.stack ∙ is.depth;
   waits = leaves.disposal ∙ is.waits;
   registers = λ reg free. elim (is.registers reg free) [
-    | inl number ↦ inl (stays_number (kind_at d reg) (kind_at there reg) (leaves.registers reg) number)
+    | inl number ↦ inl (leaves.numbers reg number)
     | inr way ↦ inr (comes_on (writes_register reg) program place to insn step (writes reg) way)
   ];
   bytes = λ at. elim (is.bytes at) [
@@ -140,13 +183,13 @@ known_on program place to insn d there step writes spares leaves is = record {
 pub called_on : (program : List Slot) (place to : ℕ) (number : ℤ) (d there : Description) → IsStep program place (Call (Helper number)) to → LeavesCalled d number there → there.disposed ≡ d.disposed
     → ((reg : Reg) → is_free reg ≡ true → number_of reg < 6 → Comes (writes_register reg) program place) → IsCommon program place d → IsCommon program to there
 called_on program place to number d there step leaves same low is = record {
-  frame = stays_address (Frame 0) 512 (kind_at d R10) (kind_at there R10) (leaves.registers R10 (omega arith)) is.frame;
+  frame = leaves.registers R10 (omega arith) (address_is_none (kind_at d R10) is.frame) ∙ is.frame;
   depth = leaves.depth ∙ is.depth;
   waits = same ∙ is.waits;
   registers = λ reg free. elim (cases_lt (number_of reg) 6) [
     | inl lt ↦ inr (comes_on (writes_register reg) program place to (Call (Helper number)) step refl (low reg free lt))
     | inr ge ↦ elim (is.registers reg free) [
-      | inl is_number ↦ inl (stays_number (kind_at d reg) (kind_at there reg) (leaves.registers reg ge) is_number)
+      | inl is_number ↦ inl (subst IsNumber (sym (leaves.registers reg ge (number_is_none (kind_at d reg) is_number))) is_number)
       | inr way ↦ inr (comes_on (writes_register reg) program place to (Call (Helper number)) step refl way)
     ]
   ];

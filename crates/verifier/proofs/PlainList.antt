@@ -1,5 +1,5 @@
 -- The list of a plain program: what is known is enough for each of its instructions, and goes on.
-use Rattle.std.proofs.Common.{◌≡◌, ℕ, ℤ, ◌+◌, ◌<◌, ◌≤◌, true, List, Some, None, refl, ap, sym, subst, ◌∙◌, arith, inl, inr}
+use Rattle.std.proofs.Common.{◌≡◌, ℕ, ℤ, ◌+◌, ◌<◌, ◌≤◌, true, List, [], Some, None, refl, ap, sym, subst, ◌∙◌, arith, inl, inr}
 use Rattle.std.specs.Int.{byte_len}
 use Rattle.std.proofs.lemmas.Bool.{and_parts, leb-true, ltb-true}
 use Rattle.bpf_insn.specs.declared.insn.Insn.{Insn}
@@ -13,7 +13,6 @@ use Rattle.bpf_insn.specs.Target.{target}
 use Rattle.bpf_machine.specs.Memory.{load_width, store_width}
 use Rattle.call_shape.specs.StaticPath.{outermost, LeadsTo}
 use Rattle.reg_domain.specs.declared.description.Description.{Description}
-use Rattle.reg_domain.specs.declared.description.Held.TheVariants.{Nothing}
 use Rattle.reg_domain.specs.declared.following.Way.{Way}
 use Rattle.reg_domain.specs.declared.following.Way.TheVariants.{FallThrough, Taken}
 use Rattle.reg_domain.specs.declared.region.Region.TheVariants.{Frame}
@@ -22,12 +21,12 @@ use Rattle.reg_domain.specs.Kinds.{IsNumber}
 use Rattle.reg_domain.specs.Enough.{Enough, Leaves, IsAt, IsNumberOperand, ComparesNumbers, LiesInFrame, LeavesStored}
 use Rattle.verifier.specs.Arrives.{goes_to}
 use Rattle.verifier.specs.Plain.{IsListed, IsFreeOperand, ReadsRegister, ReadsByte, ComesUnwritten, is_free, byte_of, writes_register, writes_byte}
-use Rattle.verifier.proofs.PlainKnown.{IsCommon, IsStep, number_on, known_on, stored_on}
+use Rattle.verifier.proofs.PlainKnown.{IsCommon, IsStep, compared_keeps, number_on, known_on, stored_on}
 
 -- where the list stands, and at the slot behind it
 pub record AtList (program : List Slot) (place : ℕ) (d : Description) : Type 0 where
   pub common : IsCommon program place d
-  pub held : d.held ≡ Nothing
+  pub held : d.held ≡ []
 
 -- no path comes to an instruction of the list without writing what that reads
 pub record ReadsWritten (program : List Slot) (place : ℕ) (insn : Insn) : Type 0 where
@@ -150,8 +149,8 @@ list_follows program place end to (JumpIf width condition dst src offset) way d 
       second = read_operand program place insn d src is.common written listed.1 (λ reg same. inr same);
     } in
     record {
-      common = known_on program place to insn d there step (λ reg. refl) (λ at. refl) leaves.known is.common;
-      held = leaves.numbers compares ∙ is.held;
+      common = known_on program place to insn d there step (λ reg. refl) (λ at. refl) (compared_keeps d there (leaves.numbers compares).0) is.common;
+      held = (leaves.numbers compares).1 ∙ is.held;
     }
 list_follows program place end to (Load form dst src offset) way d there listed written step leaves is = record {
   common = number_on program place to (Load form dst src offset) dst d there step (λ reg apart. apart) (λ at. refl) listed.0 leaves.only leaves.number is.common;

@@ -1,21 +1,27 @@
 -- What holds of each place of a plain program, by the part where it is.
-use Rattle.std.proofs.Common.{◌≡◌, ℕ, ◌+◌, ◌<◌, ◌≤◌, true, false, List, length, sym, ◌∙◌, arith, inl, inr}
+use Rattle.std.proofs.Common.{◌≡◌, ℕ, ◌+◌, ◌<◌, ◌≤◌, true, false, List, [], ◌∷◌, length, sym, ◌∙◌, arith, inl, inr}
 use Rattle.std.proofs.lemmas.Bool.{cases_lt}
 use Rattle.bpf_insn.specs.declared.reg.Reg.{Reg}
 use Rattle.bpf_insn.specs.declared.reg.Reg.TheVariants.{R0, R1, R2}
 use Rattle.bpf_insn.specs.declared.program.Slot.{Slot}
 use Rattle.bpf_insn.specs.Reg.{number_of}
 use Rattle.reg_domain.specs.declared.description.Description.{Description}
-use Rattle.reg_domain.specs.declared.description.Held.TheVariants.{Nothing, Open, Sure}
-use Rattle.reg_domain.specs.declared.kind.Certainty.TheVariants as certainties
+use Rattle.reg_domain.specs.declared.freeze_name.FreezeName.TheVariants.{Start}
+use Rattle.reg_domain.specs.declared.held.Certainty.TheVariants.{Sure}
+use Rattle.reg_domain.specs.declared.held.HeldFreeze.{HeldFreeze}
 use Rattle.reg_domain.specs.declared.kind.Kind.TheVariants.{Freeze}
 use Rattle.reg_domain.specs.declared.region.Region.TheVariants.{Context}
 use Rattle.reg_domain.specs.Description.{kind_at}
+use Rattle.reg_domain.specs.Freezes.{open_freeze}
 use Rattle.reg_domain.specs.Kinds.{IsNumber, IsAtMost}
 use Rattle.reg_domain.specs.Enough.{IsAt, Agree, JoinsTo}
 use Rattle.verifier.specs.Plain.{is_free, writes_register}
 use Rattle.verifier.proofs.PlainKnown.{Comes, IsCommon, common_joined}
 use Rattle.verifier.proofs.PlainList.{AtList}
+
+-- what is held where the freeze of the start was found not to be 0
+abbrev pub sure_start : List HeldFreeze
+sure_start = record { name = Start; certainty = Sure } ∷ []
 
 -- up to where the freeze is given back no path has written R0 and R3 to R5
 pub record AtStart (program : List Slot) (place : ℕ) (d : Description) : Type 0 where
@@ -26,27 +32,27 @@ pub record AtStart (program : List Slot) (place : ℕ) (d : Description) : Type 
 pub record AtLoad (program : List Slot) (place : ℕ) (d : Description) : Type 0 where
   pub start : AtStart program place d
   pub context : IsAt Context 0 (kind_at d R1)
-  pub freeze : kind_at d R2 ≡ Freeze certainties.Open
-  pub held : d.held ≡ Open
+  pub freeze : kind_at d R2 ≡ Freeze Start
+  pub held : d.held ≡ open_freeze Start ∷ []
 
 pub record AtCopy (program : List Slot) (place : ℕ) (d : Description) : Type 0 where
   pub start : AtStart program place d
-  pub freeze : kind_at d R2 ≡ Freeze certainties.Sure
-  pub held : d.held ≡ Sure
+  pub freeze : kind_at d R2 ≡ Freeze Start
+  pub held : d.held ≡ sure_start
 
 pub record AtRelease (program : List Slot) (place : ℕ) (d : Description) : Type 0 where
   pub start : AtStart program place d
-  pub freeze : kind_at d R1 ≡ Freeze certainties.Sure
-  pub held : d.held ≡ Sure
+  pub freeze : kind_at d R1 ≡ Freeze Start
+  pub held : d.held ≡ sure_start
 
 pub record AtRequeue (d : Description) : Type 0 where
-  pub held : d.held ≡ Nothing
+  pub held : d.held ≡ []
   pub waits : d.disposed ≡ false
   pub depth : length d.stack ≡ 1
   pub few : IsAtMost 1 (kind_at d R1)
 
 pub record AtAnswer (d : Description) : Type 0 where
-  pub held : d.held ≡ Nothing
+  pub held : d.held ≡ []
   pub done : d.disposed ≡ true
   pub depth : length d.stack ≡ 1
 

@@ -13,7 +13,7 @@ use Rattle.bpf_insn.specs.declared.reg.Reg.{Reg}
 use Rattle.bpf_insn.specs.declared.insn.Callee.TheVariants.{Helper, Local}
 use Rattle.bpf_insn.specs.Target.{target, distance_of}
 use Rattle.helpers.specs.declared.request.Request.{Request}
-use Rattle.helpers.specs.declared.request.Request.TheVariants.{Release, Requeue, QueueInfo, Trace}
+use Rattle.helpers.specs.declared.request.Request.TheVariants.{Freeze, Release, ReleaseAfter, Requeue, Finish, QueueInfo, Trace}
 use Rattle.helpers.specs.declared.request.Answer.{Answer}
 use Rattle.bpf_machine.specs.MachineState.{OpenCall, MachineState, register, with_register, moved_to}
 use Rattle.bpf_machine.specs.Memory.{address_of, load_width, loaded, word_from}
@@ -128,8 +128,11 @@ private_onward m m' (Call callee) none e = absurd (none_is m' e)
 private_onward m m' Exit none e = absurd (none_returned m m' m.open_calls none e)
 
 answered_next : (request : Request) (answer : Answer) (m : MachineState) → IsNext m 1 (answered request answer m)
+answered_next (Freeze queue) answer m = record { calls = refl; place = refl }
 answered_next (Release freeze) answer m = record { calls = refl; place = refl }
+answered_next (ReleaseAfter freeze milliseconds) answer m = record { calls = refl; place = refl }
 answered_next (Requeue retries) answer m = record { calls = refl; place = refl }
+answered_next (Finish code) answer m = record { calls = refl; place = refl }
 answered_next (QueueInfo address) answer m = record { calls = refl; place = refl }
 answered_next (Trace address bytes) answer m = record { calls = refl; place = refl }
 

@@ -121,6 +121,7 @@ fn lead(
     to: usize,
 ) -> Result<(), Refusal>
     requires place { place < length table.old }
+    requires few { place < MAX_SLOTS }
     ensures whole { length table.new ≡ length table.old }
     ensures led { IfOk result (λ _. HasLed limits.now table.old place insn way to table.new) }
     ensures passes { (program : List Slot) → NeverLacks program → AllArrive program table.old → length table.old ≡ length program → insn_at program place ≡ Some insn → goes_to place insn way ≡ Some to → IsOkAnd result (λ _. AllArrive program table.new) }
@@ -130,7 +131,7 @@ fn lead(
         return Ok(());
     };
     let mut there = *description;
-    match there.follow(limits, insn, way) {
+    match there.follow(limits, insn, place as u32, way) {
         Ok(is_open) => {
             if is_open && to < table.len() {
                 join_into(table, to, &there)

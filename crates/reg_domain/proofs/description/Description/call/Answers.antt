@@ -1,42 +1,39 @@
 use Rattle.std.specs.Int.{w32}
-use Rattle.std.proofs.Common.{◌≡◌, ℤ, Some, subst, sym, ◌∙◌}
+use Rattle.std.proofs.Common.{◌≡◌, ℤ, Some, subst, sym}
 use Rattle.std.proofs.lemmas.Int.{to_z-of_z}
 use Rattle.helpers.specs.Table.{helper_of}
-use Rattle.reg_domain.proofs.Calling.{follows, left, unstuck}
+use Rattle.helpers.specs.declared.helper.Helper.TheVariants as helpers
+use Rattle.reg_domain.specs.declared.freeze_name.FreezeName.TheVariants as names
+use Rattle.reg_domain.proofs.Calling.{follows, unstuck}
+use Rattle.reg_domain.proofs.Leaving.{enough_calls, left, taking_calls}
 use Rattle.reg_domain.proofs.description.Description.call.Goals as goal
 
-pub returns-clause-follows : goal.returns-clause-follows
-returns-clause-follows c = λ m m' request answer is called allowed.
-    let answered = c.is_answered.ensures.0 c.if-not-is_answered.false in
-    let named = subst (λ (n : ℤ). helper_of n ≡ Some c.in-Some.helper) (to_z-of_z w32 c.args.number c.ranges.number) (sym c.with_number.ensures ∙ c.in-Some.is) in
-    follows c.args.number c.in-Some.helper c.args.self.now c.pass.new.self m m' request answer named answered c.pass.ensures.passes (λ same. (c.in_ok-check_call.ensures.sure same).0) is called allowed
+pub returns-in_default-clause-leaves : goal.returns-in_default-clause-leaves
+returns-in_default-clause-leaves c = λ (helper, named, enough).
+    let may = enough_calls c.args.limits.now c.args.self.now (names.Call c.args.place) helper enough in
+    let same = subst (λ (n : ℤ). helper_of n ≡ Some helper) (sym (to_z-of_z w32 c.args.number c.ranges.number)) named in
+    c.in_default.not-Some helper (c.answered_helper.ensures.all helper same may.answered)
+
+pub returns-in_default-clause-takes : goal.returns-in_default-clause-takes
+returns-in_default-clause-takes c = λ takes.
+    let may = taking_calls c.args.limits.now c.args.self.now c.args.number c.args.place takes in
+    let same = subst (λ (n : ℤ). helper_of n ≡ Some helpers.Freeze) (sym (to_z-of_z w32 c.args.number c.ranges.number)) may.0 in
+    c.in_default.not-Some helpers.Freeze (c.answered_helper.ensures.all helpers.Freeze same may.1.answered)
 
 pub returns-clause-unstuck : goal.returns-clause-unstuck
 returns-clause-unstuck c =
-    let answered = c.is_answered.ensures.0 c.if-not-is_answered.false in
-    let named = subst (λ (n : ℤ). helper_of n ≡ Some c.in-Some.helper) (to_z-of_z w32 c.args.number c.ranges.number) (sym c.with_number.ensures ∙ c.in-Some.is) in
-    unstuck c.args.limits.now c.args.self.now c.args.number c.in-Some.helper named answered (c.in_ok-check_call.ensures.obeys answered)
+    let found = c.in-Some.ensures.found in
+    let named = subst (λ (n : ℤ). helper_of n ≡ Some c.in-Some.helper) (to_z-of_z w32 c.args.number c.ranges.number) found.0 in
+    unstuck c.args.limits.now c.args.self.now c.args.number c.in-Some.helper named found.1 (c.in_ok-check_call.ensures.obeys found.1)
 
-pub returns-clause-gives_back : goal.returns-clause-gives_back
-returns-clause-gives_back c = λ asked.
-    let answered = c.is_answered.ensures.0 c.if-not-is_answered.false in
-    let named = subst (λ (n : ℤ). helper_of n ≡ Some c.in-Some.helper) (to_z-of_z w32 c.args.number c.ranges.number) (sym c.with_number.ensures ∙ c.in-Some.is) in
-    left c.args.number c.in-Some.helper c.args.self.now c.pass.new.self named answered (c.pass.ensures.leaves answered)
+pub returns-clause-follows : goal.returns-clause-follows
+returns-clause-follows c = λ m m' request answer is called allowed.
+    let found = c.in-Some.ensures.found in
+    let named = subst (λ (n : ℤ). helper_of n ≡ Some c.in-Some.helper) (to_z-of_z w32 c.args.number c.ranges.number) found.0 in
+    follows c.args.number c.in-Some.helper c.args.self.now c.pass.new.self m m' request answer named found.1 c.pass.ensures.passes is called allowed
 
-pub returns-clause-requeues : goal.returns-clause-requeues
-returns-clause-requeues c = λ asked.
-    let answered = c.is_answered.ensures.0 c.if-not-is_answered.false in
-    let named = subst (λ (n : ℤ). helper_of n ≡ Some c.in-Some.helper) (to_z-of_z w32 c.args.number c.ranges.number) (sym c.with_number.ensures ∙ c.in-Some.is) in
-    left c.args.number c.in-Some.helper c.args.self.now c.pass.new.self named answered (c.pass.ensures.leaves answered)
-
-pub returns-clause-informs : goal.returns-clause-informs
-returns-clause-informs c = λ asked.
-    let answered = c.is_answered.ensures.0 c.if-not-is_answered.false in
-    let named = subst (λ (n : ℤ). helper_of n ≡ Some c.in-Some.helper) (to_z-of_z w32 c.args.number c.ranges.number) (sym c.with_number.ensures ∙ c.in-Some.is) in
-    left c.args.number c.in-Some.helper c.args.self.now c.pass.new.self named answered (c.pass.ensures.leaves answered)
-
-pub returns-clause-traces : goal.returns-clause-traces
-returns-clause-traces c = λ asked.
-    let answered = c.is_answered.ensures.0 c.if-not-is_answered.false in
-    let named = subst (λ (n : ℤ). helper_of n ≡ Some c.in-Some.helper) (to_z-of_z w32 c.args.number c.ranges.number) (sym c.with_number.ensures ∙ c.in-Some.is) in
-    left c.args.number c.in-Some.helper c.args.self.now c.pass.new.self named answered (c.pass.ensures.leaves answered)
+pub returns-clause-leaves : goal.returns-clause-leaves
+returns-clause-leaves c = λ enough.
+    let found = c.in-Some.ensures.found in
+    let named = subst (λ (n : ℤ). helper_of n ≡ Some c.in-Some.helper) (to_z-of_z w32 c.args.number c.ranges.number) found.0 in
+    left c.args.number c.in-Some.helper c.args.self.now c.pass.new.self named c.pass.ensures.leaves (c.pass.ensures.keeps found.1)

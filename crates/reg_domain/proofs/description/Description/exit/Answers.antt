@@ -1,6 +1,5 @@
-use Rattle.std.proofs.Common.{◌≡◌, true, rules}
+use Rattle.std.proofs.Common.{◌≡◌, true, [], rules}
 use Rattle.bpf_insn.specs.declared.reg.Reg.TheVariants.{R0}
-use Rattle.reg_domain.specs.declared.description.Held.TheVariants.{Nothing}
 use Rattle.reg_domain.specs.Description.{kind_at}
 use Rattle.reg_domain.specs.Kinds.{IsNumber}
 use Rattle.reg_domain.proofs.Ways.{exit_unstuck}
@@ -9,7 +8,7 @@ use Rattle.reg_domain.proofs.description.Description.exit.Goals as goal
 pub returns-then-is_number-clause-unstuck : goal.returns-then-is_number-clause-unstuck
 returns-then-is_number-clause-unstuck c = λ limits.
     let d = c.args.self.now in
-    let nothing : d.held ≡ Nothing = search rules in
+    let nothing : d.held ≡ [] = search rules in
     let disposed : d.disposed ≡ true = search rules in
     let number : IsNumber (kind_at d R0) = search rules in
     exit_unstuck limits d nothing disposed number

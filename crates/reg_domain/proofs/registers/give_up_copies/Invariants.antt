@@ -1,11 +1,11 @@
 use Rattle.std.proofs.Common.{ℕ, ◌≡◌, ◌<◌, ◌≤◌, length}
-use Rattle.reg_domain.specs.Changes.{BecomesSure, at}
-use Rattle.reg_domain.proofs.registers.make_sure.Given as goal
+use Rattle.reg_domain.specs.Changes.{GivesUpKind, at}
+use Rattle.reg_domain.proofs.registers.give_up_copies.Given as goal
 
 -- those before this one are changed, and the others not yet
 abbrev pub invariant-loop-reg : goal.invariant-loop-reg
 invariant-loop-reg l = record {
   count : length l.registers ≡ 11;
-  done : (i : ℕ) → i < l.reg → BecomesSure (at l.fn.registers i) (at l.registers i);
+  done : (i : ℕ) → i < l.reg → GivesUpKind l.name l.copies (at l.fn.registers i) (at l.registers i);
   rest : (i : ℕ) → l.reg ≤ i → at l.registers i ≡ at l.fn.registers i;
 }

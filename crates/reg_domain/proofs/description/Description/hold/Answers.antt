@@ -1,0 +1,14 @@
+use Rattle.std.proofs.Common.{List, subst, sym}
+use Rattle.bpf_machine.specs.Step.{held_with}
+use Rattle.std.proofs.Common.{Some}
+use Rattle.reg_domain.specs.declared.held.HeldFreeze.{HeldFreeze}
+use Rattle.reg_domain.specs.Description.{DescribesWith}
+use Rattle.reg_domain.specs.Freezes.{renumbered}
+use Rattle.reg_domain.proofs.Giving.{taken_described}
+use Rattle.reg_domain.proofs.description.Description.hold.Goals as goal
+
+pub returns-clause-kept : goal.returns-clause-kept
+returns-clause-kept c = λ numbers number m is new.
+    let d = c.args.self.now in
+    subst (λ (held : List HeldFreeze). DescribesWith (renumbered numbers c.args.name (Some number)) (record d { held = held }) (record m { held = held_with m.held number })) (sym c.push.ensures)
+    (taken_described numbers d m c.args.name number is c.requires.fresh new)

@@ -1,0 +1,10 @@
+use Rattle.std.proofs.Common.{◌≡◌, true, sym, subst}
+use Rattle.helpers.specs.declared.helper.Asked.{Asked}
+use Rattle.bpf_machine.specs.Calls.{is_as_asked}
+use Rattle.reg_domain.proofs.Giving.{sure_is_held}
+use Rattle.reg_domain.proofs.description.Description.is_fit.Goals as goal
+
+pub returns-in-HeldFreeze-clause-fits : goal.returns-in-HeldFreeze-clause-fits
+returns-in-HeldFreeze-clause-fits c = λ fit numbers m arguments value is are holds.
+    subst (λ (asked : Asked). is_as_asked c.args.limits.now m arguments asked value ≡ true) (sym c.in-HeldFreeze.is)
+    (sure_is_held numbers c.args.self.now m c.args.kind value is (c.is_sure_freeze.ensures.0 fit) holds)

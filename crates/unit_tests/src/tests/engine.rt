@@ -1,7 +1,7 @@
 // An engine's calls one after another, with ample memory and with one allocation refused. What each call
 // answers is worked out by hand.
 
-use super::policies::{limits, policy};
+use super::policies::{limits_of, policy};
 use bpf_insn::{Insn, Program};
 use ccb::QueueId;
 use engine_core::{CallFault, Config, Engine, Record, ReleaseFault, Totals, Trace};
@@ -15,38 +15,61 @@ use verifier::{Accepted, verify};
 
 pub const QUEUE: QueueId = QueueId(0);
 
-// The queues that are given, or none where the program is refused.
-fn given(alloc: Global, insns: &[Insn]) -> Result<Option<Vec<(u8, Arc<Accepted>)>>, AllocError> {
+// The program of these instructions, accepted for so many queues, or none where it is refused.
+fn accepted(
+    alloc: Global,
+    queues: u32,
+    insns: &[Insn],
+) -> Result<Option<Arc<Accepted>>, AllocError> {
     let Some(program) = Program::new(alloc, insns)? else {
         return Ok(None);
     };
-    match verify(alloc, &program, &limits(alloc)) {
-        Ok(policy) => Ok(Some(vec![in alloc; (2, Arc::new(alloc, policy)?)]?)),
+    match verify(alloc, &program, &limits_of(alloc, queues)) {
+        Ok(policy) => Ok(Some(Arc::new(alloc, policy)?)),
         Err(OrMemory::OutOfMemory) => Err(AllocError),
         Err(OrMemory::Fault(_)) => Ok(None),
     }
 }
 
-pub fn one_queue(alloc: Global) -> Result<Config, Fail> {
-    one_queue_with(alloc, &policy())
+// So many queues of 2 openings, each with that program.
+fn queues_of(
+    alloc: Global,
+    queues: u32,
+    program: &Arc<Accepted>,
+) -> Result<Vec<(u8, Arc<Accepted>)>, AllocError> {
+    let mut given = Vec::new(alloc);
+    for _ in 0..queues {
+        given.push((2, Arc::try_clone(program)?))?;
+    }
+    Ok(given)
 }
 
-// One queue with the program of these instructions.
-pub fn one_queue_with(alloc: Global, insns: &[Insn]) -> Result<Config, Fail> {
-    let queues = match given(alloc, insns) {
-        Ok(queues) => queues,
-        Err(AllocError) => given(alloc, insns)?,
+pub fn one_queue(alloc: Global) -> Result<Config, Fail> {
+    queues_with(alloc, 1, &policy())
+}
+
+// So many queues, each with the program of these instructions.
+pub fn queues_with(alloc: Global, queues: u32, insns: &[Insn]) -> Result<Config, Fail> {
+    let program = match accepted(alloc, queues, insns) {
+        Ok(program) => program,
+        Err(AllocError) => accepted(alloc, queues, insns)?,
     };
-    let queues = queues.ok_or("the program is refused")?;
-    Ok(Config::new(limits(alloc), queues).ok_or("one queue of 2 openings is refused")?)
+    let program = program.ok_or("the program is refused")?;
+    let given = match queues_of(alloc, queues, &program) {
+        Ok(given) => given,
+        Err(AllocError) => queues_of(alloc, queues, &program)?,
+    };
+    let limits = limits_of(alloc, queues);
+    Ok(Config::new(limits, given).ok_or("queues of 2 openings are refused")?)
 }
 
 // Where memory is refused the configuration comes back, and the same call again succeeds.
 pub fn open(rt: &impl Abort, alloc: Global, config: Config) -> Result<Engine, Fail> {
+    let queues = config.queues();
     match Engine::open(alloc, config) {
         Ok(engine) => Ok(engine),
         Err((AllocError, config)) => {
-            assert_eq!(rt; config.queues(), 1);
+            assert_eq!(rt; config.queues(), queues);
             match Engine::open(alloc, config) {
                 Ok(engine) => Ok(engine),
                 Err((fault, _)) => Err(Fail::from(fault)),

@@ -65,10 +65,35 @@ pub const fn tracing_policy() -> [Insn; 13] {
     ]
 }
 
+/// Queue 1 is frozen; then both freezes are given back, as far as there are any, and the CCB waits again.
+pub const fn freezing_policy() -> [Insn; 14] {
+    [
+        mov(Reg::R6, Operand::Register(Reg::R2)),
+        mov(Reg::R1, Operand::Immediate(1)),
+        Insn::Call(Callee::Helper(1)),
+        mov(Reg::R7, Operand::Register(Reg::R0)),
+        jeq(Reg::R6, Operand::Immediate(0), 2),
+        mov(Reg::R1, Operand::Register(Reg::R6)),
+        Insn::Call(Callee::Helper(2)),
+        jeq(Reg::R7, Operand::Immediate(0), 2),
+        mov(Reg::R1, Operand::Register(Reg::R7)),
+        Insn::Call(Callee::Helper(2)),
+        mov(Reg::R1, Operand::Immediate(1)),
+        Insn::Call(Callee::Helper(4)),
+        mov(Reg::R0, Operand::Immediate(0)),
+        Insn::Exit,
+    ]
+}
+
 /// One queue and no table.
 pub fn limits(alloc: Global) -> HelperLimits {
+    limits_of(alloc, 1)
+}
+
+/// So many queues and no table.
+pub fn limits_of(alloc: Global, queues: u32) -> HelperLimits {
     HelperLimits {
-        queues: 1,
+        queues,
         table_lengths: TableLengths::new(Vec::new(alloc)),
     }
 }

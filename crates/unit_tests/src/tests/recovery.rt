@@ -1,8 +1,8 @@
 // Recoveries of failed CCBs, call by call, with ample memory and with one allocation refused. What each call answers
 // is worked out by hand.
 
-use super::engine::{QUEUE, are_told, one_queue, one_queue_with, open, shut, totals};
-use super::policies::tracing_policy;
+use super::engine::{QUEUE, are_told, one_queue, open, queues_with, shut, totals};
+use super::policies::{freezing_policy, tracing_policy};
 use ccb::{CamStatus, CcbId, Completion, QueueId};
 use engine_core::{
     AdvanceAnswer, AdvanceFault, CallFault, CompleteAnswer, Completed, Engine, Record, Run,
@@ -307,7 +307,7 @@ fn same_segment_twice(rt: HostRuntime) -> Result<(), Fail> {
 // Sense bytes and traced bytes stand apart in the history, and take memory of their own.
 #[test]
 fn traced_once_and_memory_refused_once(rt: HostRuntime) -> Result<(), Fail> {
-    let config = one_queue_with(rt.alloc(), &tracing_policy())?;
+    let config = queues_with(rt.alloc(), 1, &tracing_policy())?;
     let mut engine = open(&rt, rt.alloc(), config)?;
     let failed = Completion::new(CcbId(1), CamStatus::ScsiStatusError, 2, &[112, 0, 6]);
     let failed = failed.ok_or("no completion")?;
@@ -327,5 +327,26 @@ fn traced_once_and_memory_refused_once(rt: HostRuntime) -> Result<(), Fail> {
     ];
     let told = trace.records.get(2..).ok_or("fewer records")?;
     assert!(rt; are_told(rt.alloc(), told, &records)?);
+    Ok(())
+}
+
+// The run holds the freeze of its start and that of queue 1, which it has frozen itself.
+fn freeze_both(rt: &impl Abort, engine: &mut Engine) -> Result<(), Fail> {
+    begin(rt, engine)?;
+    let (run, _) = fail(rt, engine, completion(1, CamStatus::CommandTimeout)?)?;
+    let run = going_on(advance(rt, engine, run)?)?;
+    run.forfeit();
+    Ok(())
+}
+
+// What a run holds is forfeited with its engine, and still counted in the sums.
+#[test]
+fn two_freezes_forfeited(rt: HostRuntime) -> Result<(), Fail> {
+    let config = queues_with(rt.alloc(), 2, &freezing_policy())?;
+    let mut engine = open(&rt, rt.alloc(), config)?;
+    let outcome = freeze_both(&rt, &mut engine);
+    let trace = shut(engine);
+    outcome?;
+    assert_eq!(rt; (trace.totals.frozen, trace.totals.runs), (2, 1));
     Ok(())
 }

@@ -17,7 +17,7 @@ use Rattle.world.proofs.Lists.Found.{put, found_key, found_push, found_in_filter
 use Rattle.world.proofs.Lists.Rising.{filtered_out}
 use Rattle.world.proofs.Lists.Entries.{freeze_key, handed_is_put}
 use Rattle.world.proofs.Steps.Calls.{FreezeDeed, leaves_freezes, takes_one, gives_one_back, hands_one_over, Asks}
-use Rattle.world.proofs.Steps.Cases.{ReadsClock, Case, case_of, refuses, submits, dispatches, finishes_one, recovers_one, recovers_unfrozen, freezes_one, releases_one, reads_clock, goes_on_one, asks_one, exits}
+use Rattle.world.proofs.Steps.Cases.{ReadsClock, Case, case_of, refuses, submits, dispatches, finishes_one, recovers_one, recovers_unfrozen, freezes_one, releases_one, reads_clock, turns_one, goes_on_one, asks_one, exits}
 use Rattle.world.proofs.Leads.{limits_are_kept}
 
 -- a step leaves the clock, or it reads what is neither before it nor after the last reading
@@ -36,6 +36,7 @@ clock_move setup before event reply after (releases_one it) = inl (ap (λ (w : W
 clock_move setup before event reply after (reads_clock it) =
     let is : after.clock ≡ it.reading = ap (λ (w : World). w.clock) it.after_is in
     inr (rw is it.on, rw is it.within)
+clock_move setup before event reply after (turns_one it) = inl (ap (λ (w : World). w.clock) it.after_is)
 clock_move setup before event reply after (goes_on_one it) = inl (ap (λ (w : World). w.clock) it.after_is)
 clock_move setup before event reply after (asks_one it) = inl (ap (λ (x : Reply × World). x.1.clock) it.answer ∙ it.rest.clock_is)
 clock_move setup before event reply after (exits it) = inl (ap (λ (w : World). w.clock) it.after_is)
@@ -142,6 +143,7 @@ case_keeps_time setup before event reply after kept (freezes_one it) = one_more 
 case_keeps_time setup before event reply after kept (releases_one it) =
     one_fewer before event reply after it.number it.freeze (λ due. ap (λ (r : Reply). lets_go due r event) it.reply_is) (ap (λ (w : World). w.freezes) it.after_is) it.entry (guests_no_timer it.freeze.holder it.guests)
 case_keeps_time setup before event reply after kept (reads_clock it) = by_the_clock setup before event reply after kept it
+case_keeps_time setup before event reply after kept (turns_one it) = as_before before event reply after (λ due. ap (λ (r : Reply). lets_go due r event) it.reply_is) (ap (λ (w : World). w.freezes) it.after_is)
 case_keeps_time setup before event reply after kept (goes_on_one it) = as_before before event reply after (λ due. ap (λ (r : Reply). lets_go due r event) it.reply_is) (ap (λ (w : World). w.freezes) it.after_is)
 case_keeps_time setup before event reply after kept (asks_one it) = by_a_call setup before event reply after kept it it.freezes
 case_keeps_time setup before event reply after kept (exits it) = as_before before event reply after (λ due. ap (λ (r : Reply). lets_go due r event) it.reply_is) (ap (λ (w : World). w.freezes) it.after_is)

@@ -14,7 +14,7 @@ use Rattle.world.specs.Limits.{KeepsLimits}
 use Rattle.world.specs.FreezeLaws.{OneFewer, Calls, MovesCounts, CountsAreEntries}
 use Rattle.world.proofs.Lists.Entries.{frozen_push, frozen_without, frozen_handed_over, frozen_due}
 use Rattle.world.proofs.Steps.Calls.{FreezeDeed, leaves_freezes, takes_one, gives_one_back, hands_one_over}
-use Rattle.world.proofs.Steps.Cases.{Case, case_of, refuses, submits, dispatches, finishes_one, recovers_one, recovers_unfrozen, freezes_one, releases_one, reads_clock, goes_on_one, asks_one, exits}
+use Rattle.world.proofs.Steps.Cases.{Case, case_of, refuses, submits, dispatches, finishes_one, recovers_one, recovers_unfrozen, freezes_one, releases_one, reads_clock, turns_one, goes_on_one, asks_one, exits}
 use Rattle.world.proofs.Leads.{limits_are_kept}
 
 -- the count after the freeze of this number went
@@ -74,6 +74,7 @@ case_moves setup before event reply after kept (reads_clock it) =
       count_is = refl;
       fewer = λ other. ap (λ (w : World). frozen other w.freezes + frozen other (due_at it.reading before.freezes)) it.after_is ∙ frozen_due other it.reading before.freezes;
     })
+case_moves setup before event reply after kept (turns_one it) = rw it.reply_is (it.moves after (ap (λ (w : World). w.freezes) it.after_is))
 case_moves setup before event reply after kept (goes_on_one it) = rw it.it.event_is (ap (λ (w : World). w.freezes) it.after_is)
 case_moves setup before event reply after kept (asks_one it) =
     let reply_is : reply ≡ result it.given.r0 = ap (λ (x : Reply × World). x.0) it.answer in

@@ -22,7 +22,7 @@ use Rattle.world.proofs.Lists.Entries.{freeze_key, FreezesRise}
 use Rattle.world.proofs.Steps.Cases.{Case, case_of}
 use Rattle.world.proofs.Steps.Moves.{Effect}
 use Rattle.world.proofs.Steps.Effects.{effect_of}
-use Rattle.world.proofs.Steps.Fates.{machine_of, Holding, holds_the_same, holds_one_more, holds_one_fewer, Fate, stands, goes, leaves_world, fate_of}
+use Rattle.world.proofs.Steps.Fates.{machine_of, turned, Holding, holds_the_same, holds_one_more, holds_one_fewer, Fate, stands, goes, leaves_world, fate_of}
 use Rattle.world.proofs.Lists.HeldBy.{held_head, held_tail}
 use Rattle.world.proofs.Held.{live_given}
 use Rattle.world.proofs.Gone.{move_rises}
@@ -243,13 +243,13 @@ balance_step setup n number got given before event reply after lawful sound got_
         }
 
     by_fate : Fate before event reply after number now → Balanced n number got given after (taken_by number event reply) (given_by number before event)
-    by_fate (stands idle is) =
+    by_fate (stands out idle is) =
         let takes = effect.taken number (live_given setup before number now sound.kept found) idle in
         let not_taken : times_in n (taken_by number event reply) ≡ 0 = ap (times_in n) takes in
         let not_given : times_in n (given_by number before event) ≡ 0 = ap (times_in n) (nothing_given number before event idle) in
         record {
           got_once = got_nothing n got before after (taken_by number event reply) got_once greatest_rises takes;
-          balance = has now is (omega (arith, same, not_taken, not_given));
+          balance = has (turned now out) is (omega (arith, same, not_taken, not_given));
         }
     by_fate (goes instruction machine event_is no_exit steps is holding disposing) = by_holding instruction machine event_is is holding
     by_fate (leaves_world r0 event_is exit_is none takes) =

@@ -9,7 +9,7 @@ use Rattle.world.specs.Lawful.{IsLawful}
 use Rattle.world.specs.Lookups.{ccb_of, run_of}
 use Rattle.world.specs.Event.{complete, Event, Reply, run_started}
 use Rattle.world.specs.WorldRun.{Leads}
-use Rattle.world.specs.Headline.{is_step_of, steps_of, disposals_of, exits_of, StartedRun, KeepsWithin, WithinBudget, InRecoveryBy, DisposedOnce, OthersLeaveIt, GoneRunStaysGone, times_in, ExactFreezes}
+use Rattle.world.specs.Headline.{is_own_of, steps_of, disposals_of, exits_of, StartedRun, KeepsWithin, WithinBudget, InRecoveryBy, DisposedOnce, OthersLeaveIt, GoneRunStaysGone, times_in, ExactFreezes}
 use Rattle.world.proofs.Lists.Found.{found_key, found_push, put_other, leave_other}
 use Rattle.world.proofs.Steps.Cases.{case_of}
 use Rattle.world.specs.Limits.{KeepsLimits}
@@ -168,24 +168,24 @@ exact_freezes setup lawful outcome run ys world it =
           omega (arith, all n, then_is);
     }
 
--- a step of one run is none of another
-not_one : (number another : ℕ) (event : Event) → is_step_of number event ≡ false → is_step_of another event ≡ true → another ≡ number → ⊥
-not_one number another event other its same = let bad : false ≡ true = sym other ∙ subst (λ (n : ℕ). is_step_of n event ≡ true) same its in cc
+-- what is one run's own is none of another's
+not_one : (number another : ℕ) (event : Event) → is_own_of number event ≡ false → is_own_of another event ≡ true → another ≡ number → ⊥
+not_one number another event other its same = let bad : false ≡ true = sym other ∙ subst (λ (n : ℕ). is_own_of n event ≡ true) same its in cc
 
--- a step that is not the run's leaves it
-not_its_step : (setup : Setup) (before : World) (event : Event) (reply : Reply) (after : World) (number : ℕ) (run : LiveRun) → is_step_of number event ≡ false → run_of number before.runs ≡ Some run → RunMove setup before event reply after → run_of number after.runs ≡ Some run
-not_its_step setup before event reply after number run other found (runs_stay e g quiet) = ap (run_of number) e ∙ found
-not_its_step setup before event reply after number run other found (run_enters fresh begins known room g) = ap (run_of number) begins.runs_is ∙ found_push run_key number before.runs fresh run found
-not_its_step setup before event reply after number run other found (run_changes another machine there e g quiet its) =
-    ap (run_of number) e ∙ (put_other run_key (record another { machine = machine }) number before.runs (not_one number another.number event other its) ∙ found)
-not_its_step setup before event reply after number run other found (run_leaves another there e g quiet its) =
+-- an event that is not the run's own leaves it
+pub not_its_own : (setup : Setup) (before : World) (event : Event) (reply : Reply) (after : World) (number : ℕ) (run : LiveRun) → is_own_of number event ≡ false → run_of number before.runs ≡ Some run → RunMove setup before event reply after → run_of number after.runs ≡ Some run
+not_its_own setup before event reply after number run other found (runs_stay e g quiet) = ap (run_of number) e ∙ found
+not_its_own setup before event reply after number run other found (run_enters fresh begins known room g) = ap (run_of number) begins.runs_is ∙ found_push run_key number before.runs fresh run found
+not_its_own setup before event reply after number run other found (run_changes old new there queue_is program_is e g quiet its) =
+    ap (run_of number) e ∙ (put_other run_key new number before.runs (not_one number new.number event other its) ∙ found)
+not_its_own setup before event reply after number run other found (run_leaves another there e g quiet its) =
     ap (run_of number) e ∙ (leave_other run_key another.number number before.runs (not_one number another.number event other its) ∙ found)
 
 pub others_leave_it : OthersLeaveIt
-others_leave_it setup xs before first event reply after e number run found other =
+others_leave_it setup xs before first event reply after e number run found =
     let kept = limits_are_kept setup xs before first in
     let effect = effect_of setup before event reply after kept (case_of setup before event reply after e) in
-    (not_its_step setup before event reply after number run other found effect.runs, others_entries setup before event after number run kept found other effect.freezes)
+    (λ other. not_its_own setup before event reply after number run other found effect.runs, λ other. others_entries setup before event after number run kept found other effect.freezes)
 
 -- run numbers only rise, and a run that is over stays over
 leads_over : (setup : Setup) (before : World) (xs : List (Event × Reply)) (after : World) (number : ℕ) → KeepsLimits setup before → Leads setup before xs after → run_of number before.runs ≡ None → number ≤ before.greatest_run → run_of number after.runs ≡ None

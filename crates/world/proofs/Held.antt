@@ -21,7 +21,7 @@ use Rattle.world.proofs.Lists.Entries.{freeze_key}
 use Rattle.world.proofs.Steps.Cases.{Case}
 use Rattle.world.proofs.Steps.Moves.{run_key, FreezeMove, freezes_stay, freeze_enters, freezes_leave, freeze_changes, Begins, Effect}
 use Rattle.world.proofs.Steps.Effects.{timer_is_none, effect_of}
-use Rattle.world.proofs.Steps.Fates.{machine_of, Holding, holds_the_same, holds_one_more, holds_one_fewer, Fate, stands, goes, leaves_world, fate_of}
+use Rattle.world.proofs.Steps.Fates.{machine_of, turned, Holding, holds_the_same, holds_one_more, holds_one_fewer, Fate, stands, goes, leaves_world, fate_of}
 use Rattle.world.proofs.Steps.Beginnings.{no_some, new_run}
 use Rattle.world.proofs.Reaching.{AllReached, same_found, reached_goes, lawful_exit}
 use Rattle.world.proofs.Lists.HeldBy.{held_push_own, entries_push_other, held_without_own, entries_kept, entries_without_other, entries_put, held_none, is_among}
@@ -104,8 +104,8 @@ machines_hold setup before event reply after kept held it number now some = spli
         ∙ sym (ap (map freeze_key) entries ∙ held_without_own number wanted before.freezes))
 
     by_fate : (run : LiveRun) → run_of number before.runs ≡ Some run → Fate before event reply after number run → now.machine.held ≡ held_by number after.freezes
-    by_fate run found (stands idle is) =
-        let same = same_found after number run now is some in
+    by_fate run found (stands out idle is) =
+        let same = same_found after number (turned run out) now is some in
         sym (ap (λ (r : LiveRun). r.machine.held) same) ∙ (held.machines number run found ∙ sym (ap (map freeze_key) (others_entries setup before event after number run kept found (ap is_some idle) effect.freezes)))
     by_fate run found (goes instruction machine event_is no_exit steps is holding disposing) =
         let same = same_found after number (machine_of run machine) now is some in
@@ -147,7 +147,7 @@ entries_live setup before event reply after lawful kept reached held it n r f so
     ]
   where
     by_fate : entry_of n before.freezes ≡ Some f → (run : LiveRun) → run_of r before.runs ≡ Some run → Fate before event reply after r run → IsSome (run_of r after.runs)
-    by_fate old run found (stands idle is) = some_there (run_of r after.runs) _ is
+    by_fate old run found (stands out idle is) = some_there (run_of r after.runs) _ is
     by_fate old run found (goes instruction machine event_is no_exit steps is holding disposing) = some_there (run_of r after.runs) _ is
     by_fate old run found (leaves_world r0 event_is exit_is none takes) =
         let unstuck = reached_goes setup lawful before kept.runs r run found (reached r run found) in

@@ -217,13 +217,14 @@ runs_kept setup before event reply after (run_enters run begins known full g) ke
       rising = rising_push run_key 0 before.runs before.greatest_run run kept.rising number;
       numbers = omega (arith, left);
     })
-runs_kept setup before event reply after (run_changes run machine found e g quiet its) kept =
-    let changed : LiveRun = record run { machine = machine } in
-    runs_from setup after (put run_key changed before.runs) before.greatest_run e g (record {
-      queues = all_put run_key (IsKnown setup) changed before.runs (all_found run_key (IsKnown setup) run.number before.runs run kept.queues found) kept.queues;
-      programs = all_put run_key (IsOfProgram setup) changed before.runs (all_found run_key (IsOfProgram setup) run.number before.runs run kept.programs found) kept.programs;
-      all = omega (arith, put_length run_key changed before.runs, kept.all);
-      rising = rw (put_keys run_key changed before.runs) kept.rising;
+runs_kept setup before event reply after (run_changes old new found queue_is program_is e g quiet its) kept =
+    let known : IsKnown setup old = all_found run_key (IsKnown setup) new.number before.runs old kept.queues found in
+    let program : IsOfProgram setup old = all_found run_key (IsOfProgram setup) new.number before.runs old kept.programs found in
+    runs_from setup after (put run_key new before.runs) before.greatest_run e g (record {
+      queues = all_put run_key (IsKnown setup) new before.runs (rw queue_is known) kept.queues;
+      programs = all_put run_key (IsOfProgram setup) new before.runs (rw (queue_is, program_is) program) kept.programs;
+      all = omega (arith, put_length run_key new before.runs, kept.all);
+      rising = rw (put_keys run_key new before.runs) kept.rising;
       numbers = kept.numbers;
     })
 runs_kept setup before event reply after (run_leaves run found e g quiet its) kept =

@@ -16,4 +16,5 @@ pub mod NeverStuck
 pub mod Lives
 pub mod Exact
 pub mod Headline
+pub mod Parking
 pub mod Accounts

@@ -17,7 +17,7 @@ use Rattle.world.proofs.Lists.Each.{all_found}
 use Rattle.world.proofs.Steps.Cases.{case_of}
 use Rattle.world.proofs.Steps.Moves.{run_key, RunMove, runs_stay, run_enters, run_changes, run_leaves, Effect}
 use Rattle.world.proofs.Steps.Effects.{effect_of}
-use Rattle.world.proofs.Steps.Fates.{machine_of, Disposing, leaves_its_ccb, disposes_of_it, Fate, stands, goes, leaves_world, fate_of}
+use Rattle.world.proofs.Steps.Fates.{machine_of, turned, Disposing, leaves_its_ccb, disposes_of_it, Fate, stands, goes, leaves_world, fate_of}
 use Rattle.world.proofs.Steps.Beginnings.{new_run}
 use Rattle.world.proofs.Reaching.{lawful_queue, reached_goes, lawful_exit}
 use Rattle.world.proofs.Held.{live_given}
@@ -65,7 +65,7 @@ gone_stands setup before event reply after number none it = split (instruction_o
 pub rises : (setup : Setup) (before : World) (event : Event) (reply : Reply) (after : World) → RunMove setup before event reply after → before.greatest_run ≤ after.greatest_run
 rises setup before event reply after (runs_stay e g quiet) = omega (arith, g)
 rises setup before event reply after (run_enters run begins known room g) = omega (arith, g)
-rises setup before event reply after (run_changes run machine found e g quiet its) = omega (arith, g)
+rises setup before event reply after (run_changes old new found queue_is program_is e g quiet its) = omega (arith, g)
 rises setup before event reply after (run_leaves run found e g quiet its) = omega (arith, g)
 
 -- a run that is over stays over
@@ -102,8 +102,8 @@ same_disposal run machine j same (inl p) = inl (same ∙ p.0, p.1)
 same_disposal run machine j same (inr p) = inr (same ∙ p.0, p.1)
 
 alive_step : (setup : Setup) (start : LiveRun) (number k j e : ℕ) (before : World) (event : Event) (reply : Reply) (after : World) → IsLawful setup → IsSound setup before → Effect setup before event reply after → (now : LiveRun) → run_of number before.runs ≡ Some now → now.queue ≡ start.queue → now.ccb ≡ start.ccb → Reached now.program k now.machine → Disposed now j → e ≡ 0 → Fate before event reply after number now → Later setup start number k j e event after
-alive_step setup start number k j e before event reply after lawful sound effect now found queue ccb reached disposed none_yet (stands idle is) =
-    not_counted setup start number k j e event after idle (alive now is queue ccb reached disposed none_yet)
+alive_step setup start number k j e before event reply after lawful sound effect now found queue ccb reached disposed none_yet (stands out idle is) =
+    not_counted setup start number k j e event after idle (alive (turned now out) is queue ccb reached disposed none_yet)
 alive_step setup start number k j e before event reply after lawful sound effect now found queue ccb reached disposed none_yet (goes instruction machine event_is no_exit steps is holding disposing) = by_disposing disposing
   where
     counted : one (is_step_of number event) ≡ 1

@@ -17,7 +17,7 @@ use Rattle.world.proofs.Lists.Each.{all_found}
 use Rattle.world.proofs.Steps.Cases.{Case}
 use Rattle.world.proofs.Steps.Moves.{run_key}
 use Rattle.world.proofs.Steps.Effects.{effect_of}
-use Rattle.world.proofs.Steps.Fates.{machine_of, Fate, stands, goes, leaves_world, fate_of, same_run}
+use Rattle.world.proofs.Steps.Fates.{machine_of, turned, Fate, stands, goes, leaves_world, fate_of, same_run}
 use Rattle.world.proofs.Steps.Beginnings.{new_run, begins_at_entry}
 
 pub same_found : (world : World) (number : ℕ) (a b : LiveRun) → run_of number world.runs ≡ Some a → run_of number world.runs ≡ Some b → a ≡ b
@@ -34,8 +34,8 @@ AllReached world = (number : ℕ) (run : LiveRun) → run_of number world.runs �
 
 -- a run that stands or goes on was reached after the step where it was reached before
 from_fate : (before : World) (event : Event) (reply : Reply) (after : World) (number : ℕ) (run : LiveRun) (now : LiveRun) → ((n : ℕ) × Reached run.program n run.machine) → run_of number after.runs ≡ Some now → Fate before event reply after number run → (n : ℕ) × Reached now.program n now.machine
-from_fate before event reply after number run now reached some (stands idle is) =
-    subst (λ (r : LiveRun). (n : ℕ) × Reached r.program n r.machine) (same_found after number run now is some) reached
+from_fate before event reply after number run now reached some (stands out idle is) =
+    subst (λ (r : LiveRun). (n : ℕ) × Reached r.program n r.machine) (same_found after number (turned run out) now is some) reached
 from_fate before event reply after number run now reached some (goes instruction machine event_is no_exit steps is holding disposing) = from_steps after number run now machine reached some steps is
 from_fate before event reply after number run now reached some (leaves_world r0 event_is exit_is none takes) = absurd (let bad : None ≡ Some now = sym none ∙ some in cc)
 

@@ -6,7 +6,7 @@ use Rattle.ccb.specs.Ccb.{completed}
 use Rattle.world.specs.declared.ccb_state.CcbState.{CcbState}
 use Rattle.world.specs.declared.ccb_state.CcbState.TheVariants.{InRecovery}
 use Rattle.world.specs.World.{Setup, LiveCcb, LiveRun, World}
-use Rattle.world.specs.Lookups.{is_active, ccb_of, with_ccb, run_of}
+use Rattle.world.specs.Lookups.{is_active, ccb_of, run_of}
 use Rattle.world.specs.Event.{Instruction, Event, Reply}
 use Rattle.world.specs.Limits.{KeepsLimits}
 use Rattle.world.specs.FreezeLaws.{HoldsWhatEntriesSay}
@@ -15,7 +15,7 @@ use Rattle.world.proofs.Lists.Found.{found_key, found_push, put_same, put_other,
 use Rattle.world.proofs.Steps.Cases.{Case}
 use Rattle.world.proofs.Steps.Moves.{ccb_key, ccb_found, MayTouch, CcbMove, ccbs_stay, ccb_enters, ccb_changes, ccb_leaves, Begins, Effect}
 use Rattle.world.proofs.Steps.Effects.{effect_of}
-use Rattle.world.proofs.Steps.Fates.{machine_of, Disposing, leaves_its_ccb, disposes_of_it, Fate, stands, goes, leaves_world, fate_of, Newly}
+use Rattle.world.proofs.Steps.Fates.{machine_of, turned, Disposing, leaves_its_ccb, disposes_of_it, Fate, stands, goes, leaves_world, fate_of, Newly}
 use Rattle.world.proofs.Steps.Beginnings.{no_some, new_run}
 use Rattle.world.proofs.Reaching.{same_found}
 
@@ -36,11 +36,6 @@ one_state number world it test recovery is_not found is =
     let same : recovery.live ≡ it = cc in
     let bad : false ≡ true = sym is_not ∙ (ap test (sym recovery.state) ∙ (ap (λ (c : LiveCcb). test c.state) same ∙ is)) in
     cc
-
--- another CCB is put in its place
-other_put : (ccb : ℕ) (before after : World) (new : LiveCcb) → after.live ≡ with_ccb new before.live → (new.ccb.number.0 ≡ ccb → ⊥) → IsInRecovery ccb before → IsInRecovery ccb after
-other_put ccb before after new e apart recovery =
-    record { live = recovery.live; found = ap (ccb_of ccb) e ∙ (put_other ccb_key new ccb before.live apart ∙ recovery.found); state = recovery.state }
 
 -- the CCBs are as they were
 same_live : (ccb : ℕ) (before after : World) → after.live ≡ before.live → IsInRecovery ccb before → IsInRecovery ccb after
@@ -64,24 +59,26 @@ untouched before event number run old recovering found fresh other there may =
           let bad : true ≡ false = sym (subst (λ (k : ℕ). is_step_of k event ≡ true) one by.its) ∙ other in cc
     ]
 
--- so it stays in recovery
-others_ccb : (setup : Setup) (before : World) (event : Event) (reply : Reply) (after : World) (number : ℕ) (run : LiveRun) → Recovering before → run_of number before.runs ≡ Some run → run.machine.disposed ≡ false → is_step_of number event ≡ false → CcbMove setup before event reply after → IsInRecovery run.ccb after
-others_ccb setup before event reply after number run recovering found fresh other (ccbs_stay e g unended) = same_live run.ccb before after e (recovering.ccbs number run found fresh)
+-- so that CCB stays as it is
+pub others_ccb : (setup : Setup) (before : World) (event : Event) (reply : Reply) (after : World) (number : ℕ) (run : LiveRun) → Recovering before → run_of number before.runs ≡ Some run → run.machine.disposed ≡ false → is_step_of number event ≡ false → CcbMove setup before event reply after → ccb_of run.ccb after.live ≡ ccb_of run.ccb before.live
+others_ccb setup before event reply after number run recovering found fresh other (ccbs_stay e g unended) = ap (ccb_of run.ccb) e
 others_ccb setup before event reply after number run recovering found fresh other (ccb_enters queue priority retries known full e g unended) =
     let recovery = recovering.ccbs number run found fresh in
-    record { live = recovery.live; found = ap (ccb_of run.ccb) e ∙ found_push ccb_key run.ccb before.live _ recovery.live recovery.found; state = recovery.state }
+    ap (ccb_of run.ccb) e ∙ (found_push ccb_key run.ccb before.live _ recovery.live recovery.found ∙ sym recovery.found)
 others_ccb setup before event reply after number run recovering found fresh other (ccb_changes old new was queue_is active may e g unended) =
-    other_put run.ccb before after new e
+    ap (ccb_of run.ccb) e
+    ∙ put_other ccb_key new run.ccb before.live
     (λ same. untouched before event number run old recovering found fresh other (subst (λ (k : ℕ). ccb_of k before.live ≡ Some old) same was) may)
-    (recovering.ccbs number run found fresh)
 others_ccb setup before event reply after number run recovering found fresh other (ccb_leaves left code old was may e g one) =
+    ap (ccb_of run.ccb) e
+    ∙ leave_other ccb_key left run.ccb before.live
+    (λ same. untouched before event number run old recovering found fresh other (subst (λ (k : ℕ). ccb_of k before.live ≡ Some old) same was) may)
+
+-- and in recovery
+others_recover : (setup : Setup) (before : World) (event : Event) (reply : Reply) (after : World) (number : ℕ) (run : LiveRun) → Recovering before → run_of number before.runs ≡ Some run → run.machine.disposed ≡ false → is_step_of number event ≡ false → CcbMove setup before event reply after → IsInRecovery run.ccb after
+others_recover setup before event reply after number run recovering found fresh other move =
     let recovery = recovering.ccbs number run found fresh in
-    record {
-      live = recovery.live;
-      found = ap (ccb_of run.ccb) e
-          ∙ (leave_other ccb_key left run.ccb before.live (λ same. untouched before event number run old recovering found fresh other (subst (λ (k : ℕ). ccb_of k before.live ≡ Some old) same was) may) ∙ recovery.found);
-      state = recovery.state;
-    }
+    record { live = recovery.live; found = others_ccb setup before event reply after number run recovering found fresh other move ∙ recovery.found; state = recovery.state }
 
 -- a run after a step: it was there before with the same CCB, and had not disposed of it if it has not now; or it begins
 pub record Continues (before : World) (number : ℕ) (now : LiveRun) : Type 0 where
@@ -95,8 +92,8 @@ was_fresh before after run instruction machine (leaves_its_ccb same live calm) e
 was_fresh before after run instruction machine (disposes_of_it fresh spent disposal) e = fresh
 
 continues : (before : World) (event : Event) (reply : Reply) (after : World) (number : ℕ) (run now : LiveRun) → run_of number before.runs ≡ Some run → run_of number after.runs ≡ Some now → Fate before event reply after number run → Continues before number now
-continues before event reply after number run now found some (stands idle is) =
-    let same = same_found after number run now is some in
+continues before event reply after number run now found some (stands out idle is) =
+    let same = same_found after number (turned run out) now is some in
     record { run = run; found = found; ccb_is = sym (ap (λ (r : LiveRun). r.ccb) same); fresh = λ e. ap (λ (r : LiveRun). r.machine.disposed) same ∙ e }
 continues before event reply after number run now found some (goes instruction machine event_is no_exit steps is holding disposing) =
     let same = same_found after number (machine_of run machine) now is some in
@@ -129,10 +126,10 @@ ccbs_recover setup before event reply after kept held recovering it number now s
     by_disposing run instruction machine found fresh (disposes_of_it was spent disposal) = absurd (let bad : true ≡ false = sym spent ∙ fresh in cc)
 
     by_fate : (run : LiveRun) → run_of number before.runs ≡ Some run → Fate before event reply after number run → IsInRecovery now.ccb after
-    by_fate run found (stands idle is) =
-        let same = same_found after number run now is some in
+    by_fate run found (stands out idle is) =
+        let same = same_found after number (turned run out) now is some in
         subst (λ (r : LiveRun). IsInRecovery r.ccb after) same
-        (others_ccb setup before event reply after number run recovering found (ap (λ (r : LiveRun). r.machine.disposed) same ∙ fresh_now) (ap is_some idle) effect.ccbs)
+        (others_recover setup before event reply after number run recovering found (ap (λ (r : LiveRun). r.machine.disposed) same ∙ fresh_now) (ap is_some idle) effect.ccbs)
     by_fate run found (goes instruction machine event_is no_exit steps is holding disposing) =
         let same = same_found after number (machine_of run machine) now is some in
         subst (λ (r : LiveRun). IsInRecovery r.ccb after) same

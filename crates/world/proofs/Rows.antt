@@ -8,3 +8,4 @@ pub mod Lawful
 pub mod Telling
 pub mod Calls
 pub mod Handing
+pub mod Parks

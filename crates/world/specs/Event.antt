@@ -23,6 +23,10 @@ pub data Event : Type 0 where
   guest_release : (freeze : ℕ) → Event
   -- the clock is read, in milliseconds
   clock_reads : (reading : ℕ) → Event
+  -- the run of that number is parked: it takes no step until it is resumed
+  parks : (run : ℕ) → Event
+  -- the run of that number, which is parked, is out again
+  resumes : (run : ℕ) → Event
   -- the run of that number executes its next instruction
   executes : (run : ℕ) → Instruction → Event
 
@@ -39,6 +43,8 @@ pub data Reply : Type 0 where
   count_left : (count : ℕ) → Reply
   -- how many freezes went by their timers
   expired : (count : ℕ) → Reply
+  -- the run is parked, or out again
+  ok : Reply
   -- the run went on, and nobody else saw it
   went_on : Reply
   -- what R0 is after a helper call, or at the exit

@@ -1,5 +1,5 @@
 -- The events that a history stands for: one for each record, but for an advance, which is one for each instruction.
-use Rattle.std.specs.Prelude.{ℕ, zero, suc, List, [], ◌∷◌, ◌++◌, Result, Ok, Err, replicate}
+use Rattle.std.specs.Prelude.{ℕ, zero, suc, List, [], ◌∷◌, ◌++◌, Result, Ok, Err, replicate, ⊤}
 use Rattle.std.specs.List.{flat_map}
 use Rattle.ccb.specs.declared.CcbId.{CcbId}
 use Rattle.world.specs.declared.refusal.Refusal.{Refusal}
@@ -8,10 +8,10 @@ use Rattle.world.specs.declared.record.Completed.TheVariants.{Done, Started}
 use Rattle.world.specs.declared.record.StoppedAt.{StoppedAt}
 use Rattle.world.specs.declared.record.StoppedAt.TheVariants.{Helper, Trace, Finish, Exit}
 use Rattle.world.specs.declared.record.Record.{Record}
-use Rattle.world.specs.declared.record.Record.TheVariants.{Submit, Dispatch, Complete, Advance, GuestFreeze, GuestRelease, Clock}
+use Rattle.world.specs.declared.record.Record.TheVariants.{Submit, Dispatch, Complete, Advance, GuestFreeze, GuestRelease, Clock, Park, Resume}
 use Rattle.world.specs.World.{Setup, World}
 use Rattle.world.specs.Told.{plain, traces, finishes}
-use Rattle.world.specs.Event.{Instruction, private, call, exit, Event, submit, dispatch, complete, guest_freeze, guest_release, clock_reads, executes, Reply, ccb_given, done, run_started, freeze_given, count_left, expired, went_on, result, refused}
+use Rattle.world.specs.Event.{Instruction, private, call, exit, Event, submit, dispatch, complete, guest_freeze, guest_release, clock_reads, parks, resumes, executes, Reply, ccb_given, done, run_started, freeze_given, count_left, expired, ok, went_on, result, refused}
 use Rattle.world.specs.WorldRun.{Leads}
 
 -- what is answered to a call that gives the number of a CCB
@@ -34,6 +34,11 @@ freeze_reply (Err refusal) = refused refusal
 abbrev pub clock_reply : Result ℕ Refusal → Reply
 clock_reply (Ok count) = expired count
 clock_reply (Err refusal) = refused refusal
+
+-- what is answered to a resume
+abbrev pub resume_reply : Result ⊤ Refusal → Reply
+resume_reply (Ok x) = ok
+resume_reply (Err refusal) = refused refusal
 
 -- the instruction at which a run stopped
 abbrev pub stop_of : StoppedAt → Instruction
@@ -58,6 +63,8 @@ events_of (Advance run instructions stop r0) = advance_of run instructions stop 
 events_of (GuestFreeze queue guest answer) = (guest_freeze queue.0 guest, freeze_reply answer) ∷ []
 events_of (GuestRelease freeze count) = (guest_release freeze, count_left count) ∷ []
 events_of (Clock reading answer) = (clock_reads reading, clock_reply answer) ∷ []
+events_of (Park run) = (parks run, ok) ∷ []
+events_of (Resume run answer) = (resumes run, resume_reply answer) ∷ []
 
 abbrev pub flat : List Record → List (Event × Reply)
 flat records = flat_map events_of records

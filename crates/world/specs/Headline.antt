@@ -1,5 +1,5 @@
 -- The headline of runs: what holds of every run of a recovery program, in every run of the world of every lawful setup.
-use Rattle.std.specs.Prelude.{◌≡◌, ℕ, ◌+◌, ◌<◌, ◌≤◌, ◌==◌, Bool, true, false, List, ◌∷◌, Option, Some, None, is_some, count_by}
+use Rattle.std.specs.Prelude.{◌≡◌, ℕ, ◌+◌, ◌<◌, ◌≤◌, ◌==◌, ◌||◌, Bool, true, false, List, ◌∷◌, Option, Some, None, is_some, count_by}
 use Rattle.ccb.specs.Completion.{Outcome}
 use Rattle.helpers.specs.declared.helper.Helper.TheVariants as helpers
 use Rattle.bpf_machine.specs.Stuck.{is_stuck}
@@ -9,7 +9,7 @@ use Rattle.world.specs.World.{Setup, queue_setup, LiveCcb, LiveRun, World}
 use Rattle.world.specs.Lawful.{IsLawful}
 use Rattle.world.specs.Lookups.{ccb_of, run_of}
 use Rattle.world.specs.Told.{Told, plain, traces, finishes}
-use Rattle.world.specs.Event.{Instruction, private, call, exit, Event, complete, executes, instruction_of, Reply, run_started}
+use Rattle.world.specs.Event.{Instruction, private, call, exit, Event, complete, parks, resumes, executes, instruction_of, Reply, run_started}
 use Rattle.world.specs.Step.{WorldStep}
 use Rattle.world.specs.WorldRun.{Leads, WorldRun}
 use Rattle.world.specs.TookGave.{took, gave}
@@ -18,6 +18,16 @@ use Rattle.world.specs.FreezeLaws.{entries_of}
 -- the event is a step of this run
 abbrev pub is_step_of : ℕ → Event → Bool
 is_step_of run event = is_some (instruction_of run event)
+
+-- the event parks this run or resumes it
+abbrev pub is_turn_of : ℕ → Event → Bool
+is_turn_of run (parks number) = number == run
+is_turn_of run (resumes number) = number == run
+is_turn_of run event = false
+
+-- the event is this run's own: its step, its park or its resume
+abbrev pub is_own_of : ℕ → Event → Bool
+is_own_of run event = is_step_of run event || is_turn_of run event
 
 -- the call disposes of the run's CCB: it makes it wait again, or finishes it
 abbrev pub is_disposing : Told → Bool
@@ -142,13 +152,15 @@ ExactFreezes =
     (it : StartedRun setup outcome run ys world) →
     HoldsExactly run (took run ((complete outcome, run_started run it.freeze) ∷ ys)) (gave run setup it.started ys world it.goes_on) world
 
--- a step of anyone else leaves a run and the entries that name it as they are
+-- An event that is not a run's own leaves it as it is; and one that is no step of it, as its park, leaves the entries that
+-- name it as they are.
 abbrev pub OthersLeaveIt : Type 0
 OthersLeaveIt =
     (setup : Setup) (xs : List (Event × Reply)) (before : World) → WorldRun setup xs before →
     (event : Event) (reply : Reply) (after : World) → WorldStep setup before event reply after →
-    (number : ℕ) (run : LiveRun) → run_of number before.runs ≡ Some run → is_step_of number event ≡ false →
-    (run_of number after.runs ≡ Some run) × (entries_of number after.freezes ≡ entries_of number before.freezes)
+    (number : ℕ) (run : LiveRun) → run_of number before.runs ≡ Some run →
+    (is_own_of number event ≡ false → run_of number after.runs ≡ Some run)
+    × (is_step_of number event ≡ false → entries_of number after.freezes ≡ entries_of number before.freezes)
 
 -- a run that is gone never comes back
 abbrev pub GoneRunStaysGone : Type 0

@@ -9,6 +9,7 @@ pub mod Event
 pub mod FreezeSteps
 pub mod CcbSteps
 pub mod RunSteps
+pub mod ParkSteps
 pub mod Step
 pub mod WorldRun
 pub mod TookGave
@@ -19,5 +20,6 @@ pub mod Limits
 pub mod FreezeLaws
 pub mod ClockLaws
 pub mod Headline
+pub mod ParkLaws
 pub mod CcbLaws
 pub mod RefusalText

@@ -4,10 +4,11 @@ use Rattle.std.specs.Prelude.{◌≡◌, Option, Some}
 use Rattle.freeze_ledger.specs.Freezes.{entry_of}
 use Rattle.world.specs.World.{Setup, World}
 use Rattle.world.specs.Lookups.{run_of}
-use Rattle.world.specs.Event.{Event, submit, dispatch, complete, guest_freeze, guest_release, clock_reads, executes, Reply}
+use Rattle.world.specs.Event.{Event, submit, dispatch, complete, guest_freeze, guest_release, clock_reads, parks, resumes, executes, Reply}
 use Rattle.world.specs.FreezeSteps.{step_guest_freeze, step_guest_release, step_clock_reads}
 use Rattle.world.specs.CcbSteps.{step_submit, step_dispatch, step_complete}
 use Rattle.world.specs.RunSteps.{step_executes}
+use Rattle.world.specs.ParkSteps.{step_parks, step_resumes}
 
 -- what an event is answered and leads to, or `None` where it is no event in this world
 abbrev pub step : Setup → World → Event → Option (Reply × World)
@@ -17,6 +18,8 @@ step setup world (complete outcome) = step_complete setup world outcome
 step setup world (guest_freeze queue guest) = Some (step_guest_freeze setup world queue guest)
 step setup world (guest_release number) = step_guest_release world (entry_of number world.freezes)
 step setup world (clock_reads reading) = Some (step_clock_reads world reading)
+step setup world (parks run) = step_parks world (run_of run world.runs)
+step setup world (resumes run) = Some (step_resumes world (run_of run world.runs))
 step setup world (executes run instruction) = step_executes setup.limits world instruction (run_of run world.runs)
 
 -- the event with this reply leads from one world to the other

@@ -75,6 +75,15 @@ pub enum Record {
         reading: u64,
         answer: Result<u32, Refusal>,
     },
+    /// A run was parked.
+    Park {
+        run: u32,
+    },
+    /// A run that was parked is out again.
+    Resume {
+        run: u32,
+        answer: Result<(), Refusal>,
+    },
 }
 
 // A history has many records: what is large stands apart.

@@ -5,7 +5,7 @@ use std::fmt;
 /// Why a call was refused. A refusal changes nothing but the history. The text is the refusal's code.
 #[derive(Clone, Copy, Debug, PartialEq, Eq)]
 pub enum Refusal {
-    /// C1: there is no such queue, or no such CCB.
+    /// C1: there is no such queue, no such CCB, or no such run that is parked.
     Unknown,
     /// C2: a limit is reached.
     Limit,

@@ -12,7 +12,6 @@ use Rattle.ccb.specs.Completion.{Outcome}
 use Rattle.ccb.specs.Ccb.{completed}
 use Rattle.ccb.specs.Context.{context_of}
 use Rattle.ccb.proofs.Contexts.{is_context}
-use Rattle.bpf_machine.specs.MachineState.{MachineState}
 use Rattle.bpf_machine.specs.Reached.{IsEntry}
 use Rattle.world.specs.World.{Setup, LiveRun, World}
 use Rattle.world.specs.Lookups.{run_of, with_run}
@@ -21,7 +20,7 @@ use Rattle.world.specs.CcbSteps.{is_completion}
 use Rattle.world.proofs.Lists.Found.{leave, found_in_push, put_other, leave_same, leave_other}
 use Rattle.world.proofs.Kept.{room_from}
 use Rattle.world.proofs.Steps.Moves.{run_key, Begins, RunMove, runs_stay, run_enters, run_changes, run_leaves}
-use Rattle.world.proofs.Steps.Fates.{machine_of, Newly}
+use Rattle.world.proofs.Steps.Fates.{Newly}
 
 pub no_some : {A : Type 0} (o : Option A) (x : A) → o ≡ None → o ≡ Some x → ⊥
 no_some o x none some = let bad : None ≡ Some x = sym none ∙ some in cc
@@ -31,10 +30,10 @@ none_new : (before after : World) (number : ℕ) (run : LiveRun) → after.runs 
 none_new before after number run e none some = no_some (run_of number after.runs) run (ap (run_of number) e ∙ none) some
 
 -- one was changed in its place
-none_new_changed : (before after : World) (number : ℕ) (run other : LiveRun) (machine : MachineState) → run_of other.number before.runs ≡ Some other → after.runs ≡ with_run (machine_of other machine) before.runs → run_of number before.runs ≡ None → run_of number after.runs ≡ Some run → ⊥
-none_new_changed before after number run other machine found e none some =
+none_new_changed : (before after : World) (number : ℕ) (run old new : LiveRun) → run_of new.number before.runs ≡ Some old → after.runs ≡ with_run new before.runs → run_of number before.runs ≡ None → run_of number after.runs ≡ Some run → ⊥
+none_new_changed before after number run old new found e none some =
     no_some (run_of number after.runs) run
-    (ap (run_of number) e ∙ (put_other run_key (machine_of other machine) number before.runs (λ same. no_some (run_of number before.runs) other none (subst (λ (n : ℕ). run_of n before.runs ≡ Some other) same found)) ∙ none))
+    (ap (run_of number) e ∙ (put_other run_key new number before.runs (λ same. no_some (run_of number before.runs) old none (subst (λ (n : ℕ). run_of n before.runs ≡ Some old) same found)) ∙ none))
     some
 
 newly_from : (setup : Setup) (before : World) (event : Event) (reply : Reply) (after : World) (number : ℕ) (run : LiveRun) (it : (fresh : LiveRun) × Begins setup before event reply after fresh) → run_of number before.runs ≡ None → run_of number after.runs ≡ Some run → Newly setup before event reply after number run
@@ -51,7 +50,7 @@ newly_from setup before event reply after number run it none some =
 pub new_run : (setup : Setup) (before : World) (event : Event) (reply : Reply) (after : World) (number : ℕ) (run : LiveRun) → RunMove setup before event reply after → run_of number before.runs ≡ None → run_of number after.runs ≡ Some run → Newly setup before event reply after number run
 new_run setup before event reply after number run (runs_stay e g quiet) none some = absurd (none_new before after number run e none some)
 new_run setup before event reply after number run (run_enters fresh begins known room g) none some = newly_from setup before event reply after number run (fresh, begins) none some
-new_run setup before event reply after number run (run_changes other machine found e g quiet its) none some = absurd (none_new_changed before after number run other machine found e none some)
+new_run setup before event reply after number run (run_changes old new found queue_is program_is e g quiet its) none some = absurd (none_new_changed before after number run old new found e none some)
 new_run setup before event reply after number run (run_leaves other found e g quiet its) none some =
     let is = ap (run_of number) e in
     absurd (elim (cases_eq other.number number) [
@@ -63,7 +62,7 @@ new_run setup before event reply after number run (run_leaves other found e g qu
 pub started_begins : (setup : Setup) (before : World) (outcome : Outcome) (number freeze : ℕ) (after : World) → RunMove setup before (complete outcome) (run_started number freeze) after → (run : LiveRun) × Begins setup before (complete outcome) (run_started number freeze) after run
 started_begins setup before outcome number freeze after (runs_stay e g quiet) = absurd (let bad : true ≡ false = quiet in cc)
 started_begins setup before outcome number freeze after (run_enters fresh begins known room g) = (fresh, begins)
-started_begins setup before outcome number freeze after (run_changes other machine found e g quiet its) = absurd (let bad : true ≡ false = quiet in cc)
+started_begins setup before outcome number freeze after (run_changes old new found queue_is program_is e g quiet its) = absurd (let bad : true ≡ false = quiet in cc)
 started_begins setup before outcome number freeze after (run_leaves other found e g quiet its) = absurd (let bad : true ≡ false = quiet in cc)
 
 -- what a completion brings

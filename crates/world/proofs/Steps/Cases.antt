@@ -1,7 +1,7 @@
 -- The cases of a step: what holds before it, what is answered, and what is after it. A proof about steps goes by these.
 use Rattle.std.proofs.Common.{◌≡◌, ℕ, ◌+◌, ◌<◌, ◌≤◌, [], ◌∷◌, ◌++◌, length, Bool, true, false, not, leb, ltb, Option, Some, None, inl, inr, refl, ap, sym, ◌∙◌, arith}
 use Rattle.std.specs.Prelude.{◌&&◌, slice_index}
-use Rattle.std.proofs.lemmas.Bool.{cases_Bool, cond-true, cond-false, leb-false, ltb-false, not-false}
+use Rattle.std.proofs.lemmas.Bool.{cases_Bool, cond-true, cond-false, eq-eqb, leb-false, ltb-false, not-false}
 use Rattle.ccb.specs.Completion.{Outcome}
 use Rattle.ccb.specs.Ccb.{submitted, started, completed}
 use Rattle.freeze_ledger.specs.declared.freeze.Holder.TheVariants.{Run, Guest}
@@ -11,16 +11,18 @@ use Rattle.world.specs.declared.refusal.Refusal.{Refusal}
 use Rattle.world.specs.declared.refusal.Refusal.TheVariants.{Unknown, Limit, NotActive, GoesBack, Frozen, NoOpening, NothingWaits}
 use Rattle.world.specs.declared.ccb_state.CcbState.TheVariants.{Waiting, Active}
 use Rattle.world.specs.Capacities.{last_reading}
-use Rattle.world.specs.World.{Setup, queue_count, LiveCcb, World}
-use Rattle.world.specs.Lookups.{is_active, active_count, ccb_of, with_ccb, next_waiting}
-use Rattle.world.specs.Event.{private, call, exit, Event, instruction_of, submit, dispatch, complete, guest_freeze, guest_release, clock_reads, executes, Reply, ccb_given, done, freeze_given, count_left, expired, refused}
+use Rattle.world.specs.World.{Setup, queue_count, LiveCcb, LiveRun, World}
+use Rattle.world.specs.Lookups.{is_active, active_count, ccb_of, with_ccb, next_waiting, run_of}
+use Rattle.world.specs.Event.{private, call, exit, Event, instruction_of, submit, dispatch, complete, guest_freeze, guest_release, clock_reads, parks, resumes, executes, Reply, ccb_given, done, freeze_given, count_left, expired, ok, refused}
 use Rattle.world.specs.FreezeSteps.{frozen_with, is_guest, froze, thawed, step_guest_release, clock_at}
 use Rattle.world.specs.CcbSteps.{ccb_meets_limit, starts, is_success, run_meets_limit, finishes, run_starts, completes, is_completion}
 use Rattle.world.specs.RunSteps.{ends}
+use Rattle.world.specs.ParkSteps.{with_out, step_parks, step_resumes}
 use Rattle.world.specs.Step.{WorldStep}
 use Rattle.world.specs.FreezeLaws.{MovesCounts}
 use Rattle.world.specs.CcbLaws.{finished_by}
 use Rattle.world.specs.TookGave.{taken_by}
+use Rattle.world.specs.Headline.{is_turn_of}
 use Rattle.world.proofs.Lists.Found.{found_key}
 use Rattle.world.proofs.Lists.Entries.{freeze_key}
 use Rattle.world.proofs.Steps.Running.{some_is, GoesOn, Exits, private_parts, exit_parts}
@@ -125,6 +127,20 @@ pub record ReadsClock (before : World) (event : Event) (reply : Reply) (after : 
   pub reply_is : reply ≡ expired (length (due_at reading before.freezes))
   pub after_is : after ≡ clock_at before reading
 
+-- a run is parked, or out again
+pub record Turns (before : World) (event : Event) (reply : Reply) (after : World) : Type 0 where
+  pub number : ℕ
+  pub run : LiveRun
+  pub out : Bool
+  pub found : run_of number before.runs ≡ Some run
+  pub its : is_turn_of number event ≡ true
+  pub idle : (other : ℕ) → instruction_of other event ≡ None
+  pub moves : (later : World) → later.freezes ≡ before.freezes → MovesCounts before event ok later
+  pub ends : finished_by before event ok ≡ []
+  pub taken : (other : ℕ) → taken_by other event ok ≡ []
+  pub reply_is : reply ≡ ok
+  pub after_is : after ≡ with_out before run out
+
 -- all cases
 pub data Case (setup : Setup) (before : World) (event : Event) (reply : Reply) (after : World) : Type 0 where
   refuses : Refuses before event reply after → Case setup before event reply after
@@ -136,6 +152,7 @@ pub data Case (setup : Setup) (before : World) (event : Event) (reply : Reply) (
   freezes_one : Freezes setup before event reply after → Case setup before event reply after
   releases_one : Releases before event reply after → Case setup before event reply after
   reads_clock : ReadsClock before event reply after → Case setup before event reply after
+  turns_one : Turns before event reply after → Case setup before event reply after
   goes_on_one : GoesOn before event reply after → Case setup before event reply after
   asks_one : Asks setup before event reply after → Case setup before event reply after
   exits : Exits before event reply after → Case setup before event reply after
@@ -319,6 +336,50 @@ guest_release_found before number reply after (Some f) entry e =
 pub guest_release_parts : (setup : Setup) (before : World) (number : ℕ) (reply : Reply) (after : World) → WorldStep setup before (guest_release number) reply after → Releases before (guest_release number) reply after
 guest_release_parts setup before number reply after e = guest_release_found before number reply after (entry_of number before.freezes) refl e
 
+park_case : (setup : Setup) (before : World) (number : ℕ) (reply : Reply) (after : World) (o : Option LiveRun) → run_of number before.runs ≡ o → step_parks before o ≡ Some (reply, after) → Case setup before (parks number) reply after
+park_case setup before number reply after None found e = absurd cc
+park_case setup before number reply after (Some run) found e =
+    elim (cases_Bool run.out) [
+      | inl out ↦
+          let last = some_is _ _ (sym (cond-true run.out _ _ out) ∙ e) in
+          turns_one (record {
+            number = number;
+            run = run;
+            out = false;
+            found = found;
+            its = eq-eqb number number refl;
+            idle = λ other. refl;
+            moves = λ later same. same;
+            ends = refl;
+            taken = λ other. refl;
+            reply_is = ap (λ (x : Reply × World). x.0) last;
+            after_is = ap (λ (x : Reply × World). x.1) last;
+          })
+      | inr parked ↦ let none = sym (cond-false run.out _ _ parked) ∙ e in absurd cc
+    ]
+
+resume_case : (setup : Setup) (before : World) (number : ℕ) (reply : Reply) (after : World) (o : Option LiveRun) → run_of number before.runs ≡ o → ◌≡◌ {A = Reply × World} (reply, after) (step_resumes before o) → Case setup before (resumes number) reply after
+resume_case setup before number reply after None found e = refused_case setup before (resumes number) reply after Unknown (λ n. refl) refl refl (λ n. refl) e
+resume_case setup before number reply after (Some run) found e =
+    elim (cases_Bool run.out) [
+      | inl out ↦ refused_case setup before (resumes number) reply after Unknown (λ n. refl) refl refl (λ n. refl) (e ∙ cond-true run.out _ _ out)
+      | inr parked ↦
+          let last = e ∙ cond-false run.out _ _ parked in
+          turns_one (record {
+            number = number;
+            run = run;
+            out = true;
+            found = found;
+            its = eq-eqb number number refl;
+            idle = λ other. refl;
+            moves = λ later same. same;
+            ends = refl;
+            taken = λ other. refl;
+            reply_is = ap (λ (x : Reply × World). x.0) last;
+            after_is = ap (λ (x : Reply × World). x.1) last;
+          })
+    ]
+
 pub case_of : (setup : Setup) (before : World) (event : Event) (reply : Reply) (after : World) → WorldStep setup before event reply after → Case setup before event reply after
 case_of setup before (submit queue priority retries) reply after e = submit_case setup before queue priority retries reply after e
 case_of setup before (dispatch queue) reply after e = dispatch_case setup before queue reply after e
@@ -332,6 +393,8 @@ case_of setup before (complete outcome) reply after e =
 case_of setup before (guest_freeze queue guest) reply after e = guest_freeze_case setup before queue guest reply after e
 case_of setup before (guest_release number) reply after e = releases_one (guest_release_parts setup before number reply after e)
 case_of setup before (clock_reads reading) reply after e = clock_case setup before reading reply after e
+case_of setup before (parks number) reply after e = park_case setup before number reply after (run_of number before.runs) refl e
+case_of setup before (resumes number) reply after e = resume_case setup before number reply after (run_of number before.runs) refl (some_is _ _ e)
 case_of setup before (executes number private) reply after e = goes_on_one (private_parts setup before number reply after e)
 case_of setup before (executes number (call told)) reply after e = asks_one (asks_of setup before number told reply after e)
 case_of setup before (executes number exit) reply after e = exits (exit_parts setup before number reply after e)

@@ -1,6 +1,6 @@
 -- The effect of each kind of event: one entry each.
 use Rattle.std.proofs.Common.{◌≡◌, ℕ, ◌+◌, ◌<◌, List, [], ◌∷◌, ◌++◌, Bool, true, false, not, cond, eqb, Option, Some, None, IsSome, inl, inr, refl, ap, sym, subst, ◌∙◌, arith, append-nil, slice_index}
-use Rattle.std.specs.Prelude.{◌&&◌}
+use Rattle.std.specs.Prelude.{◌&&◌, ◌||◌}
 use Rattle.std.specs.Option.{is_some}
 use Rattle.std.proofs.lemmas.Bool.{cases_eq, cond-true, cond-false, eq-eqb, ne_eqb, eqb-true}
 use Rattle.ccb.specs.Status.{code_of}
@@ -23,7 +23,7 @@ use Rattle.world.specs.FreezeSteps.{is_guest, is_timer}
 use Rattle.world.specs.RunSteps.{is_run}
 use Rattle.world.specs.TookGave.{given_to, taken_by}
 use Rattle.world.specs.CcbLaws.{finished_by_run, finished_by}
-use Rattle.world.specs.Headline.{is_disposing, is_step_of}
+use Rattle.world.specs.Headline.{is_disposing, is_step_of, is_turn_of, is_own_of}
 use Rattle.world.specs.Limits.{CcbLimits, RunLimits, KeepsLimits}
 use Rattle.world.proofs.Lists.Found.{leave, found_key, missing_push, at_head, put_same}
 use Rattle.world.proofs.Lists.Rising.{missing_high}
@@ -31,7 +31,7 @@ use Rattle.world.proofs.Lists.Each.{all_found}
 use Rattle.world.proofs.Lists.Entries.{freeze_key, handed_is_put}
 use Rattle.world.proofs.Steps.Running.{Executes, pair_parts}
 use Rattle.world.proofs.Steps.Calls.{FreezeDeed, leaves_freezes, takes_one, gives_one_back, hands_one_over, HasItsCcb, CcbDeed, leaves_ccbs, requeues_one, ends_one, Asks}
-use Rattle.world.proofs.Steps.Cases.{Recovers, RecoversUnfrozen, Case, refuses, submits, dispatches, finishes_one, recovers_one, recovers_unfrozen, freezes_one, releases_one, reads_clock, goes_on_one, asks_one, exits}
+use Rattle.world.proofs.Steps.Cases.{Recovers, RecoversUnfrozen, Case, refuses, submits, dispatches, finishes_one, recovers_one, recovers_unfrozen, freezes_one, releases_one, reads_clock, Turns, turns_one, goes_on_one, asks_one, exits}
 use Rattle.world.proofs.Steps.Moves.{ccb_key, run_key, ccb_found, run_found, next_found, MayTouch, CcbMove, ccbs_stay, ccb_enters, ccb_changes, ccb_leaves, Comes, FreezeMove, freezes_stay, freeze_enters, freezes_leave, freeze_changes, Begins, tells_start, runs_stay, run_enters, run_changes, run_leaves, Effect}
 
 -- the queue of a live CCB exists
@@ -59,6 +59,16 @@ is_its_step before event instruction it = ap is_some (its_instruction before eve
 -- also by the number that the run bears
 pub its_own_step : (before : World) (event : Event) (instruction : Instruction) → (it : Executes before event instruction) → is_step_of it.run.number event ≡ true
 its_own_step before event instruction it = subst (λ (k : ℕ). is_step_of k event ≡ true) (sym (found_key run_key it.number before.runs it.run it.found)) (is_its_step before event instruction it)
+
+-- so it is the run's own event
+step_is_own : (event : Event) (run : ℕ) → is_step_of run event ≡ true → is_own_of run event ≡ true
+step_is_own event run its = ap (λ (b : Bool). b || is_turn_of run event) its
+
+-- and so are its park and its resume
+turn_is_own : (before : World) (event : Event) (reply : Reply) (after : World) → (it : Turns before event reply after) → is_own_of it.run.number event ≡ true
+turn_is_own before event reply after it =
+    subst (λ (k : ℕ). is_own_of k event ≡ true) (sym (found_key run_key it.number before.runs it.run it.found))
+    (ap (λ (o : Option Instruction). is_some o || is_turn_of it.number event) (it.idle it.number) ∙ it.its)
 
 executes_acts : (before : World) (event : Event) (instruction : Instruction) → Executes before event instruction → (run : ℕ) (other : Instruction) → instruction_of run event ≡ Some other → IsSome (run_of run before.runs)
 executes_acts before event instruction it run other e =
@@ -423,13 +433,24 @@ effect_of setup before event reply after kept (reads_clock it) =
       taken = λ run given idle. λ i. taken_by run (it.event_is i) (it.reply_is i);
       acts = idle_acts before event (λ run. ap (instruction_of run) it.event_is);
     }
+effect_of setup before event reply after kept (turns_one it) =
+    let none : finished_by before event reply ≡ [] = ap (finished_by before event) it.reply_is ∙ it.ends in
+    record {
+      ccbs = ccbs_stay (ap (λ (w : World). w.live) it.after_is) (ap (λ (w : World). w.greatest_ccb) it.after_is) none;
+      ended = none_ended before after event reply none (ap (λ (w : World). w.ended) it.after_is);
+      freezes = freezes_stay (ap (λ (w : World). w.freezes) it.after_is) (ap (λ (w : World). w.greatest_freeze) it.after_is);
+      runs = run_changes it.run (record it.run { out = it.out }) (run_found _ before.runs it.run it.found) refl refl (ap (λ (w : World). w.runs) it.after_is) (ap (λ (w : World). w.greatest_run) it.after_is) (ap tells_start it.reply_is) (turn_is_own before event reply after it);
+      openings = ap (λ (w : World). w.openings) it.after_is;
+      taken = λ run given idle. ap (taken_by run event) it.reply_is ∙ it.taken run;
+      acts = idle_acts before event it.idle;
+    }
 effect_of setup before event reply after kept (goes_on_one it) =
     let none : finished_by before event reply ≡ [] = ap (λ (x : Event). finished_by before x reply) it.it.event_is in
     record {
       ccbs = ccbs_stay (ap (λ (w : World). w.live) it.after_is) (ap (λ (w : World). w.greatest_ccb) it.after_is) none;
       ended = none_ended before after event reply none (ap (λ (w : World). w.ended) it.after_is);
       freezes = freezes_stay (ap (λ (w : World). w.freezes) it.after_is) (ap (λ (w : World). w.greatest_freeze) it.after_is);
-      runs = run_changes it.it.run it.machine (run_found _ before.runs it.it.run it.it.found) (ap (λ (w : World). w.runs) it.after_is) (ap (λ (w : World). w.greatest_run) it.after_is) (ap tells_start it.reply_is) (its_own_step before event _ it.it);
+      runs = run_changes it.it.run (record it.it.run { machine = it.machine }) (run_found _ before.runs it.it.run it.it.found) refl refl (ap (λ (w : World). w.runs) it.after_is) (ap (λ (w : World). w.greatest_run) it.after_is) (ap tells_start it.reply_is) (step_is_own event _ (its_own_step before event _ it.it));
       openings = ap (λ (w : World). w.openings) it.after_is;
       taken = λ run given idle. λ i. taken_by run (it.it.event_is i) (it.reply_is i);
       acts = executes_acts before event _ it.it;
@@ -441,7 +462,7 @@ effect_of setup before event reply after kept (asks_one it) =
       ccbs = ccbs.0;
       ended = ccbs.1;
       freezes = call_freezes setup before event reply after kept it it.freezes;
-      runs = run_changes it.it.run _ (run_found _ before.runs it.it.run it.it.found) (call_runs setup before event reply after it) (ap (λ (w : World). w.greatest_run) parts.1 ∙ it.rest.greatest_is) (ap tells_start parts.0) (its_own_step before event _ it.it);
+      runs = run_changes it.it.run (record it.it.run { machine = answered it.request it.given it.it.run.machine }) (run_found _ before.runs it.it.run it.it.found) refl refl (call_runs setup before event reply after it) (ap (λ (w : World). w.greatest_run) parts.1 ∙ it.rest.greatest_is) (ap tells_start parts.0) (step_is_own event _ (its_own_step before event _ it.it));
       openings = ap (λ (w : World). w.openings) parts.1 ∙ it.rest.openings_is;
       taken = λ run given idle. call_taken setup before event reply after run idle it it.freezes;
       acts = executes_acts before event _ it.it;
@@ -452,7 +473,7 @@ effect_of setup before event reply after kept (exits it) =
       ccbs = ccbs_stay (ap (λ (w : World). w.live) it.after_is) (ap (λ (w : World). w.greatest_ccb) it.after_is) none;
       ended = none_ended before after event reply none (ap (λ (w : World). w.ended) it.after_is);
       freezes = freezes_stay (ap (λ (w : World). w.freezes) it.after_is) (ap (λ (w : World). w.greatest_freeze) it.after_is);
-      runs = run_leaves it.it.run (run_found _ before.runs it.it.run it.it.found) (ap (λ (w : World). w.runs) it.after_is) (ap (λ (w : World). w.greatest_run) it.after_is) (ap tells_start it.reply_is) (its_own_step before event _ it.it);
+      runs = run_leaves it.it.run (run_found _ before.runs it.it.run it.it.found) (ap (λ (w : World). w.runs) it.after_is) (ap (λ (w : World). w.greatest_run) it.after_is) (ap tells_start it.reply_is) (step_is_own event _ (its_own_step before event _ it.it));
       openings = ap (λ (w : World). w.openings) it.after_is;
       taken = λ run given idle. λ i. taken_by run (it.it.event_is i) (it.reply_is i);
       acts = executes_acts before event _ it.it;

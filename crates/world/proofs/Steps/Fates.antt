@@ -1,4 +1,5 @@
--- What a step makes of one run: it stands, goes on by an instruction of its own, or is gone; and which run is new.
+-- What a step makes of one run: it stands, and may be parked or out again, goes on by an instruction of its own, or is
+-- gone; and which run is new.
 use Rattle.std.proofs.Common.{◌≡◌, ℕ, ◌+◌, ◌≤◌, List, [], ◌∷◌, ◌++◌, Bool, true, false, not, cond, eqb, Some, None, inl, inr, refl, ap, sym, subst, ◌∙◌, arith}
 use Rattle.std.specs.Prelude.{◌&&◌}
 use Rattle.std.proofs.lemmas.Bool.{cases_eq, cond-true, cond-false, eq-eqb, ne_eqb, and_from, not_from_false}
@@ -29,14 +30,18 @@ use Rattle.world.proofs.Lists.HeldBy.{entries_put, none_above}
 use Rattle.world.proofs.Kept.{room_from}
 use Rattle.world.proofs.Steps.Running.{Executes}
 use Rattle.world.proofs.Steps.Calls.{FreezeDeed, leaves_freezes, takes_one, gives_one_back, hands_one_over, CcbDeed, leaves_ccbs, requeues_one, ends_one, Asks}
-use Rattle.world.proofs.Steps.Cases.{Case, refuses, submits, dispatches, finishes_one, recovers_one, recovers_unfrozen, freezes_one, releases_one, reads_clock, goes_on_one, asks_one, exits}
-use Rattle.world.proofs.Steps.Moves.{run_key, run_found, Begins}
+use Rattle.world.proofs.Steps.Cases.{Case, refuses, submits, dispatches, finishes_one, recovers_one, recovers_unfrozen, freezes_one, releases_one, reads_clock, Turns, turns_one, goes_on_one, asks_one, exits}
+use Rattle.world.proofs.Steps.Moves.{run_key, Begins}
 use Rattle.world.proofs.Steps.Effects.{its_instruction, not_others, call_runs, call_takes}
 use Rattle.world.proofs.Steps.Private.{private_keeps}
 
 -- the run that a run becomes, with this machine
 abbrev pub machine_of : LiveRun → MachineState → LiveRun
 machine_of run machine = record run { machine = machine }
+
+-- and as it is out, or parked
+abbrev pub turned : LiveRun → Bool → LiveRun
+turned run out = record run { out = out }
 
 -- What an instruction by which a run goes on does to the freezes that the run holds: nothing, or the run takes one, or one
 -- of them goes or gets another holder.
@@ -51,7 +56,7 @@ pub data Disposing (before after : World) (run : LiveRun) (instruction : Instruc
   disposes_of_it : run.machine.disposed ≡ false → machine.disposed ≡ true → is_disposal (Some instruction) ≡ true → Disposing before after run instruction machine
 
 pub data Fate (before : World) (event : Event) (reply : Reply) (after : World) (number : ℕ) (run : LiveRun) : Type 0 where
-  stands : instruction_of number event ≡ None → run_of number after.runs ≡ Some run → Fate before event reply after number run
+  stands : (out : Bool) → instruction_of number event ≡ None → run_of number after.runs ≡ Some (turned run out) → Fate before event reply after number run
   goes : (instruction : Instruction) (machine : MachineState) → instruction_of number event ≡ Some instruction → is_exit (Some instruction) ≡ false → Steps run.program run.machine machine → run_of number after.runs ≡ Some (machine_of run machine) → Holding before event reply after number run instruction machine → Disposing before after run instruction machine → Fate before event reply after number run
   leaves_world : (r0 : ℕ) → instruction_of number event ≡ Some exit → exit_at run.program run.machine ≡ Some r0 → run_of number after.runs ≡ None → taken_by number event reply ≡ [] → Fate before event reply after number run
 
@@ -60,15 +65,16 @@ pub same_run : (runs : List LiveRun) (n m : ℕ) (a b : LiveRun) → n ≡ m →
 same_run runs n m a b e first second =
     let both : Some a ≡ Some b = sym first ∙ (ap (λ (k : ℕ). run_of k runs) e ∙ second) in cc
 
-changed_same : (runs later : List LiveRun) (number : ℕ) (run : LiveRun) (machine : MachineState) → run_of number runs ≡ Some run → later ≡ with_run (machine_of run machine) runs → run_of number later ≡ Some (machine_of run machine)
-changed_same runs later number run machine found e =
-    let named : run.number ≡ number = found_key run_key number runs run found in
+-- a run that is changed in its place
+pub changed_same : (runs later : List LiveRun) (number : ℕ) (run new : LiveRun) → new.number ≡ run.number → run_of number runs ≡ Some run → later ≡ with_run new runs → run_of number later ≡ Some new
+changed_same runs later number run new same found e =
+    let named : new.number ≡ number = same ∙ found_key run_key number runs run found in
     ap (run_of number) e
-    ∙ subst (λ (n : ℕ). run_of n (with_run (machine_of run machine) runs) ≡ Some (machine_of run machine)) named
-    (put_same run_key (machine_of run machine) runs run (run_found number runs run found))
+    ∙ subst (λ (n : ℕ). run_of n (with_run new runs) ≡ Some new) named
+    (put_same run_key new runs run (subst (λ (n : ℕ). run_of n runs ≡ Some run) (sym named) found))
 
-changed_other : (runs later : List LiveRun) (number : ℕ) (other : LiveRun) (machine : MachineState) → later ≡ with_run (machine_of other machine) runs → (other.number ≡ number → ⊥) → run_of number later ≡ run_of number runs
-changed_other runs later number other machine e apart = ap (run_of number) e ∙ put_other run_key (machine_of other machine) number runs apart
+changed_other : (runs later : List LiveRun) (number : ℕ) (new : LiveRun) → later ≡ with_run new runs → (new.number ≡ number → ⊥) → run_of number later ≡ run_of number runs
+changed_other runs later number new e apart = ap (run_of number) e ∙ put_other run_key new number runs apart
 
 -- the count after a release is at most 254
 pub count_after : (setup : Setup) (before : World) (number : ℕ) (freeze : Freeze) → FreezeLimits setup before → entry_of number before.freezes ≡ Some freeze → frozen_with freeze (without freeze.number before.freezes) ≤ 254
@@ -80,7 +86,7 @@ count_after setup before number freeze kept entry =
 
 -- the runs are as they were
 unchanged : (before : World) (event : Event) (reply : Reply) (after : World) (number : ℕ) (run : LiveRun) → run_of number before.runs ≡ Some run → instruction_of number event ≡ None → after.runs ≡ before.runs → Fate before event reply after number run
-unchanged before event reply after number run found idle e = stands idle (ap (run_of number) e ∙ found)
+unchanged before event reply after number run found idle e = stands run.out idle (ap (run_of number) e ∙ found)
 
 -- a run goes on, and the others stand
 one_goes : (before : World) (event : Event) (reply : Reply) (after : World) (instruction : Instruction) (it : Executes before event instruction) (machine : MachineState) → after.runs ≡ with_run (machine_of it.run machine) before.runs → is_exit (Some instruction) ≡ false → Steps it.run.program it.run.machine machine → Holding before event reply after it.number it.run instruction machine → Disposing before after it.run instruction machine → (number : ℕ) (run : LiveRun) → run_of number before.runs ≡ Some run → Fate before event reply after number run
@@ -90,11 +96,25 @@ one_goes before event reply after instruction it machine runs_is no_exit steps h
       | inl its ↦
           let same : it.run ≡ run = same_run before.runs it.number number it.run run its it.found found in
           let own : Fate before event reply after it.number it.run =
-          goes instruction machine (its_instruction before event instruction it) no_exit steps (changed_same before.runs after.runs it.number it.run machine it.found runs_is) holding disposing in
+          goes instruction machine (its_instruction before event instruction it) no_exit steps (changed_same before.runs after.runs it.number it.run (machine_of it.run machine) refl it.found runs_is) holding disposing in
           subst (λ (n : ℕ). Fate before event reply after n run) its (subst (λ (r : LiveRun). Fate before event reply after it.number r) same own)
       | inr apart ↦
-          stands (not_others before event instruction number it apart)
-          (changed_other before.runs after.runs number it.run machine runs_is (λ e. apart (sym named ∙ e)) ∙ found)
+          stands run.out (not_others before event instruction number it apart)
+          (changed_other before.runs after.runs number (machine_of it.run machine) runs_is (λ e. apart (sym named ∙ e)) ∙ found)
+    ]
+
+-- a run is parked, or out again, and the others stand
+one_turns : (before : World) (event : Event) (reply : Reply) (after : World) (it : Turns before event reply after) (number : ℕ) (run : LiveRun) → run_of number before.runs ≡ Some run → Fate before event reply after number run
+one_turns before event reply after it number run found =
+    let named : it.run.number ≡ it.number = found_key run_key it.number before.runs it.run it.found in
+    let runs_is : after.runs ≡ with_run (turned it.run it.out) before.runs = ap (λ (w : World). w.runs) it.after_is in
+    elim (cases_eq it.number number) [
+      | inl its ↦
+          let same : it.run ≡ run = same_run before.runs it.number number it.run run its it.found found in
+          let own : Fate before event reply after it.number it.run =
+          stands it.out (it.idle it.number) (changed_same before.runs after.runs it.number it.run (turned it.run it.out) refl it.found runs_is) in
+          subst (λ (n : ℕ). Fate before event reply after n run) its (subst (λ (r : LiveRun). Fate before event reply after it.number r) same own)
+      | inr apart ↦ stands run.out (it.idle number) (changed_other before.runs after.runs number (turned it.run it.out) runs_is (λ e. apart (sym named ∙ e)) ∙ found)
     ]
 
 -- Calls of helpers.
@@ -177,12 +197,13 @@ fate_of setup before event reply after number run kept held found (submits it) =
 fate_of setup before event reply after number run kept held found (dispatches it) = unchanged before event reply after number run found (ap (instruction_of number) it.event_is) (ap (λ (w : World). w.runs) it.after_is)
 fate_of setup before event reply after number run kept held found (finishes_one it) = unchanged before event reply after number run found (ap (instruction_of number) it.event_is) (ap (λ (w : World). w.runs) it.after_is)
 fate_of setup before event reply after number run kept held found (recovers_one it) =
-    stands (ap (instruction_of number) it.fails.event_is) (ap (λ (x : Reply × World). run_of number x.1.runs) it.starts_is ∙ found_push run_key number before.runs _ run found)
+    stands run.out (ap (instruction_of number) it.fails.event_is) (ap (λ (x : Reply × World). run_of number x.1.runs) it.starts_is ∙ found_push run_key number before.runs _ run found)
 fate_of setup before event reply after number run kept held found (recovers_unfrozen it) =
-    stands (ap (instruction_of number) it.fails.event_is) (ap (λ (x : Reply × World). run_of number x.1.runs) it.starts_is ∙ found_push run_key number before.runs _ run found)
+    stands run.out (ap (instruction_of number) it.fails.event_is) (ap (λ (x : Reply × World). run_of number x.1.runs) it.starts_is ∙ found_push run_key number before.runs _ run found)
 fate_of setup before event reply after number run kept held found (freezes_one it) = unchanged before event reply after number run found (ap (instruction_of number) it.event_is) (ap (λ (w : World). w.runs) it.after_is)
 fate_of setup before event reply after number run kept held found (releases_one it) = unchanged before event reply after number run found (ap (instruction_of number) it.event_is) (ap (λ (w : World). w.runs) it.after_is)
 fate_of setup before event reply after number run kept held found (reads_clock it) = unchanged before event reply after number run found (ap (instruction_of number) it.event_is) (ap (λ (w : World). w.runs) it.after_is)
+fate_of setup before event reply after number run kept held found (turns_one it) = one_turns before event reply after it number run found
 fate_of setup before event reply after number run kept held found (goes_on_one it) =
     let same = private_keeps it.it.run.program it.it.run.machine it.machine it.step in
     one_goes before event reply after private it.it it.machine (ap (λ (w : World). w.runs) it.after_is) refl (inl it.step)
@@ -207,7 +228,7 @@ fate_of setup before event reply after number run kept held found (exits it) =
           (ap (run_of number) runs_is ∙ subst (λ (n : ℕ). run_of number (leave run_key n before.runs) ≡ None) (sym (named ∙ its)) (leave_same run_key number before.runs))
           (λ i. taken_by number (it.it.event_is i) (it.reply_is i))
       | inr apart ↦
-          stands (not_others before event exit number it.it apart)
+          stands run.out (not_others before event exit number it.it apart)
           (ap (run_of number) runs_is ∙ (leave_other run_key it.it.run.number number before.runs (λ e. apart (sym named ∙ e)) ∙ found))
     ]
 

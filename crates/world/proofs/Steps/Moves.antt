@@ -11,17 +11,17 @@ use Rattle.freeze_ledger.specs.declared.freeze.Holder.{Holder}
 use Rattle.freeze_ledger.specs.declared.freeze.Holder.TheVariants.{Run}
 use Rattle.freeze_ledger.specs.declared.freeze.Freeze.{Freeze}
 use Rattle.freeze_ledger.specs.Freezes.{meets_limit, entry_of}
-use Rattle.bpf_machine.specs.MachineState.{MachineState, entry}
+use Rattle.bpf_machine.specs.MachineState.{entry}
 use Rattle.world.specs.declared.ccb_state.CcbState.TheVariants.{Waiting, InRecovery}
 use Rattle.world.specs.World.{Setup, queue_count, queue_setup, LiveCcb, LiveRun, World}
 use Rattle.world.specs.Lookups.{is_active, is_waiting, is_of, active_count, ccb_of, with_ccb, next_waiting, run_of, with_run}
-use Rattle.world.specs.Event.{Instruction, Event, complete, instruction_of, Reply, ccb_given, done, run_started, freeze_given, count_left, expired, went_on, result, refused}
+use Rattle.world.specs.Event.{Instruction, Event, complete, instruction_of, Reply, ccb_given, done, run_started, freeze_given, count_left, expired, ok, went_on, result, refused}
 use Rattle.world.specs.CcbSteps.{ccb_meets_limit, run_meets_limit, is_completion}
 use Rattle.world.specs.FreezeSteps.{is_timer}
 use Rattle.world.specs.RunSteps.{is_run}
 use Rattle.world.specs.TookGave.{taken_by}
 use Rattle.world.specs.CcbLaws.{finished_by}
-use Rattle.world.specs.Headline.{is_step_of}
+use Rattle.world.specs.Headline.{is_step_of, is_own_of}
 use Rattle.world.specs.Limits.{NamesNoOther}
 use Rattle.world.proofs.Lists.Found.{put, leave, found_key}
 use Rattle.world.proofs.Lists.Rising.{found_among}
@@ -133,6 +133,7 @@ tells_start (run_started run freeze) = true
 tells_start (freeze_given freeze) = false
 tells_start (count_left count) = false
 tells_start (expired count) = false
+tells_start ok = false
 tells_start went_on = false
 tells_start (result r0) = false
 tells_start (refused refusal) = false
@@ -140,8 +141,8 @@ tells_start (refused refusal) = false
 pub data RunMove (setup : Setup) (before : World) (event : Event) (reply : Reply) (after : World) : Type 0 where
   runs_stay : after.runs ≡ before.runs → after.greatest_run ≡ before.greatest_run → tells_start reply ≡ false → RunMove setup before event reply after
   run_enters : (run : LiveRun) → Begins setup before event reply after run → run.queue < queue_count setup → run_meets_limit before ≡ false → after.greatest_run ≡ before.greatest_run + 1 → RunMove setup before event reply after
-  run_changes : (run : LiveRun) (machine : MachineState) → run_of run.number before.runs ≡ Some run → after.runs ≡ with_run (record run { machine = machine }) before.runs → after.greatest_run ≡ before.greatest_run → tells_start reply ≡ false → is_step_of run.number event ≡ true → RunMove setup before event reply after
-  run_leaves : (run : LiveRun) → run_of run.number before.runs ≡ Some run → after.runs ≡ leave run_key run.number before.runs → after.greatest_run ≡ before.greatest_run → tells_start reply ≡ false → is_step_of run.number event ≡ true → RunMove setup before event reply after
+  run_changes : (old new : LiveRun) → run_of new.number before.runs ≡ Some old → new.queue ≡ old.queue → new.program ≡ old.program → after.runs ≡ with_run new before.runs → after.greatest_run ≡ before.greatest_run → tells_start reply ≡ false → is_own_of new.number event ≡ true → RunMove setup before event reply after
+  run_leaves : (run : LiveRun) → run_of run.number before.runs ≡ Some run → after.runs ≡ leave run_key run.number before.runs → after.greatest_run ≡ before.greatest_run → tells_start reply ≡ false → is_own_of run.number event ≡ true → RunMove setup before event reply after
 
 -- all that a step does: to each list, whom its instruction is of, and that it gives a freeze to no other run that was
 -- there

@@ -7,18 +7,20 @@ ghost use Rattle.world.specs.CcbLaws.{EachIsLiveOrEnded};
 ghost use Rattle.world.specs.ClockLaws.{ClockGoesOn, TimersKeepTime};
 ghost use Rattle.world.specs.Flat.{EmptyAdvanceIsNone};
 ghost use Rattle.world.specs.Headline.{NeverStuck, MachinesAreReached, WithinBudget, DisposedOnce, ExactFreezes, OthersLeaveIt, GoneRunStaysGone};
+ghost use Rattle.world.specs.ParkLaws.{ParkedStaysAsItIs};
 
 /// The headline. For every setup of accepted programs and every interleaving, instruction by instruction, of
-/// submissions, dispatches, completions, timers, guests and runs: no run is ever stuck, and each that is out has
-/// exactly one next step; each executes at most its budget; if it ends it has released or handed over exactly
-/// the freezes that it took, and it disposed of its CCB once; and every queue's frozen count is at every moment
-/// the number of entries that name it. And: each live run's machine is one that its program reaches; what a
-/// machine holds is what the entries say of its run; no limit is passed; each CCB number is of a live CCB or of
-/// one that ended, once, with its code; a step of anyone else leaves a run as it is; a freeze that was given up,
-/// a freeze number that is gone and a run that is gone never come back; a freeze that was handed over is a
-/// timer's as long as it is there, and never a run's or a guest's again; the clock never goes back, and a freeze
-/// that a timer holds goes by the first reading at or after its time and by nothing else; and an advance of no
-/// instruction stands for no event.
+/// submissions, dispatches, completions, timers, guests, parks and runs: no run is ever stuck, and each that is
+/// out has exactly one next step; each executes at most its budget; if it ends it has released or handed over
+/// exactly the freezes that it took, and it disposed of its CCB once; and every queue's frozen count is at every
+/// moment the number of entries that name it. And: each live run's machine is one that its program reaches; what
+/// a machine holds is what the entries say of its run; no limit is passed; each CCB number is of a live CCB or of
+/// one that ended, once, with its code; an event that is none of a run's own, its steps, its parks and its
+/// resumes, leaves it as it is; from its park to its resume a run takes no step, and then it is what it was; a
+/// freeze that was given up, a freeze number that is gone and a run that is gone never come back; a freeze that
+/// was handed over is a timer's as long as it is there, and never a run's or a guest's again; the clock never
+/// goes back, and a freeze that a timer holds goes by the first reading at or after its time and by nothing else;
+/// and an advance of no instruction stands for no event.
 pub fn headline()
     ensures never_stuck { NeverStuck }
     ensures reached { MachinesAreReached }
@@ -30,6 +32,7 @@ pub fn headline()
     ensures limits { LimitsAreKept }
     ensures ccbs { EachIsLiveOrEnded }
     ensures others { OthersLeaveIt }
+    ensures parked { ParkedStaysAsItIs }
     ensures given_up { GivenUpStaysGivenUp }
     ensures given_up_by_run { GivenUpByRunStaysGivenUp }
     ensures handed_over { HandedOverStaysHandedOver }

@@ -1,5 +1,6 @@
 use Rattle.world.proofs.NeverStuck.{never_stuck}
 use Rattle.world.proofs.Headline.{within_budget, disposed_once, exact_freezes, others_leave_it, gone_run_stays_gone}
+use Rattle.world.proofs.Parking.{parked_stays_as_it_is}
 use Rattle.world.proofs.Counts.{counts_are_entries}
 use Rattle.world.proofs.Sound.{held_are_entries, machines_are_reached}
 use Rattle.world.proofs.Leads.{limits_are_kept}
@@ -21,6 +22,7 @@ returns c = record {
   limits = limits_are_kept;
   ccbs = each_is_live_or_ended;
   others = others_leave_it;
+  parked = parked_stays_as_it_is;
   given_up = given_up_stays_given_up;
   given_up_by_run = given_up_by_run_stays_given_up;
   handed_over = handed_over_stays_handed_over;

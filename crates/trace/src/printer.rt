@@ -57,6 +57,8 @@ fn print_record<W: Write>(record: &Record, out: &mut W) -> io::Result<()> {
         }
         Record::GuestRelease { freeze, count } => writeln!(out, "grelease {freeze} = {count}"),
         Record::Clock { reading, answer } => print_clock(*reading, *answer, out),
+        Record::Park { run } => writeln!(out, "park {run} = ok"),
+        Record::Resume { run, answer } => print_resume(*run, *answer, out),
     }
 }
 
@@ -94,6 +96,13 @@ fn print_clock<W: Write>(
     match answer {
         Ok(count) => writeln!(out, "clock {reading} = {count}"),
         Err(refusal) => writeln!(out, "clock {reading} = {refusal}"),
+    }
+}
+
+fn print_resume<W: Write>(run: u32, answer: Result<(), Refusal>, out: &mut W) -> io::Result<()> {
+    match answer {
+        Ok(()) => writeln!(out, "resume {run} = ok"),
+        Err(refusal) => writeln!(out, "resume {run} = {refusal}"),
     }
 }
 

@@ -17,4 +17,5 @@ pub mod Lives
 pub mod Exact
 pub mod Headline
 pub mod Parking
+pub mod Moved
 pub mod Accounts

@@ -21,5 +21,6 @@ pub mod FreezeLaws
 pub mod ClockLaws
 pub mod Headline
 pub mod ParkLaws
+pub mod Moved
 pub mod CcbLaws
 pub mod RefusalText

@@ -1,13 +1,15 @@
 -- Worked rows of parks and resumes, computed by the definitions themselves.
-use Rattle.std.proofs.Common.{◌≡◌, [], ◌∷◌, Some, None, Ok, Err, refl}
+use Rattle.std.proofs.Common.{◌≡◌, true, false, [], ◌∷◌, Some, None, Ok, Err, refl}
+use Rattle.ccb.specs.Completion.{Outcome}
 use Rattle.ccb.specs.declared.cam_status.CamStatus.TheVariants.{CommandTimeout}
 use Rattle.helpers.specs.declared.limits.HelperLimits.{HelperLimits}
 use Rattle.world.specs.declared.refusal.Refusal.TheVariants.{Unknown}
 use Rattle.world.specs.declared.record.Record.TheVariants.{Park, Resume}
 use Rattle.world.specs.World.{World, opening}
-use Rattle.world.specs.Event.{private, submit, dispatch, complete, parks, resumes, executes, ok, refused, went_on}
+use Rattle.world.specs.Event.{private, exit, submit, dispatch, complete, parks, resumes, executes, run_started, ok, result, refused, went_on}
 use Rattle.world.specs.Step.{step}
 use Rattle.world.specs.Flat.{flat}
+use Rattle.world.specs.Moved.{is_of_another}
 use Rattle.world.proofs.Rows.Worked.{one_queue, outcome_of, next, answer}
 
 -- run 1 is out, and executed one instruction
@@ -48,6 +50,28 @@ out_already l = refl
 
 not_there : (l : HelperLimits) → step (one_queue l) (parked l) (resumes 2) ≡ Some (refused Unknown, parked l)
 not_there l = refl
+
+-- private instructions of run 1 are moved past events of other runs and their starts, and past none of its own
+past_others : is_of_another 1 (executes 2 exit, result 0) ≡ true
+past_others = refl
+
+past_other_starts : (outcome : Outcome) → is_of_another 1 (complete outcome, run_started 2 1) ≡ true
+past_other_starts outcome = refl
+
+past_other_parks : is_of_another 1 (parks 2, ok) ≡ true
+past_other_parks = refl
+
+not_past_its_start : (outcome : Outcome) → is_of_another 1 (complete outcome, run_started 1 1) ≡ false
+not_past_its_start outcome = refl
+
+not_past_its_steps : is_of_another 1 (executes 1 exit, result 0) ≡ false
+not_past_its_steps = refl
+
+not_past_its_park : is_of_another 1 (parks 1, ok) ≡ false
+not_past_its_park = refl
+
+not_past_its_resume : is_of_another 1 (resumes 1, ok) ≡ false
+not_past_its_resume = refl
 
 -- one record is one event
 records : flat (Park 1 ∷ Resume 2 (Err Unknown) ∷ Resume 1 (Ok _) ∷ []) ≡ (parks 1, ok) ∷ (resumes 2, refused Unknown) ∷ (resumes 1, ok) ∷ []

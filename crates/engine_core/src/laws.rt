@@ -8,6 +8,7 @@ ghost use Rattle.world.specs.ClockLaws.{ClockGoesOn, TimersKeepTime};
 ghost use Rattle.world.specs.Flat.{EmptyAdvanceIsNone};
 ghost use Rattle.world.specs.Headline.{NeverStuck, MachinesAreReached, WithinBudget, DisposedOnce, ExactFreezes, OthersLeaveIt, GoneRunStaysGone};
 ghost use Rattle.world.specs.ParkLaws.{ParkedStaysAsItIs};
+ghost use Rattle.world.specs.Moved.{Moved};
 
 /// The headline. For every setup of accepted programs and every interleaving, instruction by instruction, of
 /// submissions, dispatches, completions, timers, guests, parks and runs: no run is ever stuck, and each that is
@@ -41,4 +42,12 @@ pub fn headline()
     ensures clock { ClockGoesOn }
     ensures timers { TimersKeepTime }
     ensures empty_advance { EmptyAdvanceIsNone }
+{}
+
+/// Private instructions move. Where a run executes one, among the events of others, nobody can tell: in every list
+/// of events, from every world, it may be moved past any events of which none is that run's, forward and back;
+/// each event keeps its reply, and the last world is the same. That run's are its start, its steps, its parks and
+/// its resumes.
+pub fn moved()
+    ensures moves { Moved }
 {}

@@ -90,7 +90,7 @@ impl Description {
     fn agrees(&self, other: &Self) -> bool
         ensures { IsTrue result ↔ Agree self.now other.now }
     {
-        self.held == other.held
+        self.held.is_same(&other.held)
             && self.disposed == other.disposed
             && self.stack.depth() == other.stack.depth()
     }

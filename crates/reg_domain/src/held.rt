@@ -99,6 +99,13 @@ impl Held {
         self.len
     }
 
+    /// Whether both are the same freezes, as sure, in the same order.
+    pub fn is_same(&self, other: &Self) -> bool
+        ensures { IsTrue result ↔ (self.now ≡ other.now) }
+    {
+        self == other
+    }
+
     /// One freeze more, which comes last.
     pub fn push(&mut self, freeze: HeldFreeze)
         requires { length self.old < MAX_HELD }

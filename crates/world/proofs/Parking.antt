@@ -112,14 +112,12 @@ park_parts before number run reply after step =
     ]
 
 -- and a resume gives it back
-gives_back : (setup : Setup) (number : ℕ) (run : LiveRun) (later : World) (reply : Reply) (after : World) → run.out ≡ true → run_of number later.runs ≡ Some (turned run false) → WorldStep setup later (resumes number) reply after → (reply ≡ ok) × (run_of number after.runs ≡ Some run)
-gives_back setup number run later reply after out found step =
-    let is : ◌≡◌ {A = Reply × World} (reply, after) (ok, with_out later (turned run false) true) =
-    some_is _ _ (sym (ap (λ (o : Option LiveRun). let x : Option (Reply × World) = Some (step_resumes later o) in x) found) ∙ step) in (
-      ap (λ (x : Reply × World). x.0) is,
-      changed_same later.runs after.runs number (turned run false) (turned run true) refl found (ap (λ (x : Reply × World). x.1.runs) is)
-          ∙ ap (λ (b : Bool). Some (turned run b)) (sym out),
-    )
+gives_back : (setup : Setup) (number : ℕ) (run : LiveRun) (later : World) → run.out ≡ true → run_of number later.runs ≡ Some (turned run false) → (after : World) × WorldStep setup later (resumes number) ok after × (run_of number after.runs ≡ Some run)
+gives_back setup number run later out found = (
+  with_out later (turned run false) true,
+  ap (λ (o : Option LiveRun). let x : Option (Reply × World) = Some (step_resumes later o) in x) found,
+  changed_same later.runs _ number (turned run false) (turned run true) refl found refl ∙ ap (λ (b : Bool). Some (turned run b)) (sym out),
+)
 
 pub parked_stays_as_it_is : ParkedStaysAsItIs
 parked_stays_as_it_is setup xs ys number run reply before parked later first found park leads none =
@@ -134,6 +132,6 @@ parked_stays_as_it_is setup xs ys number run reply before parked later first fou
         ccb = λ lawful fresh.
             stands.ccb lawful (step_sound setup before (parks number) reply parked lawful park (run_sound setup xs before lawful first)) fresh
             ∙ ap (λ (w : World). ccb_of run.ccb w.live) it.after_is;
-        resumed = λ answer after step. gives_back setup number run later answer after it.out stands.still step;
+        resumed = gives_back setup number run later it.out stands.still;
       },
     )

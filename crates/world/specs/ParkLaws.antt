@@ -24,8 +24,7 @@ pub record StaysParked (setup : Setup) (number : ℕ) (run : LiveRun) (before la
   pub still : run_of number later.runs ≡ Some (record run { out = false })
   pub freezes : entries_of number later.freezes ≡ entries_of number before.freezes
   pub ccb : IsLawful setup → run.machine.disposed ≡ false → ccb_of run.ccb later.live ≡ ccb_of run.ccb before.live
-  pub resumed : (reply : Reply) (after : World) → WorldStep setup later (resumes number) reply after →
-      (reply ≡ ok) × (run_of number after.runs ≡ Some run)
+  pub resumed : (after : World) × WorldStep setup later (resumes number) ok after × (run_of number after.runs ≡ Some run)
 
 -- From its park on, up to its resume, a run takes no step and stays as it was.
 abbrev pub ParkedStaysAsItIs : Type 0

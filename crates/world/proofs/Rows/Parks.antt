@@ -9,6 +9,7 @@ use Rattle.world.specs.World.{World, opening}
 use Rattle.world.specs.Event.{private, exit, submit, dispatch, complete, parks, resumes, executes, run_started, ok, result, refused, went_on}
 use Rattle.world.specs.Step.{step}
 use Rattle.world.specs.Flat.{flat}
+use Rattle.world.specs.Headline.{steps_of}
 use Rattle.world.specs.Moved.{is_of_another}
 use Rattle.world.proofs.Rows.Worked.{one_queue, outcome_of, next, answer}
 
@@ -50,6 +51,10 @@ out_already l = refl
 
 not_there : (l : HelperLimits) → step (one_queue l) (parked l) (resumes 2) ≡ Some (refused Unknown, parked l)
 not_there l = refl
+
+-- neither counts as a step
+no_steps : steps_of 1 ((parks 1, ok) ∷ (resumes 1, ok) ∷ []) ≡ 0
+no_steps = refl
 
 -- private instructions of run 1 are moved past events of other runs and their starts, and past none of its own
 past_others : is_of_another 1 (executes 2 exit, result 0) ≡ true

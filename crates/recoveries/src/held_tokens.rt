@@ -48,8 +48,8 @@ impl HeldToken {
         self.0.number()
     }
 
-    // The token itself.
-    fn into_token(self) -> FreezeToken
+    /// The token itself.
+    pub(crate) fn into_token(self) -> FreezeToken
         ensures { result ≡ self }
     {
         let HeldToken(token) = self;

@@ -1,8 +1,10 @@
 pub mod ByRows
 mod Entries
 pub mod FrameCalls
+pub mod FramePlaces
 pub mod Held
 pub mod MemoryFound
+pub mod OpenPlaces
 mod MemoryRows
 pub mod Progress
 pub mod QuickResults

@@ -1,9 +1,9 @@
 -- Worked rows, computed by the definitions themselves. The program is that of the two paths: with a freeze it gives
 -- the freeze back first, and without one it jumps to the requeue.
-use Rattle.std.proofs.Common.{◌≡◌, ℕ, ℤ, pos, negsuc, Bool, true, false, List, [], ◌∷◌, ◌++◌, Option, Some, None, refl, replicate}
+use Rattle.std.proofs.Common.{◌≡◌, ℕ, ℤ, ◌-◌, pos, negsuc, Bool, true, false, List, [], ◌∷◌, ◌++◌, Option, Some, None, refl, replicate}
 use Rattle.bpf_insn.specs.declared.insn.Insn.{Insn}
 use Rattle.bpf_insn.specs.declared.insn.Insn.TheVariants.{Alu, InPlace, SignExtend, JumpIf, Call, Exit}
-use Rattle.bpf_insn.specs.declared.insn.Callee.TheVariants.{Helper}
+use Rattle.bpf_insn.specs.declared.insn.Callee.TheVariants.{Helper, Local}
 use Rattle.bpf_insn.specs.declared.insn.Operand.TheVariants.{Immediate, Register}
 use Rattle.bpf_insn.specs.declared.insn.Width.TheVariants.{Bits32, Bits64}
 use Rattle.bpf_insn.specs.declared.insn.AluOp.TheVariants.{Add, Sub, Mov}
@@ -25,7 +25,7 @@ use Rattle.helpers.specs.declared.request.Request.TheVariants.{Freeze, Release, 
 use Rattle.helpers.specs.Table.{answer_number}
 use Rattle.stack_frame.specs.Frame.{written_at}
 use Rattle.bpf_machine.specs.declared.stop.Stop.TheVariants.{Helper as AtHelper, Exit as AtExit}
-use Rattle.bpf_machine.specs.MachineState.{MachineState, entry, register, with_register, moved_to}
+use Rattle.bpf_machine.specs.MachineState.{OpenCall, MachineState, entry, register, unwritten_frame, with_register, moved_to}
 use Rattle.bpf_machine.specs.Calls.{arguments_at, obeys}
 use Rattle.bpf_machine.specs.Step.{private_step, request_at, exit_at, answered}
 use Rattle.bpf_machine.specs.Stops.{stop_at}
@@ -344,3 +344,52 @@ information_request = refl
 sets_openings : (obeys_with with_freeze helpers.SetOpenings 255 0 ≡ true) × (obeys_with with_freeze helpers.SetOpenings 0 0 ≡ false)
     × (obeys_with with_freeze helpers.SetOpenings 256 0 ≡ false)
 sets_openings = (refl, refl, refl)
+
+-- a local call: its arguments stand in R1 to R5, and R6 to R9 are kept. Its exit brings these back, and its frame is gone.
+abbrev local : List Slot
+local = layout (Call (Local (pos 1)) ∷ Exit ∷ Exit ∷ [])
+
+abbrev registers_of_eleven : List (Option ℕ)
+registers_of_eleven = Some 0 ∷ Some 1 ∷ Some 2 ∷ Some 3 ∷ None ∷ Some 5 ∷ Some 6 ∷ None ∷ Some 8 ∷ Some 9 ∷ Some 0x20000200 ∷ []
+
+abbrev caller : MachineState
+caller = record with_freeze { registers = registers_of_eleven }
+
+abbrev kept_call : OpenCall
+kept_call = record { return_place = 1; saved = Some 6 ∷ None ∷ Some 8 ∷ Some 9 ∷ [] }
+
+abbrev callee : MachineState
+callee = record with_freeze {
+  place = 2;
+  registers = None ∷ Some 1 ∷ Some 2 ∷ Some 3 ∷ None ∷ Some 5 ∷ None ∷ None ∷ None ∷ None ∷ Some 0x20001200 ∷ [];
+  frames = unwritten_frame ∷ unwritten_frame ∷ [];
+  open_calls = kept_call ∷ [];
+}
+
+calls_local : private_step local caller ≡ Some callee
+calls_local = refl
+
+-- the result, what the callee had in R6, and a byte in either frame
+abbrev callee_done : MachineState
+callee_done = record callee {
+  registers = Some 44 ∷ Some 1 ∷ None ∷ None ∷ None ∷ None ∷ Some 66 ∷ None ∷ None ∷ None ∷ Some 0x20001200 ∷ [];
+  frames = (Some 3 ∷ replicate 511 None) ∷ (Some 4 ∷ replicate 511 None) ∷ [];
+}
+
+returns_local : private_step local callee_done ≡ Some (record with_freeze {
+  place = 1;
+  registers = Some 44 ∷ None ∷ None ∷ None ∷ None ∷ None ∷ Some 6 ∷ None ∷ Some 8 ∷ Some 9 ∷ Some 0x20000200 ∷ [];
+  frames = (Some 3 ∷ replicate 511 None) ∷ [];
+})
+returns_local = refl
+
+-- the exit of a function that was called is no stop, whatever the run holds
+no_stop_inside : (stop_at local callee_done ≡ None) × (is_stuck local limits callee_done ≡ false)
+no_stop_inside = (refl, refl)
+
+-- with eight frames there is none left for a further call, with seven there is
+abbrev with_frames : ℕ → MachineState
+with_frames count = record caller { frames = replicate count unwritten_frame; open_calls = replicate (count - 1) kept_call }
+
+eight_frames : (is_stuck local limits (with_frames 8) ≡ true) × (private_step local (with_frames 8) ≡ None) × (is_stuck local limits (with_frames 7) ≡ false)
+eight_frames = (refl, refl, refl)

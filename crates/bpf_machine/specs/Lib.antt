@@ -1,6 +1,7 @@
 pub use Rattle.helpers.specs.Table
 pub use Rattle.bpf_insn.specs.Program
 pub mod HeldPlaces
+pub mod OpenPlaces
 pub mod Frames
 pub mod MachineState
 pub mod Calls

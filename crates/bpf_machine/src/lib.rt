@@ -11,6 +11,7 @@ pub mod laws;
 mod low;
 mod machine;
 mod memory;
+mod open_calls;
 mod quick;
 mod registers;
 mod stepping;

@@ -1,27 +1,30 @@
-// The machine of the code, of fixed size: it is copied and compared without memory. No instruction so far opens a call,
-// so there is one frame. It relies on `registers`, `held_freezes` and `stack_frame` for what it keeps, on `stepping` for
-// an instruction, on `bpf_insn` for programs, and on `helpers` for the calls.
+// The machine of the code, of fixed size: it is copied and compared without memory. It relies on `registers`,
+// `open_calls`, `held_freezes` and `stack_frame` for what it keeps, on `stepping` for an instruction within a function, on
+// `bpf_insn` for programs, and on `helpers` for the calls.
 
-ghost use Rattle.std.specs.Prelude.{◌≡◌, ◌+◌, ◌<◌, ◌↔◌, true, None, IsTrue, length};
+ghost use Rattle.std.specs.Prelude.{◌≡◌, ◌+◌, ◌<◌, ◌↔◌, true, false, Some, None, IsTrue, if◌then◌else◌, length};
 ghost use Rattle.bpf_insn.specs.declared.program.TheConstants.{MAX_SLOTS};
 ghost use Rattle.bpf_machine.specs.declared.held_freezes.TheConstants.{MAX_HELD};
 ghost use Rattle.bpf_machine.specs.MachineState.{entry, register};
 ghost use Rattle.bpf_machine.specs.Calls.{argument, request_by, request_with, traced};
 ghost use Rattle.helpers.specs.declared.helper.Helper.TheVariants as helpers;
-ghost use Rattle.bpf_machine.specs.Step.{private_step, request_at, exit_at, after_call, answered, frames_after, held_with, held_without, HasRoomFor, IsAnswer, IsNewFreeze};
+ghost use Rattle.bpf_machine.specs.Step.{private_step, request_at, exit_at, exit_value, entered, returned, after_call, answered, frames_after, held_with, held_without, HasRoomFor, IsAnswer, IsNewFreeze};
 ghost use Rattle.bpf_machine.specs.Stops.{stop_at};
 ghost use Rattle.bpf_machine.specs.Reached.{IsEntry, PrivateSteps};
-ghost use Rattle.bpf_machine.specs.Able.{GoesOnWithin};
+ghost use Rattle.bpf_machine.specs.Able.{CanGoOn, GoesOnWithin};
+ghost use Rattle.bpf_machine.specs.Unchecked.{StandsApart};
+ghost use Rattle.stack_frame.specs.declared.frames.TheConstants.{MAX_FRAMES};
 
 use crate::held_freezes::HeldFreezes;
-use crate::memory::{CONTEXT_ADDRESS, FRAME_ADDRESS, FRAME_BYTES, in_frame};
+use crate::memory::{CONTEXT_ADDRESS, FRAME_ADDRESS, FRAME_BYTES, FRAME_DISTANCE, in_frames};
+use crate::open_calls::{OpenCall, OpenCalls};
 use crate::registers::Registers;
 use crate::stepping::advance;
 use crate::stop::Stop;
-use bpf_insn::{Callee, Insn, Program, Reg};
+use bpf_insn::{Callee, Insn, Program, Reg, jump_target};
 use helpers::{Answer, Arguments, Asked, Helper, Request, Written};
 use short_bytes::ShortBytes;
-use stack_frame::Frame;
+use stack_frame::Frames;
 use std::marker::Model;
 
 /// The frame pointer of the outermost frame: behind its last byte.
@@ -33,7 +36,8 @@ pub struct Machine {
     place: usize,
     registers: Registers,
     context: [u8; 96],
-    frame: Frame,
+    frames: Frames,
+    open_calls: OpenCalls,
     held: HeldFreezes,
     disposed: bool,
 }
@@ -43,9 +47,12 @@ impl Model for Machine {
 
     ghost Value = { MachineState };
 
-    ghost use Rattle.bpf_machine.specs.Inside.{view_of, inside_of};
+    ghost use Rattle.bpf_machine.specs.Inside.{view_of, inside_of, HasFrameEach};
 
     ghost view = { view_of };
+
+    // one frame more than calls are open
+    ghost invariant = { HasFrameEach };
 
     ghost inverse = { inside_of };
 }
@@ -65,7 +72,8 @@ impl Machine {
             place: 0,
             registers,
             context: *context,
-            frame: Frame::unwritten(),
+            frames: Frames::outermost(),
+            open_calls: OpenCalls::none(),
             held: HeldFreezes::at_start(freeze),
             disposed: false,
         }
@@ -85,19 +93,22 @@ impl Machine {
         self.place == other.place
             && self.registers.is_same(&other.registers)
             && self.context == other.context
-            && self.frame.is_same(&other.frame)
+            && self.frames.is_same(&other.frames)
+            && self.open_calls.is_same(&other.open_calls)
             && self.held == other.held
             && self.disposed == other.disposed
     }
 
-    /// Makes this machine the other one, in its place. A frame of which no byte is written is not copied.
+    /// Makes this machine the other one, in its place. Frames that are not live, or of which no byte is
+    /// written, are not copied.
     pub fn copy_from(&mut self, other: &Self)
         ensures { self.new ≡ other.now }
     {
         self.place = other.place;
         self.registers = other.registers;
         self.context = other.context;
-        self.frame.copy_from(&other.frame);
+        self.frames.copy_from(&other.frames);
+        self.open_calls.copy_from(&other.open_calls);
         self.held = other.held;
         self.disposed = other.disposed;
     }
@@ -113,9 +124,27 @@ impl Machine {
     /// so the machine may be stuck nowhere on its way, and the way has to be shorter than the budget.
     #[inline(never)]
     pub fn execute(&mut self, program: &Program, budget: u32) -> u32
-        requires { GoesOnWithin program.now self.old budget }
+        requires able { GoesOnWithin program.now self.old budget }
         ensures steps { PrivateSteps program.now result self.old self.new }
         ensures end { private_step program.now self.new ≡ None }
+        ensures short { result < budget }
+    {
+        let mut steps = self.execute_within(program, budget);
+        while self.cross(program) {
+            prove!(steps < budget);
+            steps += 1;
+            let further = self.execute_within(program, budget - steps);
+            steps += further;
+        }
+        steps
+    }
+
+    // The same of the private instructions of one function, up to a call or an exit.
+    #[inline(always)]
+    fn execute_within(&mut self, program: &Program, budget: u32) -> u32
+        requires able { GoesOnWithin program.now self.old budget }
+        ensures steps { PrivateSteps program.now result self.old self.new }
+        ensures end { StandsApart program.now self.new }
         ensures short { result < budget }
     {
         let rows = program.rows();
@@ -128,7 +157,7 @@ impl Machine {
             place,
             &mut registers,
             &self.context,
-            &mut self.frame,
+            &mut self.frames,
         ) {
             prove!(steps < budget);
             place = next;
@@ -139,8 +168,59 @@ impl Machine {
         steps
     }
 
+    // From one function into another: a local call is entered, and at an exit the innermost call returns. Tells whether
+    // the machine stood at one of these.
+    #[cold]
+    #[inline(never)]
+    fn cross(&mut self, program: &Program) -> bool
+        requires able { CanGoOn program.now self.old }
+        requires apart { StandsApart program.now self.old }
+        ensures step { private_step program.now self.old ≡ (if result then Some self.new else None) }
+        ensures stays { result ≡ false → self.new ≡ self.old }
+    {
+        match program.fetch(self.place) {
+            Some(Insn::Call(Callee::Local(distance))) => {
+                self.enter(distance);
+                true
+            }
+            Some(Insn::Exit) => self.leave(),
+            _ => false,
+        }
+    }
+
+    // Into a local function.
+    fn enter(&mut self, distance: i32)
+        requires place { self.old.place < MAX_SLOTS }
+        requires room { length self.old.frames < MAX_FRAMES }
+        ensures { self.new ≡ entered self.old distance }
+    {
+        let frame_pointer = FRAME_POINTER + FRAME_DISTANCE * self.frames.depth() as u64;
+        let call = OpenCall::new(self.place + 1, self.registers.saved());
+        self.open_calls.push(&call);
+        self.frames.open();
+        self.registers.enter(frame_pointer);
+        self.place = jump_target(self.place, distance);
+    }
+
+    // Back to its caller, and false where no call is open.
+    fn leave(&mut self) -> bool
+        ensures returned { returned self.old self.old.open_calls ≡ (if result then Some self.new else None) }
+        ensures stays { result ≡ false → self.new ≡ self.old }
+    {
+        if self.open_calls.len() == 0 {
+            return false;
+        }
+        let call = self.open_calls.pop();
+        let frame_pointer = FRAME_POINTER + FRAME_DISTANCE * self.open_calls.len() as u64;
+        self.frames.close();
+        self.registers.leave(call.saved(), frame_pointer);
+        self.place = call.return_place();
+        true
+    }
+
     /// The helper call at which the machine stands, where its arguments are written and a helper that is answered has
-    /// its number; of a trace call only where the bytes that it names, 1 to 64, lie in the frame and are written.
+    /// its number; of a trace call only where the bytes that it names, 1 to 64, lie in a live frame and are
+    /// written.
     pub fn request(&self, program: &Program) -> Option<Request>
         ensures { result ≡ request_at program.now self.now }
     {
@@ -186,19 +266,19 @@ impl Machine {
         })
     }
 
-    // So many bytes from an address on, 1 to 64, where they lie in the frame and are all written.
+    // So many bytes from an address on, 1 to 64, where they lie in a live frame and are all written.
     fn traced(&self, address: u64, bytes: u64) -> Option<ShortBytes>
         ensures { result ≡ traced self.now address bytes }
     {
-        let frame = &self.frame;
         if bytes < 1 || bytes > 64 {
             return None;
         }
-        let offset = in_frame(address, bytes)?;
-        if !frame.has_written(offset, bytes as usize) {
+        let place = in_frames(&self.frames, address, bytes)?;
+        let frame = self.frames.frame(place.frame);
+        if !frame.has_written(place.offset, bytes as usize) {
             return None;
         }
-        ShortBytes::new(frame.bytes(offset, bytes as usize))
+        ShortBytes::new(frame.bytes(place.offset, bytes as usize))
     }
 
     // What an argument is; a register that the helper does not read counts as 0.
@@ -216,7 +296,7 @@ impl Machine {
         ensures { result ≡ exit_at program.now self.now }
     {
         match program.fetch(self.place)? {
-            Insn::Exit => self.register(Reg::R0),
+            Insn::Exit => self.result(),
             Insn::Alu { .. }
             | Insn::InPlace { .. }
             | Insn::SignExtend { .. }
@@ -226,6 +306,17 @@ impl Machine {
             | Insn::Load { .. }
             | Insn::Store { .. }
             | Insn::Call(_) => None,
+        }
+    }
+
+    // R0, where no call is open.
+    fn result(&self) -> Option<u64>
+        ensures { result ≡ exit_value self.now self.now.open_calls }
+    {
+        if self.open_calls.len() == 0 {
+            self.register(Reg::R0)
+        } else {
+            None
         }
     }
 
@@ -285,14 +376,14 @@ impl Machine {
         self.held = self.held.without(freeze);
     }
 
-    // What a call wrote stands in the frame.
+    // What a call wrote stands in its frame.
     fn write(&mut self, written: &Option<Written>)
         ensures { self.new ≡ record self.old { frames = frames_after self.old.frames written.now } }
     {
         if let Some(written) = written {
             let bytes: &[u8] = &written.bytes;
-            if let Some(offset) = in_frame(written.address, bytes.len() as u64) {
-                self.frame.write_bytes(offset, bytes);
+            if let Some(place) = in_frames(&self.frames, written.address, bytes.len() as u64) {
+                self.frames.write_bytes(place.frame, place.offset, bytes);
             }
         }
     }

@@ -2,7 +2,7 @@
 // that an instruction reads and writes words and tests nothing. Behind the words is one that is always 0, the source of a
 // row that has a constant. It relies on `bpf_insn` for the registers' names and for rows.
 
-ghost use Rattle.std.specs.Prelude.{◌≡◌, ◌≤◌, ◌↔◌, IsTrue, ◌∷◌, ◌++◌, Some, None, drop, pos, replicate, slice_index_or, slice_set, length};
+ghost use Rattle.std.specs.Prelude.{◌≡◌, ◌≤◌, ◌↔◌, IsTrue, ◌∷◌, ◌++◌, Some, None, [], drop, pos, replicate, take, slice_index_or, slice_set, length};
 ghost use Rattle.std.specs.Int.{w64, cast_unsigned};
 ghost use Rattle.bpf_insn.specs.Reg.{number_of};
 ghost use Rattle.bpf_insn.specs.Rows.{no_source};
@@ -165,6 +165,63 @@ impl Registers {
         self.clear(Reg::R3);
         self.clear(Reg::R4);
         self.clear(Reg::R5);
+    }
+
+    // Makes a register another's copy, unwritten where that is.
+    fn put(&mut self, reg: Reg, word: Option<u64>)
+        ensures { self.new ≡ slice_set self.old (number_of reg) word }
+    {
+        match word {
+            Some(word) => self.set(reg, word),
+            None => self.clear(reg),
+        }
+    }
+
+    /// R6 to R9, which a call keeps for its caller.
+    pub fn saved(&self) -> [Option<u64>; 4]
+        ensures { result ≡ take 4 (drop 6 self.now) }
+    {
+        // The proof knows how many registers there are once a field is read.
+        let _words = &self.words;
+        [
+            self.get(Reg::R6),
+            self.get(Reg::R7),
+            self.get(Reg::R8),
+            self.get(Reg::R9),
+        ]
+    }
+
+    /// What a local function begins with: its arguments in R1 to R5 and its frame pointer in R10. All else is unwritten.
+    pub fn enter(&mut self, frame_pointer: u64)
+        ensures { self.new ≡ None ∷ take 5 (drop 1 self.old) ++ replicate 4 None ++ Some frame_pointer ∷ [] }
+    {
+        // The proof knows how many registers there are once a field is read.
+        let _words = &self.words;
+        self.clear(Reg::R0);
+        self.clear(Reg::R6);
+        self.clear(Reg::R7);
+        self.clear(Reg::R8);
+        self.clear(Reg::R9);
+        self.set(Reg::R10, frame_pointer);
+    }
+
+    /// What its caller goes on with: the result in R0, R6 to R9 as they were kept, and its own frame pointer in R10. R1
+    /// to R5 are unwritten.
+    pub fn leave(&mut self, saved: &[Option<u64>; 4], frame_pointer: u64)
+        ensures { self.new ≡ take 1 self.old ++ replicate 5 None ++ saved.now ++ Some frame_pointer ∷ [] }
+    {
+        // The proof knows how many registers there are once a field is read.
+        let _words = &self.words;
+        self.clear(Reg::R1);
+        self.clear(Reg::R2);
+        self.clear(Reg::R3);
+        self.clear(Reg::R4);
+        self.clear(Reg::R5);
+        self.put(Reg::R6, saved[0]);
+        self.put(Reg::R7, saved[1]);
+        self.put(Reg::R8, saved[2]);
+        self.put(Reg::R9, saved[3]);
+        self.set(Reg::R10, frame_pointer);
     }
 }
 

@@ -2,4 +2,6 @@ pub mod Bits
 pub mod Sets
 pub mod Words
 pub mod FrameLists
+pub mod LiveFrames
+pub mod Padded
 pub mod Worked

@@ -2,3 +2,4 @@ pub mod ByteSet
 pub mod SetWords
 pub mod Frame
 pub mod FrameBytes
+pub mod LiveFrames

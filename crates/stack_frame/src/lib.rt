@@ -1,9 +1,11 @@
-// The 512 bytes of a stack frame, each unwritten or written, and sets of such bytes: both of fixed size, so that they
-// are copied and compared without memory. It relies on `byteorder` for words in memory.
+// The 512 bytes of a stack frame, each unwritten or written, the frames that are live, and sets of such bytes: all of
+// fixed size, so that they are copied and compared without memory. It relies on `byteorder` for words in memory.
 #![tactic(auto)]
 
 mod byte_set;
 mod frame;
+mod frames;
 
 pub use byte_set::{ByteSet, MOST_BYTES};
 pub use frame::Frame;
+pub use frames::{Frames, MAX_FRAMES};

@@ -1,8 +1,10 @@
 -- A private instruction changes neither what the run holds nor whether its CCB is disposed of.
-use Rattle.std.proofs.Common.{◌≡◌, ℕ, ℤ, ◌+◌, List, [], ◌∷◌, Option, Some, None, refl, ap, sym, ◌∙◌}
+use Rattle.std.proofs.Common.{◌≡◌, ℕ, ℤ, ◌+◌, Bool, true, false, List, [], ◌∷◌, Option, Some, None, refl, ap, sym, ◌∙◌}
+use Rattle.std.specs.Prelude.{if◌then◌else◌}
 use Rattle.std.specs.Option.{option_map, option_and_then}
 use Rattle.bpf_insn.specs.declared.insn.Insn.{Insn}
 use Rattle.bpf_insn.specs.declared.insn.Insn.TheVariants.{Alu, InPlace, SignExtend, JumpIf, Jump, LoadImmediate, Load, Store, Call, Exit}
+use Rattle.bpf_insn.specs.declared.insn.Callee.TheVariants.{Helper, Local}
 use Rattle.bpf_insn.specs.declared.insn.Width.{Width}
 use Rattle.bpf_insn.specs.declared.insn.AluOp.{AluOp}
 use Rattle.bpf_insn.specs.declared.insn.Condition.{Condition}
@@ -13,7 +15,7 @@ use Rattle.bpf_insn.specs.Program.{insn_at}
 use Rattle.bpf_machine.specs.MachineState.{OpenCall, MachineState, register, moved_to}
 use Rattle.bpf_machine.specs.Memory.{address_of, load_width, loaded, word_from}
 use Rattle.bpf_machine.specs.Words.{in_place, sign_extended}
-use Rattle.bpf_machine.specs.Step.{compute, compute_one, first_operand, operand, jump_if, store, returned, does, private_step}
+use Rattle.bpf_machine.specs.Step.{entered, has_frame_left, compute, compute_one, first_operand, operand, jump_if, store, returned, does, private_step}
 
 -- what one machine has of another
 pub record HasTheSame (before after : MachineState) : Type 0 where
@@ -52,6 +54,10 @@ came_back : (m : MachineState) (calls : List OpenCall) (after : MachineState) �
 came_back m [] after e = absurd cc
 came_back m (call ∷ calls) after e = some_same m _ after e (record { held = refl; disposed = refl })
 
+went_in : (m : MachineState) (distance : ℤ) (left : Bool) (after : MachineState) → (if left then Some (entered m distance) else None) ≡ Some after → HasTheSame m after
+went_in m distance true after e = some_same m _ after e (record { held = refl; disposed = refl })
+went_in m distance false after e = absurd cc
+
 did : (m : MachineState) (insn : Insn) (after : MachineState) → does m insn ≡ Some after → HasTheSame m after
 did m (Alu width op dst src) after e = computed m width op dst (first_operand m op dst) (operand m src) after e
 did m (InPlace op dst) after e = computed_one m dst (in_place op) (register m dst) after e
@@ -61,7 +67,8 @@ did m (Jump distance) after e = some_same m _ after e (record { held = refl; dis
 did m (LoadImmediate dst value) after e = some_same m _ after e (record { held = refl; disposed = refl })
 did m (Load form dst src offset) after e = computed_one m dst (loaded form) (option_and_then (word_from (load_width form) m) (address_of m src offset)) after e
 did m (Store size dst src offset) after e = stored m size (address_of m dst offset) (operand m src) after e
-did m (Call callee) after e = absurd cc
+did m (Call (Local distance)) after e = went_in m distance (has_frame_left m) after e
+did m (Call (Helper number)) after e = absurd cc
 did m Exit after e = came_back m m.open_calls after e
 
 found : (m : MachineState) (o : Option Insn) (after : MachineState) → option_and_then (does m) o ≡ Some after → HasTheSame m after

@@ -5,8 +5,8 @@ use Rattle.bpf_machine.proofs.machine.Machine.entry.Goals as goal
 
 pub returns-clause-value : goal.returns-clause-value
 returns-clause-value c =
-    entry_is c.args.context.now c.args.freeze _ _ _
-    (rw (c.set-3.ensures, c.set-2.ensures, c.set.ensures, c.unwritten-registers.ensures, c.from.ensures) refl) c.unwritten.ensures c.at_start.ensures
+    entry_is c.args.context.now c.args.freeze _ _ _ _
+    (rw (c.set-3.ensures, c.set-2.ensures, c.set.ensures, c.unwritten-registers.ensures, c.from.ensures) refl) c.outermost.ensures c.none.ensures c.at_start.ensures
 
 pub returns-clause-entry : goal.returns-clause-entry
 returns-clause-entry c = record {

@@ -1,34 +1,27 @@
-use Rattle.std.proofs.Common.{◌≡◌, ℕ, suc, ◌+◌, List, [], Option, Some, ap, sym, subst, ◌∙◌, arith}
-use Rattle.bpf_insn.specs.Program.{insn_at}
+use Rattle.std.proofs.Common.{◌≡◌, ℕ, suc, ◌+◌, List, Some, subst, arith}
+use Rattle.bpf_insn.specs.declared.program.Slot.{Slot}
+use Rattle.bpf_machine.specs.MachineState.{MachineState}
 use Rattle.bpf_machine.specs.Step.{private_step}
 use Rattle.bpf_machine.specs.Reached.{PrivateSteps}
-use Rattle.bpf_machine.specs.Unchecked.{registers_behind, standing}
-use Rattle.bpf_machine.proofs.Same.{is_codes}
-use Rattle.bpf_machine.proofs.Unchecked.{moved, step_moves}
-use Rattle.bpf_machine.proofs.Ways.{steps_push}
+use Rattle.bpf_machine.proofs.Ways.{steps_push, steps_append, goes_further}
 use Rattle.bpf_machine.proofs.machine.Machine.execute.Goals as goal
 
--- the machine here is not stuck, so the place, the registers and the frame that come next are its step's
-pub loop-next-preserved : goal.loop-next-preserved
-loop-next-preserved c =
-    let program = c.args.program.now in
-    let m = c.args.self.now in
-    let steps = c.loop-next.steps in
-    let frame : List (Option ℕ) = c.loop-next.self-inside.frame in
-    let here = standing m c.loop-next.place c.loop-next.registers frame in
-    let next = standing m c.in-Some.next c.advance.new.registers c.advance.new.frame in
-    let can = (c.requires steps here c.loop-next.invariant.there).0 in
-    let closed : m.open_calls ≡ [] = (is_codes c.self.inside m c.self.view_is).open_calls in
-    let registers : registers_behind m.context frame c.loop-next.registers (insn_at program c.loop-next.place) ≡ c.advance.new.registers =
-    ap (λ (context : List ℕ). registers_behind context frame c.loop-next.registers (insn_at program c.loop-next.place)) (sym c.loop-next.invariant.context)
-    ∙ sym c.advance.ensures.registers in
-    let step : private_step program here ≡ Some next =
-    step_moves program can.0 here frame closed can.1
-    ∙ (λ i. moved here (registers i) (sym c.advance.ensures.frame i) (sym c.in-Some.ensures.place i)) in
+-- and the step from one function into another
+crossed : (program : List Slot) (steps : ℕ) (m here next : MachineState) → PrivateSteps program steps m here → private_step program here ≡ Some next → PrivateSteps program (steps + 1) m next
+crossed program steps m here next there step =
     let one_more : suc steps ≡ steps + 1 = omega arith in
-    record {
-      there = subst (λ (k : ℕ). PrivateSteps program k m next) one_more (steps_push program steps m here next c.loop-next.invariant.there step);
-      context = c.loop-next.invariant.context;
-      held = c.loop-next.invariant.held;
-      disposed = c.loop-next.invariant.disposed;
-    }
+    subst (λ (k : ℕ). PrivateSteps program k m next) one_more (steps_push program steps m here next there step)
+
+pub execute_within-further-requires : goal.execute_within-further-requires
+execute_within-further-requires c = record {
+  able = goes_further c.args.program.now c.args.budget (c.loop-budget.steps + 1) c.args.self.now c.cross.new.self c.requires.able
+      (crossed c.args.program.now c.loop-budget.steps c.args.self.now c.loop-budget.self c.cross.new.self c.loop-budget.invariant.there c.loop-budget-test.ensures.step);
+}
+
+pub loop-budget-preserved : goal.loop-budget-preserved
+loop-budget-preserved c = record {
+  there = steps_append c.args.program.now (c.loop-budget.steps + 1) c.execute_within-further.result c.args.self.now c.cross.new.self c.execute_within-further.new.self
+      (crossed c.args.program.now c.loop-budget.steps c.args.self.now c.loop-budget.self c.cross.new.self c.loop-budget.invariant.there c.loop-budget-test.ensures.step)
+      c.execute_within-further.ensures.steps;
+  apart = c.execute_within-further.ensures.end;
+}

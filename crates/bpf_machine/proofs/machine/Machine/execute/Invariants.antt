@@ -1,16 +1,14 @@
-use Rattle.std.proofs.Common.{◌≡◌, ◌-◌}
+use Rattle.std.proofs.Common.{◌-◌}
 use Rattle.bpf_machine.specs.Reached.{PrivateSteps}
-use Rattle.bpf_machine.specs.Unchecked.{standing}
+use Rattle.bpf_machine.specs.Unchecked.{StandsApart}
 use Rattle.bpf_machine.proofs.machine.Machine.execute.Given as goal
 
--- so many private instructions lead to this place, these registers and this frame
-abbrev pub invariant-loop-next : goal.invariant-loop-next
-invariant-loop-next l = record {
-  there : PrivateSteps l.program l.steps l.fn.self (standing l.fn.self l.place l.registers l.self-inside.frame);
-  context : l.self-inside.context ≡ l.fn.self.context;
-  held : l.self-inside.held ≡ l.fn.self.held;
-  disposed : l.self-inside.disposed ≡ l.fn.self.disposed;
+-- so many private instructions lead here, to a call or an exit
+abbrev pub invariant-loop-budget : goal.invariant-loop-budget
+invariant-loop-budget l = record {
+  there : PrivateSteps l.program l.steps l.fn.self l.self;
+  apart : StandsApart l.program l.self;
 }
 
-abbrev pub decreases-loop-next : goal.decreases-loop-next
-decreases-loop-next l = l.budget - l.steps
+abbrev pub decreases-loop-budget : goal.decreases-loop-budget
+decreases-loop-budget l = l.budget - l.steps

@@ -34,7 +34,7 @@ hold_at_entry context freeze R9 = tt
 hold_at_entry context freeze R10 = (frame_pointer 0, refl, (512, refl, omega arith, omega arith, omega arith))
 
 -- no byte of the only frame is written
-no_byte : (k offset byte : ℕ) → get_or (get_or (unwritten_frame ∷ []) k []) offset None ≡ Some byte → byte < 256
+pub no_byte : (k offset byte : ℕ) → get_or (get_or (unwritten_frame ∷ []) k []) offset None ≡ Some byte → byte < 256
 no_byte zero offset byte is = absurd (none_there 512 offset byte is)
   where
     none_there : (n offset byte : ℕ) → get_or (replicate n None) offset None ≡ Some byte → ⊥
@@ -44,8 +44,8 @@ no_byte zero offset byte is = absurd (none_there 512 offset byte is)
 no_byte (suc zero) offset byte is = absurd cc
 no_byte (suc (suc k)) offset byte is = absurd cc
 
-pub describes_entry : (d : Description) → HoldAtEntry d.registers → ((frame : List (Option ℕ)) → length frame ≡ 512 → CoversFrames d.stack (frame ∷ [])) → d.held ≡ open_freeze names.Start ∷ [] → d.disposed ≡ false → (m : MachineState) → IsEntry m → Describes d m
-describes_entry d hold covers held disposed m is = subst (Describes d) (sym is.is) (
+pub describes_entry : (d : Description) → HoldAtEntry d.registers → ((frame : List (Option ℕ)) → length frame ≡ 512 → CoversFrames d.stack (frame ∷ [])) → d.held ≡ open_freeze names.Start ∷ [] → d.disposed ≡ false → (m : MachineState) → IsEntry m → Describes [] d m
+describes_entry d hold covers held disposed m is = subst (Describes [] d) (sym is.is) (
   numbers_at_start is.freeze,
   record {
     registers = hold is.context is.freeze;
@@ -56,5 +56,6 @@ describes_entry d hold covers held disposed m is = subst (Describes d) (sym is.i
     held = subst (λ (l : List HeldFreeze). AreHeld (numbers_at_start is.freeze) l (entry is.context is.freeze).held) (sym held) (held_at_start is.freeze is.number);
     disposal = sym disposed;
     calls = refl;
+    depth = refl;
   },
 )

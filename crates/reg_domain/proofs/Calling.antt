@@ -30,12 +30,14 @@ use Rattle.reg_domain.specs.declared.description.Description.{Description}
 use Rattle.reg_domain.specs.declared.freeze_name.FreezeName.{FreezeName}
 use Rattle.reg_domain.specs.declared.kind.Kind.{Kind}
 use Rattle.reg_domain.specs.declared.kind.Kind.TheVariants.{Unwritten, Number, Address, Freeze}
+use Rattle.reg_domain.specs.declared.saved.SavedRegisters.{SavedRegisters}
 use Rattle.reg_domain.specs.Arguments.{AllFit, AreArguments, FitsAny}
 use Rattle.reg_domain.specs.Calls.{CallIsNeverStuck, IsAnswered, IsLawfulCall, Obeys, Passes, RunMay, after_call_kinds}
 use Rattle.reg_domain.specs.Description.{Describes, DescribesWith}
 use Rattle.reg_domain.specs.Freezes.{FreezeNumbers}
 use Rattle.reg_domain.specs.Kinds.{HoldsKind, IsWritten}
 use Rattle.reg_domain.specs.Memory.{AreWritten}
+use Rattle.reg_domain.specs.OpenCalls.{IsFresh}
 use Rattle.reg_domain.proofs.Freezes.{few_held}
 use Rattle.reg_domain.proofs.Tracing.{some_same, traced_unstuck}
 
@@ -66,9 +68,9 @@ call_count : (m : MachineState) (r0 : ℕ) → length m.registers ≡ 11 → len
 call_count m r0 count = omega (arith, count, length-drop 6 m.registers)
 
 -- a call that only answers
-pub answered_by : (numbers : FreezeNumbers) (r0 : ℕ) (d : Description) (registers : List Kind) (kind : Kind) (m : MachineState) → registers ≡ after_call_kinds d.registers kind → HoldsKind numbers kind (Some r0) → DescribesWith numbers d m
-    → DescribesWith numbers (record d { registers = registers }) (after_call m r0)
-answered_by numbers r0 d registers kind m are holds is = record {
+pub answered_by : (numbers : FreezeNumbers) (callers : List SavedRegisters) (r0 : ℕ) (d : Description) (registers : List Kind) (kind : Kind) (m : MachineState) → registers ≡ after_call_kinds d.registers kind → HoldsKind numbers kind (Some r0) → DescribesWith numbers callers d m
+    → DescribesWith numbers callers (record d { registers = registers }) (after_call m r0)
+answered_by numbers callers r0 d registers kind m are holds is = record {
   registers = subst (λ (kinds : List Kind). HoldKinds numbers kinds (after_call m r0).registers) (sym are) (call_holds numbers r0 kind d.registers m holds is.registers);
   count = call_count m r0 is.count;
   frames = is.frames;
@@ -77,11 +79,12 @@ answered_by numbers r0 d registers kind m are holds is = record {
   held = is.held;
   disposal = is.disposal;
   calls = is.calls;
+  depth = is.depth;
 }
 
 -- the CCB is disposed of
-pub disposed_of : (numbers : FreezeNumbers) (d : Description) (m : MachineState) → DescribesWith numbers d m → DescribesWith numbers (record d { disposed = true }) (record m { disposed = true })
-disposed_of numbers d m is = record {
+pub disposed_of : (numbers : FreezeNumbers) (callers : List SavedRegisters) (d : Description) (m : MachineState) → DescribesWith numbers callers d m → DescribesWith numbers callers (record d { disposed = true }) (record m { disposed = true })
+disposed_of numbers callers d m is = record {
   registers = is.registers;
   count = is.count;
   frames = is.frames;
@@ -90,6 +93,7 @@ disposed_of numbers d m is = record {
   held = is.held;
   disposal = refl;
   calls = is.calls;
+  depth = is.depth;
 }
 
 -- the machine with the bytes that a call wrote
@@ -100,15 +104,15 @@ written_is m with_bytes address written place does = of_frames (frames_with 0 m.
     of_frames None e = absurd (let bad : None ≡ Some with_bytes = e in cc)
     of_frames (Some frames) e = some_same (record m { frames = frames }) with_bytes e
 
-pub informed : (numbers : FreezeNumbers) (address r0 : ℕ) (between there : Description) (m : MachineState) (o : Option Written) → WroteAt address o
-    → ((bytes : List ℕ) → length bytes ≡ 16 → All (λ byte. byte < 256) bytes → AreWritten numbers m address bytes between)
-    → ((n : MachineState) → DescribesWith numbers between n → DescribesWith numbers there (after_call n r0))
-    → DescribesWith numbers there (record (after_call m r0) { frames = frames_after m.frames o })
-informed numbers address r0 between there m None wrote writes passes = absurd wrote
-informed numbers address r0 between there m (Some written) wrote writes passes =
+pub informed : (numbers : FreezeNumbers) (callers : List SavedRegisters) (address r0 : ℕ) (between there : Description) (m : MachineState) (o : Option Written) → WroteAt address o
+    → ((bytes : List ℕ) → length bytes ≡ 16 → All (λ byte. byte < 256) bytes → AreWritten numbers callers m address bytes between)
+    → ((n : MachineState) → DescribesWith numbers callers between n → DescribesWith numbers callers there (after_call n r0))
+    → DescribesWith numbers callers there (record (after_call m r0) { frames = frames_after m.frames o })
+informed numbers callers address r0 between there m None wrote writes passes = absurd wrote
+informed numbers callers address r0 between there m (Some written) wrote writes passes =
     let are = writes written.bytes wrote.size wrote.bytes in
     passes (record m { frames = frames_after m.frames (Some written) })
-    (subst (DescribesWith numbers between) (sym (written_is m are.with_bytes address written wrote.place are.does)) are.describes)
+    (subst (DescribesWith numbers callers between) (sym (written_is m are.with_bytes address written wrote.place are.does)) are.describes)
 
 -- what is written is some number
 value_of : (numbers : FreezeNumbers) (kind : Kind) (o : Option ℕ) → IsWritten kind → HoldsKind numbers kind o → (value : ℕ) × (o ≡ Some value) × HoldsKind numbers kind (Some value)
@@ -118,10 +122,10 @@ value_of numbers (Address region offsets) o written h = (h.0, h.1, (h.0, refl, h
 value_of numbers (Freeze name) o written h = (h.0, h.1, (h.0, refl, h.2))
 
 -- each argument is as asked
-meets_asked : (limits : HelperLimits) (d : Description) (numbers : FreezeNumbers) (m : MachineState) (known : Known) (arguments : Arguments) (asked : Option Asked) (kind : Kind) (value : ℕ) → DescribesWith numbers d m → AreArguments numbers known arguments
+meets_asked : (limits : HelperLimits) (d : Description) (numbers : FreezeNumbers) (callers : List SavedRegisters) (m : MachineState) (known : Known) (arguments : Arguments) (asked : Option Asked) (kind : Kind) (value : ℕ) → DescribesWith numbers callers d m → AreArguments numbers known arguments
     → HoldsKind numbers kind (Some value) → FitsAny limits d known asked kind → meets limits m arguments asked value ≡ true
-meets_asked limits d numbers m known arguments (Some asked) kind value is are holds fits = fits numbers m arguments value is are holds
-meets_asked limits d numbers m known arguments None kind value is are holds fits = refl
+meets_asked limits d numbers callers m known arguments (Some asked) kind value is are holds fits = fits numbers callers m arguments value is are holds
+meets_asked limits d numbers callers m known arguments None kind value is are holds fits = refl
 
 -- what is known of the arguments with which a machine calls
 pub record HoldsArguments (numbers : FreezeNumbers) (m : MachineState) (asks : Asks) (known : Known) : Type 0 where
@@ -129,9 +133,9 @@ pub record HoldsArguments (numbers : FreezeNumbers) (m : MachineState) (asks : A
   pub second : HoldsKind numbers known.second (argument m asks.second R2)
   pub third : HoldsKind numbers known.third (argument m asks.third R3)
 
-pub lawful : (limits : HelperLimits) (d : Description) (numbers : FreezeNumbers) (m : MachineState) (helper : Helper) (known : Known) → DescribesWith numbers d m → HoldsArguments numbers m (asks helper) known → AllFit limits d (asks helper) known → run_may m helper ≡ true
+pub lawful : (limits : HelperLimits) (d : Description) (numbers : FreezeNumbers) (callers : List SavedRegisters) (m : MachineState) (helper : Helper) (known : Known) → DescribesWith numbers callers d m → HoldsArguments numbers m (asks helper) known → AllFit limits d (asks helper) known → run_may m helper ≡ true
     → IsLawfulCall limits m helper
-lawful limits d numbers m helper known is holds fit may =
+lawful limits d numbers callers m helper known is holds fit may =
     let first = value_of numbers known.first (argument m (asks helper).first R1) fit.first_written holds.first in
     let second = value_of numbers known.second (argument m (asks helper).second R2) fit.second_written holds.second in
     let third = value_of numbers known.third (argument m (asks helper).third R3) fit.third_written holds.third in
@@ -145,37 +149,37 @@ lawful limits d numbers m helper known is holds fit may =
           ∙ ap (λ (o : Option ℕ). all_written (Some first.0) (Some second.0) o) third.1);
       obeys =
           and_from (run_may m helper) _ may
-          (and_from _ _ (meets_asked limits d numbers m known arguments (asks helper).first known.first first.0 is are first.2 fit.first)
-          (and_from _ _ (meets_asked limits d numbers m known arguments (asks helper).second known.second second.0 is are second.2 fit.second)
-          (meets_asked limits d numbers m known arguments (asks helper).third known.third third.0 is are third.2 fit.third)));
+          (and_from _ _ (meets_asked limits d numbers callers m known arguments (asks helper).first known.first first.0 is are first.2 fit.first)
+          (and_from _ _ (meets_asked limits d numbers callers m known arguments (asks helper).second known.second second.0 is are second.2 fit.second)
+          (meets_asked limits d numbers callers m known arguments (asks helper).third known.third third.0 is are third.2 fit.third)));
     }
 
 -- what a helper that is answered asks of the run
-pub may_run : (numbers : FreezeNumbers) (d : Description) (m : MachineState) (name : FreezeName) (helper : Helper) → IsAnswered helper → DescribesWith numbers d m → RunMay d name helper → run_may m helper ≡ true
-may_run numbers d m name helpers.Freeze answered is may =
+pub may_run : (numbers : FreezeNumbers) (saved callers : List SavedRegisters) (d : Description) (m : MachineState) (name : FreezeName) (helper : Helper) → IsAnswered helper → DescribesWith numbers callers d m → RunMay saved d name helper → run_may m helper ≡ true
+may_run numbers saved callers d m name helpers.Freeze answered is may =
     let few = few_held numbers d.held m.held is.held in
     let room : length m.held < 8 = omega (arith, few, may.0) in
     lt-ltb (length m.held) 8 room
-may_run numbers d m name helpers.Release answered is may = refl
-may_run numbers d m name helpers.ReleaseAfter answered is may = refl
-may_run numbers d m name helpers.Requeue answered is may = ap not (is.disposal ∙ may)
-may_run numbers d m name helpers.Finish answered is may = ap not (is.disposal ∙ may)
-may_run numbers d m name helpers.TableGet answered is may = absurd answered
-may_run numbers d m name helpers.TablePut answered is may = absurd answered
-may_run numbers d m name helpers.TableAdd answered is may = absurd answered
-may_run numbers d m name helpers.QueueInfo answered is may = refl
-may_run numbers d m name helpers.Trace answered is may = refl
-may_run numbers d m name helpers.Now answered is may = absurd answered
-may_run numbers d m name helpers.SetOpenings answered is may = absurd answered
+may_run numbers saved callers d m name helpers.Release answered is may = refl
+may_run numbers saved callers d m name helpers.ReleaseAfter answered is may = refl
+may_run numbers saved callers d m name helpers.Requeue answered is may = ap not (is.disposal ∙ may)
+may_run numbers saved callers d m name helpers.Finish answered is may = ap not (is.disposal ∙ may)
+may_run numbers saved callers d m name helpers.TableGet answered is may = absurd answered
+may_run numbers saved callers d m name helpers.TablePut answered is may = absurd answered
+may_run numbers saved callers d m name helpers.TableAdd answered is may = absurd answered
+may_run numbers saved callers d m name helpers.QueueInfo answered is may = refl
+may_run numbers saved callers d m name helpers.Trace answered is may = refl
+may_run numbers saved callers d m name helpers.Now answered is may = absurd answered
+may_run numbers saved callers d m name helpers.SetOpenings answered is may = absurd answered
 
 -- a check that passes
-pub obeys_ok : (r : Result (Unit {0}) Cause) (limits : HelperLimits) (d : Description) (name : FreezeName) (helper : Helper) (asked : Asks) (known : Known) → asked ≡ asks helper
-    → ((numbers : FreezeNumbers) (m : MachineState) → DescribesWith numbers d m → HoldsArguments numbers m asked known) → AllFit limits d asked known → (IsOk r → RunMay d name helper)
+pub obeys_ok : (r : Result (Unit {0}) Cause) (limits : HelperLimits) (saved : List SavedRegisters) (d : Description) (name : FreezeName) (helper : Helper) (asked : Asks) (known : Known) → asked ≡ asks helper
+    → ((numbers : FreezeNumbers) (callers : List SavedRegisters) (m : MachineState) → DescribesWith numbers callers d m → HoldsArguments numbers m asked known) → AllFit limits d asked known → (IsOk r → RunMay saved d name helper)
     → IfOk r (λ x. IsAnswered helper → Obeys limits d helper)
-obeys_ok (Err cause) limits d name helper asked known same holds fit may = tt
-obeys_ok (Ok x) limits d name helper asked known same holds fit may = λ answered m (numbers, is).
-    lawful limits d numbers m helper known is (subst (λ (a : Asks). HoldsArguments numbers m a known) same (holds numbers m is)) (subst (λ (a : Asks). AllFit limits d a known) same fit)
-    (may_run numbers d m name helper answered is (may refl))
+obeys_ok (Err cause) limits saved d name helper asked known same holds fit may = tt
+obeys_ok (Ok x) limits saved d name helper asked known same holds fit may = λ answered callers m (numbers, is).
+    lawful limits d numbers callers m helper known is (subst (λ (a : Asks). HoldsArguments numbers m a known) same (holds numbers callers m is)) (subst (λ (a : Asks). AllFit limits d a known) same fit)
+    (may_run numbers saved callers d m name helper answered is (may refl))
 
 -- what is answered
 
@@ -198,50 +202,50 @@ traced_is m (Some address) (Some count) request e = of_bytes (traced m address c
     of_bytes None is = absurd (let bad : None ≡ Some request = is in cc)
     of_bytes (Some bytes) is = (address, bytes, some_same (requests.Trace address bytes) request is)
 
-passed : (helper : Helper) (d there : Description) (m m' : MachineState) (request : Request) (answer : Answer) → IsAnswered helper → Passes helper d there → Describes d m → request_by m helper ≡ Some request → Allowed request answer m m' → Describes there m'
-passed helpers.Freeze d there m m' request answer known passes is called allowed =
+passed : (name : FreezeName) (callers : List SavedRegisters) (helper : Helper) (d there : Description) (m m' : MachineState) (request : Request) (answer : Answer) → IsAnswered helper → Passes name callers helper d there → (helper ≡ helpers.Freeze → IsFresh name callers) → Describes callers d m → request_by m helper ≡ Some request → Allowed request answer m m' → Describes callers there m'
+passed name callers helpers.Freeze d there m m' request answer known passes fresh is called allowed =
     let same = one_is requests.Freeze (slice_index_or m.registers 1 None) request called in
     let given = subst (λ (r : Request). Allowed r answer m m') (sym same.2) allowed in
-    subst (Describes there) (sym given.1) (passes same.0 m answer is given.0)
-passed helpers.Release d there m m' request answer known passes is called allowed =
+    subst (Describes callers there) (sym given.1) (passes same.0 m answer (fresh refl) is given.0)
+passed name callers helpers.Release d there m m' request answer known passes fresh is called allowed =
     let same = one_is requests.Release (slice_index_or m.registers 1 None) request called in
     let given = subst (λ (r : Request). Allowed r answer m m') (sym same.2) allowed in
-    subst (Describes there) (sym given.1) (passes same.0 m answer is same.1 given.0)
-passed helpers.ReleaseAfter d there m m' request answer known passes is called allowed =
+    subst (Describes callers there) (sym given.1) (passes same.0 m answer is same.1 given.0)
+passed name callers helpers.ReleaseAfter d there m m' request answer known passes fresh is called allowed =
     let same = handed_is (slice_index_or m.registers 1 None) (slice_index_or m.registers 2 None) request called in
     let given = subst (λ (r : Request). Allowed r answer m m') (sym same.3) allowed in
-    subst (Describes there) (sym given.1) (passes same.0 same.1 m answer is same.2 given.0)
-passed helpers.Requeue d there m m' request answer known passes is called allowed =
+    subst (Describes callers there) (sym given.1) (passes same.0 same.1 m answer is same.2 given.0)
+passed name callers helpers.Requeue d there m m' request answer known passes fresh is called allowed =
     let same = one_is requests.Requeue (slice_index_or m.registers 1 None) request called in
     let given = subst (λ (r : Request). Allowed r answer m m') (sym same.2) allowed in
-    subst (Describes there) (sym given.1) (passes same.0 m answer is given.0)
-passed helpers.Finish d there m m' request answer known passes is called allowed =
+    subst (Describes callers there) (sym given.1) (passes same.0 m answer is given.0)
+passed name callers helpers.Finish d there m m' request answer known passes fresh is called allowed =
     let same = one_is requests.Finish (slice_index_or m.registers 1 None) request called in
     let given = subst (λ (r : Request). Allowed r answer m m') (sym same.2) allowed in
-    subst (Describes there) (sym given.1) (passes same.0 m answer is given.0)
-passed helpers.TableGet d there m m' request answer known passes is called allowed = absurd known
-passed helpers.TablePut d there m m' request answer known passes is called allowed = absurd known
-passed helpers.TableAdd d there m m' request answer known passes is called allowed = absurd known
-passed helpers.QueueInfo d there m m' request answer known passes is called allowed =
+    subst (Describes callers there) (sym given.1) (passes same.0 m answer is given.0)
+passed name callers helpers.TableGet d there m m' request answer known passes fresh is called allowed = absurd known
+passed name callers helpers.TablePut d there m m' request answer known passes fresh is called allowed = absurd known
+passed name callers helpers.TableAdd d there m m' request answer known passes fresh is called allowed = absurd known
+passed name callers helpers.QueueInfo d there m m' request answer known passes fresh is called allowed =
     let same = one_is requests.QueueInfo (slice_index_or m.registers 1 None) request called in
     let given = subst (λ (r : Request). Allowed r answer m m') (sym same.2) allowed in
-    subst (Describes there) (sym given.1) (passes same.0 m answer is same.1 given.0)
-passed helpers.Trace d there m m' request answer known passes is called allowed =
+    subst (Describes callers there) (sym given.1) (passes same.0 m answer is same.1 given.0)
+passed name callers helpers.Trace d there m m' request answer known passes fresh is called allowed =
     let same = traced_is m (slice_index_or m.registers 1 None) (slice_index_or m.registers 2 None) request called in
     let given = subst (λ (r : Request). Allowed r answer m m') (sym same.2) allowed in
-    subst (Describes there) (sym given.1) (passes same.0 same.1 m answer is given.0)
-passed helpers.Now d there m m' request answer known passes is called allowed = absurd known
-passed helpers.SetOpenings d there m m' request answer known passes is called allowed = absurd known
+    subst (Describes callers there) (sym given.1) (passes same.0 same.1 m answer is given.0)
+passed name callers helpers.Now d there m m' request answer known passes fresh is called allowed = absurd known
+passed name callers helpers.SetOpenings d there m m' request answer known passes fresh is called allowed = absurd known
 
-pub follows : (number : ℤ) (helper : Helper) (d there : Description) (m m' : MachineState) (request : Request) (answer : Answer) → helper_of number ≡ Some helper → IsAnswered helper → Passes helper d there
-    → Describes d m → option_and_then (request_by m) (helper_of number) ≡ Some request → Allowed request answer m m' → Describes there m'
-follows number helper d there m m' request answer named known passes is called allowed =
-    passed helper d there m m' request answer known passes is (sym (ap (option_and_then (request_by m)) named) ∙ called) allowed
+pub follows : (name : FreezeName) (callers : List SavedRegisters) (number : ℤ) (helper : Helper) (d there : Description) (m m' : MachineState) (request : Request) (answer : Answer) → helper_of number ≡ Some helper → IsAnswered helper → Passes name callers helper d there → (helper ≡ helpers.Freeze → IsFresh name callers)
+    → Describes callers d m → option_and_then (request_by m) (helper_of number) ≡ Some request → Allowed request answer m m' → Describes callers there m'
+follows name callers number helper d there m m' request answer named known passes fresh is called allowed =
+    passed name callers helper d there m m' request answer known passes fresh is (sym (ap (option_and_then (request_by m)) named) ∙ called) allowed
 
 -- no machine is stuck at the call
 pub unstuck : (limits : HelperLimits) (d : Description) (number : ℤ) (helper : Helper) → helper_of number ≡ Some helper → IsAnswered helper → Obeys limits d helper → CallIsNeverStuck limits number d
-unstuck limits d number helper named known obeys m (numbers, is) =
-    let lawful = obeys m (numbers, is) in
+unstuck limits d number helper named known obeys callers m (numbers, is) =
+    let lawful = obeys callers m (numbers, is) in
     ap (λ (o : Option Helper). call_is_stuck limits m (option_and_then (request_by m) o)) named
     ∙ (ap (λ (o : Option Arguments). call_is_stuck limits m (option_and_then (request_with m helper) o)) lawful.at
     ∙ goes_on limits m helper lawful.arguments known is.frames.whole lawful.obeys)

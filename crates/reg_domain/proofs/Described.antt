@@ -11,6 +11,7 @@ use Rattle.reg_domain.specs.declared.description.Description.{Description}
 use Rattle.reg_domain.specs.declared.held.HeldFreeze.{HeldFreeze}
 use Rattle.reg_domain.specs.declared.kind.Kind.{Kind}
 use Rattle.reg_domain.specs.declared.kind.Kind.TheVariants.{Unwritten}
+use Rattle.reg_domain.specs.declared.saved.SavedRegisters.{SavedRegisters}
 use Rattle.reg_domain.specs.Description.{DescribesWith, kind_at}
 use Rattle.reg_domain.specs.Enough.{ChangesOnly}
 use Rattle.reg_domain.specs.Freezes.{AreHeld, FreezeNumbers}
@@ -21,8 +22,8 @@ holds_as : (numbers : FreezeNumbers) (a b : Kind) (o p : Option ℕ) → a ≡ b
 holds_as numbers a b o p same_kind same h = subst (λ (k : Kind). HoldsKind numbers k o) (sym same_kind) (subst (HoldsKind numbers b) (sym same) h)
 
 -- wherever the machine stands
-pub moved_described : (numbers : FreezeNumbers) (d : Description) (m : MachineState) (place : ℕ) → DescribesWith numbers d m → DescribesWith numbers d (moved_to m place)
-moved_described numbers d m place is = record {
+pub moved_described : (numbers : FreezeNumbers) (callers : List SavedRegisters) (d : Description) (m : MachineState) (place : ℕ) → DescribesWith numbers callers d m → DescribesWith numbers callers d (moved_to m place)
+moved_described numbers callers d m place is = record {
   registers = is.registers;
   count = is.count;
   frames = is.frames;
@@ -31,11 +32,12 @@ moved_described numbers d m place is = record {
   held = is.held;
   disposal = is.disposal;
   calls = is.calls;
+  depth = is.depth;
 }
 
 -- a register is written, and its kind holds of the word
-pub set_described : (numbers : FreezeNumbers) (d there : Description) (m : MachineState) (dst : Reg) (word place : ℕ) → ChangesOnly dst d there → HoldsKind numbers (kind_at there dst) (Some word) → DescribesWith numbers d m → DescribesWith numbers there (moved_to (with_register m dst word) place)
-set_described numbers d there m dst word place only holds is = record {
+pub set_described : (numbers : FreezeNumbers) (callers : List SavedRegisters) (d there : Description) (m : MachineState) (dst : Reg) (word place : ℕ) → ChangesOnly dst d there → HoldsKind numbers (kind_at there dst) (Some word) → DescribesWith numbers callers d m → DescribesWith numbers callers there (moved_to (with_register m dst word) place)
+set_described numbers callers d there m dst word place only holds is = record {
   registers = go;
   count = length-set m.registers (number_of dst) (Some word) ∙ is.count;
   frames = subst (λ stack. CoversFrames stack m.frames) (sym only.stack) is.frames;
@@ -44,6 +46,7 @@ set_described numbers d there m dst word place only holds is = record {
   held = subst (λ (held : List HeldFreeze). AreHeld numbers held m.held) (sym only.held) is.held;
   disposal = is.disposal ∙ sym only.disposal;
   calls = is.calls;
+  depth = is.depth;
 }
   where
     go : (reg : Reg) → HoldsKind numbers (kind_at there reg) (register (with_register m dst word) reg)
@@ -53,8 +56,8 @@ set_described numbers d there m dst word place only holds is = record {
     ]
 
 -- more is known of a register
-pub narrowed_described : (numbers : FreezeNumbers) (d there : Description) (m : MachineState) (dst : Reg) → ChangesOnly dst d there → HoldsKind numbers (kind_at there dst) (register m dst) → DescribesWith numbers d m → DescribesWith numbers there m
-narrowed_described numbers d there m dst only holds is = record {
+pub narrowed_described : (numbers : FreezeNumbers) (callers : List SavedRegisters) (d there : Description) (m : MachineState) (dst : Reg) → ChangesOnly dst d there → HoldsKind numbers (kind_at there dst) (register m dst) → DescribesWith numbers callers d m → DescribesWith numbers callers there m
+narrowed_described numbers callers d there m dst only holds is = record {
   registers = go;
   count = is.count;
   frames = subst (λ stack. CoversFrames stack m.frames) (sym only.stack) is.frames;
@@ -63,6 +66,7 @@ narrowed_described numbers d there m dst only holds is = record {
   held = subst (λ (held : List HeldFreeze). AreHeld numbers held m.held) (sym only.held) is.held;
   disposal = is.disposal ∙ sym only.disposal;
   calls = is.calls;
+  depth = is.depth;
 }
   where
     go : (reg : Reg) → HoldsKind numbers (kind_at there reg) (register m reg)

@@ -388,3 +388,14 @@ without_zero numbers held run is = ap (λ (l : List ℕ). held_without l 0) is.a
 -- a name that is not held stands for no number
 pub no_number : (numbers : FreezeNumbers) (held : List HeldFreeze) (run : List ℕ) (name : FreezeName) → AreHeld numbers held run → certainty_of held name ≡ None → numbers name ≡ None
 no_number numbers held run name is fresh = subst (λ (o : Option Certainty). IsNumbered o (numbers name)) fresh (is.known name)
+
+-- a freeze's number is below 2 ^ 32
+pub number_small : (numbers : FreezeNumbers) (held : List HeldFreeze) (run : List ℕ) (name : FreezeName) (number : ℕ) → AreHeld numbers held run → numbers name ≡ Some number → number < 2 ^ 32
+number_small numbers held run name number is its = of_known (certainty_of held name) (is.known name)
+  where
+    of_known : (o : Option Certainty) → IsNumbered o (numbers name) → number < 2 ^ 32
+    of_known None known = absurd (let bad : None ≡ Some number = sym known ∙ its in cc)
+    of_known (Some certainty) known =
+        let e : Some known.0 ≡ Some number = sym known.1 ∙ its in
+        let k : known.0 ≡ number = cc in
+        omega (arith, k, known.3)

@@ -12,13 +12,16 @@ use Rattle.reg_domain.specs.declared.freeze_name.FreezeName.{FreezeName}
 use Rattle.reg_domain.specs.declared.held.Certainty.TheVariants.{Sure}
 use Rattle.reg_domain.specs.declared.kind.Kind.{Kind}
 use Rattle.reg_domain.specs.declared.kind.Kind.TheVariants.{Unwritten, Number, Address, Freeze}
+use Rattle.reg_domain.specs.declared.saved.SavedRegisters.{SavedRegisters}
 use Rattle.reg_domain.specs.Calls.{IsSureFreeze}
 use Rattle.reg_domain.specs.Changes.{EachBecomes, GivesUpKind}
 use Rattle.reg_domain.specs.Description.{Describes, DescribesWith, kind_at}
 use Rattle.reg_domain.specs.Enough.{LeavesGivenUp}
 use Rattle.reg_domain.specs.Freezes.{FreezeNumbers, certainty_of, open_freeze, renumbered, with_sure, without}
 use Rattle.reg_domain.specs.Kinds.{HoldsKind}
+use Rattle.reg_domain.specs.OpenCalls.{IsFresh}
 use Rattle.reg_domain.proofs.Freezes.{held_given_up, held_sure, held_taken, name_other, no_number, number_is_held, renumbered_other, sure_number, without_zero}
+use Rattle.reg_domain.proofs.OpenCalls.{open_given_up, open_taken}
 use Rattle.reg_domain.proofs.RegisterPlaces.{number_below}
 
 -- what holds of a register that is no copy of a freeze, whatever number the freeze has
@@ -36,9 +39,9 @@ copy_holds numbers after name other number o copies same its has holds =
     let is : holds.0 ≡ number = cc in
     (number, holds.1 ∙ ap Some is, has)
 
-pub sure_described : (numbers : FreezeNumbers) (d : Description) (m : MachineState) (name : FreezeName) (number : ℕ) → DescribesWith numbers d m → numbers name ≡ Some number → 0 < number
-    → DescribesWith numbers (record d { held = with_sure d.held name }) m
-sure_described numbers d m name number is its some = record {
+pub sure_described : (numbers : FreezeNumbers) (callers : List SavedRegisters) (d : Description) (m : MachineState) (name : FreezeName) (number : ℕ) → DescribesWith numbers callers d m → numbers name ≡ Some number → 0 < number
+    → DescribesWith numbers callers (record d { held = with_sure d.held name }) m
+sure_described numbers callers d m name number is its some = record {
   registers = is.registers;
   count = is.count;
   frames = is.frames;
@@ -47,11 +50,12 @@ sure_described numbers d m name number is its some = record {
   held = held_sure numbers d.held m.held name number is.held its some;
   disposal = is.disposal;
   calls = is.calls;
+  depth = is.depth;
 }
 
-pub taken_described : (numbers : FreezeNumbers) (d : Description) (m : MachineState) (name : FreezeName) (number : ℕ) → DescribesWith numbers d m → certainty_of d.held name ≡ None → IsNewFreeze m.held number
-    → DescribesWith (renumbered numbers name (Some number)) (record d { held = d.held ++ open_freeze name ∷ [] }) (record m { held = held_with m.held number })
-taken_described numbers d m name number is fresh new = record {
+pub taken_described : (numbers : FreezeNumbers) (callers : List SavedRegisters) (d : Description) (m : MachineState) (name : FreezeName) (number : ℕ) → DescribesWith numbers callers d m → certainty_of d.held name ≡ None → IsFresh name callers → IsNewFreeze m.held number
+    → DescribesWith (renumbered numbers name (Some number)) callers (record d { held = d.held ++ open_freeze name ∷ [] }) (record m { held = held_with m.held number })
+taken_described numbers callers d m name number is fresh unsaved new = record {
   registers = λ reg. still (kind_at d reg) _ (is.registers reg);
   count = is.count;
   frames = is.frames;
@@ -59,7 +63,8 @@ taken_described numbers d m name number is fresh new = record {
   context = is.context;
   held = held_taken numbers d.held m.held name number is.held fresh new;
   disposal = is.disposal;
-  calls = is.calls;
+  calls = open_taken numbers name number callers m.open_calls unsaved is.calls;
+  depth = is.depth;
 }
   where
     -- no register is a copy of a freeze that is not held
@@ -69,10 +74,10 @@ taken_described numbers d m name number is fresh new = record {
         no_copy : HoldsKind numbers (Freeze name) o → ⊥
         no_copy copy = let bad : None ≡ Some copy.0 = sym (no_number numbers d.held m.held name is.held fresh) ∙ copy.2 in absurd cc
 
-pub given_up_described : (numbers : FreezeNumbers) (d : Description) (registers : List Kind) (m : MachineState) (name : FreezeName) (number : ℕ) (copies : Scalar) → DescribesWith numbers d m → numbers name ≡ Some number → Has copies number
+pub given_up_described : (numbers : FreezeNumbers) (callers : List SavedRegisters) (d : Description) (registers : List Kind) (m : MachineState) (name : FreezeName) (number : ℕ) (copies : Scalar) → DescribesWith numbers callers d m → numbers name ≡ Some number → Has copies number
     → EachBecomes (GivesUpKind name copies) d.registers registers
-    → DescribesWith (renumbered numbers name None) (record d { registers = registers; held = without d.held name }) (record m { held = held_without m.held number })
-given_up_described numbers d registers m name number copies is its has each = record {
+    → DescribesWith (renumbered numbers name None) callers (record d { registers = registers; held = without d.held name }) (record m { held = held_without m.held number })
+given_up_described numbers callers d registers m name number copies is its has each = record {
   registers = λ reg. (each (number_of reg) (number_below reg)).kept numbers number _ its has (is.registers reg);
   count = is.count;
   frames = is.frames;
@@ -80,7 +85,8 @@ given_up_described numbers d registers m name number copies is its has each = re
   context = is.context;
   held = held_given_up numbers d.held m.held name number is.held its;
   disposal = is.disposal;
-  calls = is.calls;
+  calls = open_given_up numbers name callers m.open_calls is.calls;
+  depth = is.depth;
 }
 
 pub given_up_left : (d : Description) (registers : List Kind) (name : FreezeName) (copies : Scalar) → EachBecomes (GivesUpKind name copies) d.registers registers
@@ -94,25 +100,25 @@ given_up_left d registers name copies each = record {
 }
 
 -- a freeze that is 0 is none
-pub zero_described : (numbers : FreezeNumbers) (d there : Description) (m : MachineState) (name : FreezeName) → DescribesWith numbers d m → DescribesWith (renumbered numbers name None) there (record m { held = held_without m.held 0 }) → Describes there m
-zero_described numbers d there m name is after =
-    (renumbered numbers name None, subst (λ (l : List ℕ). DescribesWith (renumbered numbers name None) there (record m { held = l })) (without_zero numbers d.held m.held is.held) after)
+pub zero_described : (numbers : FreezeNumbers) (callers : List SavedRegisters) (d there : Description) (m : MachineState) (name : FreezeName) → DescribesWith numbers callers d m → DescribesWith (renumbered numbers name None) callers there (record m { held = held_without m.held 0 }) → Describes callers there m
+zero_described numbers callers d there m name is after =
+    (renumbered numbers name None, subst (λ (l : List ℕ). DescribesWith (renumbered numbers name None) callers there (record m { held = l })) (without_zero numbers d.held m.held is.held) after)
 
-pub not_zero : (numbers : FreezeNumbers) (d : Description) (m : MachineState) (name : FreezeName) → DescribesWith numbers d m → certainty_of d.held name ≡ Some Sure → numbers name ≡ Some 0 → ⊥
-not_zero numbers d m name is sure its = absurd (omega (arith, (sure_number numbers d.held m.held name 0 is.held sure its).0))
+pub not_zero : (numbers : FreezeNumbers) (callers : List SavedRegisters) (d : Description) (m : MachineState) (name : FreezeName) → DescribesWith numbers callers d m → certainty_of d.held name ≡ Some Sure → numbers name ≡ Some 0 → ⊥
+not_zero numbers callers d m name is sure its = absurd (omega (arith, (sure_number numbers d.held m.held name 0 is.held sure its).0))
 
 -- a freeze that is sure is among those that the run holds
-pub sure_is_held : (numbers : FreezeNumbers) (d : Description) (m : MachineState) (kind : Kind) (value : ℕ) → DescribesWith numbers d m → IsSureFreeze d kind → HoldsKind numbers kind (Some value) → is_held m.held value ≡ true
-sure_is_held numbers d m kind value is (name, same, sure) holds =
+pub sure_is_held : (numbers : FreezeNumbers) (callers : List SavedRegisters) (d : Description) (m : MachineState) (kind : Kind) (value : ℕ) → DescribesWith numbers callers d m → IsSureFreeze d kind → HoldsKind numbers kind (Some value) → is_held m.held value ≡ true
+sure_is_held numbers callers d m kind value is (name, same, sure) holds =
     let copy = subst (λ (k : Kind). HoldsKind numbers k (Some value)) same holds in
     let both : value ≡ copy.0 = let e = copy.1 in cc in
     let its : numbers name ≡ Some value = copy.2 ∙ ap Some (sym both) in
     number_is_held numbers d.held m.held name value is.held its (sure_number numbers d.held m.held name value is.held sure its).0
 
 -- the number of a freeze that is sure, where R1 is a copy of it
-pub copied_number : (numbers : FreezeNumbers) (d : Description) (m : MachineState) (name : FreezeName) (freeze : ℕ) → DescribesWith numbers d m → kind_at d R1 ≡ Freeze name → IsSureFreeze d (kind_at d R1) → register m R1 ≡ Some freeze
+pub copied_number : (numbers : FreezeNumbers) (callers : List SavedRegisters) (d : Description) (m : MachineState) (name : FreezeName) (freeze : ℕ) → DescribesWith numbers callers d m → kind_at d R1 ≡ Freeze name → IsSureFreeze d (kind_at d R1) → register m R1 ≡ Some freeze
     → (numbers name ≡ Some freeze) × (0 < freeze) × (freeze < 2 ^ 32)
-copied_number numbers d m name freeze is same (known, known_same, sure) at =
+copied_number numbers callers d m name freeze is same (known, known_same, sure) at =
     let copy = subst (λ (k : Kind). HoldsKind numbers k (register m R1)) same (is.registers R1) in
     let both : Some freeze ≡ Some copy.0 = sym at ∙ copy.1 in
     let its : numbers name ≡ Some freeze = copy.2 ∙ sym both in

@@ -19,6 +19,7 @@ use Rattle.reg_domain.specs.declared.freeze_name.FreezeName.{FreezeName}
 use Rattle.reg_domain.specs.declared.freeze_name.FreezeName.TheVariants as names
 use Rattle.reg_domain.specs.declared.kind.Kind.{Kind}
 use Rattle.reg_domain.specs.declared.kind.Kind.TheVariants.{Unwritten, Number, Address, Freeze}
+use Rattle.reg_domain.specs.declared.saved.SavedRegisters.{SavedRegisters}
 use Rattle.reg_domain.specs.Arguments.{AreKnownOf, RegistersSuit, ShowsAny}
 use Rattle.reg_domain.specs.Calls.{IsAnswered, IsSureFreeze, KeepsOver, LeavesAnswer, MayPass, RunMay, after_call_kinds}
 use Rattle.reg_domain.specs.Description.{kind_at}
@@ -125,11 +126,11 @@ left number helper d there named leaves keeps = record {
 
 -- what is found where the check passes
 
-pub may_pass : (d : Description) (name : FreezeName) (helper : Helper) (known : Known) (asked : Asks) → asked ≡ asks helper → AreKnownOf d asked known → ShowsAny d asked.first known.first → RunMay d name helper → MayPass d name helper
-may_pass d name helper known asked same are shows may = by_helper helper (subst (λ (a : Asks). AreKnownOf d a known) same are) (subst (λ (a : Asks). ShowsAny d a.first known.first) same shows) may
+pub may_pass : (callers : List SavedRegisters) (d : Description) (name : FreezeName) (helper : Helper) (known : Known) (asked : Asks) → asked ≡ asks helper → AreKnownOf d asked known → ShowsAny d asked.first known.first → RunMay callers d name helper → MayPass d name helper
+may_pass callers d name helper known asked same are shows may = by_helper helper (subst (λ (a : Asks). AreKnownOf d a known) same are) (subst (λ (a : Asks). ShowsAny d a.first known.first) same shows) may
   where
-    by_helper : (helper : Helper) → AreKnownOf d (asks helper) known → ShowsAny d (asks helper).first known.first → RunMay d name helper → MayPass d name helper
-    by_helper helpers.Freeze are shows may = may
+    by_helper : (helper : Helper) → AreKnownOf d (asks helper) known → ShowsAny d (asks helper).first known.first → RunMay callers d name helper → MayPass d name helper
+    by_helper helpers.Freeze are shows may = (may.0, may.1)
     by_helper helpers.Release are shows may = subst (IsSureFreeze d) are.first shows
     by_helper helpers.ReleaseAfter are shows may = subst (IsSureFreeze d) are.first shows
     by_helper helpers.Requeue are shows may = tt
@@ -150,18 +151,18 @@ at_most_between most (Number scalar) is = (omega arith, is)
 at_most_between most (Address region offsets) is = absurd is
 at_most_between most (Freeze name) is = absurd is
 
-pub record MayCall (limits : HelperLimits) (d : Description) (name : FreezeName) (helper : Helper) : Type 0 where
+pub record MayCall (limits : HelperLimits) (callers : List SavedRegisters) (d : Description) (name : FreezeName) (helper : Helper) : Type 0 where
   pub answered : IsAnswered helper
   pub suit : RegistersSuit limits d (asks helper)
-  pub run : RunMay d name helper
+  pub run : RunMay callers d name helper
 
-pub enough_calls : (limits : HelperLimits) (d : Description) (name : FreezeName) (helper : Helper) → EnoughFor helper d → MayCall limits d name helper
-enough_calls limits d name helpers.Release enough = record {
+pub enough_calls : (limits : HelperLimits) (callers : List SavedRegisters) (d : Description) (name : FreezeName) (helper : Helper) → EnoughFor helper d → MayCall limits callers d name helper
+enough_calls limits callers d name helpers.Release enough = record {
   answered = tt;
   suit = λ known are. record { first = (enough.name, are.first ∙ enough.freeze, enough.sure); second = are.second; third = are.third };
   run = tt;
 }
-enough_calls limits d name helpers.ReleaseAfter enough = record {
+enough_calls limits callers d name helpers.ReleaseAfter enough = record {
   answered = tt;
   suit = λ known are. record {
     first = (enough.freeze.name, are.first ∙ enough.freeze.freeze, enough.freeze.sure);
@@ -170,22 +171,22 @@ enough_calls limits d name helpers.ReleaseAfter enough = record {
   };
   run = tt;
 }
-enough_calls limits d name helpers.Requeue enough = record {
+enough_calls limits callers d name helpers.Requeue enough = record {
   answered = tt;
   suit = λ known are. record { first = subst (IsBetween 0 1) (sym are.first) (at_most_between 1 (kind_at d R1) enough.retries); second = are.second; third = are.third };
   run = enough.waits_not;
 }
-enough_calls limits d name helpers.Finish enough = record {
+enough_calls limits callers d name helpers.Finish enough = record {
   answered = tt;
   suit = λ known are. record { first = subst (IsBetween 0 63) (sym are.first) (at_most_between 63 (kind_at d R1) enough.code); second = are.second; third = are.third };
   run = enough.waits_not;
 }
-enough_calls limits d name helpers.QueueInfo enough = record {
+enough_calls limits callers d name helpers.QueueInfo enough = record {
   answered = tt;
   suit = λ known are. record { first = subst (IsPlace d 16) (sym are.first) enough; second = are.second; third = are.third };
   run = tt;
 }
-enough_calls limits d name helpers.Trace enough = record {
+enough_calls limits callers d name helpers.Trace enough = record {
   answered = tt;
   suit = λ known are. record {
     first =
@@ -196,20 +197,20 @@ enough_calls limits d name helpers.Trace enough = record {
   };
   run = tt;
 }
-enough_calls limits d name helpers.Freeze enough = absurd enough
-enough_calls limits d name helpers.TableGet enough = absurd enough
-enough_calls limits d name helpers.TablePut enough = absurd enough
-enough_calls limits d name helpers.TableAdd enough = absurd enough
-enough_calls limits d name helpers.Now enough = absurd enough
-enough_calls limits d name helpers.SetOpenings enough = absurd enough
+enough_calls limits callers d name helpers.Freeze enough = absurd enough
+enough_calls limits callers d name helpers.TableGet enough = absurd enough
+enough_calls limits callers d name helpers.TablePut enough = absurd enough
+enough_calls limits callers d name helpers.TableAdd enough = absurd enough
+enough_calls limits callers d name helpers.Now enough = absurd enough
+enough_calls limits callers d name helpers.SetOpenings enough = absurd enough
 
-pub taking_calls : (limits : HelperLimits) (d : Description) (number : ℤ) (place : ℕ) → Takes limits d (Call (helper_call number)) place → (helper_of number ≡ Some helpers.Freeze) × MayCall limits d (names.Call place) helpers.Freeze
-taking_calls limits d number place takes =
+pub taking_calls : (limits : HelperLimits) (callers : List SavedRegisters) (d : Description) (number : ℤ) (place : ℕ) → Takes limits callers d (Call (helper_call number)) place → (helper_of number ≡ Some helpers.Freeze) × MayCall limits callers d (names.Call place) helpers.Freeze
+taking_calls limits callers d number place takes =
     let same : number ≡ pos 1 = let e = takes.call in cc in (
       ap helper_of same,
       record {
         answered = tt;
         suit = λ known are. record { first = subst (IsBelow limits.queues) (sym are.first) takes.queue; second = are.second; third = are.third };
-        run = (takes.room, takes.fresh);
+        run = (takes.room, takes.fresh, takes.fresh_saved);
       },
     )

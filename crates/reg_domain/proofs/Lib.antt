@@ -12,10 +12,12 @@ pub mod Loading
 pub mod Writing
 pub mod Storing
 pub mod Tracing
+pub mod OpenCalls
 pub mod Giving
 pub mod Calling
 pub mod Leaving
 pub mod AtEntry
+pub mod LocalCalls
 pub mod RegisterPlaces
 pub mod Described
 pub mod Accessible

@@ -13,6 +13,7 @@ use Rattle.bpf_machine.specs.Memory.{in_context}
 use Rattle.reg_domain.specs.declared.description.Description.{Description}
 use Rattle.reg_domain.specs.declared.region.Offsets.{Offsets}
 use Rattle.reg_domain.specs.declared.region.Region.TheVariants.{Context, Frame}
+use Rattle.reg_domain.specs.declared.saved.SavedRegisters.{SavedRegisters}
 use Rattle.reg_domain.specs.Description.{DescribesWith}
 use Rattle.reg_domain.specs.Freezes.{FreezeNumbers}
 use Rattle.reg_domain.specs.Kinds.{LiesAt}
@@ -28,8 +29,8 @@ in_part : {X : Type 0} (xs : List X) (n offset k : ℕ) (d : X) → k < length (
 in_part xs n offset k d lt =
     get_or-take n (drop offset xs) k d (omega (arith, lt, length-take n (drop offset xs))) ∙ get_or-drop offset xs k d
 
-pub context_read : (numbers : FreezeNumbers) (d : Description) (m : MachineState) (offsets : Offsets) (address bytes : ℕ) → DescribesWith numbers d m → LiesAt Context offsets address → offsets.most + bytes ≤ 96 → AreThere m address bytes
-context_read numbers d m offsets address bytes is lies fits =
+pub context_read : (numbers : FreezeNumbers) (callers : List SavedRegisters) (d : Description) (m : MachineState) (offsets : Offsets) (address bytes : ℕ) → DescribesWith numbers callers d m → LiesAt Context offsets address → offsets.most + bytes ≤ 96 → AreThere m address bytes
+context_read numbers callers d m offsets address bytes is lies fits =
     let inside : in_context address bytes ≡ true = and_from _ _ (le-leb context_address address (omega (arith, lies.1))) (le-leb (address + bytes) (context_address + 96) (omega (arith, lies.1, lies.3, fits))) in
     let offset : ℕ = address - context_address in
     record {
@@ -46,9 +47,9 @@ pub record AreInFrame (m : MachineState) (address bytes : ℕ) : Type 0 where
   pub are : option_and_then all_written (frame_bytes 0 m.frames address bytes) ≡ Some found
   pub each : All (λ byte. byte < 256) found
 
-pub in_frame : (numbers : FreezeNumbers) (d : Description) (m : MachineState) (frame : ℕ) (offsets : Offsets) (address bytes : ℕ) → DescribesWith numbers d m → frame < length d.stack → LiesAt (Frame frame) offsets address → offsets.most + bytes ≤ 512
+pub in_frame : (numbers : FreezeNumbers) (callers : List SavedRegisters) (d : Description) (m : MachineState) (frame : ℕ) (offsets : Offsets) (address bytes : ℕ) → DescribesWith numbers callers d m → frame < length d.stack → LiesAt (Frame frame) offsets address → offsets.most + bytes ≤ 512
     → ((frames : List (List (Option ℕ))) → CoversFrames d.stack frames → AreWritten frames frame offsets.least (offsets.most + bytes)) → AreInFrame m address bytes
-in_frame numbers d m frame offsets address bytes is live lies fits written =
+in_frame numbers callers d m frame offsets address bytes is live lies fits written =
     let offset : ℕ = lies.0 in
     let there : frame < length m.frames = omega (arith, live, is.frames.depth) in
     let stack : List (Option ℕ) = slice_index_or m.frames frame [] in
@@ -60,10 +61,10 @@ in_frame numbers d m frame offsets address bytes is live lies fits written =
       each = found.each;
     }
 
-pub frame_read : (numbers : FreezeNumbers) (d : Description) (m : MachineState) (frame : ℕ) (offsets : Offsets) (address bytes : ℕ) → DescribesWith numbers d m → frame < length d.stack → LiesAt (Frame frame) offsets address → offsets.most + bytes ≤ 512
+pub frame_read : (numbers : FreezeNumbers) (callers : List SavedRegisters) (d : Description) (m : MachineState) (frame : ℕ) (offsets : Offsets) (address bytes : ℕ) → DescribesWith numbers callers d m → frame < length d.stack → LiesAt (Frame frame) offsets address → offsets.most + bytes ≤ 512
     → ((frames : List (List (Option ℕ))) → CoversFrames d.stack frames → AreWritten frames frame offsets.least (offsets.most + bytes)) → AreThere m address bytes
-frame_read numbers d m frame offsets address bytes is live lies fits written =
-    let there = in_frame numbers d m frame offsets address bytes is live lies fits written in
+frame_read numbers callers d m frame offsets address bytes is live lies fits written =
+    let there = in_frame numbers callers d m frame offsets address bytes is live lies fits written in
     record {
       found = there.found;
       are = cond-false (in_context address bytes) _ _ (not_in_context frame address lies.0 bytes lies.1) ∙ there.are;
@@ -71,7 +72,7 @@ frame_read numbers d m frame offsets address bytes is live lies fits written =
     }
 
 -- there is room in a frame
-pub frame_has_room : (numbers : FreezeNumbers) (d : Description) (m : MachineState) (frame : ℕ) (offsets : Offsets) (address bytes : ℕ) → DescribesWith numbers d m → frame < length d.stack → LiesAt (Frame frame) offsets address → offsets.most + bytes ≤ 512
+pub frame_has_room : (numbers : FreezeNumbers) (callers : List SavedRegisters) (d : Description) (m : MachineState) (frame : ℕ) (offsets : Offsets) (address bytes : ℕ) → DescribesWith numbers callers d m → frame < length d.stack → LiesAt (Frame frame) offsets address → offsets.most + bytes ≤ 512
     → has_room 0 m.frames address bytes ≡ true
-frame_has_room numbers d m frame offsets address bytes is live lies fits =
+frame_has_room numbers callers d m frame offsets address bytes is live lies fits =
     ap is_some (frame_found 0 m.frames frame address lies.0 bytes (omega (arith, live, is.frames.depth)) (omega (arith, lies.1)) (omega (arith, lies.3, fits)))

@@ -35,11 +35,11 @@ word_of numbers (Freeze name) o number h = absurd number
 
 stores : (d there : Description) (size : StoreSize) (dst : Reg) (offset : ℤ) (word : Kind) (frame : ℕ) (offsets : Offsets) → Reaches (kind_at d dst) offset (Frame frame) offsets
     → Writes d frame offsets (byte_len (store_width size)) there → IsNumber word → Stores d size dst offset word there
-stores d there size dst offset kind frame offsets reaches writes number numbers m stored is holds =
+stores d there size dst offset kind frame offsets reaches writes number numbers callers m stored is holds =
     let at = reaches numbers (register m dst) (is.registers dst) in
     let word = word_of numbers kind stored number holds in
     let bytes : ℕ = byte_len (store_width size) in
-    let written = writes numbers m (address_at at.0 offset) (little_bytes bytes word.0) is at.2 (length-low_bytes 0 bytes word.0) (bytes_below 0 bytes word.0) in
+    let written = writes numbers callers m (address_at at.0 offset) (little_bytes bytes word.0) is at.2 (length-low_bytes 0 bytes word.0) (bytes_below 0 bytes word.0) in
     record {
       address = address_at at.0 offset;
       word = word.0;
@@ -112,9 +112,9 @@ same_number : (a b : ℕ) → Some a ≡ Some b → a ≡ b
 same_number a b e = cc
 
 pub writes_from : (d there : Description) (reg : Reg) (frame : ℕ) (offsets : Offsets) (count : ℕ) → kind_at d reg ≡ Address (Frame frame) offsets → Writes d frame offsets count there → WritesFrom reg count d there
-writes_from d there reg frame offsets count in_frame writes numbers m address bytes is at size each =
+writes_from d there reg frame offsets count in_frame writes numbers callers m address bytes is at size each =
     let holds = subst (λ (kind : Kind). HoldsKind numbers kind (register m reg)) in_frame (is.registers reg) in
-    writes numbers m address bytes is (subst (LiesAt (Frame frame) offsets) (same_number holds.0 address (sym holds.1 ∙ at)) holds.2) size each
+    writes numbers callers m address bytes is (subst (LiesAt (Frame frame) offsets) (same_number holds.0 address (sym holds.1 ∙ at)) holds.2) size each
 
 pub known_from : (d there : Description) (reg : Reg) (frame : ℕ) (offsets : Offsets) (count : ℕ) → kind_at d reg ≡ Address (Frame frame) offsets
     → ((from : ℕ) → offsets ≡ record { least = from; most = from } → LeavesMarked d frame from count there) → (k at : ℕ) → IsAt (Frame k) at (kind_at d reg) → AreKnown there k at count

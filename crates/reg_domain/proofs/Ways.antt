@@ -1,5 +1,5 @@
 -- Which way an instruction leads that is no jump, and what an exit asks.
-use Rattle.std.proofs.Common.{◌≡◌, ℕ, ℤ, true, false, Bool, not, ◌||◌, [], Option, Result, Ok, Err, IfOk, refl, ap, sym, ◌∙◌, inl, inr}
+use Rattle.std.proofs.Common.{◌≡◌, ℕ, ℤ, true, false, Bool, not, ◌||◌, List, [], Option, Result, Ok, Err, IfOk, refl, ap, sym, subst, ◌∙◌, inl, inr}
 use Rattle.std.specs.Prelude.{is_none}
 use Rattle.bpf_insn.specs.declared.insn.Insn.{Insn}
 use Rattle.bpf_insn.specs.declared.insn.Callee.TheVariants.{Helper}
@@ -18,40 +18,47 @@ use Rattle.reg_domain.specs.declared.following.Way.{Way}
 use Rattle.reg_domain.specs.declared.following.Way.TheVariants.{FallThrough, Taken}
 use Rattle.reg_domain.specs.declared.kind.Kind.{Kind}
 use Rattle.reg_domain.specs.declared.kind.Kind.TheVariants.{Unwritten, Number, Address, Freeze}
-use Rattle.reg_domain.specs.Calls.{CallFollows}
+use Rattle.reg_domain.specs.declared.saved.SavedRegisters.{SavedRegisters}
+use Rattle.reg_domain.specs.Calls.{CallFollows, CallIsNeverStuck}
 use Rattle.reg_domain.specs.Description.{kind_at}
 use Rattle.reg_domain.specs.Follows.{Follows, NeverStuck, jumps}
 use Rattle.reg_domain.specs.Freezes.{FreezeNumbers, numbers_held}
 use Rattle.reg_domain.specs.GoesOn.{GoesOn, is_taken}
 use Rattle.reg_domain.specs.Kinds.{HoldsKind, IsNumber}
+use Rattle.reg_domain.proofs.OpenCalls.{none_open}
 
 -- what is no jump goes on at the next instruction alone
-pub follows_way : (insn : Insn) (way : Way) (d there : Description) → ((m : MachineState) → jumps m insn ≡ false) → Follows insn FallThrough d true there → Follows insn way d (not (is_taken way)) there
-follows_way insn FallThrough d there stays follows = follows
-follows_way insn Taken d there stays follows = λ m m' is jumped steps. absurd (let bad : false ≡ true = sym (stays m) ∙ jumped in cc)
+pub follows_way : (callers : List SavedRegisters) (insn : Insn) (way : Way) (d there : Description) → ((m : MachineState) → jumps m insn ≡ false) → Follows callers insn FallThrough d true there → Follows callers insn way d (not (is_taken way)) there
+follows_way callers insn FallThrough d there stays follows = follows
+follows_way callers insn Taken d there stays follows = λ m m' is jumped steps. absurd (let bad : false ≡ true = sym (stays m) ∙ jumped in cc)
 
-pub goes_way : (insn : Insn) (way : Way) (d there : Description) → ((m : MachineState) → jumps m insn ≡ false) → GoesOn insn d there → Follows insn way d (not (is_taken way)) there
-goes_way insn way d there stays goes = follows_way insn way d there stays goes.follows
+pub goes_way : (callers : List SavedRegisters) (insn : Insn) (way : Way) (d there : Description) → ((m : MachineState) → jumps m insn ≡ false) → GoesOn insn d there → Follows callers insn way d (not (is_taken way)) there
+goes_way callers insn way d there stays goes = follows_way callers insn way d there stays (goes.follows callers)
 
 -- a helper call has whatever answer it may have
-pub call_follows : {X : Type 0} (r : Result X Cause) (d there : Description) (number : ℤ) → IfOk r (λ _. CallFollows number d there) → IfOk r (λ _. Follows (Call (Helper number)) FallThrough d true there)
-call_follows (Ok done) d there number follows = λ m m' is goes steps. elim steps [
+pub call_follows : {X : Type 0} (r : Result X Cause) (callers : List SavedRegisters) (d there : Description) (number : ℤ) → IfOk r (λ _. CallFollows callers number d there) → IfOk r (λ _. Follows callers (Call (Helper number)) FallThrough d true there)
+call_follows (Ok done) callers d there number follows = λ m m' is goes steps. elim steps [
   | inl e ↦ absurd cc
   | inr (request, answer, made, allowed) ↦ (refl, follows m m' request answer is made allowed)
 ]
-call_follows (Err cause) d there number follows = follows
+call_follows (Err cause) callers d there number follows = follows
 
-pub jump_never_stuck : (r : Result Bool Cause) (limits : HelperLimits) (width : Width) (condition : Condition) (dst : Reg) (src : Operand) (offset : ℤ) (d : Description) → IfOk r (λ is_open. (limits : HelperLimits) (offset : ℤ) → NeverStuck limits (JumpIf width condition dst src offset) d) → IfOk r (λ is_open. NeverStuck limits (JumpIf width condition dst src offset) d)
-jump_never_stuck (Ok is_open) limits width condition dst src offset d never = never limits offset
-jump_never_stuck (Err cause) limits width condition dst src offset d never = never
+pub call_never_stuck : {X : Type 0} (r : Result X Cause) (limits : HelperLimits) (callers : List SavedRegisters) (d : Description) (number : ℤ) → IfOk r (λ _. CallIsNeverStuck limits number d)
+    → IfOk r (λ _. NeverStuck limits callers (Call (Helper number)) d)
+call_never_stuck (Ok done) limits callers d number never = never callers
+call_never_stuck (Err cause) limits callers d number never = never
 
-pub jump_goes : (r : Result Bool Cause) (width : Width) (condition : Condition) (dst : Reg) (src : Operand) (offset : ℤ) (way : Way) (d there : Description) → IfOk r (λ is_open. (offset : ℤ) → Follows (JumpIf width condition dst src offset) way d is_open there) → IfOk r (λ is_open. Follows (JumpIf width condition dst src offset) way d is_open there)
-jump_goes (Ok is_open) width condition dst src offset way d there follows = follows offset
-jump_goes (Err cause) width condition dst src offset way d there follows = follows
+pub jump_never_stuck : (r : Result Bool Cause) (limits : HelperLimits) (callers : List SavedRegisters) (width : Width) (condition : Condition) (dst : Reg) (src : Operand) (offset : ℤ) (d : Description) → IfOk r (λ is_open. (limits : HelperLimits) (callers : List SavedRegisters) (offset : ℤ) → NeverStuck limits callers (JumpIf width condition dst src offset) d) → IfOk r (λ is_open. NeverStuck limits callers (JumpIf width condition dst src offset) d)
+jump_never_stuck (Ok is_open) limits callers width condition dst src offset d never = never limits callers offset
+jump_never_stuck (Err cause) limits callers width condition dst src offset d never = never
 
-pub exit_never_stuck : (r : Result Bool Cause) (limits : HelperLimits) (d : Description) → IfOk r (λ is_open. (limits : HelperLimits) → NeverStuck limits Exit d) → IfOk r (λ is_open. NeverStuck limits Exit d)
-exit_never_stuck (Ok is_open) limits d never = never limits
-exit_never_stuck (Err cause) limits d never = never
+pub jump_goes : (r : Result Bool Cause) (callers : List SavedRegisters) (width : Width) (condition : Condition) (dst : Reg) (src : Operand) (offset : ℤ) (way : Way) (d there : Description) → IfOk r (λ is_open. (callers : List SavedRegisters) (offset : ℤ) → Follows callers (JumpIf width condition dst src offset) way d is_open there) → IfOk r (λ is_open. Follows callers (JumpIf width condition dst src offset) way d is_open there)
+jump_goes (Ok is_open) callers width condition dst src offset way d there follows = follows callers offset
+jump_goes (Err cause) callers width condition dst src offset way d there follows = follows
+
+pub exit_never_stuck : (r : Result Bool Cause) (limits : HelperLimits) (callers : List SavedRegisters) (d : Description) → callers ≡ [] → IfOk r (λ is_open. (limits : HelperLimits) → NeverStuck limits [] Exit d) → IfOk r (λ is_open. NeverStuck limits callers Exit d)
+exit_never_stuck (Ok is_open) limits callers d none never = subst (λ (c : List SavedRegisters). NeverStuck limits c Exit d) (sym none) (never limits)
+exit_never_stuck (Err cause) limits callers d none never = never
 
 number_there : (numbers : FreezeNumbers) (kind : Kind) (o : Option ℕ) → IsNumber kind → HoldsKind numbers kind o → is_none o ≡ false
 number_there numbers Unwritten o number holds = absurd number
@@ -60,10 +67,10 @@ number_there numbers (Address region offsets) o number holds = absurd number
 number_there numbers (Freeze name) o number holds = absurd number
 
 -- nothing is held, the CCB is disposed of, and R0 is a number
-pub exit_unstuck : (limits : HelperLimits) (d : Description) → d.held ≡ [] → d.disposed ≡ true → IsNumber (kind_at d R0) → NeverStuck limits Exit d
+pub exit_unstuck : (limits : HelperLimits) (d : Description) → d.held ≡ [] → d.disposed ≡ true → IsNumber (kind_at d R0) → NeverStuck limits [] Exit d
 exit_unstuck limits d nothing disposed number = λ m (numbers, is).
     let none_held : m.held ≡ [] = is.held.are ∙ ap (numbers_held numbers) nothing in
     let held : not (holds_none m.held) ≡ false = ap (λ held. not (holds_none held)) none_held in
     let waits : not m.disposed ≡ false = ap not (is.disposal ∙ disposed) in
     let r0 = number_there numbers (kind_at d R0) (register m R0) number (is.registers R0) in
-    ap (exit_is_stuck m) is.calls ∙ (ap (λ b. (b || not m.disposed) || is_none (register m R0)) held ∙ (ap (λ b. b || is_none (register m R0)) waits ∙ r0))
+    ap (exit_is_stuck m) (none_open numbers m.open_calls is.calls) ∙ (ap (λ b. (b || not m.disposed) || is_none (register m R0)) held ∙ (ap (λ b. b || is_none (register m R0)) waits ∙ r0))

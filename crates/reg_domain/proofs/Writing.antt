@@ -2,6 +2,7 @@
 use Rattle.std.proofs.Common.{◌≡◌, ℕ, ◌+◌, ◌-◌, ◌<◌, ◌≤◌, Bool, List, [], ◌++◌, Option, Some, None, length, map, take, drop, ap, sym, subst, ◌∙◌, arith, inl, inr}
 use Rattle.std.specs.Prelude.{All, slice_index_or}
 use Rattle.std.specs.Option.{option_map}
+use Rattle.std.proofs.Math.ListN.{length-set}
 use Rattle.std.proofs.lemmas.Bool.{cases_eq, cases_lt}
 use Rattle.std.proofs.lemmas.List.{get_or_append_left, get_or-append_right, get_or-map, get_or-set_same, get_or-set_other, length-append, length-map, length-take-le}
 use Rattle.stack_frame.specs.Frame.{written_at}
@@ -11,6 +12,7 @@ use Rattle.stack_domain.proofs.Stores.{written_at_outside}
 use Rattle.bpf_machine.specs.MachineState.{MachineState}
 use Rattle.bpf_machine.specs.Frames.{frame_start}
 use Rattle.reg_domain.specs.declared.description.Description.{Description}
+use Rattle.reg_domain.specs.declared.saved.SavedRegisters.{SavedRegisters}
 use Rattle.reg_domain.specs.Description.{DescribesWith}
 use Rattle.reg_domain.specs.Freezes.{FreezeNumbers}
 use Rattle.reg_domain.specs.Memory.{AreWritten}
@@ -59,10 +61,10 @@ bytes_kept frames k offset bytes live inside each was j = elim (cases_eq j k) [
 ]
 
 -- bytes are written in a live frame, and the stack is known to be as it is then
-pub are_written : (numbers : FreezeNumbers) (d : Description) (m : MachineState) (stack : List (List Bool)) (frame offset address : ℕ) (bytes : List ℕ) → DescribesWith numbers d m → frame < length m.frames
+pub are_written : (numbers : FreezeNumbers) (callers : List SavedRegisters) (d : Description) (m : MachineState) (stack : List (List Bool)) (frame offset address : ℕ) (bytes : List ℕ) → DescribesWith numbers callers d m → frame < length m.frames
     → address ≡ frame_start frame + offset → offset + length bytes ≤ 512 → All (λ byte. byte < 256) bytes → CoversFrames stack (stored m.frames frame offset bytes)
-    → AreWritten numbers m address bytes (record d { stack = stack })
-are_written numbers d m stack frame offset address bytes is live at fits each covers = record {
+    → AreWritten numbers callers m address bytes (record d { stack = stack })
+are_written numbers callers d m stack frame offset address bytes is live at fits each covers = record {
   with_bytes = record m { frames = stored m.frames frame offset bytes };
   does = ap (option_map (λ frames. record m { frames = frames })) (frame_stored 0 m.frames frame address offset bytes live (omega (arith, at)) fits);
   describes = record {
@@ -74,5 +76,6 @@ are_written numbers d m stack frame offset address bytes is live at fits each co
     held = is.held;
     disposal = is.disposal;
     calls = is.calls;
+    depth = length-set m.frames frame (written_at offset bytes (slice_index_or m.frames frame [])) ∙ is.depth;
   };
 }

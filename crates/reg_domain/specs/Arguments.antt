@@ -12,6 +12,7 @@ use Rattle.bpf_machine.specs.MachineState.{MachineState}
 use Rattle.reg_domain.specs.declared.arguments.Known.{Known}
 use Rattle.reg_domain.specs.declared.description.Description.{Description}
 use Rattle.reg_domain.specs.declared.kind.Kind.{Kind}
+use Rattle.reg_domain.specs.declared.saved.SavedRegisters.{SavedRegisters}
 use Rattle.reg_domain.specs.Calls.{IsSureFreeze}
 use Rattle.reg_domain.specs.Description.{DescribesWith, kind_at}
 use Rattle.reg_domain.specs.Enough.{AreToldBytes, IsPlace}
@@ -28,12 +29,12 @@ HasWords lengths table words = (numbers : FreezeNumbers) (number : ℕ) → Hold
 
 -- so many bytes lie in one live frame from the address on
 abbrev pub HasRoom : Description → Kind → ℕ → Type 0
-HasRoom d kind bytes = (numbers : FreezeNumbers) (m : MachineState) (address : ℕ) → DescribesWith numbers d m → HoldsKind numbers kind (Some address) → has_room 0 m.frames address bytes ≡ true
+HasRoom d kind bytes = (numbers : FreezeNumbers) (callers : List SavedRegisters) (m : MachineState) (address : ℕ) → DescribesWith numbers callers d m → HoldsKind numbers kind (Some address) → has_room 0 m.frames address bytes ≡ true
 
 -- and are written, as many as a number says
 abbrev pub HasBytes : Description → Kind → Kind → Type 0
 HasBytes d kind count =
-    (numbers : FreezeNumbers) (m : MachineState) (address bytes : ℕ) → DescribesWith numbers d m → HoldsKind numbers kind (Some address) →
+    (numbers : FreezeNumbers) (callers : List SavedRegisters) (m : MachineState) (address bytes : ℕ) → DescribesWith numbers callers d m → HoldsKind numbers kind (Some address) →
     HoldsKind numbers count (Some bytes) → has_written 0 m.frames address bytes ≡ true
 
 -- arguments of these kinds
@@ -45,7 +46,7 @@ pub record AreArguments (numbers : FreezeNumbers) (known : Known) (arguments : A
 -- an argument of that kind is as asked
 abbrev pub Fits : HelperLimits → Description → Known → Asked → Kind → Type 0
 Fits limits d known asked kind =
-    (numbers : FreezeNumbers) (m : MachineState) (arguments : Arguments) (value : ℕ) → DescribesWith numbers d m → AreArguments numbers known arguments →
+    (numbers : FreezeNumbers) (callers : List SavedRegisters) (m : MachineState) (arguments : Arguments) (value : ℕ) → DescribesWith numbers callers d m → AreArguments numbers known arguments →
     HoldsKind numbers kind (Some value) → is_as_asked limits m arguments asked value ≡ true
 
 abbrev pub FitsAny : HelperLimits → Description → Known → Option Asked → Kind → Type 0

@@ -23,18 +23,20 @@ use Rattle.reg_domain.specs.declared.freeze_name.FreezeName.{FreezeName}
 use Rattle.reg_domain.specs.declared.held.Certainty.TheVariants.{Sure}
 use Rattle.reg_domain.specs.declared.kind.Kind.{Kind}
 use Rattle.reg_domain.specs.declared.kind.Kind.TheVariants.{Unwritten, Freeze}
+use Rattle.reg_domain.specs.declared.saved.SavedRegisters.{SavedRegisters}
 use Rattle.reg_domain.specs.Description.{Describes, kind_at}
 use Rattle.reg_domain.specs.Enough.{IsFreeze, IsPlace}
 use Rattle.reg_domain.specs.Freezes.{certainty_of}
+use Rattle.reg_domain.specs.OpenCalls.{IsFresh}
 
 abbrev pub CallIsNeverStuck : HelperLimits → ℤ → Description → Type 0
-CallIsNeverStuck limits number d = (m : MachineState) → Describes d m → call_is_stuck limits m (request_in m (Call (helper_call number))) ≡ false
+CallIsNeverStuck limits number d = (callers : List SavedRegisters) (m : MachineState) → Describes callers d m → call_is_stuck limits m (request_in m (Call (helper_call number))) ≡ false
 
 -- whatever is answered that may be, what becomes of the machine is described
-abbrev pub CallFollows : ℤ → Description → Description → Type 0
-CallFollows number d there =
-    (m m' : MachineState) (request : Request) (answer : Answer) → Describes d m → request_in m (Call (helper_call number)) ≡ Some request →
-    Allowed request answer m m' → Describes there m'
+abbrev pub CallFollows : List SavedRegisters → ℤ → Description → Description → Type 0
+CallFollows callers number d there =
+    (m m' : MachineState) (request : Request) (answer : Answer) → Describes callers d m → request_in m (Call (helper_call number)) ≡ Some request →
+    Allowed request answer m m' → Describes callers there m'
 
 -- the arguments of a call are written, and the call meets the helper's rule
 pub record IsLawfulCall (limits : HelperLimits) (m : MachineState) (helper : Helper) : Type 0 where
@@ -43,7 +45,7 @@ pub record IsLawfulCall (limits : HelperLimits) (m : MachineState) (helper : Hel
   pub obeys : obeys limits m helper arguments ≡ true
 
 abbrev pub Obeys : HelperLimits → Description → Helper → Type 0
-Obeys limits d helper = (m : MachineState) → Describes d m → IsLawfulCall limits m helper
+Obeys limits d helper = (callers : List SavedRegisters) (m : MachineState) → Describes callers d m → IsLawfulCall limits m helper
 
 -- these are answered
 abbrev pub IsAnswered : Helper → Type 0
@@ -60,43 +62,44 @@ IsAnswered helper = ⊥
 abbrev pub IsSureFreeze : Description → Kind → Type 0
 IsSureFreeze d kind = (name : FreezeName) × (kind ≡ Freeze name) × (certainty_of d.held name ≡ Some Sure)
 
--- what a helper asks of the run, where a freeze that it takes gets that name
-abbrev pub RunMay : Description → FreezeName → Helper → Type 0
-RunMay d name helpers.Freeze = (length d.held < MAX_HELD) × (certainty_of d.held name ≡ None)
-RunMay d name helpers.Requeue = d.disposed ≡ false
-RunMay d name helpers.Finish = d.disposed ≡ false
-RunMay d name helper = Unit {0}
+-- what a helper asks of the run, where a freeze that it takes gets that name, and these functions wait
+abbrev pub RunMay : List SavedRegisters → Description → FreezeName → Helper → Type 0
+RunMay callers d name helpers.Freeze = (length d.held < MAX_HELD) × (certainty_of d.held name ≡ None) × IsFresh name callers
+RunMay callers d name helpers.Requeue = d.disposed ≡ false
+RunMay callers d name helpers.Finish = d.disposed ≡ false
+RunMay callers d name helper = Unit {0}
 
 -- what is known where a call of the helper may pass, as far as what is known behind it rests on that
 abbrev pub MayPass : Description → FreezeName → Helper → Type 0
-MayPass d name helpers.Freeze = RunMay d name helpers.Freeze
+MayPass d name helpers.Freeze = (length d.held < MAX_HELD) × (certainty_of d.held name ≡ None)
 MayPass d name helpers.Release = IsSureFreeze d (kind_at d R1)
 MayPass d name helpers.ReleaseAfter = IsSureFreeze d (kind_at d R1)
 MayPass d name helpers.QueueInfo = IsPlace d 16 (kind_at d R1)
 MayPass d name helper = Unit {0}
 
--- The machine after the call is described, whatever the call is answered that it may be. A freeze that is given up is
--- the one that R1 holds.
-abbrev pub Passes : Helper → Description → Description → Type 0
-Passes helpers.Freeze d there =
-    (queue : ℕ) (m : MachineState) (answer : Answer) → Describes d m → IsNewFreeze m.held answer.r0 → Describes there (answered (requests.Freeze queue) answer m)
-Passes helpers.Release d there =
-    (freeze : ℕ) (m : MachineState) (answer : Answer) → Describes d m → register m R1 ≡ Some freeze → answer.r0 ≤ 254 →
-    Describes there (answered (requests.Release freeze) answer m)
-Passes helpers.ReleaseAfter d there =
-    (freeze milliseconds : ℕ) (m : MachineState) (answer : Answer) → Describes d m → register m R1 ≡ Some freeze → answer.r0 ≡ 0 →
-    Describes there (answered (requests.ReleaseAfter freeze milliseconds) answer m)
-Passes helpers.Requeue d there =
-    (retries : ℕ) (m : MachineState) (answer : Answer) → Describes d m → answer.r0 ≡ 0 → Describes there (answered (requests.Requeue retries) answer m)
-Passes helpers.Finish d there =
-    (code : ℕ) (m : MachineState) (answer : Answer) → Describes d m → answer.r0 ≡ 0 → Describes there (answered (requests.Finish code) answer m)
-Passes helpers.QueueInfo d there =
-    (address : ℕ) (m : MachineState) (answer : Answer) → Describes d m → register m R1 ≡ Some address →
-    IsAnswer m (requests.QueueInfo address) answer → Describes there (answered (requests.QueueInfo address) answer m)
-Passes helpers.Trace d there =
-    (address : ℕ) (bytes : List ℕ) (m : MachineState) (answer : Answer) → Describes d m → answer.r0 ≡ 0 →
-    Describes there (answered (requests.Trace address bytes) answer m)
-Passes helper d there = Unit {0}
+-- The machine after the call is described, whatever the call is answered that it may be. A freeze that is taken gets that
+-- name, and one that is given up is the one that R1 holds.
+abbrev pub Passes : FreezeName → List SavedRegisters → Helper → Description → Description → Type 0
+Passes name callers helpers.Freeze d there =
+    (queue : ℕ) (m : MachineState) (answer : Answer) → IsFresh name callers → Describes callers d m → IsNewFreeze m.held answer.r0 →
+    Describes callers there (answered (requests.Freeze queue) answer m)
+Passes name callers helpers.Release d there =
+    (freeze : ℕ) (m : MachineState) (answer : Answer) → Describes callers d m → register m R1 ≡ Some freeze → answer.r0 ≤ 254 →
+    Describes callers there (answered (requests.Release freeze) answer m)
+Passes name callers helpers.ReleaseAfter d there =
+    (freeze milliseconds : ℕ) (m : MachineState) (answer : Answer) → Describes callers d m → register m R1 ≡ Some freeze → answer.r0 ≡ 0 →
+    Describes callers there (answered (requests.ReleaseAfter freeze milliseconds) answer m)
+Passes name callers helpers.Requeue d there =
+    (retries : ℕ) (m : MachineState) (answer : Answer) → Describes callers d m → answer.r0 ≡ 0 → Describes callers there (answered (requests.Requeue retries) answer m)
+Passes name callers helpers.Finish d there =
+    (code : ℕ) (m : MachineState) (answer : Answer) → Describes callers d m → answer.r0 ≡ 0 → Describes callers there (answered (requests.Finish code) answer m)
+Passes name callers helpers.QueueInfo d there =
+    (address : ℕ) (m : MachineState) (answer : Answer) → Describes callers d m → register m R1 ≡ Some address →
+    IsAnswer m (requests.QueueInfo address) answer → Describes callers there (answered (requests.QueueInfo address) answer m)
+Passes name callers helpers.Trace d there =
+    (address : ℕ) (bytes : List ℕ) (m : MachineState) (answer : Answer) → Describes callers d m → answer.r0 ≡ 0 →
+    Describes callers there (answered (requests.Trace address bytes) answer m)
+Passes name callers helper d there = Unit {0}
 
 -- the registers after a call
 abbrev pub after_call_kinds : List Kind → Kind → List Kind

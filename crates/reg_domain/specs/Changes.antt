@@ -1,5 +1,5 @@
 -- What becomes of all registers at once: where two paths meet, and where a freeze is held no more.
-use Rattle.std.specs.Prelude.{◌≡◌, ℕ, ◌<◌, List, Option, Some, None, slice_index_or}
+use Rattle.std.specs.Prelude.{◌≡◌, ℕ, ◌<◌, List, [], ◌∷◌, Option, Some, None, slice_index_or}
 use Rattle.bpf_insn.specs.declared.reg.Reg.{Reg}
 use Rattle.bpf_insn.specs.Reg.{number_of}
 use Rattle.bpf_machine.specs.MachineState.{entry, register}
@@ -39,3 +39,13 @@ EachJoins first second joined = (i : ℕ) → i < 11 → Joins (at first i) (at 
 -- each kind holds of the register of a run's first machine
 abbrev pub HoldAtEntry : List Kind → Type 0
 HoldAtEntry kinds = (context : List ℕ) (freeze : ℕ) (reg : Reg) → HoldsKind (numbers_at_start freeze) (at kinds (number_of reg)) (register (entry context freeze) reg)
+
+-- the registers of a function that is called, where that is the pointer to its frame: R1 to R5 are its arguments
+abbrev pub entered_kinds : List Kind → Kind → List Kind
+entered_kinds kinds pointer =
+    Unwritten ∷ at kinds 1 ∷ at kinds 2 ∷ at kinds 3 ∷ at kinds 4 ∷ at kinds 5 ∷ Unwritten ∷ Unwritten ∷ Unwritten ∷ Unwritten ∷ pointer ∷ []
+
+-- and of one to which another returned: R0 is the result, and R6 to R9 are kept
+abbrev pub left_kinds : Kind → List Kind → Kind → List Kind
+left_kinds r0 kept pointer =
+    r0 ∷ Unwritten ∷ Unwritten ∷ Unwritten ∷ Unwritten ∷ Unwritten ∷ at kept 0 ∷ at kept 1 ∷ at kept 2 ∷ at kept 3 ∷ pointer ∷ []

@@ -1,6 +1,7 @@
 -- What a description says of a machine. The freezes that the run gets are numbers that only the run knows: a machine is
--- described where all holds of it for some such numbers.
-use Rattle.std.specs.Prelude.{◌≡◌, ℕ, ◌<◌, [], length, Some, None, All, slice_index_or}
+-- described where all holds of it for some such numbers. Functions that wait for one that they called are described apart
+-- from that, by what is known of their registers: `callers`, the outermost first.
+use Rattle.std.specs.Prelude.{◌≡◌, ℕ, ◌+◌, ◌<◌, List, [], length, Some, None, All, slice_index_or}
 use Rattle.bpf_insn.specs.declared.reg.Reg.{Reg}
 use Rattle.bpf_insn.specs.Reg.{number_of}
 use Rattle.bpf_machine.specs.MachineState.{MachineState, register}
@@ -9,15 +10,17 @@ use Rattle.stack_domain.specs.Stack.{Covers as CoversFrames}
 use Rattle.reg_domain.specs.declared.description.Description.{Description}
 use Rattle.reg_domain.specs.declared.kind.Kind.{Kind}
 use Rattle.reg_domain.specs.declared.kind.Kind.TheVariants.{Unwritten}
+use Rattle.reg_domain.specs.declared.saved.SavedRegisters.{SavedRegisters}
 use Rattle.reg_domain.specs.Freezes.{AreHeld, FreezeNumbers}
 use Rattle.reg_domain.specs.Kinds.{HoldsKind}
+use Rattle.reg_domain.specs.OpenCalls.{AreOpen}
 
 -- what a description says of a register
 abbrev pub kind_at : Description → Reg → Kind
 kind_at d reg = slice_index_or d.registers (number_of reg) Unwritten
 
 -- all that is said holds of the machine, where the names of its freezes stand for these numbers
-pub record DescribesWith (numbers : FreezeNumbers) (d : Description) (m : MachineState) : Type 0 where
+pub record DescribesWith (numbers : FreezeNumbers) (callers : List SavedRegisters) (d : Description) (m : MachineState) : Type 0 where
   pub registers : (reg : Reg) → HoldsKind numbers (kind_at d reg) (register m reg)
   pub count : length m.registers ≡ 11
   pub frames : CoversFrames d.stack m.frames
@@ -26,15 +29,17 @@ pub record DescribesWith (numbers : FreezeNumbers) (d : Description) (m : Machin
   pub context : (length m.context ≡ 96) × All (λ byte. byte < 256) m.context
   pub held : AreHeld numbers d.held m.held
   pub disposal : m.disposed ≡ d.disposed
-  pub calls : m.open_calls ≡ []
+  pub calls : AreOpen numbers callers m.open_calls
+  -- each function has a frame
+  pub depth : length m.frames ≡ length m.open_calls + 1
 
-abbrev pub Describes : Description → MachineState → Type 0
-Describes d m = (numbers : FreezeNumbers) × DescribesWith numbers d m
+abbrev pub Describes : List SavedRegisters → Description → MachineState → Type 0
+Describes callers d m = (numbers : FreezeNumbers) × DescribesWith numbers callers d m
 
 -- it describes each machine that the first one does
 abbrev pub Covers : Description → Description → Type 0
-Covers d wider = (m : MachineState) → Describes d m → Describes wider m
+Covers d wider = (callers : List SavedRegisters) (m : MachineState) → Describes callers d m → Describes callers wider m
 
 -- it describes each run's first machine
 abbrev pub DescribesEntries : Description → Type 0
-DescribesEntries d = (m : MachineState) → IsEntry m → Describes d m
+DescribesEntries d = (m : MachineState) → IsEntry m → Describes [] d m

@@ -1,6 +1,6 @@
 -- What is enough for the check of an instruction to pass, and what is known behind it then. It says nothing of machines:
 -- it is what a program may rely on that is to be accepted.
-use Rattle.std.specs.Prelude.{◌≡◌, ℕ, ℤ, pos, ◌+◌, ◌<◌, ◌≤◌, ◌==◌, true, false, [], ◌∷◌, ◌++◌, length, Some, None, ◌⊎◌}
+use Rattle.std.specs.Prelude.{◌≡◌, ℕ, ℤ, pos, ◌+◌, ◌<◌, ◌≤◌, ◌==◌, true, false, List, [], ◌∷◌, ◌++◌, length, Some, None, ◌⊎◌}
 use Rattle.std.specs.Int.{w64, byte_len, cast_unsigned}
 use Rattle.bpf_insn.specs.declared.insn.AluOp.{AluOp}
 use Rattle.bpf_insn.specs.declared.insn.AluOp.TheVariants.{Mov}
@@ -33,10 +33,12 @@ use Rattle.reg_domain.specs.declared.held.Certainty.TheVariants.{Sure}
 use Rattle.reg_domain.specs.declared.kind.Kind.{Kind}
 use Rattle.reg_domain.specs.declared.kind.Kind.TheVariants.{Unwritten, Number, Address, Freeze}
 use Rattle.reg_domain.specs.declared.region.Region.{Region}
+use Rattle.reg_domain.specs.declared.saved.SavedRegisters.{SavedRegisters}
 use Rattle.reg_domain.specs.declared.region.Region.TheVariants.{Context, Frame}
 use Rattle.reg_domain.specs.Description.{kind_at}
 use Rattle.reg_domain.specs.Freezes.{certainty_of, open_freeze, with_sure, without}
 use Rattle.reg_domain.specs.Kinds.{IsAtMost, IsBelow, IsBetween, IsKnown, IsNumber, IsNumberWithin}
+use Rattle.reg_domain.specs.OpenCalls.{IsFresh}
 
 -- the address of one byte of a region
 abbrev pub IsAt : Region → ℕ → Kind → Type 0
@@ -148,13 +150,14 @@ EnoughFor helper d = ⊥
 abbrev pub EnoughToCall : ℤ → Description → Type 0
 EnoughToCall number d = (helper : Helper) × (helper_of number ≡ Some helper) × EnoughFor helper d
 
--- the call takes a freeze, under these limits: the queue is there, there is room for one freeze more, and none is held
--- that was taken at this place
-pub record Takes (limits : HelperLimits) (d : Description) (insn : Insn) (place : ℕ) : Type 0 where
+-- the call takes a freeze, under these limits: the queue is there, there is room for one freeze more, and none is held, nor
+-- saved in a function that waits, that was taken by this check
+pub record Takes (limits : HelperLimits) (callers : List SavedRegisters) (d : Description) (insn : Insn) (place : ℕ) : Type 0 where
   pub call : insn ≡ Call (helper_call (pos 1))
   pub queue : IsBelow limits.queues (kind_at d R1)
   pub room : length d.held < MAX_HELD
   pub fresh : certainty_of d.held (names.Call place) ≡ None
+  pub fresh_saved : IsFresh (names.Call place) callers
 
 -- a register is copied, or numbers are computed with
 abbrev pub EnoughToCompute : Description → Width → AluOp → Reg → Operand → Type 0

@@ -1,6 +1,7 @@
 -- What an instruction makes of the machines that are described: none is stuck, and what becomes of those that go one way
 -- is described again.
-use Rattle.std.specs.Prelude.{◌≡◌, ℕ, Bool, true, false, Option, Some, None, ◌⊎◌}
+use Rattle.std.specs.Prelude.{◌≡◌, ℕ, Bool, true, false, List, [], Option, Some, None, ◌⊎◌}
+use Rattle.bpf_insn.specs.declared.insn.Callee.TheVariants.{Helper, Local}
 use Rattle.bpf_insn.specs.declared.insn.Condition.{Condition}
 use Rattle.bpf_insn.specs.declared.insn.Insn.{Insn}
 use Rattle.bpf_insn.specs.declared.insn.Insn.TheVariants.{Alu, InPlace, SignExtend, JumpIf, Jump, LoadImmediate, Load, Store, Call, Exit}
@@ -15,6 +16,7 @@ use Rattle.bpf_machine.specs.Words.{holds_of}
 use Rattle.reg_domain.specs.declared.description.Description.{Description}
 use Rattle.reg_domain.specs.declared.following.Way.{Way}
 use Rattle.reg_domain.specs.declared.following.Way.TheVariants.{FallThrough, Taken}
+use Rattle.reg_domain.specs.declared.saved.SavedRegisters.{SavedRegisters}
 use Rattle.reg_domain.specs.Description.{Describes}
 
 -- the condition of a jump holds
@@ -47,10 +49,24 @@ StepsBy m insn m' =
     ⊎ ((request : Request) × (answer : Answer) × (request_in m insn ≡ Some request) × Allowed request answer m m')
 
 -- no machine that is described is stuck there
-abbrev pub NeverStuck : HelperLimits → Insn → Description → Type 0
-NeverStuck limits insn d = (m : MachineState) → Describes d m → insn_is_stuck limits m insn ≡ false
+abbrev pub NeverStuck : HelperLimits → List SavedRegisters → Insn → Description → Type 0
+NeverStuck limits callers insn d = (m : MachineState) → Describes callers d m → insn_is_stuck limits m insn ≡ false
 
 -- Where a machine that is described goes this way, the way is open, and what becomes of the machine is described.
-abbrev pub Follows : Insn → Way → Description → Bool → Description → Type 0
-Follows insn way d is_open there =
-    (m m' : MachineState) → Describes d m → GoesBy m insn way → StepsBy m insn m' → (is_open ≡ true) × Describes there m'
+abbrev pub Follows : List SavedRegisters → Insn → Way → Description → Bool → Description → Type 0
+Follows callers insn way d is_open there =
+    (m m' : MachineState) → Describes callers d m → GoesBy m insn way → StepsBy m insn m' → (is_open ≡ true) × Describes callers there m'
+
+-- the instruction stays in its function: it is no local call, and no exit where a function waits
+abbrev pub Stays : List SavedRegisters → Insn → Type 0
+Stays callers (Alu width op dst src) = Unit {0}
+Stays callers (InPlace op dst) = Unit {0}
+Stays callers (SignExtend extension dst src) = Unit {0}
+Stays callers (JumpIf width condition dst src offset) = Unit {0}
+Stays callers (Jump distance) = Unit {0}
+Stays callers (LoadImmediate dst value) = Unit {0}
+Stays callers (Load form dst src offset) = Unit {0}
+Stays callers (Store size dst src offset) = Unit {0}
+Stays callers (Call (Helper number)) = Unit {0}
+Stays callers (Call (Local distance)) = ⊥
+Stays callers Exit = callers ≡ []

@@ -1,5 +1,5 @@
 -- Where an instruction leads, under any limits of helper calls.
-use Rattle.std.specs.Prelude.{◌≡◌, Bool, true, false}
+use Rattle.std.specs.Prelude.{◌≡◌, Bool, true, false, List}
 use Rattle.bpf_insn.specs.declared.insn.Insn.{Insn}
 use Rattle.bpf_insn.specs.declared.insn.Insn.TheVariants.{Alu, InPlace, SignExtend, JumpIf, Jump, LoadImmediate, Load, Store, Call, Exit}
 use Rattle.bpf_insn.specs.declared.insn.Operand.{Operand}
@@ -9,6 +9,7 @@ use Rattle.reg_domain.specs.declared.description.Description.{Description}
 use Rattle.reg_domain.specs.declared.following.Way.{Way}
 use Rattle.reg_domain.specs.declared.following.Way.TheVariants.{FallThrough, Taken}
 use Rattle.reg_domain.specs.declared.kind.Kind.TheVariants.{Unwritten}
+use Rattle.reg_domain.specs.declared.saved.SavedRegisters.{SavedRegisters}
 use Rattle.reg_domain.specs.Description.{kind_at}
 use Rattle.reg_domain.specs.Follows.{Follows, NeverStuck}
 
@@ -19,8 +20,8 @@ is_taken Taken = true
 
 -- no machine is stuck, and each goes on at the next instruction and is described there
 pub record GoesOn (insn : Insn) (d there : Description) : Type 0 where
-  pub unstuck : (limits : HelperLimits) → NeverStuck limits insn d
-  pub follows : Follows insn FallThrough d true there
+  pub unstuck : (limits : HelperLimits) (callers : List SavedRegisters) → NeverStuck limits callers insn d
+  pub follows : (callers : List SavedRegisters) → Follows callers insn FallThrough d true there
 
 -- whether it leads to the next instruction
 abbrev pub falls_through : Insn → Bool

@@ -4,6 +4,7 @@ pub mod Freezes
 pub mod Kinds
 pub mod Computes
 pub mod Finds
+pub mod OpenCalls
 pub mod Description
 pub mod Follows
 pub mod Enough
@@ -12,4 +13,5 @@ pub mod Calls
 pub mod Accesses
 pub mod Arguments
 pub mod Changes
+pub mod Entering
 pub mod GoesOn

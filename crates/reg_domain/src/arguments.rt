@@ -1,7 +1,7 @@
 // What is known of the arguments of a helper call, and whether each is as the helper asks. It relies on `description` and
 // `kind`, and on `helpers` for what is asked.
 
-ghost use Rattle.std.specs.Prelude.{◌≡◌, ◌↔◌, ℕ, ◌+◌, ◌<◌, ◌≤◌, length, slice_index_or, Some, None, IfOk, IsOk, IsTrue};
+ghost use Rattle.std.specs.Prelude.{◌≡◌, ◌↔◌, ℕ, ◌+◌, ◌<◌, ◌≤◌, List, length, slice_index_or, Some, None, IfOk, IsOk, IsTrue};
 ghost use Rattle.bpf_insn.specs.declared.reg.Reg.TheVariants.{R1, R2, R3};
 ghost use Rattle.bpf_machine.specs.Calls.{argument};
 ghost use Rattle.bpf_machine.specs.MachineState.{MachineState};
@@ -9,6 +9,7 @@ ghost use Rattle.reg_domain.specs.Arguments.{AllFit, AllSuit, AreKnownOf, Fits, 
 ghost use Rattle.reg_domain.specs.Calls.{IsSureFreeze};
 ghost use Rattle.reg_domain.specs.Description.{DescribesWith, kind_at};
 ghost use Rattle.reg_domain.specs.declared.region.Region.TheVariants.{Frame};
+ghost use Rattle.reg_domain.specs.declared.saved.SavedRegisters.{SavedRegisters};
 ghost use Rattle.reg_domain.specs.Enough.{AreToldBytes, IsPlace, IsWrittenPlace};
 ghost use Rattle.reg_domain.specs.Freezes.{FreezeNumbers};
 ghost use Rattle.reg_domain.specs.Kinds.{HoldsKind, IsBelow, IsBetween, IsKnown, LiesWithin};
@@ -36,9 +37,9 @@ pub struct Known {
 impl Description {
     /// What is known of the arguments of a helper that asks this.
     pub(crate) fn arguments(&self, asks: Asks) -> Known
-        ensures first { (numbers : FreezeNumbers) (m : MachineState) → DescribesWith numbers self.now m → HoldsKind numbers result.first (argument m asks.first R1) }
-        ensures second { (numbers : FreezeNumbers) (m : MachineState) → DescribesWith numbers self.now m → HoldsKind numbers result.second (argument m asks.second R2) }
-        ensures third { (numbers : FreezeNumbers) (m : MachineState) → DescribesWith numbers self.now m → HoldsKind numbers result.third (argument m asks.third R3) }
+        ensures first { (numbers : FreezeNumbers) (callers : List SavedRegisters) (m : MachineState) → DescribesWith numbers callers self.now m → HoldsKind numbers result.first (argument m asks.first R1) }
+        ensures second { (numbers : FreezeNumbers) (callers : List SavedRegisters) (m : MachineState) → DescribesWith numbers callers self.now m → HoldsKind numbers result.second (argument m asks.second R2) }
+        ensures third { (numbers : FreezeNumbers) (callers : List SavedRegisters) (m : MachineState) → DescribesWith numbers callers self.now m → HoldsKind numbers result.third (argument m asks.third R3) }
         ensures known { AreKnownOf self.now asks result }
     {
         Known {
@@ -50,7 +51,7 @@ impl Description {
 
     // What is known of an argument; one that the helper does not take counts as 0.
     fn argument(&self, asked: Option<Asked>, reg: Reg) -> Kind
-        ensures holds { (numbers : FreezeNumbers) (m : MachineState) → DescribesWith numbers self.now m → HoldsKind numbers result (argument m asked reg) }
+        ensures holds { (numbers : FreezeNumbers) (callers : List SavedRegisters) (m : MachineState) → DescribesWith numbers callers self.now m → HoldsKind numbers result (argument m asked reg) }
         ensures known { IsKnownOf asked (kind_at self.now reg) result }
     {
         match asked {

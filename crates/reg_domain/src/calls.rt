@@ -1,7 +1,7 @@
 // Helper calls where a machine is described. It relies on `arguments` for what is known of their arguments, on `freeze` for
 // freezes that are taken or given up, and on `helpers` for what is asked of arguments.
 
-ghost use Rattle.std.specs.Prelude.{◌≡◌, ◌↔◌, ◌<◌, ℕ, false, length, IfOk, IfSome, IsOk, IsOkAnd, IsTrue, None, Some};
+ghost use Rattle.std.specs.Prelude.{◌≡◌, ◌↔◌, ◌<◌, ℕ, false, List, length, IfOk, IfSome, IsOk, IsOkAnd, IsTrue, None, Some};
 ghost use Rattle.bpf_insn.specs.declared.insn.Callee.TheVariants.{Helper as helper_call};
 ghost use Rattle.bpf_insn.specs.declared.insn.Insn.TheVariants.{Call};
 ghost use Rattle.bpf_insn.specs.declared.reg.Reg.TheVariants.{R1};
@@ -17,12 +17,15 @@ ghost use Rattle.reg_domain.specs.Enough.{EnoughToCall, IsPlace, LeavesCalled, L
 ghost use Rattle.reg_domain.specs.Freezes.{FreezeNumbers, certainty_of};
 ghost use Rattle.reg_domain.specs.Kinds.{HoldsKind};
 ghost use Rattle.reg_domain.specs.Memory.{ChangesStack, WritesFrom};
+ghost use Rattle.reg_domain.specs.OpenCalls.{IsFresh};
 
 use crate::cause::Cause;
 use crate::description::Description;
 use crate::freeze_name::FreezeName;
+use crate::held::GREATEST_FREEZE;
 use crate::kind::Kind;
 use crate::region::Region;
+use crate::saved::{SavedRegisters, is_saved};
 use bpf_insn::Reg;
 use bpf_machine::MAX_HELD;
 use helpers::{Helper, HelperLimits};
@@ -31,14 +34,12 @@ use scalar_domain::Scalar;
 /// The most freezes that a queue can have once one is given back.
 const MOST_FROZEN_LEFT: u64 = 254;
 
-/// The greatest freeze.
-const GREATEST_FREEZE: u64 = 0xffff_ffff;
-
 /// How many bytes tell what a queue has.
 const INFORMATION_BYTES: u16 = 16;
 
 impl Description {
-    /// Calls the helper of that number under these limits. A freeze that it takes is named by the place.
+    /// Calls the helper of that number under these limits, where these functions wait. A freeze that it takes is named by
+    /// the place.
     ///
     /// # Errors
     /// `UnknownHelper`; `UnwrittenRegister` for an argument, and `ArgumentAgainstRule` for one that may not be as the
@@ -46,19 +47,21 @@ impl Description {
     pub(crate) fn call(
         &mut self,
         limits: &HelperLimits,
+        callers: &[SavedRegisters],
         number: i32,
         place: u32,
     ) -> Result<(), Cause>
         ensures unstuck { IfOk result (λ _. CallIsNeverStuck limits.now number self.old) }
-        ensures follows { IfOk result (λ _. CallFollows number self.old self.new) }
+        ensures follows { IfOk result (λ _. CallFollows callers.now number self.old self.new) }
         ensures leaves { EnoughToCall number self.old → IsOkAnd result (λ _. LeavesCalled self.old number self.new) }
-        ensures takes { Takes limits.now self.old (Call (helper_call number)) place → IsOkAnd result (λ _. LeavesTaken (names.Call place) self.old self.new) }
+        ensures takes { Takes limits.now callers.now self.old (Call (helper_call number)) place → IsOkAnd result (λ _. LeavesTaken (names.Call place) self.old self.new) }
+        ensures depth { IfOk result (λ _. length self.new.stack ≡ length self.old.stack) }
     {
         let Some(helper) = answered_helper(number) else {
             return Err(Cause::UnknownHelper);
         };
         let name = FreezeName::Call(place);
-        self.check_call(limits, helper, name)?;
+        self.check_call(limits, callers, helper, name)?;
         self.pass(helper, name);
         Ok(())
     }
@@ -67,25 +70,32 @@ impl Description {
     fn check_call(
         &self,
         limits: &HelperLimits,
+        callers: &[SavedRegisters],
         helper: Helper,
         name: FreezeName,
     ) -> Result<(), Cause>
         ensures obeys { IfOk result (λ _. IsAnswered helper → Obeys limits.now self.now helper) }
         ensures found { IfOk result (λ _. MayPass self.now name helper) }
-        ensures suits { RegistersSuit limits.now self.now (asks helper) → RunMay self.now name helper → IsOk result }
+        ensures fresh { IfOk result (λ _. helper ≡ helpers.Freeze → IsFresh name callers.now) }
+        ensures suits { RegistersSuit limits.now self.now (asks helper) → RunMay callers.now self.now name helper → IsOk result }
     {
         let asks = helper.asks();
         let known = self.arguments(asks);
         self.check_arguments(limits, asks, &known)?;
-        self.check_run(helper, name)
+        self.check_run(callers, helper, name)
     }
 
     // Whether what the helper asks of the run is so.
-    fn check_run(&self, helper: Helper, name: FreezeName) -> Result<(), Cause>
-        ensures { IsOk result ↔ RunMay self.now name helper }
+    fn check_run(
+        &self,
+        callers: &[SavedRegisters],
+        helper: Helper,
+        name: FreezeName,
+    ) -> Result<(), Cause>
+        ensures { IsOk result ↔ RunMay callers.now self.now name helper }
     {
         match helper {
-            Helper::Freeze => self.check_room(name),
+            Helper::Freeze => self.check_room(callers, name),
             Helper::Requeue => self.check_waits(),
             Helper::Finish => self.check_waits(),
             Helper::Release
@@ -100,11 +110,15 @@ impl Description {
         }
     }
 
-    // Whether one freeze more may be held by this name. It is held by none: a path comes to its place once.
-    fn check_room(&self, name: FreezeName) -> Result<(), Cause>
-        ensures { IsOk result ↔ ((length self.now.held < MAX_HELD) × (certainty_of self.now.held name ≡ None)) }
+    // Whether one freeze more may be held by this name. No freeze is held by it, nor is a copy of one saved: a path comes to
+    // its place once.
+    fn check_room(&self, callers: &[SavedRegisters], name: FreezeName) -> Result<(), Cause>
+        ensures { IsOk result ↔ ((length self.now.held < MAX_HELD) × (certainty_of self.now.held name ≡ None) × IsFresh name callers.now) }
     {
-        if self.held.len() < MAX_HELD && self.held.certainty(name).is_none() {
+        if self.held.len() < MAX_HELD
+            && self.held.certainty(name).is_none()
+            && !is_saved(callers, name)
+        {
             Ok(())
         } else {
             Err(Cause::TooManyFreezes)
@@ -125,7 +139,7 @@ impl Description {
     // After a call of a helper that is answered, where a freeze that it took gets that name.
     fn pass(&mut self, helper: Helper, name: FreezeName)
         requires { MayPass self.old name helper }
-        ensures passes { Passes helper self.old self.new }
+        ensures passes { (callers : List SavedRegisters) → Passes name callers helper self.old self.new }
         ensures leaves { LeavesOver helper self.old self.new }
         ensures keeps { IsAnswered helper → KeepsOver self.old self.new }
         ensures takes { helper ≡ helpers.Freeze → LeavesTaken name self.old self.new }
@@ -149,7 +163,7 @@ impl Description {
     // A freeze was taken, or none was got.
     fn take_freeze(&mut self, name: FreezeName)
         requires { MayPass self.old name helpers.Freeze }
-        ensures passes { Passes helpers.Freeze self.old self.new }
+        ensures passes { (callers : List SavedRegisters) → Passes name callers helpers.Freeze self.old self.new }
         ensures keeps { KeepsOver self.old self.new }
         ensures takes { LeavesTaken name self.old self.new }
     {
@@ -160,7 +174,7 @@ impl Description {
     // The freeze is given back.
     fn release(&mut self)
         requires { IsSureFreeze self.old (kind_at self.old R1) }
-        ensures passes { Passes helpers.Release self.old self.new }
+        ensures passes { (name : FreezeName) (callers : List SavedRegisters) → Passes name callers helpers.Release self.old self.new }
         ensures leaves { LeavesOver helpers.Release self.old self.new }
         ensures keeps { KeepsOver self.old self.new }
     {
@@ -171,7 +185,7 @@ impl Description {
     // The freeze is handed over to a timer.
     fn release_after(&mut self)
         requires { IsSureFreeze self.old (kind_at self.old R1) }
-        ensures passes { Passes helpers.ReleaseAfter self.old self.new }
+        ensures passes { (name : FreezeName) (callers : List SavedRegisters) → Passes name callers helpers.ReleaseAfter self.old self.new }
         ensures leaves { LeavesOver helpers.ReleaseAfter self.old self.new }
         ensures keeps { KeepsOver self.old self.new }
     {
@@ -182,7 +196,7 @@ impl Description {
     // The freeze that R1 holds is held no more, and its copies are no freeze any more.
     fn give_up_first(&mut self)
         requires { IsSureFreeze self.old (kind_at self.old R1) }
-        ensures kept { (freeze : ℕ) (m : MachineState) → Describes self.old m → register m R1 ≡ Some freeze → Describes self.new (record m { held = held_without m.held freeze }) }
+        ensures kept { (callers : List SavedRegisters) (freeze : ℕ) (m : MachineState) → Describes callers self.old m → register m R1 ≡ Some freeze → Describes callers self.new (record m { held = held_without m.held freeze }) }
         ensures leaves { LeavesFirstGivenUp 0 self.old self.new }
     {
         match self.kind(Reg::R1) {
@@ -193,7 +207,7 @@ impl Description {
 
     // The CCB waits again.
     fn requeue(&mut self)
-        ensures passes { Passes helpers.Requeue self.old self.new }
+        ensures passes { (name : FreezeName) (callers : List SavedRegisters) → Passes name callers helpers.Requeue self.old self.new }
         ensures leaves { LeavesOver helpers.Requeue self.old self.new }
     {
         self.answer_zero();
@@ -202,7 +216,7 @@ impl Description {
 
     // The CCB is finished.
     fn finish(&mut self)
-        ensures passes { Passes helpers.Finish self.old self.new }
+        ensures passes { (name : FreezeName) (callers : List SavedRegisters) → Passes name callers helpers.Finish self.old self.new }
         ensures leaves { LeavesOver helpers.Finish self.old self.new }
     {
         self.answer_zero();
@@ -212,7 +226,7 @@ impl Description {
     // What the queue has is written from R1's address on.
     fn queue_info(&mut self)
         requires { IsPlace self.old INFORMATION_BYTES (kind_at self.old R1) }
-        ensures passes { Passes helpers.QueueInfo self.old self.new }
+        ensures passes { (name : FreezeName) (callers : List SavedRegisters) → Passes name callers helpers.QueueInfo self.old self.new }
         ensures leaves { LeavesOver helpers.QueueInfo self.old self.new }
         ensures keeps { KeepsOver self.old self.new }
     {
@@ -240,7 +254,7 @@ impl Description {
 
     // Bytes were put into the history.
     fn trace(&mut self)
-        ensures passes { Passes helpers.Trace self.old self.new }
+        ensures passes { (name : FreezeName) (callers : List SavedRegisters) → Passes name callers helpers.Trace self.old self.new }
         ensures leaves { LeavesOver helpers.Trace self.old self.new }
     {
         self.answer_zero();
@@ -248,7 +262,7 @@ impl Description {
 
     // R0 is 0, R1 to R5 are unwritten, and all else is as before.
     fn answer_zero(&mut self)
-        ensures passes { (numbers : FreezeNumbers) (r0 : ℕ) (m : MachineState) → DescribesWith numbers self.old m → r0 ≡ 0 → DescribesWith numbers self.new (called m r0) }
+        ensures passes { (numbers : FreezeNumbers) (callers : List SavedRegisters) (r0 : ℕ) (m : MachineState) → DescribesWith numbers callers self.old m → r0 ≡ 0 → DescribesWith numbers callers self.new (called m r0) }
         ensures leaves { LeavesZero self.old self.new × (self.new.stack ≡ self.old.stack) }
     {
         self.answer(Kind::exactly(0));
@@ -256,7 +270,7 @@ impl Description {
 
     // R0 is that, R1 to R5 are unwritten, and all else is as before.
     fn answer(&mut self, kind: Kind)
-        ensures passes { (numbers : FreezeNumbers) (r0 : ℕ) (m : MachineState) → DescribesWith numbers self.old m → HoldsKind numbers kind (Some r0) → DescribesWith numbers self.new (called m r0) }
+        ensures passes { (numbers : FreezeNumbers) (callers : List SavedRegisters) (r0 : ℕ) (m : MachineState) → DescribesWith numbers callers self.old m → HoldsKind numbers kind (Some r0) → DescribesWith numbers callers self.new (called m r0) }
         ensures leaves { LeavesAnswer kind self.old self.new }
     {
         self.registers = after_call(self.registers, kind);

@@ -2,9 +2,10 @@
 // CCB's disposal. It relies on `kind` for registers, on `registers` for all of them, on `held` for freezes, and on
 // `stack_domain` for the stack.
 
-ghost use Rattle.std.specs.Prelude.{◌≡◌, ℕ, ◌<◌, ◌↔◌, List, IfSome, IsSomeAnd, IsTrue};
+ghost use Rattle.std.specs.Prelude.{◌≡◌, ℕ, ◌<◌, ◌↔◌, List, length, IfSome, IsSomeAnd, IsTrue};
 ghost use Rattle.bpf_machine.specs.MachineState.{MachineState};
 ghost use Rattle.bpf_machine.specs.Step.{operand as operand_of};
+ghost use Rattle.reg_domain.specs.declared.saved.SavedRegisters.{SavedRegisters};
 ghost use Rattle.reg_domain.specs.Description.{Covers, DescribesEntries, DescribesWith, kind_at};
 ghost use Rattle.reg_domain.specs.Enough.{Agree, ChangesOnly, IsEntryKnown, IsMoved, IsNumberOperand, JoinsTo};
 ghost use Rattle.reg_domain.specs.Freezes.{FreezeNumbers};
@@ -17,7 +18,8 @@ use crate::registers::{entry_registers, join_registers};
 use bpf_insn::{Operand, Reg};
 use stack_domain::Stack;
 
-/// What is known of a machine where it comes to a place, between the calls of functions.
+/// What is known of a machine where it comes to a place, but for the registers of functions that wait for one that they
+/// called.
 #[derive(Clone, Copy, Debug)]
 pub struct Description {
     /// The kinds of R0 to R10.
@@ -53,7 +55,7 @@ impl Description {
 
     // What an operand is.
     pub(crate) fn operand(&self, src: Operand) -> Kind
-        ensures holds { (numbers : FreezeNumbers) (m : MachineState) → DescribesWith numbers self.now m → HoldsKind numbers result (operand_of m src) }
+        ensures holds { (numbers : FreezeNumbers) (callers : List SavedRegisters) (m : MachineState) → DescribesWith numbers callers self.now m → HoldsKind numbers result (operand_of m src) }
         ensures moved { IsMoved self.now src result }
         ensures number { IsNumberOperand self.now src → IsNumber result }
         ensures unwritten { ReadsUnwritten self.now src → result ≡ Kind.Unwritten }
@@ -78,6 +80,7 @@ impl Description {
         ensures first { IfSome result (Covers self.now) }
         ensures second { IfSome result (Covers other.now) }
         ensures agree { Agree self.now other.now → IsSomeAnd result (JoinsTo self.now other.now) }
+        ensures depth { IfSome result (λ joined. length joined.stack ≡ length self.now.stack) }
     {
         if self.agrees(other) {
             Some(self.joined(other))

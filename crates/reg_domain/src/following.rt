@@ -2,19 +2,20 @@
 // `description` for what is known of them, on `arithmetic` and `comparison` for numbers and addresses, on `memory` for
 // loads and stores, and on `calls` for helper calls.
 
-ghost use Rattle.std.specs.Prelude.{◌≡◌, [], true, false, IfOk, IsOk, IsOkAnd, IsTrue};
+ghost use Rattle.std.specs.Prelude.{◌≡◌, [], true, false, length, IfOk, IsOk, IsOkAnd, IsTrue};
 ghost use Rattle.bpf_insn.specs.declared.insn.Insn.TheVariants.{Call, Exit};
 ghost use Rattle.bpf_insn.specs.declared.reg.Reg.TheVariants.{R0};
 ghost use Rattle.reg_domain.specs.declared.following.Way.TheVariants.{FallThrough};
 ghost use Rattle.reg_domain.specs.declared.freeze_name.FreezeName.TheVariants as names;
 ghost use Rattle.reg_domain.specs.Description.{kind_at};
 ghost use Rattle.reg_domain.specs.Enough.{Enough, Leaves, LeavesTaken, Takes};
-ghost use Rattle.reg_domain.specs.Follows.{Follows, NeverStuck};
+ghost use Rattle.reg_domain.specs.Follows.{Follows, NeverStuck, Stays};
 ghost use Rattle.reg_domain.specs.GoesOn.{HasWay, is_taken};
 ghost use Rattle.reg_domain.specs.Kinds.{IsNumber};
 
 use crate::cause::Cause;
 use crate::description::Description;
+use crate::saved::SavedRegisters;
 use bpf_insn::{Callee, Insn, Reg};
 use helpers::HelperLimits;
 
@@ -37,24 +38,28 @@ impl Way {
 }
 
 impl Description {
-    /// Checks the instruction at a place that is described so, under these limits of helper calls, and goes one way from
-    /// there: then it is what is known there, and the answer is whether any machine goes that way. A freeze that is taken
-    /// at the place is named by it.
+    /// Checks an instruction where this is known, under these limits of helper calls and where these functions wait, the
+    /// outermost first, and goes one way from there: then it is what is known there, and the answer is whether any machine
+    /// goes that way. A freeze that is taken is named by the place: the number that the verifier gives the check of this
+    /// instruction under this chain of calls, so that no two checks name a freeze alike.
     ///
     /// # Errors
     /// Why a machine may be stuck there. What is known then is not said.
     pub fn follow(
         &mut self,
         limits: &HelperLimits,
+        callers: &[SavedRegisters],
         insn: Insn,
         place: u32,
         way: Way,
     ) -> Result<bool, Cause>
-        ensures unstuck { IfOk result (λ is_open. NeverStuck limits.now insn self.old) }
-        ensures follows { IfOk result (λ is_open. Follows insn way self.old is_open self.new) }
+        requires { Stays callers.now insn }
+        ensures unstuck { IfOk result (λ is_open. NeverStuck limits.now callers.now insn self.old) }
+        ensures follows { IfOk result (λ is_open. Follows callers.now insn way self.old is_open self.new) }
+        ensures depth { IfOk result (λ is_open. length self.new.stack ≡ length self.old.stack) }
         ensures ways { IfOk result (λ is_open. IsTrue is_open → HasWay insn way) }
         ensures passes { Enough insn self.old → IsOkAnd result (λ is_open. IsTrue is_open → Leaves insn way self.old self.new) }
-        ensures takes { Takes limits.now self.old insn place → IsOkAnd result (λ is_open. IsTrue is_open → LeavesTaken (names.Call place) self.old self.new) }
+        ensures takes { Takes limits.now callers.now self.old insn place → IsOkAnd result (λ is_open. IsTrue is_open → LeavesTaken (names.Call place) self.old self.new) }
     {
         match insn {
             Insn::Alu {
@@ -82,7 +87,7 @@ impl Description {
                 src,
                 offset,
             } => self.store_operand(size, dst, src, offset)?,
-            Insn::Call(callee) => self.call_function(limits, callee, place)?,
+            Insn::Call(callee) => self.call_function(limits, callers, callee, place)?,
             Insn::JumpIf {
                 width,
                 condition,
@@ -96,28 +101,31 @@ impl Description {
         Ok(!way.is_taken())
     }
 
-    // Calls a helper: local functions are not followed yet.
+    // Calls a helper: a local call does not stay in its function.
     fn call_function(
         &mut self,
         limits: &HelperLimits,
+        callers: &[SavedRegisters],
         callee: Callee,
         place: u32,
     ) -> Result<(), Cause>
-        ensures unstuck { IfOk result (λ _. NeverStuck limits.now (Call callee) self.old) }
-        ensures follows { IfOk result (λ _. Follows (Call callee) FallThrough self.old true self.new) }
+        requires { Stays callers.now (Call callee) }
+        ensures unstuck { IfOk result (λ _. NeverStuck limits.now callers.now (Call callee) self.old) }
+        ensures follows { IfOk result (λ _. Follows callers.now (Call callee) FallThrough self.old true self.new) }
+        ensures depth { IfOk result (λ _. length self.new.stack ≡ length self.old.stack) }
         ensures leaves { Enough (Call callee) self.old → IsOkAnd result (λ _. Leaves (Call callee) FallThrough self.old self.new) }
-        ensures takes { Takes limits.now self.old (Call callee) place → IsOkAnd result (λ _. LeavesTaken (names.Call place) self.old self.new) }
+        ensures takes { Takes limits.now callers.now self.old (Call callee) place → IsOkAnd result (λ _. LeavesTaken (names.Call place) self.old self.new) }
     {
         match callee {
-            Callee::Helper(number) => self.call(limits, number, place),
-            Callee::Local(_) => Err(Cause::UnknownHelper),
+            Callee::Helper(number) => self.call(limits, callers, number, place),
+            Callee::Local(_) => unreachable!(),
         }
     }
 
     // At the exit of the run no freeze is held, nor may be, the CCB is disposed of, and R0 is a number: it is told which of these is
     // the first that does not hold. No machine goes on.
     fn exit(&self) -> Result<bool, Cause>
-        ensures unstuck { IfOk result (λ _. (limits : HelperLimits) → NeverStuck limits Exit self.now) }
+        ensures unstuck { IfOk result (λ _. (limits : HelperLimits) → NeverStuck limits [] Exit self.now) }
         ensures ends { IfOk result (λ is_open. is_open ≡ false) }
         ensures passes { Enough Exit self.now → IsOk result }
         ensures held { (self.now.held ≡ [] → ⊥) → result ≡ Err Cause.FreezeHeld }

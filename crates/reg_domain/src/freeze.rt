@@ -1,15 +1,17 @@
 // What becomes of what is known where a freeze is taken, is found to be 0 or not, or is held no more. It relies on `held`
 // for what is held, and on `registers` for copies of a freeze.
 
-ghost use Rattle.std.specs.Prelude.{◌≡◌, ◌<◌, ◌++◌, ◌∷◌, [], ℕ, true, false, length, IsTrue, None, Option, Some};
+ghost use Rattle.std.specs.Prelude.{◌≡◌, ◌<◌, ◌++◌, ◌∷◌, [], ℕ, true, false, List, length, IsTrue, None, Option, Some};
 ghost use Rattle.bpf_machine.specs.MachineState.{MachineState};
 ghost use Rattle.bpf_machine.specs.Step.{IsNewFreeze, held_with, held_without};
 ghost use Rattle.scalar_domain.specs.Scalar.{Has};
 ghost use Rattle.reg_domain.specs.declared.following.Way.TheVariants.{FallThrough, Taken};
+ghost use Rattle.reg_domain.specs.declared.saved.SavedRegisters.{SavedRegisters};
 ghost use Rattle.reg_domain.specs.Changes.{GivesUpKind};
 ghost use Rattle.reg_domain.specs.Description.{Describes, DescribesWith};
 ghost use Rattle.reg_domain.specs.Enough.{LeavesGivenUp, LeavesTested};
 ghost use Rattle.reg_domain.specs.Freezes.{FreezeNumbers, certainty_of, open_freeze, renumbered};
+ghost use Rattle.reg_domain.specs.OpenCalls.{IsFresh};
 
 use crate::description::Description;
 use crate::freeze_name::FreezeName;
@@ -37,7 +39,7 @@ impl Description {
     pub(crate) fn hold(&mut self, name: FreezeName)
         requires room { length self.old.held < MAX_HELD }
         requires fresh { certainty_of self.old.held name ≡ None }
-        ensures kept { (numbers : FreezeNumbers) (number : ℕ) (m : MachineState) → DescribesWith numbers self.old m → IsNewFreeze m.held number → DescribesWith (renumbered numbers name (Some number)) self.new (record m { held = held_with m.held number }) }
+        ensures kept { (numbers : FreezeNumbers) (callers : List SavedRegisters) (number : ℕ) (m : MachineState) → IsFresh name callers → DescribesWith numbers callers self.old m → IsNewFreeze m.held number → DescribesWith (renumbered numbers name (Some number)) callers self.new (record m { held = held_with m.held number }) }
         ensures held { self.new ≡ record self.old { held = self.old.held ++ open_freeze name ∷ [] } }
     {
         self.held.push(HeldFreeze {
@@ -48,8 +50,9 @@ impl Description {
 
     // The freeze of that name, which was one of these numbers, is held no more.
     pub(crate) fn give_up(&mut self, name: FreezeName, copies: Scalar)
-        ensures kept { (numbers : FreezeNumbers) (number : ℕ) (m : MachineState) → DescribesWith numbers self.old m → numbers name ≡ Some number → Has copies number → DescribesWith (renumbered numbers name None) self.new (record m { held = held_without m.held number }) }
+        ensures kept { (numbers : FreezeNumbers) (callers : List SavedRegisters) (number : ℕ) (m : MachineState) → DescribesWith numbers callers self.old m → numbers name ≡ Some number → Has copies number → DescribesWith (renumbered numbers name None) callers self.new (record m { held = held_without m.held number }) }
         ensures leaves { LeavesGivenUp 0 name (Kind.Number copies) self.old self.new }
+        ensures depth { length self.new.stack ≡ length self.old.stack }
     {
         give_up_copies(&mut self.registers, name, copies);
         self.held = self.held.without(name);
@@ -57,16 +60,18 @@ impl Description {
 
     // The freeze of that name was found not to be 0.
     pub(crate) fn freeze_is_sure(&mut self, name: FreezeName)
-        ensures kept { (numbers : FreezeNumbers) (number : ℕ) (m : MachineState) → DescribesWith numbers self.old m → numbers name ≡ Some number → 0 < number → DescribesWith numbers self.new m }
+        ensures kept { (numbers : FreezeNumbers) (callers : List SavedRegisters) (number : ℕ) (m : MachineState) → DescribesWith numbers callers self.old m → numbers name ≡ Some number → 0 < number → DescribesWith numbers callers self.new m }
         ensures leaves { LeavesTested FallThrough name self.old self.new }
+        ensures depth { length self.new.stack ≡ length self.old.stack }
     {
         self.held = self.held.with_sure(name);
     }
 
     // The freeze of that name was found to be 0, so there is none: the answer is whether that may be.
     pub(crate) fn freeze_is_zero(&mut self, name: FreezeName) -> bool
-        ensures kept { (numbers : FreezeNumbers) (m : MachineState) → DescribesWith numbers self.old m → numbers name ≡ Some 0 → (result ≡ true) × Describes self.new m }
+        ensures kept { (numbers : FreezeNumbers) (callers : List SavedRegisters) (m : MachineState) → DescribesWith numbers callers self.old m → numbers name ≡ Some 0 → (result ≡ true) × Describes callers self.new m }
         ensures leaves { IsTrue result → LeavesTested Taken name self.old self.new }
+        ensures depth { length self.new.stack ≡ length self.old.stack }
     {
         if self.held.certainty(name) == Some(Certainty::Sure) {
             return false;

@@ -3,12 +3,13 @@
 ghost use Rattle.std.specs.Prelude.{◌≡◌, ◌↔◌, IsTrue};
 ghost use Rattle.reg_domain.specs.Freezes.{is_name};
 
-/// Which of the freezes that a run gets. A run comes to each place at most once, so each name is that of one freeze.
+/// Which of the freezes that a run gets. A place is here the number of a check: of one instruction under one chain of open
+/// calls. A run comes to each at most once, so each name is that of one freeze.
 #[derive(Clone, Copy, Debug, PartialEq, Eq)]
 pub enum FreezeName {
     /// The one with which the run starts.
     Start,
-    /// The one that a helper call at this place takes.
+    /// The one that the helper call at this place takes.
     Call(u32),
 }
 

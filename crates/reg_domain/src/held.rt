@@ -8,6 +8,9 @@ use crate::freeze_name::FreezeName;
 use bpf_machine::MAX_HELD;
 use std::marker::Model;
 
+/// The greatest number of a freeze.
+pub(crate) const GREATEST_FREEZE: u64 = 0xffff_ffff;
+
 /// Whether a freeze may be 0.
 #[derive(Clone, Copy, Debug, PartialEq, Eq)]
 pub enum Certainty {

@@ -17,9 +17,11 @@ mod freeze_name;
 mod held;
 mod jumping;
 mod kind;
+mod local_calls;
 mod memory;
 mod region;
 mod registers;
+mod saved;
 mod straight;
 
 pub use access::{Access, accessed};
@@ -32,3 +34,4 @@ pub use freeze_name::FreezeName;
 pub use held::{Certainty, Held, HeldFreeze};
 pub use kind::Kind;
 pub use region::{Offsets, Region};
+pub use saved::{SavedRegister, SavedRegisters};

@@ -84,6 +84,7 @@ impl Description {
     ) -> Result<(), Cause>
         ensures stores { IfOk result (λ _. Stores self.old size dst offset word self.new) }
         ensures leaves { IsNumber word → LiesInFrame self.old dst offset (byte_len (store_width size)) → IsOkAnd result (λ _. LeavesStored self.old dst offset (byte_len (store_width size)) self.new) }
+        ensures depth { IfOk result (λ _. length self.new.stack ≡ length self.old.stack) }
     {
         let bytes = store_bytes(size);
         if word == Kind::Unwritten {
@@ -103,6 +104,7 @@ impl Description {
         ensures writes { IfOk result (λ _. Writes self.old frame offsets bytes self.new) }
         ensures number { IfOk result (λ _. IsNumber word) }
         ensures leaves { (from : ℕ) → IsNumber word → offsets ≡ record { least = from; most = from } → frame < length self.old.stack → IsOkAnd result (λ _. LeavesMarked self.old frame from bytes self.new) }
+        ensures depth { IfOk result (λ _. length self.new.stack ≡ length self.old.stack) }
     {
         if usize::from(frame) >= self.stack.depth() {
             return Err(Cause::AccessOutside);

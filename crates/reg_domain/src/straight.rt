@@ -1,7 +1,7 @@
 // The instructions behind which a machine goes on at the next one, but for helper calls. It relies on `arithmetic` for
 // what is computed, and on `memory` for loads and stores.
 
-ghost use Rattle.std.specs.Prelude.{◌≡◌, true, ◌⊎◌, IfOk, IsOkAnd};
+ghost use Rattle.std.specs.Prelude.{◌≡◌, true, ◌⊎◌, IfOk, IsOkAnd, length};
 ghost use Rattle.std.specs.Int.{byte_len};
 ghost use Rattle.bpf_insn.specs.declared.insn.Insn.TheVariants.{Alu, InPlace, SignExtend, LoadImmediate, Load, Store};
 ghost use Rattle.bpf_machine.specs.Memory.{load_width, store_width};
@@ -30,6 +30,7 @@ impl Description {
         ensures leaves { EnoughToCompute self.old width op dst src → IsOkAnd result (λ _. LeavesComputed self.old width op dst src self.new) }
         ensures unwritten { ReadsUnwritten self.old src → result ≡ Err Cause.UnwrittenRegister }
         ensures unwritten_first { reads_dst op ≡ true → kind_at self.old dst ≡ Kind.Unwritten → result ≡ Err Cause.UnwrittenRegister }
+        ensures depth { IfOk result (λ _. length self.new.stack ≡ length self.old.stack) }
     {
         let kind = computed(width, op, self.kind(dst), self.operand(src))?;
         self.set(dst, kind);
@@ -41,6 +42,7 @@ impl Description {
         ensures goes { IfOk result (λ _. GoesOn (InPlace op dst) self.old self.new) }
         ensures leaves { IsNumber (kind_at self.old dst) → IsOkAnd result (λ _. LeavesNumber dst self.old self.new) }
         ensures unwritten { kind_at self.old dst ≡ Kind.Unwritten → result ≡ Err Cause.UnwrittenRegister }
+        ensures depth { IfOk result (λ _. length self.new.stack ≡ length self.old.stack) }
     {
         let kind = changed(op, self.kind(dst))?;
         self.set(dst, kind);
@@ -57,6 +59,7 @@ impl Description {
         ensures goes { IfOk result (λ _. GoesOn (SignExtend extension dst src) self.old self.new) }
         ensures leaves { IsNumber (kind_at self.old src) → IsOkAnd result (λ _. LeavesNumber dst self.old self.new) }
         ensures unwritten { kind_at self.old src ≡ Kind.Unwritten → result ≡ Err Cause.UnwrittenRegister }
+        ensures depth { IfOk result (λ _. length self.new.stack ≡ length self.old.stack) }
     {
         let kind = extended(extension, self.kind(src))?;
         self.set(dst, kind);
@@ -67,6 +70,7 @@ impl Description {
     pub(crate) fn load_immediate(&mut self, dst: Reg, value: u64)
         ensures goes { GoesOn (LoadImmediate dst value) self.old self.new }
         ensures leaves { LeavesNumber dst self.old self.new }
+        ensures depth { length self.new.stack ≡ length self.old.stack }
     {
         self.set(dst, Kind::exactly(value));
     }
@@ -81,6 +85,7 @@ impl Description {
     ) -> Result<(), Cause>
         ensures goes { IfOk result (λ _. GoesOn (Load form dst src offset) self.old self.new) }
         ensures leaves { (LiesInContext self.old src offset (byte_len (load_width form)) ⊎ LiesWritten self.old src offset (byte_len (load_width form))) → IsOkAnd result (λ _. LeavesNumber dst self.old self.new) }
+        ensures depth { IfOk result (λ _. length self.new.stack ≡ length self.old.stack) }
     {
         let kind = self.loaded(form, src, offset)?;
         self.set(dst, kind);
@@ -97,6 +102,7 @@ impl Description {
     ) -> Result<(), Cause>
         ensures goes { IfOk result (λ _. GoesOn (Store size dst src offset) self.old self.new) }
         ensures leaves { (IsNumberOperand self.old src × LiesInFrame self.old dst offset (byte_len (store_width size))) → IsOkAnd result (λ _. LeavesStored self.old dst offset (byte_len (store_width size)) self.new) }
+        ensures depth { IfOk result (λ _. length self.new.stack ≡ length self.old.stack) }
     {
         let word = self.operand(src);
         self.store(size, dst, offset, word)

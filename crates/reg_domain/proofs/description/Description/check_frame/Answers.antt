@@ -4,10 +4,10 @@ use Rattle.reg_domain.proofs.Reading.{frame_read}
 use Rattle.reg_domain.proofs.description.Description.check_frame.Goals as goal
 
 pub returns-then-is_written-clause-reads : goal.returns-then-is_written-clause-reads
-returns-then-is_written-clause-reads c = λ numbers m address is lies.
+returns-then-is_written-clause-reads c = λ numbers callers m address is lies.
     let live = c.if-frame-depth.false in
     let are = c.is_written.ensures.0 c.if-is_written.true in
-    frame_read numbers c.args.self.now m c.args.frame c.args.offsets address c.args.bytes is
+    frame_read numbers callers c.args.self.now m c.args.frame c.args.offsets address c.args.bytes is
     (omega (arith, live, c.from-frame.ensures, c.depth.ensures.frames))
     lies c.requires.inside
     (λ frames covers at from to.

@@ -1,38 +1,39 @@
-use Rattle.std.proofs.Common.{refl, rules}
+use Rattle.std.proofs.Common.{refl, rules, subst}
 use Rattle.std.specs.Int.{w16}
 use Rattle.std.proofs.lemmas.Int.{to_z-of_z}
 use Rattle.bpf_insn.specs.declared.insn.Insn.TheVariants.{Call}
+use Rattle.reg_domain.specs.Follows.{Stays}
 use Rattle.reg_domain.proofs.Ways.{exit_never_stuck, follows_way, goes_way, jump_goes, jump_never_stuck}
 use Rattle.reg_domain.proofs.description.Description.follow.Goals as goal
 use Rattle.reg_domain.proofs.description.Description.follow.Goals.{in-Alu+in_ok-compute-in-Alu, in-InPlace+in_ok-change-in-InPlace, in-SignExtend+in_ok-extend-in-SignExtend, in-LoadImmediate, in-Load+in_ok-load-in-Load, in-Store+in_ok-store_operand-in-Store, in-Call+in_ok-call_function-in-Call}
 
 pub returns-in-Exit-clause-unstuck : goal.returns-in-Exit-clause-unstuck
-returns-in-Exit-clause-unstuck c = rw c.in-Exit.is (exit_never_stuck c.exit.result c.args.limits.now c.args.self.now c.exit.ensures.unstuck)
+returns-in-Exit-clause-unstuck c = rw c.in-Exit.is (exit_never_stuck c.exit.result c.args.limits.now c.args.callers.now c.args.self.now (subst (Stays c.args.callers.now) c.in-Exit.is c.requires) c.exit.ensures.unstuck)
 
 pub returns-clause-unstuck : goal.returns-clause-unstuck
 returns-clause-unstuck c = elim c.match-insn.branch [
-  | in-Alu+in_ok-compute-in-Alu w ↦ rw w.in-Alu.is (w.in_ok-compute-in-Alu.ensures.goes.unstuck c.args.limits.now)
-  | in-InPlace+in_ok-change-in-InPlace w ↦ rw w.in-InPlace.is (w.in_ok-change-in-InPlace.ensures.goes.unstuck c.args.limits.now)
-  | in-SignExtend+in_ok-extend-in-SignExtend w ↦ rw w.in-SignExtend.is (w.in_ok-extend-in-SignExtend.ensures.goes.unstuck c.args.limits.now)
-  | in-LoadImmediate w ↦ rw w.in-LoadImmediate.is (w.load_immediate.ensures.goes.unstuck c.args.limits.now)
-  | in-Load+in_ok-load-in-Load w ↦ rw w.in-Load.is ((rw (to_z-of_z w16 w.in-Load.offset (search rules)) at w.in_ok-load-in-Load.ensures.goes).unstuck c.args.limits.now)
-  | in-Store+in_ok-store_operand-in-Store w ↦ rw w.in-Store.is ((rw (to_z-of_z w16 w.in-Store.offset (search rules)) at w.in_ok-store_operand-in-Store.ensures.goes).unstuck c.args.limits.now)
+  | in-Alu+in_ok-compute-in-Alu w ↦ rw w.in-Alu.is (w.in_ok-compute-in-Alu.ensures.goes.unstuck c.args.limits.now c.args.callers.now)
+  | in-InPlace+in_ok-change-in-InPlace w ↦ rw w.in-InPlace.is (w.in_ok-change-in-InPlace.ensures.goes.unstuck c.args.limits.now c.args.callers.now)
+  | in-SignExtend+in_ok-extend-in-SignExtend w ↦ rw w.in-SignExtend.is (w.in_ok-extend-in-SignExtend.ensures.goes.unstuck c.args.limits.now c.args.callers.now)
+  | in-LoadImmediate w ↦ rw w.in-LoadImmediate.is (w.load_immediate.ensures.goes.unstuck c.args.limits.now c.args.callers.now)
+  | in-Load+in_ok-load-in-Load w ↦ rw w.in-Load.is ((rw (to_z-of_z w16 w.in-Load.offset (search rules)) at w.in_ok-load-in-Load.ensures.goes).unstuck c.args.limits.now c.args.callers.now)
+  | in-Store+in_ok-store_operand-in-Store w ↦ rw w.in-Store.is ((rw (to_z-of_z w16 w.in-Store.offset (search rules)) at w.in_ok-store_operand-in-Store.ensures.goes).unstuck c.args.limits.now c.args.callers.now)
   | in-Call+in_ok-call_function-in-Call w ↦ rw w.in-Call.is w.in_ok-call_function-in-Call.ensures.unstuck
 ]
 
 pub returns-in-JumpIf-clause-unstuck : goal.returns-in-JumpIf-clause-unstuck
-returns-in-JumpIf-clause-unstuck c = rw c.in-JumpIf.is (jump_never_stuck c.jump_if.result c.args.limits.now c.in-JumpIf.width c.in-JumpIf.condition c.in-JumpIf.dst c.in-JumpIf.src c.in-JumpIf.offset c.args.self.now c.jump_if.ensures.unstuck)
+returns-in-JumpIf-clause-unstuck c = rw c.in-JumpIf.is (jump_never_stuck c.jump_if.result c.args.limits.now c.args.callers.now c.in-JumpIf.width c.in-JumpIf.condition c.in-JumpIf.dst c.in-JumpIf.src c.in-JumpIf.offset c.args.self.now c.jump_if.ensures.unstuck)
 
 pub returns-in-JumpIf-clause-follows : goal.returns-in-JumpIf-clause-follows
-returns-in-JumpIf-clause-follows c = rw c.in-JumpIf.is (jump_goes c.jump_if.result c.in-JumpIf.width c.in-JumpIf.condition c.in-JumpIf.dst c.in-JumpIf.src c.in-JumpIf.offset c.args.way c.args.self.now c.jump_if.new.self c.jump_if.ensures.follows)
+returns-in-JumpIf-clause-follows c = rw c.in-JumpIf.is (jump_goes c.jump_if.result c.args.callers.now c.in-JumpIf.width c.in-JumpIf.condition c.in-JumpIf.dst c.in-JumpIf.src c.in-JumpIf.offset c.args.way c.args.self.now c.jump_if.new.self c.jump_if.ensures.follows)
 
 pub returns-clause-follows : goal.returns-clause-follows
 returns-clause-follows c = elim c.match-insn.branch [
-  | in-Alu+in_ok-compute-in-Alu w ↦ rw (c.is_taken-2.ensures, w.in-Alu.is, w.self-is) (goes_way _ c.args.way c.args.self.now w.compute.new.self (λ m. refl) w.in_ok-compute-in-Alu.ensures.goes)
-  | in-InPlace+in_ok-change-in-InPlace w ↦ rw (c.is_taken-2.ensures, w.in-InPlace.is, w.self-is) (goes_way _ c.args.way c.args.self.now w.change.new.self (λ m. refl) w.in_ok-change-in-InPlace.ensures.goes)
-  | in-SignExtend+in_ok-extend-in-SignExtend w ↦ rw (c.is_taken-2.ensures, w.in-SignExtend.is, w.self-is) (goes_way _ c.args.way c.args.self.now w.extend.new.self (λ m. refl) w.in_ok-extend-in-SignExtend.ensures.goes)
-  | in-LoadImmediate w ↦ rw (c.is_taken-2.ensures, w.in-LoadImmediate.is, w.self-is) (goes_way _ c.args.way c.args.self.now w.load_immediate.new.self (λ m. refl) w.load_immediate.ensures.goes)
-  | in-Load+in_ok-load-in-Load w ↦ rw (c.is_taken-2.ensures, w.in-Load.is, w.self-is) (goes_way _ c.args.way c.args.self.now w.load.new.self (λ m. refl) (rw (to_z-of_z w16 w.in-Load.offset (search rules)) at w.in_ok-load-in-Load.ensures.goes))
-  | in-Store+in_ok-store_operand-in-Store w ↦ rw (c.is_taken-2.ensures, w.in-Store.is, w.self-is) (goes_way _ c.args.way c.args.self.now w.store_operand.new.self (λ m. refl) (rw (to_z-of_z w16 w.in-Store.offset (search rules)) at w.in_ok-store_operand-in-Store.ensures.goes))
-  | in-Call+in_ok-call_function-in-Call w ↦ rw (c.is_taken-2.ensures, w.in-Call.is, w.self-is) (follows_way (Call w.in-Call.callee) c.args.way c.args.self.now w.call_function.new.self (λ m. refl) w.in_ok-call_function-in-Call.ensures.follows)
+  | in-Alu+in_ok-compute-in-Alu w ↦ rw (c.is_taken-2.ensures, w.in-Alu.is, w.self-is) (goes_way c.args.callers.now _ c.args.way c.args.self.now w.compute.new.self (λ m. refl) w.in_ok-compute-in-Alu.ensures.goes)
+  | in-InPlace+in_ok-change-in-InPlace w ↦ rw (c.is_taken-2.ensures, w.in-InPlace.is, w.self-is) (goes_way c.args.callers.now _ c.args.way c.args.self.now w.change.new.self (λ m. refl) w.in_ok-change-in-InPlace.ensures.goes)
+  | in-SignExtend+in_ok-extend-in-SignExtend w ↦ rw (c.is_taken-2.ensures, w.in-SignExtend.is, w.self-is) (goes_way c.args.callers.now _ c.args.way c.args.self.now w.extend.new.self (λ m. refl) w.in_ok-extend-in-SignExtend.ensures.goes)
+  | in-LoadImmediate w ↦ rw (c.is_taken-2.ensures, w.in-LoadImmediate.is, w.self-is) (goes_way c.args.callers.now _ c.args.way c.args.self.now w.load_immediate.new.self (λ m. refl) w.load_immediate.ensures.goes)
+  | in-Load+in_ok-load-in-Load w ↦ rw (c.is_taken-2.ensures, w.in-Load.is, w.self-is) (goes_way c.args.callers.now _ c.args.way c.args.self.now w.load.new.self (λ m. refl) (rw (to_z-of_z w16 w.in-Load.offset (search rules)) at w.in_ok-load-in-Load.ensures.goes))
+  | in-Store+in_ok-store_operand-in-Store w ↦ rw (c.is_taken-2.ensures, w.in-Store.is, w.self-is) (goes_way c.args.callers.now _ c.args.way c.args.self.now w.store_operand.new.self (λ m. refl) (rw (to_z-of_z w16 w.in-Store.offset (search rules)) at w.in_ok-store_operand-in-Store.ensures.goes))
+  | in-Call+in_ok-call_function-in-Call w ↦ rw (c.is_taken-2.ensures, w.in-Call.is, w.self-is) (follows_way c.args.callers.now (Call w.in-Call.callee) c.args.way c.args.self.now w.call_function.new.self (λ m. refl) w.in_ok-call_function-in-Call.ensures.follows)
 ]

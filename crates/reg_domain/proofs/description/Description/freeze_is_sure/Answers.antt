@@ -5,7 +5,7 @@ use Rattle.reg_domain.proofs.Giving.{sure_described}
 use Rattle.reg_domain.proofs.description.Description.freeze_is_sure.Goals as goal
 
 pub returns-clause-kept : goal.returns-clause-kept
-returns-clause-kept c = λ numbers number m is its some.
+returns-clause-kept c = λ numbers callers number m is its some.
     let d = c.args.self.now in
-    subst (λ (held : List HeldFreeze). DescribesWith numbers (record d { held = held }) m) (sym c.with_sure-self.ensures)
-    (sure_described numbers d m c.args.name number is its some)
+    subst (λ (held : List HeldFreeze). DescribesWith numbers callers (record d { held = held }) m) (sym c.with_sure-self.ensures)
+    (sure_described numbers callers d m c.args.name number is its some)

@@ -4,7 +4,7 @@ use Rattle.reg_domain.proofs.Giving.{zero_described}
 use Rattle.reg_domain.proofs.description.Description.freeze_is_zero.Goals as goal
 
 pub returns-clause-kept : goal.returns-clause-kept
-returns-clause-kept c = λ numbers m is its. (refl, zero_described numbers c.args.self.now c.give_up.new.self m c.args.name is (c.give_up.ensures.kept numbers 0 m is its c.exactly.ensures.has))
+returns-clause-kept c = λ numbers callers m is its. (refl, zero_described numbers callers c.args.self.now c.give_up.new.self m c.args.name is (c.give_up.ensures.kept numbers callers 0 m is its c.exactly.ensures.has))
 
 pub returns-clause-leaves : goal.returns-clause-leaves
 returns-clause-leaves c = λ goes. (

@@ -4,7 +4,7 @@ use Rattle.reg_domain.proofs.Giving.{copied_number}
 use Rattle.reg_domain.proofs.description.Description.give_up_first.Goals as goal
 
 pub returns-in-Freeze-clause-kept : goal.returns-in-Freeze-clause-kept
-returns-in-Freeze-clause-kept c = λ freeze m (numbers, is) at.
+returns-in-Freeze-clause-kept c = λ callers freeze m (numbers, is) at.
     let d = c.args.self.now in
-    let its = copied_number numbers d m c.in-Freeze.name freeze is (sym c.kind.ensures ∙ c.in-Freeze.is) c.requires at in
-    (renumbered numbers c.in-Freeze.name None, c.give_up.ensures.kept numbers freeze m is its.0 (c.within.ensures.has freeze (omega (arith, its.1)) (omega (arith, its.2))))
+    let its = copied_number numbers callers d m c.in-Freeze.name freeze is (sym c.kind.ensures ∙ c.in-Freeze.is) c.requires at in
+    (renumbered numbers c.in-Freeze.name None, c.give_up.ensures.kept numbers callers freeze m is its.0 (c.within.ensures.has freeze (omega (arith, its.1)) (omega (arith, its.2))))

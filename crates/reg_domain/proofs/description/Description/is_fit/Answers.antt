@@ -5,6 +5,6 @@ use Rattle.reg_domain.proofs.Giving.{sure_is_held}
 use Rattle.reg_domain.proofs.description.Description.is_fit.Goals as goal
 
 pub returns-in-HeldFreeze-clause-fits : goal.returns-in-HeldFreeze-clause-fits
-returns-in-HeldFreeze-clause-fits c = λ fit numbers m arguments value is are holds.
+returns-in-HeldFreeze-clause-fits c = λ fit numbers callers m arguments value is are holds.
     subst (λ (asked : Asked). is_as_asked c.args.limits.now m arguments asked value ≡ true) (sym c.in-HeldFreeze.is)
-    (sure_is_held numbers c.args.self.now m c.args.kind value is (c.is_sure_freeze.ensures.0 fit) holds)
+    (sure_is_held numbers callers c.args.self.now m c.args.kind value is (c.is_sure_freeze.ensures.0 fit) holds)

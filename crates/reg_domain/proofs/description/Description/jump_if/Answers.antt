@@ -8,8 +8,8 @@ use Rattle.reg_domain.proofs.Jumps.{jump_follows}
 use Rattle.reg_domain.proofs.description.Description.jump_if.Goals as goal
 
 pub returns-clause-follows : goal.returns-clause-follows
-returns-clause-follows c = λ offset.
-    jump_follows c.args.self.now c.learn.new.self c.args.width c.args.condition c.args.dst c.args.src c.args.way offset c.kind-first.result c.operand-second.result c.in_ok-finding.finding c.learn.result c.kind-first.ensures c.operand-second.ensures.holds (rw c.is_taken-taken.ensures at c.in_ok-finding.ensures.means) c.learn.ensures.means
+returns-clause-follows c = λ callers offset.
+    jump_follows c.args.self.now c.learn.new.self c.args.width c.args.condition c.args.dst c.args.src c.args.way offset c.kind-first.result c.operand-second.result c.in_ok-finding.finding c.learn.result c.kind-first.ensures c.operand-second.ensures.holds (rw c.is_taken-taken.ensures at c.in_ok-finding.ensures.means) c.learn.ensures.means callers
 
 pub returns-clause-leaves : goal.returns-clause-leaves
 returns-clause-leaves c = λ enough goes. record {

@@ -3,6 +3,6 @@ use Rattle.reg_domain.specs.Finds.{Found}
 use Rattle.reg_domain.proofs.description.Description.learn.Goals as goal
 
 pub returns-in-FreezeIsSure-clause-means : goal.returns-in-FreezeIsSure-clause-means
-returns-in-FreezeIsSure-clause-means c = λ numbers a b m is first second found.
+returns-in-FreezeIsSure-clause-means c = λ numbers callers a b m is first second found.
     let its = subst (Found numbers a b) c.in-FreezeIsSure.is found in
-    (refl, (numbers, c.freeze_is_sure.ensures.kept numbers its.0 m is its.1 its.2))
+    (refl, (numbers, c.freeze_is_sure.ensures.kept numbers callers its.0 m is its.1 its.2))

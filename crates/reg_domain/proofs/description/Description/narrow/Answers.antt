@@ -10,11 +10,11 @@ use Rattle.reg_domain.proofs.StaysKnown.{known_twice, number_known, still_number
 use Rattle.reg_domain.proofs.description.Description.narrow.Goals as goal
 
 pub returns-in-Register-clause-means : goal.returns-in-Register-clause-means
-returns-in-Register-clause-means c = λ numbers a b m is first second left right.
+returns-in-Register-clause-means c = λ numbers callers a b m is first second left right.
     let reg = c.in-Register.reg in
     let here : register m reg ≡ Some b = subst (λ (s : Operand). operand m s ≡ Some b) c.in-Register.is second in
-    let between = narrowed_described numbers c.args.self.now c.set.new.self m c.args.dst c.set.ensures.only (rw c.set.ensures.set (a, first, left)) is in
-    narrowed_described numbers c.set.new.self c.set-in-Register.new.self m reg c.set-in-Register.ensures.only (rw c.set-in-Register.ensures.set (b, here, right)) between
+    let between = narrowed_described numbers callers c.args.self.now c.set.new.self m c.args.dst c.set.ensures.only (rw c.set.ensures.set (a, first, left)) is in
+    narrowed_described numbers callers c.set.new.self c.set-in-Register.new.self m reg c.set-in-Register.ensures.only (rw c.set-in-Register.ensures.set (b, here, right)) between
 
 pub returns-in-Register-clause-known : goal.returns-in-Register-clause-known
 returns-in-Register-clause-known c = λ compares.

@@ -6,7 +6,7 @@ use Rattle.reg_domain.proofs.Reading.{frame_has_room, some_same}
 use Rattle.reg_domain.proofs.description.Description.region_has_room.Goals as goal
 
 pub returns-in-Frame-clause-room : goal.returns-in-Frame-clause-room
-returns-in-Frame-clause-room c = λ fit numbers m address is holds.
+returns-in-Frame-clause-room c = λ fit numbers callers m address is holds.
     let lies = subst (λ (region : Region). LiesAt region c.args.offsets holds.0) c.in-Frame.is holds.2 in
     subst (λ (a : ℕ). has_room 0 m.frames a c.args.bytes ≡ true) (sym (some_same address holds.0 holds.1))
-    (frame_has_room numbers c.args.self.now m c.in-Frame.frame c.args.offsets holds.0 c.args.bytes is (c.lies_in.ensures.live fit) lies (c.lies_in.ensures.inside fit))
+    (frame_has_room numbers callers c.args.self.now m c.in-Frame.frame c.args.offsets holds.0 c.args.bytes is (c.lies_in.ensures.live fit) lies (c.lies_in.ensures.inside fit))

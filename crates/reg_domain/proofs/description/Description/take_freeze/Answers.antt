@@ -5,9 +5,9 @@ use Rattle.reg_domain.proofs.Freezes.{own_name, renumbered_here}
 use Rattle.reg_domain.proofs.description.Description.take_freeze.Goals as goal
 
 pub returns-clause-passes : goal.returns-clause-passes
-returns-clause-passes c = λ queue m answer (numbers, is) new.
+returns-clause-passes c = λ callers queue m answer unsaved (numbers, is) new.
     let after = renumbered numbers c.args.name (Some answer.r0) in (
       after,
-      c.answer.ensures.passes after answer.r0 (record m { held = held_with m.held answer.r0 }) (c.hold.ensures.kept numbers answer.r0 m is new)
+      c.answer.ensures.passes after callers answer.r0 (record m { held = held_with m.held answer.r0 }) (c.hold.ensures.kept numbers callers answer.r0 m unsaved is new)
           (answer.r0, refl, renumbered_here numbers c.args.name c.args.name (Some answer.r0) (own_name c.args.name)),
     )

@@ -1,0 +1,69 @@
+-- What is known at the start of a local function, and of its caller once that returned. It says nothing of machines.
+use Rattle.std.specs.Prelude.{◌≡◌, ℕ, ◌+◌, ◌<◌, ◌≤◌, nat_lt, List, length, Option, Some, None, if◌then◌else◌, slice_index_or}
+use Rattle.bpf_insn.specs.declared.reg.Reg.{Reg}
+use Rattle.bpf_insn.specs.declared.reg.Reg.TheVariants.{R0, R10}
+use Rattle.bpf_insn.specs.Reg.{number_of}
+use Rattle.scalar_domain.specs.declared.scalars.Scalar.{Scalar}
+use Rattle.scalar_domain.specs.Scalar.{Has}
+use Rattle.stack_domain.specs.Stack.{Knows}
+use Rattle.reg_domain.specs.declared.description.Description.{Description}
+use Rattle.reg_domain.specs.declared.freeze_name.FreezeName.{FreezeName}
+use Rattle.reg_domain.specs.declared.held.Certainty.{Certainty}
+use Rattle.reg_domain.specs.declared.held.Certainty.TheVariants.{Sure}
+use Rattle.reg_domain.specs.declared.held.HeldFreeze.{HeldFreeze}
+use Rattle.reg_domain.specs.declared.kind.Kind.{Kind}
+use Rattle.reg_domain.specs.declared.kind.Kind.TheVariants.{Unwritten, Number, Address, Freeze}
+use Rattle.reg_domain.specs.declared.region.Region.TheVariants.{Context, Frame}
+use Rattle.reg_domain.specs.declared.saved.SavedRegister.{SavedRegister}
+use Rattle.reg_domain.specs.declared.saved.SavedRegisters.{SavedRegisters}
+use Rattle.reg_domain.specs.Changes.{at}
+use Rattle.reg_domain.specs.Description.{kind_at}
+use Rattle.reg_domain.specs.Enough.{IsAt}
+use Rattle.reg_domain.specs.Freezes.{certainty_of}
+
+-- a saved copy of a freeze is one as long as that is held, and then one of these numbers
+abbrev pub copy_back : FreezeName → Scalar → Option Certainty → Kind
+copy_back name copies None = Number copies
+copy_back name copies (Some certainty) = Freeze name
+
+abbrev pub kind_back_of : List HeldFreeze → Scalar → Kind → Kind
+kind_back_of held copies Unwritten = Unwritten
+kind_back_of held copies (Number scalar) = Number scalar
+kind_back_of held copies (Address region offsets) = Address region offsets
+kind_back_of held copies (Freeze name) = copy_back name copies (certainty_of held name)
+
+-- what a saved register is back in its function, where these freezes are held
+abbrev pub kind_back : List HeldFreeze → SavedRegister → Kind
+kind_back held register = kind_back_of held register.copies register.kind
+
+-- what a result is where so many frames are live
+abbrev pub outlived_kind : ℕ → Kind → Kind
+outlived_kind live Unwritten = Unwritten
+outlived_kind live (Number scalar) = Number scalar
+outlived_kind live (Address Context offsets) = Address Context offsets
+outlived_kind live (Address (Frame frame) offsets) = if nat_lt frame live then Address (Frame frame) offsets else Unwritten
+outlived_kind live (Freeze name) = Freeze name
+
+-- a copy of a freeze that is sure at the call is neither 0 nor too great, once it is a number
+abbrev pub IsSureCopy : Description → SavedRegister → Type 0
+IsSureCopy d register =
+    (name : FreezeName) (number : ℕ) → register.kind ≡ Freeze name → certainty_of d.held name ≡ Some Sure → Has register.copies number → (1 ≤ number) × (number ≤ 0xffff_ffff)
+
+-- at the start of a function that is called
+pub record LeavesEntered (saved : SavedRegisters) (d there : Description) : Type 0 where
+  pub arguments : (reg : Reg) → 1 ≤ number_of reg → number_of reg ≤ 5 → kind_at there reg ≡ kind_at d reg
+  pub pointer : IsAt (Frame (length d.stack)) 512 (kind_at there R10)
+  pub saves : (k : ℕ) (default : SavedRegister) → k < 4 → (slice_index_or saved.registers k default).kind ≡ at d.registers (6 + k)
+  pub copies : (k : ℕ) (default : SavedRegister) → k < 4 → IsSureCopy d (slice_index_or saved.registers k default)
+  pub known : (k offset : ℕ) → Knows d.stack k offset → Knows there.stack k offset
+  pub held : there.held ≡ d.held
+  pub disposal : there.disposed ≡ d.disposed
+
+-- back in its caller
+pub record LeavesReturned (saved : SavedRegisters) (d there : Description) : Type 0 where
+  pub result : kind_at there R0 ≡ outlived_kind (length there.stack) (kind_at d R0)
+  pub kept : (k : ℕ) (default : SavedRegister) → k < 4 → at there.registers (6 + k) ≡ kind_back d.held (slice_index_or saved.registers k default)
+  pub pointer : (frame : ℕ) → frame + 1 ≡ length there.stack → IsAt (Frame frame) 512 (kind_at there R10)
+  pub known : (k offset : ℕ) → k < length there.stack → Knows d.stack k offset → Knows there.stack k offset
+  pub held : there.held ≡ d.held
+  pub disposal : there.disposed ≡ d.disposed

@@ -6,6 +6,8 @@ pub mod Paths
 pub mod Lawful
 pub mod Ways
 pub mod WaysOut
+pub mod OnTheWay
+pub mod WrittenFew
 pub mod Marks
 pub mod WalkSteps
 pub mod WholeWalk

@@ -191,7 +191,7 @@ WaysFrom program (Continues next) n d = GoesOut program next n d
 WaysFrom program (Branches next other) n d = GoesOut program next n d ⊎ GoesOut program other n d
 WaysFrom program (Enters callee next) n d = CallsOut program callee next n d
 
-one_frame_at_least : (program : List Slot) (at : Standing) (n d : ℕ) → HasPath program at n d → frames_at at ≤ d
+pub one_frame_at_least : (program : List Slot) (at : Standing) (n d : ℕ) → HasPath program at n d → frames_at at ≤ d
 one_frame_at_least program at zero d path = absurd path.0
 one_frame_at_least program at (suc n) d ((insn, is, inl end), deep) = omega (arith, deep)
 one_frame_at_least program at (suc n) d ((insn, is, inr on), deep) = omega (arith, deep)

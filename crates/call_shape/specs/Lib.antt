@@ -10,6 +10,7 @@ pub mod Shape
 pub mod InsnFaults
 pub mod ShapeParts
 pub mod StaticPath
+pub mod OnTheWay
 pub mod WaysOut
 pub mod Counts
 pub mod Depth

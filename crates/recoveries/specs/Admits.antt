@@ -1,6 +1,7 @@
--- Which segment of a run may be taken over.
+-- Which segment of a run may be taken over, and which run may be parked.
 use Rattle.std.specs.Prelude.{◌≡◌, ℕ, true, List, Some}
 use Rattle.bpf_insn.specs.declared.program.Slot.{Slot}
+use Rattle.bpf_machine.specs.MachineState.{MachineState}
 use Rattle.interpreter.specs.Segments.{SegmentState}
 use Rattle.world.specs.World.{LiveRun}
 use Rattle.world.specs.Lookups.{run_of}
@@ -21,3 +22,13 @@ pub record IsOutAs (runs : List LiveRun) (number : ℕ) (program : List Slot) (s
   pub found : run_of number runs ≡ Some it
   pub out : it.out ≡ true
   pub next : IsNext it program segment
+
+-- This is the program of the run, which is out, and its machine.
+abbrev pub IsRecorded : LiveRun → List Slot → MachineState → Type 0
+IsRecorded it program machine = (it.out ≡ true) × (program ≡ it.program) × (machine ≡ it.machine)
+
+-- A run of that number is live and out, with this program and in this machine.
+pub record IsOutWith (runs : List LiveRun) (number : ℕ) (program : List Slot) (machine : MachineState) : Type 0 where
+  pub it : LiveRun
+  pub found : run_of number runs ≡ Some it
+  pub recorded : IsRecorded it program machine

@@ -1,7 +1,7 @@
 // The freezes, the live runs and the clock. It relies on `freeze_ledger` for freezes, on `timer_events` for those that a
 // clock reading lets go, on `run_record` for what is recorded of a run, and on `world` for what each call means.
 
-ghost use Rattle.std.specs.Prelude.{◌≡◌, ℕ, ◌+◌, ◌<◌, ◌≤◌, ◌==◌, ◌↔◌, true, false, not, List, [], length, filter, Contains, Some, None, IsTrue, IsSome, IfSome, IfOk, Bool};
+ghost use Rattle.std.specs.Prelude.{◌≡◌, ℕ, ◌+◌, ◌<◌, ◌≤◌, ◌==◌, ◌↔◌, true, false, not, List, [], length, filter, Contains, Some, None, IsTrue, IsSome, IfSome, IfNone, IfOk, Bool};
 ghost use Rattle.std.specs.Arc.{arc_value};
 ghost use Rattle.ccb.specs.Ccb.{completed};
 ghost use Rattle.freeze_ledger.specs.declared.freeze.Freeze.{Freeze};
@@ -21,7 +21,7 @@ ghost use Rattle.world.specs.Flat.{clock_reply};
 ghost use Rattle.world.specs.CcbSteps.{recovers, run_meets_limit};
 ghost use Rattle.world.specs.FreezeLaws.{entries_of};
 ghost use Rattle.recoveries.specs.RecoveryState.{no_recoveries, with_recoveries, ledger_of, taken_reply, taken_for, run_for};
-ghost use Rattle.recoveries.specs.Admits.{IsNextOut, IsOutAs};
+ghost use Rattle.recoveries.specs.Admits.{IsNextOut, IsOutAs, IsOutWith, IsRecorded};
 ghost use Rattle.recoveries.specs.LiveRuns.{live_of};
 ghost use Rattle.recoveries.specs.RunPlaces.{HasRunAt, HoldsFreeze};
 
@@ -87,6 +87,13 @@ fn is_next(it: &RunRecord, program: &Accepted, segment: &Segment) -> bool
         && is_same_program(program, &it.program)
         && is_same_program(segment.program(), &it.program)
         && segment.from().is_same(&it.machine)
+}
+
+// Whether the recorded run is out with that program, in that machine.
+fn is_out_with(it: &RunRecord, program: &Accepted, machine: &Machine) -> bool
+    ensures { IsTrue result ↔ IsRecorded (live_of it.now) program.now.program machine.now }
+{
+    it.out && is_same_program(program, &it.program) && machine.is_same(&it.machine)
 }
 
 impl Recoveries {
@@ -244,6 +251,43 @@ impl Recoveries {
         } else {
             None
         }
+    }
+
+    /// Where the run stands that is live and out with that program, in that machine. `None`, which is C4, exactly where there
+    /// is no such run. The place is good until a run starts or ends.
+    pub fn admit_run(&self, run: u32, program: &Accepted, machine: &Machine) -> Option<usize>
+        ensures admitted { IsSome result ↔ IsOutWith self.now.runs run program.now.program machine.now }
+        ensures place { IfSome result (λ place. (it : LiveRun) × (run_of run self.now.runs ≡ Some it) × HasRunAt self.now.runs place it) }
+    {
+        let place = place_of(&self.runs, run)?;
+        if is_out_with(&self.runs[place], program, machine) {
+            Some(place)
+        } else {
+            None
+        }
+    }
+
+    /// Where the run of that number stands, which is live and parked; `None`, which is C1, exactly where there is no such
+    /// run. The place is good until a run starts or ends.
+    pub fn parked(&self, run: u32) -> Option<usize>
+        ensures place { IfSome result (λ place. (it : LiveRun) × (run_of run self.now.runs ≡ Some it) × (it.out ≡ false) × HasRunAt self.now.runs place it) }
+        ensures none { IfNone result ((it : LiveRun) → run_of run self.now.runs ≡ Some it → it.out ≡ true) }
+    {
+        let place = place_of(&self.runs, run)?;
+        if self.runs[place].out {
+            None
+        } else {
+            Some(place)
+        }
+    }
+
+    /// The run at this place is out from now on, or is parked.
+    pub fn set_out(&mut self, place: usize, out: bool)
+        requires { (it : LiveRun) × HasRunAt self.old.runs place it }
+        ensures { (it : LiveRun) → HasRunAt self.old.runs place it →
+            self.new ≡ record self.old { runs = with_run (record it { out = out }) self.old.runs } }
+    {
+        self.runs[place].out = out;
     }
 
     /// The CCB for which the run at this place is.

@@ -1,4 +1,5 @@
 pub mod Recording
+pub mod Parking
 pub mod PrivateWays
 pub mod Standing
 pub mod Stops

@@ -2,15 +2,18 @@
 // undone. It relies on `ccb_table` for CCBs and their queues, on `recoveries` for runs and freezes, and on
 // `world` for what is recorded.
 
-ghost use Rattle.std.specs.Prelude.{◌≡◌, IfOk, IfErr, MatchResult, Ok, Err, map};
+ghost use Rattle.std.specs.Prelude.{◌≡◌, ◌+◌, ◌≤◌, ◌++◌, ◌∷◌, [], length, vec_capacity, IfOk, IfErr, MatchResult, Ok, Err, map};
 ghost use Rattle.freeze_ledger.specs.declared.freeze.Holder.TheVariants.{Guest};
 ghost use Rattle.ccb_table.specs.CcbsState.{no_ccbs};
 ghost use Rattle.recoveries.specs.RecoveryState.{no_recoveries};
 ghost use Rattle.recoveries.specs.Admits.{IsOutAs};
-ghost use Rattle.world.specs.declared.record.Record.TheVariants.{Submit, Dispatch, Complete, Advance, GuestFreeze, GuestRelease, Clock};
+ghost use Rattle.world.specs.declared.record.Record.TheVariants.{Submit, Dispatch, Complete, Advance, GuestFreeze, GuestRelease, Clock, Park, Resume};
 ghost use Rattle.world.specs.World.{queue_count};
 ghost use Rattle.world.specs.TotalsOf.{TotalsOf, totals_in};
+ghost use Rattle.engine_core.specs.declared.engine.TheConstants.{ROOM};
+ghost use Rattle.engine_core.specs.Invariant.{HasRoom};
 ghost use Rattle.engine_core.specs.EngineState.{EngineState, opened, IsRun, Records, GuestHolds};
+ghost use Rattle.engine_core.specs.RunState.{IsOut, IsOutUnder};
 ghost use Rattle.engine_core.specs.Answers.{completed_of, StartsOut, stopped_at, r0_of, GoesOrEnds};
 ghost use Rattle.engine_core.specs.Faults.{FaultIs, HoldsUnlessTold, AdmitsUnlessTold};
 
@@ -24,10 +27,13 @@ use ccb_table::CcbTable;
 use engine_config::Config;
 use freeze_ledger::FreezeToken;
 use interpreter::Segment;
-use recoveries::Recoveries;
+use recoveries::{MAX_RUNS, Recoveries};
 use std::alloc::{AllocError, Global};
 use std::marker::Model;
-use world::{Completed, CompletionRecord, Record, Totals, Trace};
+use world::{Completed, CompletionRecord, Record, Refusal, Totals, Trace};
+
+/// The room that a call makes in the history: for its own record, and for one of each run, which may be parked behind it.
+const ROOM: usize = 1 + MAX_RUNS;
 
 /// Device queues with their CCBs, freezes and recovery runs, and the whole history of the calls made on them.
 /// Contracts see the setup, the history and the world that it leads to.
@@ -49,7 +55,22 @@ impl Model for Engine {
 
     ghost view = { λ e. record { setup = e.config; history = e.history.items; world = world_of e.config e.history.items e.ccbs e.recoveries } };
 
-    ghost invariant = { λ e. KeepsEngine e.config e.history.items e.ccbs e.recoveries };
+    ghost use Rattle.std.specs.Prelude.{length, vec_capacity};
+    ghost use Rattle.engine_core.specs.Invariant.{HasRoom};
+
+    ghost invariant = { λ e. KeepsEngine e.config e.history.items e.ccbs e.recoveries × HasRoom (length e.history.items) (vec_capacity e.history) e.recoveries.runs };
+}
+
+// Adds the record of a call to the history, in the room that was made for it: then there is room for one of each run that
+// is out.
+fn keep(history: &mut Vec<Record>, recoveries: &Recoveries, told: Record)
+    requires { length history.old.items + ROOM ≤ vec_capacity history.old }
+    ensures items { history.new.items ≡ history.old.items ++ told ∷ [] }
+    ensures room { HasRoom (length history.new.items) (vec_capacity history.new) recoveries.now.runs }
+{
+    // The proof knows how many runs there are at most once they are counted.
+    let _live = recoveries.len();
+    history.push_reserved(told);
 }
 
 // The queues of the configuration, with no CCB, no freeze and no run.
@@ -96,14 +117,18 @@ impl Engine {
         ensures fault { IfErr result (λ fault. FaultIs fault (self.new ≡ self.old) (λ refusal. Records self.old self.new (Submit queue priority retries (Err refusal)))) }
         ensures run { IsRun self.new }
     {
-        self.history.reserve(1)?;
+        self.history.reserve(ROOM)?;
         let answer = self.ccbs.submit(queue, priority, retries);
-        self.history.push_reserved(Record::Submit {
-            queue,
-            priority,
-            retries,
-            answer,
-        });
+        keep(
+            &mut self.history,
+            &self.recoveries,
+            Record::Submit {
+                queue,
+                priority,
+                retries,
+                answer,
+            },
+        );
         match answer {
             Ok(ccb) => Ok(ccb),
             Err(refusal) => Err(CallFault::Refused(refusal)),
@@ -118,10 +143,13 @@ impl Engine {
         ensures fault { IfErr result (λ fault. FaultIs fault (self.new ≡ self.old) (λ refusal. Records self.old self.new (Dispatch queue (Err refusal)))) }
         ensures run { IsRun self.new }
     {
-        self.history.reserve(1)?;
+        self.history.reserve(ROOM)?;
         let answer = self.ccbs.dispatch(queue, self.recoveries.ledger());
-        self.history
-            .push_reserved(Record::Dispatch { queue, answer });
+        keep(
+            &mut self.history,
+            &self.recoveries,
+            Record::Dispatch { queue, answer },
+        );
         match answer {
             Ok(ccb) => Ok(ccb),
             Err(refusal) => Err(CallFault::Refused(refusal)),
@@ -147,23 +175,31 @@ impl Engine {
         let Ok(told) = CompletionRecord::new(*self.history.allocator(), &completion) else {
             return Err((CallFault::OutOfMemory, completion));
         };
-        if self.history.reserve(1).is_err() {
+        if self.history.reserve(ROOM).is_err() {
             return Err((CallFault::OutOfMemory, completion));
         }
         match decide(&self.ccbs, &self.recoveries, &completion) {
             Course::Refuse(refusal) => {
-                self.history.push_reserved(Record::Complete {
-                    completion: told,
-                    answer: Err(refusal),
-                });
+                keep(
+                    &mut self.history,
+                    &self.recoveries,
+                    Record::Complete {
+                        completion: told,
+                        answer: Err(refusal),
+                    },
+                );
                 Err((CallFault::Refused(refusal), completion))
             }
             Course::Finish(ccb) => {
                 self.ccbs.finish(ccb.number);
-                self.history.push_reserved(Record::Complete {
-                    completion: told,
-                    answer: Ok(Completed::Done),
-                });
+                keep(
+                    &mut self.history,
+                    &self.recoveries,
+                    Record::Complete {
+                        completion: told,
+                        answer: Ok(Completed::Done),
+                    },
+                );
                 Ok(CompleteAnswer::Done)
             }
             Course::Recover(ccb) => {
@@ -175,13 +211,17 @@ impl Engine {
                     &completion,
                 ) {
                     Ok((run, freeze)) => {
-                        self.history.push_reserved(Record::Complete {
-                            completion: told,
-                            answer: Ok(Completed::Started {
-                                run: run.number(),
-                                freeze,
-                            }),
-                        });
+                        keep(
+                            &mut self.history,
+                            &self.recoveries,
+                            Record::Complete {
+                                completion: told,
+                                answer: Ok(Completed::Started {
+                                    run: run.number(),
+                                    freeze,
+                                }),
+                            },
+                        );
                         Ok(CompleteAnswer::Started(run, freeze))
                     }
                     Err(AllocError) => Err((CallFault::OutOfMemory, completion)),
@@ -226,16 +266,20 @@ impl Engine {
         let Ok(told) = recorded(*self.history.allocator(), &stop) else {
             return Err((AdvanceFault::OutOfMemory, run, segment));
         };
-        if self.history.reserve(1).is_err() {
+        if self.history.reserve(ROOM).is_err() {
             return Err((AdvanceFault::OutOfMemory, run, segment));
         }
         let r0 = take_over(&mut self.ccbs, &mut self.recoveries, place, &segment);
-        self.history.push_reserved(Record::Advance {
-            run: number,
-            instructions: segment.steps(),
-            stop: told,
-            r0,
-        });
+        keep(
+            &mut self.history,
+            &self.recoveries,
+            Record::Advance {
+                run: number,
+                instructions: segment.steps(),
+                stop: told,
+                r0,
+            },
+        );
         match stop {
             Stop::Helper(_) => {
                 let machine = self.recoveries.machine(place);
@@ -248,6 +292,67 @@ impl Engine {
         }
     }
 
+    /// Parks a run that is out: it takes no step, and keeps its machine and its freezes, until it is resumed. It takes no
+    /// memory. C4, which is not recorded, exactly where no run of that number is out in this engine, or its program or its
+    /// machine is not the recorded one; programs are compared by their instructions. It hands the run back and changes
+    /// nothing.
+    pub fn park(&mut self, run: Run) -> Result<(), Run>
+        ensures parked { IfOk result (λ _. Records self.old self.new (Park run.number)) }
+        ensures admitted { MatchResult result (λ _. IsOut self.old.world run) (λ _. IsOut self.old.world run → ⊥) }
+        ensures back { IfErr result (λ back. (back ≡ run) × (self.new ≡ self.old)) }
+        ensures run { IsRun self.new }
+    {
+        let number = run.number();
+        let Some(place) = self
+            .recoveries
+            .admit_run(number, run.program(), run.machine())
+        else {
+            return Err(run);
+        };
+        run.forfeit();
+        self.recoveries.set_out(place, false);
+        self.history.push_reserved(Record::Park { run: number });
+        Ok(())
+    }
+
+    /// Lets a run that is parked go on: the run, with the machine that it had. C1 where no run of that number is parked; it
+    /// is recorded and changes nothing else.
+    pub fn resume(&mut self, run: u32) -> Result<Run, CallFault>
+        ensures resumed { IfOk result (λ again. Records self.old self.new (Resume run (Ok tt)) × (again.number ≡ run) × IsOutUnder self.new.setup self.new.world again) }
+        ensures fault { IfErr result (λ fault. FaultIs fault (self.new ≡ self.old) (λ refusal. Records self.old self.new (Resume run (Err refusal)))) }
+        ensures run { IsRun self.new }
+    {
+        self.history.reserve(ROOM)?;
+        let Some(place) = self.recoveries.parked(run) else {
+            let refusal = Refusal::Unknown;
+            keep(
+                &mut self.history,
+                &self.recoveries,
+                Record::Resume {
+                    run,
+                    answer: Err(refusal),
+                },
+            );
+            return Err(CallFault::Refused(refusal));
+        };
+        let again = Run::again(
+            *self.history.allocator(),
+            run,
+            self.config.program(self.recoveries.queue(place)),
+            self.recoveries.machine(place),
+        )?;
+        self.recoveries.set_out(place, true);
+        keep(
+            &mut self.history,
+            &self.recoveries,
+            Record::Resume {
+                run,
+                answer: Ok(()),
+            },
+        );
+        Ok(again)
+    }
+
     /// Freezes a queue for a guest: the token of the new freeze. C1 where there is no such queue; C2 where
     /// the queue has 255 freezes, the ledger 1024, or the numbers up to 4,294,967,295 are used up. Both are
     /// recorded and change nothing else.
@@ -257,22 +362,30 @@ impl Engine {
         ensures fault { IfErr result (λ fault. FaultIs fault (self.new ≡ self.old) (λ refusal. Records self.old self.new (GuestFreeze queue guest (Err refusal)))) }
         ensures run { IsRun self.new }
     {
-        self.history.reserve(1)?;
+        self.history.reserve(ROOM)?;
         match self.recoveries.guest_freeze(queue, guest) {
             Ok(token) => {
-                self.history.push_reserved(Record::GuestFreeze {
-                    queue,
-                    guest,
-                    answer: Ok(token.number()),
-                });
+                keep(
+                    &mut self.history,
+                    &self.recoveries,
+                    Record::GuestFreeze {
+                        queue,
+                        guest,
+                        answer: Ok(token.number()),
+                    },
+                );
                 Ok(token)
             }
             Err(refusal) => {
-                self.history.push_reserved(Record::GuestFreeze {
-                    queue,
-                    guest,
-                    answer: Err(refusal),
-                });
+                keep(
+                    &mut self.history,
+                    &self.recoveries,
+                    Record::GuestFreeze {
+                        queue,
+                        guest,
+                        answer: Err(refusal),
+                    },
+                );
                 Err(CallFault::Refused(refusal))
             }
         }
@@ -289,13 +402,16 @@ impl Engine {
         if !self.recoveries.is_guests(&token) {
             return Err((ReleaseFault::NotHeld, token));
         }
-        if self.history.reserve(1).is_err() {
+        if self.history.reserve(ROOM).is_err() {
             return Err((ReleaseFault::OutOfMemory, token));
         }
         let freeze = token.number();
         let count = self.recoveries.guest_release(token);
-        self.history
-            .push_reserved(Record::GuestRelease { freeze, count });
+        keep(
+            &mut self.history,
+            &self.recoveries,
+            Record::GuestRelease { freeze, count },
+        );
         Ok(count)
     }
 
@@ -307,10 +423,13 @@ impl Engine {
         ensures fault { IfErr result (λ fault. FaultIs fault (self.new ≡ self.old) (λ refusal. Records self.old self.new (Clock reading (Err refusal)))) }
         ensures run { IsRun self.new }
     {
-        self.history.reserve(1)?;
+        self.history.reserve(ROOM)?;
         let answer = self.recoveries.read_clock(reading);
-        self.history
-            .push_reserved(Record::Clock { reading, answer });
+        keep(
+            &mut self.history,
+            &self.recoveries,
+            Record::Clock { reading, answer },
+        );
         match answer {
             Ok(count) => Ok(count),
             Err(refusal) => Err(CallFault::Refused(refusal)),

@@ -8,5 +8,5 @@ mod recoveries;
 mod run_record;
 mod started;
 
-pub use recoveries::Recoveries;
+pub use recoveries::{MAX_RUNS, Recoveries};
 pub use started::Started;

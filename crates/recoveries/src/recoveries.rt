@@ -42,7 +42,7 @@ use verifier::Accepted;
 use world::Refusal;
 
 /// How many runs can be live at a time.
-const MAX_RUNS: usize = 256;
+pub const MAX_RUNS: usize = 256;
 
 /// The last clock reading that there is, in milliseconds: 2^62.
 const LAST_READING: u64 = 4_611_686_018_427_387_904;

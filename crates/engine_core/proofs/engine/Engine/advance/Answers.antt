@@ -10,41 +10,43 @@ use Rattle.engine_core.proofs.engine.Engine.advance.Goals as goal
 pub recorded-requires : goal.recorded-requires
 recorded-requires c =
     let out : IsOutAs c.self.inside.recoveries.runs c.number-number.result c.args.run.program.program c.args.segment = search rules in
-    let admitted = is_admitted c.self.inside.config c.self.inside.history.items c.self.inside.ccbs c.self.inside.recoveries c.number-number.result c.in-Some.place c.args.run.program.program c.args.segment c.self.invariant out c.in-Some.ensures.place in
+    let admitted = is_admitted c.self.inside.config c.self.inside.history.items c.self.inside.ccbs c.self.inside.recoveries c.number-number.result c.in-Some.place c.args.run.program.program c.args.segment c.self.invariant.0 out c.in-Some.ensures.place in
     subst StopsByCode (sym c.stop-stop.ensures.value) (code_of c.self.inside.ccbs c.self.inside.recoveries c.in-Some.place c.args.segment c.stop-stop.ensures.segment c.number-number.result admitted)
 
 pub take_over-r0-requires : goal.take_over-r0-requires
 take_over-r0-requires c =
     let out : IsOutAs c.self.inside.recoveries.runs c.number-number.result c.args.run.program.program c.args.segment = search rules in
-    (c.number-number.result, is_admitted c.self.inside.config c.self.inside.history.items c.self.inside.ccbs c.self.inside.recoveries c.number-number.result c.in-Some.place c.args.run.program.program c.args.segment c.self.invariant out c.in-Some.ensures.place)
+    (c.number-number.result, is_admitted c.self.inside.config c.self.inside.history.items c.self.inside.ccbs c.self.inside.recoveries c.number-number.result c.in-Some.place c.args.run.program.program c.args.segment c.self.invariant.0 out c.in-Some.ensures.place)
 
 -- a run that goes on
 
 pub moved-requires : goal.moved-requires
 moved-requires c =
     let out : IsOutAs c.self.inside.recoveries.runs c.number-number.result c.args.run.program.program c.args.segment = search rules in
-    let it = taken_over c.self.inside.config c.self.inside.history.items c.push_reserved.new.self.items c.self.inside.ccbs c.take_over-r0.new.ccbs c.self.inside.recoveries c.take_over-r0.new.recoveries
-    c.number-number.result c.in-Some.place c.args.run.program.program c.args.segment (stopped_at c.args.segment.stop) c.take_over-r0.result c.self.invariant (search rules) c.take_over-r0.ensures.queues out c.in-Some.ensures.place c.take_over-r0.ensures.leads in
+    let it = taken_over c.self.inside.config c.self.inside.history.items c.keep.new.history.items c.self.inside.ccbs c.take_over-r0.new.ccbs c.self.inside.recoveries c.take_over-r0.new.recoveries
+    c.number-number.result c.in-Some.place c.args.run.program.program c.args.segment (stopped_at c.args.segment.stop) c.take_over-r0.result c.self.invariant.0 (search rules) c.take_over-r0.ensures.queues out c.in-Some.ensures.place c.take_over-r0.ensures.leads in
     let on = goes_further c.self.inside.recoveries c.take_over-r0.new.recoveries c.number-number.result c.in-Some.place c.args.run.program.program c.args.segment c.args.segment.stop c.take_over-r0.result c.machine-machine.result.now out c.in-Some.ensures.place c.in-Helper.field-0 (search rules) c.take_over-r0.ensures.goes c.machine-machine.ensures in
-    reaches_further c.self.inside.config c.push_reserved.new.self.items c.take_over-r0.new.ccbs c.self.inside.recoveries c.take_over-r0.new.recoveries c.number-number.result c.args.run c.machine-machine.result.now it.kept on
+    reaches_further c.self.inside.config c.keep.new.history.items c.take_over-r0.new.ccbs c.self.inside.recoveries c.take_over-r0.new.recoveries c.number-number.result c.args.run c.machine-machine.result.now it.kept on
 
 pub invariant_of-self-in-Helper : goal.invariant_of-self-in-Helper
-invariant_of-self-in-Helper c =
-    let out : IsOutAs c.self.inside.recoveries.runs c.number-number.result c.args.run.program.program c.args.segment = search rules in
-    let it = taken_over c.self.inside.config c.self.inside.history.items c.push_reserved.new.self.items c.self.inside.ccbs c.take_over-r0.new.ccbs c.self.inside.recoveries c.take_over-r0.new.recoveries
-    c.number-number.result c.in-Some.place c.args.run.program.program c.args.segment (stopped_at c.args.segment.stop) c.take_over-r0.result c.self.invariant (search rules) c.take_over-r0.ensures.queues out c.in-Some.ensures.place c.take_over-r0.ensures.leads in
-    it.kept
+invariant_of-self-in-Helper c = (
+  let out : IsOutAs c.self.inside.recoveries.runs c.number-number.result c.args.run.program.program c.args.segment = search rules in
+      let it = taken_over c.self.inside.config c.self.inside.history.items c.keep.new.history.items c.self.inside.ccbs c.take_over-r0.new.ccbs c.self.inside.recoveries c.take_over-r0.new.recoveries
+      c.number-number.result c.in-Some.place c.args.run.program.program c.args.segment (stopped_at c.args.segment.stop) c.take_over-r0.result c.self.invariant.0 (search rules) c.take_over-r0.ensures.queues out c.in-Some.ensures.place c.take_over-r0.ensures.leads in
+      it.kept,
+  c.keep.ensures.room,
+)
 
 pub returns-in-Helper : goal.returns-in-Helper
 returns-in-Helper c =
     let out : IsOutAs c.self.inside.recoveries.runs c.number-number.result c.args.run.program.program c.args.segment = search rules in
-    let it = taken_over c.self.inside.config c.self.inside.history.items c.push_reserved.new.self.items c.self.inside.ccbs c.take_over-r0.new.ccbs c.self.inside.recoveries c.take_over-r0.new.recoveries
-    c.number-number.result c.in-Some.place c.args.run.program.program c.args.segment (stopped_at c.args.segment.stop) c.take_over-r0.result c.self.invariant (search rules) c.take_over-r0.ensures.queues out c.in-Some.ensures.place c.take_over-r0.ensures.leads in
+    let it = taken_over c.self.inside.config c.self.inside.history.items c.keep.new.history.items c.self.inside.ccbs c.take_over-r0.new.ccbs c.self.inside.recoveries c.take_over-r0.new.recoveries
+    c.number-number.result c.in-Some.place c.args.run.program.program c.args.segment (stopped_at c.args.segment.stop) c.take_over-r0.result c.self.invariant.0 (search rules) c.take_over-r0.ensures.queues out c.in-Some.ensures.place c.take_over-r0.ensures.leads in
     let on = goes_further c.self.inside.recoveries c.take_over-r0.new.recoveries c.number-number.result c.in-Some.place c.args.run.program.program c.args.segment c.args.segment.stop c.take_over-r0.result c.machine-machine.result.now out c.in-Some.ensures.place c.in-Helper.field-0 (search rules) c.take_over-r0.ensures.goes c.machine-machine.ensures in
     record {
       answered = rw (← c.self.view_is, ← c.number-number.ensures) (record { history = search rules; setup = refl; step = it.leads });
       goes = rw (← c.self.view_is)
-          (goes_out c.self.inside.config (world_of c.self.inside.config c.self.inside.history.items c.self.inside.ccbs c.self.inside.recoveries) (world_of c.self.inside.config c.push_reserved.new.self.items c.take_over-r0.new.ccbs c.take_over-r0.new.recoveries)
+          (goes_out c.self.inside.config (world_of c.self.inside.config c.self.inside.history.items c.self.inside.ccbs c.self.inside.recoveries) (world_of c.self.inside.config c.keep.new.history.items c.take_over-r0.new.ccbs c.take_over-r0.new.recoveries)
           c.number-number.result c.args.run c.moved.result c.machine-machine.result.now c.number-number.ensures on c.moved.ensures);
       admitted = rw (← c.self.view_is, ← c.number-number.ensures) out;
       back = tt;
@@ -54,22 +56,24 @@ returns-in-Helper c =
 -- a run that exited
 
 pub invariant_of-self-2 : goal.invariant_of-self-2
-invariant_of-self-2 c =
-    let out : IsOutAs c.self.inside.recoveries.runs c.number-number.result c.args.run.program.program c.args.segment = search rules in
-    let it = taken_over c.self.inside.config c.self.inside.history.items c.push_reserved.new.self.items c.self.inside.ccbs c.take_over-r0.new.ccbs c.self.inside.recoveries c.take_over-r0.new.recoveries
-    c.number-number.result c.in-Some.place c.args.run.program.program c.args.segment (stopped_at c.args.segment.stop) c.take_over-r0.result c.self.invariant (search rules) c.take_over-r0.ensures.queues out c.in-Some.ensures.place c.take_over-r0.ensures.leads in
-    it.kept
+invariant_of-self-2 c = (
+  let out : IsOutAs c.self.inside.recoveries.runs c.number-number.result c.args.run.program.program c.args.segment = search rules in
+      let it = taken_over c.self.inside.config c.self.inside.history.items c.keep.new.history.items c.self.inside.ccbs c.take_over-r0.new.ccbs c.self.inside.recoveries c.take_over-r0.new.recoveries
+      c.number-number.result c.in-Some.place c.args.run.program.program c.args.segment (stopped_at c.args.segment.stop) c.take_over-r0.result c.self.invariant.0 (search rules) c.take_over-r0.ensures.queues out c.in-Some.ensures.place c.take_over-r0.ensures.leads in
+      it.kept,
+  c.keep.ensures.room,
+)
 
 pub returns-clause-answered : goal.returns-clause-answered
 returns-clause-answered c =
     let out : IsOutAs c.self.inside.recoveries.runs c.number-number.result c.args.run.program.program c.args.segment = search rules in
-    let it = taken_over c.self.inside.config c.self.inside.history.items c.push_reserved.new.self.items c.self.inside.ccbs c.take_over-r0.new.ccbs c.self.inside.recoveries c.take_over-r0.new.recoveries
-    c.number-number.result c.in-Some.place c.args.run.program.program c.args.segment (stopped_at c.args.segment.stop) c.take_over-r0.result c.self.invariant (search rules) c.take_over-r0.ensures.queues out c.in-Some.ensures.place c.take_over-r0.ensures.leads in
+    let it = taken_over c.self.inside.config c.self.inside.history.items c.keep.new.history.items c.self.inside.ccbs c.take_over-r0.new.ccbs c.self.inside.recoveries c.take_over-r0.new.recoveries
+    c.number-number.result c.in-Some.place c.args.run.program.program c.args.segment (stopped_at c.args.segment.stop) c.take_over-r0.result c.self.invariant.0 (search rules) c.take_over-r0.ensures.queues out c.in-Some.ensures.place c.take_over-r0.ensures.leads in
     rw (← c.self.view_is, ← c.number-number.ensures) (record { history = search rules; setup = refl; step = it.leads })
 
 pub returns-clause-run : goal.returns-clause-run
 returns-clause-run c =
     let out : IsOutAs c.self.inside.recoveries.runs c.number-number.result c.args.run.program.program c.args.segment = search rules in
-    let it = taken_over c.self.inside.config c.self.inside.history.items c.push_reserved.new.self.items c.self.inside.ccbs c.take_over-r0.new.ccbs c.self.inside.recoveries c.take_over-r0.new.recoveries
-    c.number-number.result c.in-Some.place c.args.run.program.program c.args.segment (stopped_at c.args.segment.stop) c.take_over-r0.result c.self.invariant (search rules) c.take_over-r0.ensures.queues out c.in-Some.ensures.place c.take_over-r0.ensures.leads in
+    let it = taken_over c.self.inside.config c.self.inside.history.items c.keep.new.history.items c.self.inside.ccbs c.take_over-r0.new.ccbs c.self.inside.recoveries c.take_over-r0.new.recoveries
+    c.number-number.result c.in-Some.place c.args.run.program.program c.args.segment (stopped_at c.args.segment.stop) c.take_over-r0.result c.self.invariant.0 (search rules) c.take_over-r0.ensures.queues out c.in-Some.ensures.place c.take_over-r0.ensures.leads in
     it.kept.run

@@ -7,8 +7,8 @@ use Rattle.engine_core.proofs.engine.Engine.dispatch.Goals.{in-Ok, in-Err}
 
 pub returns-clause-answered : goal.returns-clause-answered
 returns-clause-answered c =
-    let it = dispatches c.self.inside.config c.self.inside.history.items c.push_reserved.new.self.items c.self.inside.ccbs c.dispatch-answer.new.self c.self.inside.recoveries
-    c.args.queue c.dispatch-answer.result c.self.invariant (search rules) (λ setup world count freezes. c.dispatch-answer.ensures.step setup world count (freezes ∙ sym (ap (λ (l : LedgerState). l.freezes) c.ledger.ensures))) in
+    let it = dispatches c.self.inside.config c.self.inside.history.items c.keep.new.history.items c.self.inside.ccbs c.dispatch-answer.new.self c.self.inside.recoveries
+    c.args.queue c.dispatch-answer.result c.self.invariant.0 (search rules) (λ setup world count freezes. c.dispatch-answer.ensures.step setup world count (freezes ∙ sym (ap (λ (l : LedgerState). l.freezes) c.ledger.ensures))) in
     elim c.match-answer.branch [
       | in-Ok w ↦
           rw (w.result-is, ← c.self.view_is, ← w.in-Ok.is) (record { history = search rules; setup = refl; step = it.leads })
@@ -17,8 +17,8 @@ returns-clause-answered c =
 
 pub returns-clause-fault : goal.returns-clause-fault
 returns-clause-fault c =
-    let it = dispatches c.self.inside.config c.self.inside.history.items c.push_reserved.new.self.items c.self.inside.ccbs c.dispatch-answer.new.self c.self.inside.recoveries
-    c.args.queue c.dispatch-answer.result c.self.invariant (search rules) (λ setup world count freezes. c.dispatch-answer.ensures.step setup world count (freezes ∙ sym (ap (λ (l : LedgerState). l.freezes) c.ledger.ensures))) in
+    let it = dispatches c.self.inside.config c.self.inside.history.items c.keep.new.history.items c.self.inside.ccbs c.dispatch-answer.new.self c.self.inside.recoveries
+    c.args.queue c.dispatch-answer.result c.self.invariant.0 (search rules) (λ setup world count freezes. c.dispatch-answer.ensures.step setup world count (freezes ∙ sym (ap (λ (l : LedgerState). l.freezes) c.ledger.ensures))) in
     elim c.match-answer.branch [
       | in-Ok w ↦ rw w.result-is tt
       | in-Err w ↦
@@ -27,14 +27,16 @@ returns-clause-fault c =
 
 pub returns-clause-run : goal.returns-clause-run
 returns-clause-run c =
-    (dispatches c.self.inside.config c.self.inside.history.items c.push_reserved.new.self.items c.self.inside.ccbs c.dispatch-answer.new.self c.self.inside.recoveries
-    c.args.queue c.dispatch-answer.result c.self.invariant (search rules) (λ setup world count freezes. c.dispatch-answer.ensures.step setup world count (freezes ∙ sym (ap (λ (l : LedgerState). l.freezes) c.ledger.ensures)))).kept.run
+    (dispatches c.self.inside.config c.self.inside.history.items c.keep.new.history.items c.self.inside.ccbs c.dispatch-answer.new.self c.self.inside.recoveries
+    c.args.queue c.dispatch-answer.result c.self.invariant.0 (search rules) (λ setup world count freezes. c.dispatch-answer.ensures.step setup world count (freezes ∙ sym (ap (λ (l : LedgerState). l.freezes) c.ledger.ensures)))).kept.run
 
 pub invariant_of-self-2 : goal.invariant_of-self-2
-invariant_of-self-2 c =
-    (dispatches c.self.inside.config c.self.inside.history.items c.push_reserved.new.self.items c.self.inside.ccbs c.dispatch-answer.new.self c.self.inside.recoveries
-    c.args.queue c.dispatch-answer.result c.self.invariant (search rules) (λ setup world count freezes. c.dispatch-answer.ensures.step setup world count (freezes ∙ sym (ap (λ (l : LedgerState). l.freezes) c.ledger.ensures)))).kept
+invariant_of-self-2 c = (
+  (dispatches c.self.inside.config c.self.inside.history.items c.keep.new.history.items c.self.inside.ccbs c.dispatch-answer.new.self c.self.inside.recoveries
+      c.args.queue c.dispatch-answer.result c.self.invariant.0 (search rules) (λ setup world count freezes. c.dispatch-answer.ensures.step setup world count (freezes ∙ sym (ap (λ (l : LedgerState). l.freezes) c.ledger.ensures)))).kept,
+  c.keep.ensures.room,
+)
 
 pub dispatch-answer-requires : goal.dispatch-answer-requires
 dispatch-answer-requires c =
-    ap (λ (l : LedgerState). l.queues) c.ledger.ensures ∙ (c.self.invariant.queues ∙ opening_count c.self.inside.config c.self.inside.history.items c.self.inside.ccbs c.self.inside.recoveries c.self.invariant)
+    ap (λ (l : LedgerState). l.queues) c.ledger.ensures ∙ (c.self.invariant.0.queues ∙ opening_count c.self.inside.config c.self.inside.history.items c.self.inside.ccbs c.self.inside.recoveries c.self.invariant.0)

@@ -1,0 +1,95 @@
+-- Where a run is parked or goes on: to an engine with one record more, which has room for the park of each run that is out.
+use Rattle.std.proofs.Common.{◌≡◌, ℕ, ◌+◌, ◌<◌, ◌≤◌, Bool, true, false, cond, List, [], ◌∷◌, ◌++◌, map, Ok, Err, Option, Some, None, refl, ap, sym, subst, ◌∙◌, arith}
+use Rattle.std.proofs.lemmas.Bool.{cond-true, cond-false}
+use Rattle.ccb.specs.Rising.{AreRising}
+use Rattle.ccb_table.specs.CcbsState.{CcbsState, with_ccbs}
+use Rattle.recoveries.specs.RecoveryState.{RecoveryState, with_recoveries}
+use Rattle.world.specs.declared.record.Record.{Record}
+use Rattle.world.specs.declared.record.Record.TheVariants.{Park, Resume}
+use Rattle.world.specs.declared.refusal.Refusal.TheVariants.{Unknown}
+use Rattle.bpf_machine.specs.Reached.{Reached}
+use Rattle.world.specs.World.{LiveRun, Setup, World, queue_count, queue_setup}
+use Rattle.world.specs.Lookups.{run_of, with_run}
+use Rattle.world.specs.Event.{parks, resumes, ok, refused}
+use Rattle.world.specs.ParkSteps.{step_parks, step_resumes, with_out}
+use Rattle.world.proofs.Lists.Each.{all_found}
+use Rattle.world.proofs.Lists.Found.{found_key, put_same}
+use Rattle.world.proofs.Lists.Rising.{count_put, found_counts}
+use Rattle.world.proofs.Steps.Moves.{run_key, run_found}
+use Rattle.engine_core.specs.EngineState.{world_of}
+use Rattle.engine_core.specs.Invariant.{HasRoom, KeepsEngine}
+use Rattle.engine_core.proofs.Recording.{Goes, goes_once, kept_sound}
+
+-- the runs where this one is out or parked
+abbrev pub with_out_run : LiveRun → Bool → RecoveryState → RecoveryState
+with_out_run it out recoveries = record recoveries { runs = with_run (record it { out = out }) recoveries.runs }
+
+pub parks_run : (setup : Setup) (history later : List Record) (ccbs : CcbsState) (recoveries after : RecoveryState) (number : ℕ) (it : LiveRun) → KeepsEngine setup history ccbs recoveries → later ≡ history ++ Park number ∷ [] → run_of number recoveries.runs ≡ Some it → it.out ≡ true → after ≡ with_out_run it false recoveries → Goes setup history later ccbs ccbs recoveries after (Park number)
+parks_run setup history later ccbs recoveries after number it kept is found out same =
+    let before : World = world_of setup history ccbs recoveries in
+    goes_once setup history later ccbs ccbs recoveries after (Park number) (parks number) ok (with_out before it false) kept is (ap (λ (r : RecoveryState). r.queues) same) refl
+    (ap (step_parks before) found ∙ cond-true it.out (Some (ok, with_out before it false)) None out)
+    (sym (ap (λ (r : RecoveryState). with_ccbs ccbs (with_recoveries r (with_out before it false))) same))
+
+pub resumes_run : (setup : Setup) (history later : List Record) (ccbs : CcbsState) (recoveries after : RecoveryState) (number : ℕ) (it : LiveRun) → KeepsEngine setup history ccbs recoveries → later ≡ history ++ Resume number (Ok tt) ∷ [] → run_of number recoveries.runs ≡ Some it → it.out ≡ false → after ≡ with_out_run it true recoveries → Goes setup history later ccbs ccbs recoveries after (Resume number (Ok tt))
+resumes_run setup history later ccbs recoveries after number it kept is found out same =
+    let before : World = world_of setup history ccbs recoveries in
+    goes_once setup history later ccbs ccbs recoveries after (Resume number (Ok tt)) (resumes number) ok (with_out before it true) kept is (ap (λ (r : RecoveryState). r.queues) same) refl
+    (ap Some (ap (step_resumes before) found ∙ cond-false it.out (refused Unknown, before) (ok, with_out before it true) out))
+    (sym (ap (λ (r : RecoveryState). with_ccbs ccbs (with_recoveries r (with_out before it true))) same))
+
+-- no run of that number is parked
+none_resumes : (before : World) (o : Option LiveRun) → ((it : LiveRun) → o ≡ Some it → it.out ≡ true) → step_resumes before o ≡ (refused Unknown, before)
+none_resumes before None none = refl
+none_resumes before (Some it) none = cond-true it.out (refused Unknown, before) (ok, with_out before it true) (none it refl)
+
+pub resumes_none : (setup : Setup) (history later : List Record) (ccbs : CcbsState) (recoveries : RecoveryState) (number : ℕ) → KeepsEngine setup history ccbs recoveries → later ≡ history ++ Resume number (Err Unknown) ∷ [] → ((it : LiveRun) → run_of number recoveries.runs ≡ Some it → it.out ≡ true) → Goes setup history later ccbs ccbs recoveries recoveries (Resume number (Err Unknown))
+resumes_none setup history later ccbs recoveries number kept is none =
+    let before : World = world_of setup history ccbs recoveries in
+    goes_once setup history later ccbs ccbs recoveries recoveries (Resume number (Err Unknown)) (resumes number) (refused Unknown) before kept is refl refl
+    (ap Some (none_resumes before (run_of number recoveries.runs) none)) refl
+
+-- there is room for the record of the park of a run that is out
+pub room_to_park : (records capacity number : ℕ) (runs : List LiveRun) (it : LiveRun) → HasRoom records capacity runs → run_of number runs ≡ Some it → it.out ≡ true → records + 1 ≤ capacity
+room_to_park records capacity number runs it room found out =
+    let counts = found_counts run_key (λ (run : LiveRun). run.out) number runs it found in
+    let one : cond {A = ℕ} it.out 1 0 ≡ 1 = cond-true it.out 1 0 out in
+    omega (arith, room, counts, one)
+
+-- and once it is parked for those of the others
+pub room_left : (records capacity number greatest : ℕ) (runs : List LiveRun) (it : LiveRun) → AreRising 0 (map (λ (run : LiveRun). run.number) runs) greatest → HasRoom records capacity runs → run_of number runs ≡ Some it → it.out ≡ true → HasRoom (records + 1) capacity (with_run (record it { out = false }) runs)
+room_left records capacity number greatest runs it rising room found out =
+    let count = count_put run_key (λ (run : LiveRun). run.out) 0 runs greatest (record it { out = false }) it rising (run_found number runs it found) in
+    let one : cond {A = ℕ} it.out 1 0 ≡ 1 = cond-true it.out 1 0 out in
+    omega (arith, room, count, one)
+
+-- a run is found once
+pub is_same_run : (runs : List LiveRun) (number : ℕ) (it other : LiveRun) → run_of number runs ≡ Some it → run_of number runs ≡ Some other → it ≡ other
+is_same_run runs number it other first second = let both : Some it ≡ Some other = sym first ∙ second in cc
+
+-- what the world's laws say of a run of an engine: its queue exists, its program is that queue's, and its machine is reached
+pub record IsKnownRun (setup : Setup) (it : LiveRun) : Type 0 where
+  pub queue : it.queue < queue_count setup
+  pub program : it.program ≡ (queue_setup setup it.queue).program
+  pub reached : (n : ℕ) × Reached it.program n it.machine
+
+pub known_run : (setup : Setup) (history : List Record) (ccbs : CcbsState) (recoveries : RecoveryState) (number : ℕ) (it : LiveRun) → KeepsEngine setup history ccbs recoveries → run_of number recoveries.runs ≡ Some it → IsKnownRun setup it
+known_run setup history ccbs recoveries number it kept found =
+    let sound = kept_sound setup history ccbs recoveries kept in
+    record {
+      queue = all_found run_key (λ (r : LiveRun). r.queue < queue_count setup) number recoveries.runs it sound.kept.runs.queues found;
+      program = all_found run_key (λ (r : LiveRun). r.program ≡ (queue_setup setup r.queue).program) number recoveries.runs it sound.kept.runs.programs found;
+      reached = sound.reached number it found;
+    }
+
+-- a run that is out again is found so
+pub found_out : (recoveries after : RecoveryState) (number : ℕ) (it : LiveRun) → run_of number recoveries.runs ≡ Some it → after ≡ with_out_run it true recoveries → run_of number after.runs ≡ Some (record it { out = true })
+found_out recoveries after number it found same =
+    let its : it.number ≡ number = found_key run_key number recoveries.runs it found in
+    let there : run_of it.number (with_run (record it { out = true }) recoveries.runs) ≡ Some (record it { out = true }) = put_same run_key (record it { out = true }) recoveries.runs it (run_found number recoveries.runs it found) in
+    ap (λ (r : RecoveryState). run_of number r.runs) same
+    ∙ subst (λ (n : ℕ). run_of n (with_run (record it { out = true }) recoveries.runs) ≡ Some (record it { out = true })) its there
+
+-- one record more, in the room that there is
+pub room_kept : (records capacity later more : ℕ) (runs : List LiveRun) → HasRoom (records + 1) capacity runs → later ≡ records + 1 → more ≡ capacity → HasRoom later more runs
+room_kept records capacity later more runs room one same = omega (arith, room, one, same)

@@ -124,7 +124,7 @@ impl Machine {
     /// so the machine may be stuck nowhere on its way, and the way has to be shorter than the budget.
     #[inline(never)]
     pub fn execute(&mut self, program: &Program, budget: u32) -> u32
-        requires able { GoesOnWithin program.now self.old budget }
+        requires { GoesOnWithin program.now self.old budget }
         ensures steps { PrivateSteps program.now result self.old self.new }
         ensures end { private_step program.now self.new ≡ None }
         ensures short { result < budget }
@@ -142,7 +142,7 @@ impl Machine {
     // The same of the private instructions of one function, up to a call or an exit.
     #[inline(always)]
     fn execute_within(&mut self, program: &Program, budget: u32) -> u32
-        requires able { GoesOnWithin program.now self.old budget }
+        requires { GoesOnWithin program.now self.old budget }
         ensures steps { PrivateSteps program.now result self.old self.new }
         ensures end { StandsApart program.now self.new }
         ensures short { result < budget }

@@ -53,7 +53,7 @@ impl Description {
         place: u32,
         way: Way,
     ) -> Result<bool, Cause>
-        requires { Stays callers.now insn }
+        requires stays { Stays callers.now insn }
         ensures unstuck { IfOk result (λ is_open. NeverStuck limits.now callers.now insn self.old) }
         ensures follows { IfOk result (λ is_open. Follows callers.now insn way self.old is_open self.new) }
         ensures depth { IfOk result (λ is_open. length self.new.stack ≡ length self.old.stack) }

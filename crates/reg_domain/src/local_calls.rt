@@ -27,7 +27,7 @@ impl Description {
     /// answered. R1 to R5 are the arguments, R0 and R6 to R9 are unwritten, R10 is the new frame's pointer, and no byte of
     /// that frame is written.
     pub fn enter(&mut self) -> SavedRegisters
-        requires { length self.old.stack < MAX_FRAMES }
+        requires room { length self.old.stack < MAX_FRAMES }
         ensures unstuck { (limits : HelperLimits) (callers : List SavedRegisters) (distance : ℤ) → NeverStuck limits callers (Call (Local distance)) self.old }
         ensures enters { (callers : List SavedRegisters) (distance : ℤ) (m m' : MachineState) → Describes callers self.old m → does m (Call (Local distance)) ≡ Some m' → Describes (callers ++ result ∷ []) self.new m' }
         ensures known { LeavesEntered result self.old self.new }
@@ -59,7 +59,7 @@ impl Description {
     /// Back in the caller, of whose R6 to R9 that is known: a saved copy of a freeze that is held no more is a number. R0
     /// is as it is, but that an address of the frame that is gone is unwritten then; R1 to R5 are unwritten.
     pub fn leave(&mut self, saved: &SavedRegisters)
-        requires { 1 < length self.old.stack }
+        requires called { 1 < length self.old.stack }
         ensures unstuck { (limits : HelperLimits) (callers : List SavedRegisters) → NeverStuck limits (callers ++ saved.now ∷ []) Exit self.old }
         ensures leaves { (callers : List SavedRegisters) (m m' : MachineState) → Describes (callers ++ saved.now ∷ []) self.old m → does m Exit ≡ Some m' → Describes callers self.new m' }
         ensures known { LeavesReturned saved.now self.old self.new }

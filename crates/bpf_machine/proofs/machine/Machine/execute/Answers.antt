@@ -13,10 +13,9 @@ crossed program steps m here next there step =
     subst (λ (k : ℕ). PrivateSteps program k m next) one_more (steps_push program steps m here next there step)
 
 pub execute_within-further-requires : goal.execute_within-further-requires
-execute_within-further-requires c = record {
-  able = goes_further c.args.program.now c.args.budget (c.loop-budget.steps + 1) c.args.self.now c.cross.new.self c.requires.able
-      (crossed c.args.program.now c.loop-budget.steps c.args.self.now c.loop-budget.self c.cross.new.self c.loop-budget.invariant.there c.loop-budget-test.ensures.step);
-}
+execute_within-further-requires c =
+    goes_further c.args.program.now c.args.budget (c.loop-budget.steps + 1) c.args.self.now c.cross.new.self c.requires
+    (crossed c.args.program.now c.loop-budget.steps c.args.self.now c.loop-budget.self c.cross.new.self c.loop-budget.invariant.there c.loop-budget-test.ensures.step)
 
 pub loop-budget-preserved : goal.loop-budget-preserved
 loop-budget-preserved c = record {

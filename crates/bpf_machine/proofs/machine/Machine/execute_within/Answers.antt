@@ -16,7 +16,7 @@ loop-next-preserved c =
     let frames : List (List (Option ℕ)) = c.loop-next.self-inside.frames in
     let here = standing m c.loop-next.place c.loop-next.registers frames in
     let next = standing m c.in-Some.next c.advance.new.registers c.advance.new.frames in
-    let can = (c.requires.able steps here c.loop-next.invariant.there).0 in
+    let can = (c.requires steps here c.loop-next.invariant.there).0 in
     let registers : registers_behind m.context frames c.loop-next.registers (insn_at program c.loop-next.place) ≡ c.advance.new.registers =
     ap (λ (context : List ℕ). registers_behind context frames c.loop-next.registers (insn_at program c.loop-next.place)) (sym c.loop-next.invariant.context)
     ∙ sym c.advance.ensures.registers in

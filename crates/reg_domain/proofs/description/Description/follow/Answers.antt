@@ -8,7 +8,7 @@ use Rattle.reg_domain.proofs.description.Description.follow.Goals as goal
 use Rattle.reg_domain.proofs.description.Description.follow.Goals.{in-Alu+in_ok-compute-in-Alu, in-InPlace+in_ok-change-in-InPlace, in-SignExtend+in_ok-extend-in-SignExtend, in-LoadImmediate, in-Load+in_ok-load-in-Load, in-Store+in_ok-store_operand-in-Store, in-Call+in_ok-call_function-in-Call}
 
 pub returns-in-Exit-clause-unstuck : goal.returns-in-Exit-clause-unstuck
-returns-in-Exit-clause-unstuck c = rw c.in-Exit.is (exit_never_stuck c.exit.result c.args.limits.now c.args.callers.now c.args.self.now (subst (Stays c.args.callers.now) c.in-Exit.is c.requires) c.exit.ensures.unstuck)
+returns-in-Exit-clause-unstuck c = rw c.in-Exit.is (exit_never_stuck c.exit.result c.args.limits.now c.args.callers.now c.args.self.now (subst (Stays c.args.callers.now) c.in-Exit.is c.requires.stays) c.exit.ensures.unstuck)
 
 pub returns-clause-unstuck : goal.returns-clause-unstuck
 returns-clause-unstuck c = elim c.match-insn.branch [

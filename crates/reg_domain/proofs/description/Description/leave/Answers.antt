@@ -8,7 +8,7 @@ returns-clause-unstuck c = leave_unstuck c.args.self.now c.args.saved.now
 pub returns-clause-leaves : goal.returns-clause-leaves
 returns-clause-leaves c =
     left_described c.args.self.now c.left_registers-self.result c.closed-stack.result c.outlived-r0.result c.pointer_to.result c.given_back-kept.result c.args.saved.now _
-    c.left_registers-self.ensures c.pointer_to.ensures (omega (arith, c.requires, c.closed-stack.ensures.depth, c.depth-live.ensures.frames))
+    c.left_registers-self.ensures c.pointer_to.ensures (omega (arith, c.requires.called, c.closed-stack.ensures.depth, c.depth-live.ensures.frames))
     c.closed-stack.ensures.covers (rw c.kind.ensures at c.outlived-r0.ensures.holds) c.given_back-kept.ensures.holds
 
 pub returns-clause-known : goal.returns-clause-known

@@ -1,44 +1,65 @@
 -- What a join, and what an instruction leads on, does to a table.
-use Rattle.std.proofs.Common.{◌≡◌, ℕ, ◌<◌, List, length, Some, None, ap, sym, subst, ◌∙◌, inl, inr, get_or-set_other, get_or-set_same}
+use Rattle.std.proofs.Common.{◌≡◌, ℕ, zero, suc, ◌+◌, ◌-◌, ◌<◌, ◌≤◌, ◌++◌, ◌∷◌, [], arith, List, length, Option, Some, None, refl, ap, sym, subst, ◌∙◌, inl, inr, get_or-set_other, get_or-set_same}
 use Rattle.std.specs.Prelude.{slice_set}
-use Rattle.std.proofs.lemmas.Bool.{cases_eq}
+use Rattle.std.proofs.lemmas.Bool.{cases_eq, cases_lt}
+use Rattle.std.proofs.lemmas.List.{get_or_append_left, get_or-append_right, length-append}
 use Rattle.bpf_insn.specs.declared.program.Slot.{Slot}
 use Rattle.reg_domain.specs.declared.description.Description.{Description}
-use Rattle.reg_domain.specs.Description.{Covers}
-use Rattle.verifier.specs.Table.{Table, described, HasJoined}
+use Rattle.reg_domain.specs.declared.saved.SavedRegisters.{SavedRegisters}
+use Rattle.bpf_insn.specs.declared.insn.Insn.TheVariants.{Exit}
+use Rattle.bpf_machine.specs.MachineState.{MachineState}
+use Rattle.bpf_machine.specs.Step.{does}
+use Rattle.reg_domain.specs.Description.{Covers, Describes}
+use Rattle.verifier.specs.Table.{Table, described, HasComeBack, HasJoined, HasLeft, IsFirstTable, IsKnown, IsMerged}
 use Rattle.verifier.specs.Arrives.{Arrives, AllArrive}
 
 pub same_description : (x y : Description) → Some x ≡ Some y → x ≡ y
 same_description x y e = cc
 
--- a place is described anew, and covers what is joined there and what was described
-pub joined_in : (before : Table) (to : ℕ) (d joined : Description) → to < length before → Covers d joined → ((old : Description) → described before to ≡ Some old → Covers old joined) → HasJoined before to d (slice_set before to (Some joined))
-joined_in before to d joined lt covers keeps =
-    let here : described (slice_set before to (Some joined)) to ≡ Some joined = get_or-set_same before to (Some joined) None lt in
+none_is : (x : Description) → None ≡ Some x → ⊥
+none_is x e = absurd cc
+
+-- nothing was known
+pub merged_first : (d : Description) → IsMerged None d d
+merged_first d = record {
+  covers = λ callers m holds. holds;
+  keeps = λ old is. absurd (none_is old is);
+  frames = λ frames new all. new;
+}
+
+pub merged_both : (old d both : Description) → Covers old both → Covers d both → length both.stack ≡ length old.stack → IsMerged (Some old) d both
+merged_both old d both keeps covers deep = record {
+  covers = covers;
+  keeps = λ other is. subst (λ (x : Description). Covers x both) (same_description old other is) keeps;
+  frames = λ frames new all. deep ∙ all old refl;
+}
+
+-- an entry is described anew, and covers what is joined there and what was described
+pub joined_in : (before : Table) (to : ℕ) (d merged : Description) → to < length before → IsMerged (described before to) d merged → HasJoined before to d (slice_set before to (Some merged))
+joined_in before to d merged lt is =
+    let here : described (slice_set before to (Some merged)) to ≡ Some merged = get_or-set_same before to (Some merged) None lt in
     record {
-      others = λ place other. get_or-set_other before to place (Some joined) None other;
-      grows = λ place m known. elim (cases_eq place to) [
+      others = λ at other. get_or-set_other before to at (Some merged) None other;
+      grows = λ callers at m known. elim (cases_eq at to) [
         | inl same ↦ record {
-          description = joined;
-          there = ap (described (slice_set before to (Some joined))) same ∙ here;
-          holds = keeps known.description (sym (ap (described before) same) ∙ known.there) m known.holds;
+          description = merged;
+          there = ap (described (slice_set before to (Some merged))) same ∙ here;
+          holds = is.keeps known.description (sym (ap (described before) same) ∙ known.there) callers m known.holds;
         }
         | inr other ↦ record {
           description = known.description;
-          there = get_or-set_other before to place (Some joined) None other ∙ known.there;
+          there = get_or-set_other before to at (Some merged) None other ∙ known.there;
           holds = known.holds;
         }
       ];
-      here = λ m is. record { description = joined; there = here; holds = covers m is };
+      here = λ callers m holds. record { description = merged; there = here; holds = is.covers callers m holds };
+      frames = λ frames new all at e there. elim (cases_eq at to) [
+        | inl same ↦
+            let e_is : merged ≡ e = same_description merged e (sym here ∙ (sym (ap (described (slice_set before to (Some merged))) same) ∙ there)) in
+            ap (λ (x : Description). length x.stack) (sym e_is) ∙ is.frames frames new (λ old was. all to old was)
+        | inr other ↦ all at e (sym (get_or-set_other before to at (Some merged) None other) ∙ there)
+      ];
     }
-
-pub first_in : (before : Table) (to : ℕ) (d : Description) → to < length before → described before to ≡ None → HasJoined before to d (slice_set before to (Some d))
-first_in before to d lt none =
-    joined_in before to d d lt (λ m holds. holds) (λ old there. absurd (let bad : None ≡ Some old = sym none ∙ there in cc))
-
-pub both_in : (before : Table) (to : ℕ) (d old joined : Description) → to < length before → described before to ≡ Some old → Covers old joined → Covers d joined → HasJoined before to d (slice_set before to (Some joined))
-both_in before to d old joined lt is keeps covers =
-    joined_in before to d joined lt covers (λ other there. subst (λ (x : Description). Covers x joined) (same_description old other (sym is ∙ there)) keeps)
 
 -- and arrives
 pub arrives_in : (program : List Slot) (before : Table) (to : ℕ) (joined : Description) → to < length before → AllArrive program before → Arrives program to joined → AllArrive program (slice_set before to (Some joined))
@@ -49,3 +70,46 @@ arrives_in program before to joined lt all arrives place d there =
           subst (λ (k : ℕ). Arrives program k d) (sym same) (subst (Arrives program to) is arrives)
       | inr other ↦ all place d (sym (get_or-set_other before to place (Some joined) None other) ∙ there)
     ]
+
+-- nothing comes back
+pub back_nowhere : (table : Table) (to : ℕ) → HasComeBack table to None table
+back_nowhere table to = record {
+  others = λ at other. refl;
+  grows = λ callers at m known. known;
+  here = λ d is. absurd (none_is d is);
+  frames = λ frames of all. all;
+}
+
+pub back_there : (before : Table) (to : ℕ) (d : Description) (after : Table) → HasJoined before to d after → HasComeBack before to (Some d) after
+back_there before to d after joined = record {
+  others = joined.others;
+  grows = joined.grows;
+  here = λ other is. subst (λ (x : Description). (callers : List SavedRegisters) (m : MachineState) → Describes callers x m → IsKnown callers after to m) (same_description d other is) joined.here;
+  frames = λ frames of all. joined.frames frames (of d refl) all;
+}
+
+-- at first one entry alone is described
+one_none : (place : ℕ) → described (None ∷ []) place ≡ None
+one_none zero = refl
+one_none (suc place) = refl
+
+-- with a place more to which nothing leads
+pub one_place_more : (entry : Description) (len : ℕ) (table : Table) → 1 ≤ len → IsFirstTable len entry table → IsFirstTable (len + 1) entry (table ++ None ∷ [])
+one_place_more entry len table some first =
+    let nothing : Option Description = None in
+    record {
+      whole = omega (arith, length-append table (nothing ∷ []), first.whole);
+      there = get_or_append_left table (nothing ∷ []) nothing 0 (omega (arith, first.whole, some)) ∙ first.there;
+      others = λ place le. elim (cases_lt place len) [
+        | inl lt ↦ get_or_append_left table (nothing ∷ []) nothing place (omega (arith, first.whole, lt)) ∙ first.others place le
+        | inr past ↦ get_or-append_right table (nothing ∷ []) len place nothing first.whole past ∙ one_none (place - len)
+      ];
+    }
+
+-- a function is left, and what is known then is known behind its call
+pub left_on : (saved : SavedRegisters) (d there merged : Description) (before : Option Description) → ((callers : List SavedRegisters) (m m' : MachineState) → Describes (callers ++ saved ∷ []) d m → does m Exit ≡ Some m' → Describes callers there m') → length there.stack + 1 ≡ length d.stack → IsMerged before there merged → HasLeft saved d before (Some merged)
+left_on saved d there merged before leaves deep is = record {
+  keeps = λ old was. (merged, refl, is.keeps old was);
+  leaves = λ outer m m' holds step. (merged, refl, is.covers outer m' (leaves outer m m' holds step));
+  frames = λ frames deep_there all now now_is. ap (λ (x : Description). length x.stack) (sym (same_description merged now now_is)) ∙ is.frames frames (omega (arith, deep, deep_there)) all;
+}

@@ -1,5 +1,6 @@
--- Where a machine stands after one instruction: at the slot behind it, or at the target where it jumps.
-use Rattle.std.proofs.Common.{◌≡◌, ℕ, ℤ, ◌+◌, Bool, true, false, cond, List, [], ◌∷◌, Option, Some, None, refl, ap, sym, subst, ◌∙◌, ◌⊎◌, inl, inr}
+-- Where a machine stands after one instruction: at the slot behind it, at the target where it jumps, at the start of a
+-- function that it calls, or behind the call of the one that it leaves.
+use Rattle.std.proofs.Common.{◌≡◌, ℕ, ℤ, ◌+◌, Bool, true, false, cond, List, [], ◌∷◌, map, Option, Some, None, refl, ap, sym, subst, ◌∙◌, ◌⊎◌, inl, inr}
 use Rattle.std.specs.Option.{option_map, option_and_then}
 use Rattle.std.proofs.lemmas.Bool.{cases_Bool, cond-true, cond-false}
 use Rattle.bpf_insn.specs.declared.insn.Insn.{Insn}
@@ -17,10 +18,10 @@ use Rattle.helpers.specs.declared.request.Request.TheVariants.{Freeze, Release, 
 use Rattle.helpers.specs.declared.request.Answer.{Answer}
 use Rattle.bpf_machine.specs.MachineState.{OpenCall, MachineState, register, with_register, moved_to}
 use Rattle.bpf_machine.specs.Memory.{address_of, load_width, loaded, word_from}
-use Rattle.bpf_machine.specs.Step.{Allowed, answered, compute, compute_one, does, first_operand, jump_if, operand, request_in, returned, store}
+use Rattle.bpf_machine.specs.Step.{Allowed, answered, calls as local_call, compute, compute_one, does, entered, first_operand, has_frame_left, jump_if, operand, request_in, returned, store}
 use Rattle.bpf_machine.specs.Words.{holds_of, in_place, sign_extended}
 use Rattle.call_shape.specs.Shape.{behind, goes_on_behind, target_in}
-use Rattle.call_shape.specs.StaticPath.{outermost, LeadsTo}
+use Rattle.call_shape.specs.StaticPath.{Standing, moved, LeadsTo, ReturnsTo}
 use Rattle.reg_domain.specs.declared.following.Way.TheVariants.{FallThrough, Taken}
 use Rattle.reg_domain.specs.Follows.{GoesBy, StepsBy, jumps_if}
 
@@ -30,10 +31,52 @@ GoesOn m insn m' =
     (GoesBy m insn FallThrough × (m'.place ≡ behind m.place insn) × (goes_on_behind insn ≡ true))
     ⊎ (GoesBy m insn Taken × (target_in m.place insn ≡ Some m'.place))
 
+-- where the calls that are open go on, the innermost first
+abbrev pub returns_of : MachineState → List ℕ
+returns_of m = map (λ (call : OpenCall). call.return_place) m.open_calls
+
+-- where a machine stands on a static path
+abbrev pub standing_of : MachineState → Standing
+standing_of m = record { slot = m.place; returns = returns_of m }
+
+-- neither a local call nor an exit
+abbrev pub is_inside : Insn → Bool
+is_inside (Call (Local distance)) = false
+is_inside Exit = false
+is_inside (Call (Helper number)) = true
+is_inside (Alu width op dst src) = true
+is_inside (InPlace op dst) = true
+is_inside (SignExtend extension dst src) = true
+is_inside (JumpIf width condition dst src offset) = true
+is_inside (Jump distance) = true
+is_inside (LoadImmediate dst value) = true
+is_inside (Load form dst src offset) = true
+is_inside (Store size dst src offset) = true
+
+-- a step within a function
 pub record IsOnward (m : MachineState) (insn : Insn) (m' : MachineState) : Type 0 where
   pub calls : m'.open_calls ≡ m.open_calls
   pub goes : GoesOn m insn m'
-  pub leads : LeadsTo (outermost m.place) insn (outermost m'.place)
+  pub leads : LeadsTo (standing_of m) insn (standing_of m')
+
+-- into a function that is called
+pub record HasEntered (m : MachineState) (distance : ℤ) (m' : MachineState) : Type 0 where
+  pub step : does m (Call (Local distance)) ≡ Some m'
+  pub call : OpenCall
+  pub behind_call : call.return_place ≡ m.place + 1
+  pub calls : m'.open_calls ≡ call ∷ m.open_calls
+  pub place : m'.place ≡ target m.place distance
+  pub leads : LeadsTo (standing_of m) (Call (Local distance)) (standing_of m')
+
+-- out of one, behind its call
+pub record HasLeft (m m' : MachineState) : Type 0 where
+  pub step : does m Exit ≡ Some m'
+  pub call : OpenCall
+  pub outer : List OpenCall
+  pub before : m.open_calls ≡ call ∷ outer
+  pub calls : m'.open_calls ≡ outer
+  pub place : m'.place ≡ call.return_place
+  pub leads : LeadsTo (standing_of m) Exit (standing_of m')
 
 some_is : (x y : MachineState) → Some x ≡ Some y → x ≡ y
 some_is x y e = cc
@@ -89,43 +132,48 @@ jump_goes m m' width condition offset (Some a) (Some b) e =
 jump_goes m m' width condition offset (Some a) None e = absurd (none_is m' e)
 jump_goes m m' width condition offset None b e = absurd (none_is m' e)
 
--- no call is open, so that an exit is the run's end
-none_returned : (m m' : MachineState) (calls : List OpenCall) → calls ≡ [] → returned m calls ≡ Some m' → ⊥
-none_returned m m' [] none e = none_is m' e
-none_returned m m' (call ∷ calls) none e = absurd cc
+-- at another slot, with the same calls open
+moved_on : (m m' : MachineState) (place : ℕ) → m'.open_calls ≡ m.open_calls → m'.place ≡ place → standing_of m' ≡ moved (standing_of m) place
+moved_on m m' place calls at = λ i. record { slot = at i; returns = map (λ (call : OpenCall). call.return_place) (calls i) }
 
-private_onward : (m m' : MachineState) (insn : Insn) → m.open_calls ≡ [] → does m insn ≡ Some m' → IsOnward m insn m'
-private_onward m m' (Alu width op dst src) none e =
+-- behind the instruction
+next_onward : (m m' : MachineState) (insn : Insn) (slots : ℕ) → IsNext m slots m' → behind m.place insn ≡ m.place + slots → goes_on_behind insn ≡ true → GoesBy m insn FallThrough → LeadsTo (standing_of m) insn (standing_of m') → IsOnward m insn m'
+next_onward m m' insn slots is slot on goes leads = record { calls = is.calls; goes = inl (goes, is.place ∙ sym slot, on); leads = leads }
+
+private_onward : (m m' : MachineState) (insn : Insn) → is_inside insn ≡ true → does m insn ≡ Some m' → IsOnward m insn m'
+private_onward m m' (Alu width op dst src) inside e =
     let is = compute_next m m' width op dst (first_operand m op dst) (operand m src) e in
-    record { calls = is.calls; goes = inl (refl, is.place, refl); leads = ap outermost is.place }
-private_onward m m' (InPlace op dst) none e =
+    next_onward m m' (Alu width op dst src) 1 is refl refl refl (moved_on m m' _ is.calls is.place)
+private_onward m m' (InPlace op dst) inside e =
     let is = one_next m m' dst (in_place op) (register m dst) e in
-    record { calls = is.calls; goes = inl (refl, is.place, refl); leads = ap outermost is.place }
-private_onward m m' (SignExtend extension dst src) none e =
+    next_onward m m' (InPlace op dst) 1 is refl refl refl (moved_on m m' _ is.calls is.place)
+private_onward m m' (SignExtend extension dst src) inside e =
     let is = one_next m m' dst (sign_extended extension) (register m src) e in
-    record { calls = is.calls; goes = inl (refl, is.place, refl); leads = ap outermost is.place }
-private_onward m m' (JumpIf width condition dst src offset) none e =
+    next_onward m m' (SignExtend extension dst src) 1 is refl refl refl (moved_on m m' _ is.calls is.place)
+private_onward m m' (JumpIf width condition dst src offset) inside e =
     let is = jump_goes m m' width condition offset (register m dst) (operand m src) e in
     record {
       calls = is.calls;
       goes = elim is.goes [ inl next ↦ inl (next.0, next.1, refl) | inr taken ↦ inr (taken.0, ap Some (sym taken.1)) ];
-      leads = elim is.goes [ inl next ↦ inl (ap outermost next.1) | inr taken ↦ inr (ap outermost taken.1) ];
+      leads = elim is.goes [ inl next ↦ inl (moved_on m m' _ is.calls next.1) | inr taken ↦ inr (moved_on m m' _ is.calls taken.1) ];
     }
-private_onward m m' (Jump distance) none e =
+private_onward m m' (Jump distance) inside e =
     let is : moved_to m (target m.place (distance_of distance)) ≡ m' = some_is _ m' e in
     let place : target m.place (distance_of distance) ≡ m'.place = ap (λ (x : MachineState). x.place) is in
-    record { calls = sym (ap (λ (x : MachineState). x.open_calls) is); goes = inr (refl, ap Some place); leads = ap outermost (sym place) }
-private_onward m m' (LoadImmediate dst value) none e =
+    let calls : m'.open_calls ≡ m.open_calls = sym (ap (λ (x : MachineState). x.open_calls) is) in
+    record { calls = calls; goes = inr (refl, ap Some place); leads = moved_on m m' _ calls (sym place) }
+private_onward m m' (LoadImmediate dst value) inside e =
     let is : IsNext m 2 m' = next_as m _ m' 2 (record { calls = refl; place = refl }) e in
-    record { calls = is.calls; goes = inl (refl, is.place, refl); leads = ap outermost is.place }
-private_onward m m' (Load form dst src offset) none e =
+    next_onward m m' (LoadImmediate dst value) 2 is refl refl refl (moved_on m m' _ is.calls is.place)
+private_onward m m' (Load form dst src offset) inside e =
     let is = loaded_next m m' form dst (option_and_then (word_from (load_width form) m) (address_of m src offset)) e in
-    record { calls = is.calls; goes = inl (refl, is.place, refl); leads = ap outermost is.place }
-private_onward m m' (Store size dst src offset) none e =
+    next_onward m m' (Load form dst src offset) 1 is refl refl refl (moved_on m m' _ is.calls is.place)
+private_onward m m' (Store size dst src offset) inside e =
     let is = store_next m m' size (address_of m dst offset) (operand m src) e in
-    record { calls = is.calls; goes = inl (refl, is.place, refl); leads = ap outermost is.place }
-private_onward m m' (Call callee) none e = absurd (none_is m' e)
-private_onward m m' Exit none e = absurd (none_returned m m' m.open_calls none e)
+    next_onward m m' (Store size dst src offset) 1 is refl refl refl (moved_on m m' _ is.calls is.place)
+private_onward m m' (Call (Helper number)) inside e = absurd (none_is m' e)
+private_onward m m' (Call (Local distance)) inside e = absurd (let bad : false ≡ true = inside in cc)
+private_onward m m' Exit inside e = absurd (let bad : false ≡ true = inside in cc)
 
 answered_next : (request : Request) (answer : Answer) (m : MachineState) → IsNext m 1 (answered request answer m)
 answered_next (Freeze queue) answer m = record { calls = refl; place = refl }
@@ -142,7 +190,7 @@ no_request request e = absurd cc
 called_onward : (m m' : MachineState) (insn : Insn) (request : Request) (answer : Answer) → request_in m insn ≡ Some request → Allowed request answer m m' → IsOnward m insn m'
 called_onward m m' (Call (Helper number)) request answer made allowed =
     let is : IsNext m 1 m' = subst (IsNext m 1) (sym allowed.1) (answered_next request answer m) in
-    record { calls = is.calls; goes = inl (refl, is.place, refl); leads = ap outermost is.place }
+    next_onward m m' (Call (Helper number)) 1 is refl refl refl (moved_on m m' _ is.calls is.place)
 called_onward m m' (Call (Local distance)) request answer made allowed = absurd (no_request request made)
 called_onward m m' (Alu width op dst src) request answer made allowed = absurd (no_request request made)
 called_onward m m' (InPlace op dst) request answer made allowed = absurd (no_request request made)
@@ -154,6 +202,62 @@ called_onward m m' (Load form dst src offset) request answer made allowed = absu
 called_onward m m' (Store size dst src offset) request answer made allowed = absurd (no_request request made)
 called_onward m m' Exit request answer made allowed = absurd (no_request request made)
 
-pub onward : (m m' : MachineState) (insn : Insn) → m.open_calls ≡ [] → StepsBy m insn m' → IsOnward m insn m'
-onward m m' insn none (inl step) = private_onward m m' insn none step
-onward m m' insn none (inr (request, answer, made, allowed)) = called_onward m m' insn request answer made allowed
+-- within its function a machine goes on behind the instruction or where it jumps
+pub onward : (m m' : MachineState) (insn : Insn) → is_inside insn ≡ true → StepsBy m insn m' → IsOnward m insn m'
+onward m m' insn inside (inl step) = private_onward m m' insn inside step
+onward m m' insn inside (inr (request, answer, made, allowed)) = called_onward m m' insn request answer made allowed
+
+-- a local call has a frame left
+entered_so : (m m' : MachineState) (distance : ℤ) → local_call m (Local distance) ≡ Some m' → entered m distance ≡ m'
+entered_so m m' distance e = elim (cases_Bool (has_frame_left m)) [
+  | inl left ↦ some_is _ m' (sym (cond-true (has_frame_left m) (Some (entered m distance)) None left) ∙ e)
+  | inr none ↦ absurd (none_is m' (sym (cond-false (has_frame_left m) (Some (entered m distance)) None none) ∙ e))
+]
+
+pub enters : (m m' : MachineState) (distance : ℤ) → StepsBy m (Call (Local distance)) m' → HasEntered m distance m'
+enters m m' distance (inl step) =
+    let is = entered_so m m' distance step in
+    record {
+      step = step;
+      call = _;
+      behind_call = refl;
+      calls = sym (ap (λ (x : MachineState). x.open_calls) is);
+      place = sym (ap (λ (x : MachineState). x.place) is);
+      leads = sym (ap standing_of is);
+    }
+enters m m' distance (inr (request, answer, made, allowed)) = absurd (no_request request made)
+
+left_so : (m m' : MachineState) (calls : List OpenCall) → m.open_calls ≡ calls → does m Exit ≡ Some m' → returned m calls ≡ Some m' → HasLeft m m'
+left_so m m' [] before step e = absurd (none_is m' e)
+left_so m m' (call ∷ calls) before step e =
+    let is = some_is _ m' e in
+    let place : m'.place ≡ call.return_place = sym (ap (λ (x : MachineState). x.place) is) in
+    let left : m'.open_calls ≡ calls = sym (ap (λ (x : MachineState). x.open_calls) is) in
+    record {
+      step = step;
+      call = call;
+      outer = calls;
+      before = before;
+      calls = left;
+      place = place;
+      leads = subst (λ (l : List OpenCall). ReturnsTo (map (λ (c : OpenCall). c.return_place) l) (standing_of m')) (sym before)
+          (λ i. record { slot = place i; returns = map (λ (c : OpenCall). c.return_place) (left i) });
+    }
+
+pub leaves : (m m' : MachineState) → StepsBy m Exit m' → HasLeft m m'
+leaves m m' (inl step) = left_so m m' m.open_calls refl step step
+leaves m m' (inr (request, answer, made, allowed)) = absurd (no_request request made)
+
+-- whatever the instruction is, it leads as static paths do
+pub leads_on : (m m' : MachineState) (insn : Insn) → StepsBy m insn m' → LeadsTo (standing_of m) insn (standing_of m')
+leads_on m m' (Call (Local distance)) step = (enters m m' distance step).leads
+leads_on m m' Exit step = (leaves m m' step).leads
+leads_on m m' (Call (Helper number)) step = (onward m m' (Call (Helper number)) refl step).leads
+leads_on m m' (Alu width op dst src) step = (onward m m' (Alu width op dst src) refl step).leads
+leads_on m m' (InPlace op dst) step = (onward m m' (InPlace op dst) refl step).leads
+leads_on m m' (SignExtend extension dst src) step = (onward m m' (SignExtend extension dst src) refl step).leads
+leads_on m m' (JumpIf width condition dst src offset) step = (onward m m' (JumpIf width condition dst src offset) refl step).leads
+leads_on m m' (Jump distance) step = (onward m m' (Jump distance) refl step).leads
+leads_on m m' (LoadImmediate dst value) step = (onward m m' (LoadImmediate dst value) refl step).leads
+leads_on m m' (Load form dst src offset) step = (onward m m' (Load form dst src offset) refl step).leads
+leads_on m m' (Store size dst src offset) step = (onward m m' (Store size dst src offset) refl step).leads

@@ -1,17 +1,26 @@
--- What is told of a program that a pass fails on.
-use Rattle.std.proofs.Common.{◌≡◌, List, refl}
+-- How a pass over the places tells why it failed.
+use Rattle.std.proofs.Common.{◌≡◌, refl, Result, Ok, Err}
 use Rattle.bpf_insn.specs.declared.program.Slot.{Slot}
+use Rattle.std.specs.Prelude.{List, IfErr, OnOk}
 use Rattle.call_shape.specs.Shape.{IsLawful}
 use Rattle.or_memory.specs.declared.OrMemory.{OrMemory}
 use Rattle.or_memory.specs.declared.OrMemory.TheVariants.{OutOfMemory, Fault as refused}
+use Rattle.verifier.specs.Arrives.{FailsUnless, LacksMemoryOrMore, NeverLacks}
+use Rattle.verifier.specs.Verdict.{ToldOfShape}
 use Rattle.verifier.specs.declared.refusal.Refusal.{Refusal}
 use Rattle.verifier.specs.declared.refusal.Refusal.TheVariants.{Shape, Check}
-use Rattle.verifier.specs.Arrives.{IsCheck, LacksMemoryOrMore, NeverLacks}
-use Rattle.verifier.specs.Verdict.{ToldOfShape}
 
-pub lacks : (program : List Slot) (refusal : Refusal) → IsCheck refusal → (NeverLacks program → ⊥) → LacksMemoryOrMore program (refused refusal)
-lacks program (Shape fault) is fails = is
-lacks program (Check cause slot) is fails = fails
+-- what fails only where a check or memory does, and where it is enough for each check fails for memory
+pub fails_so : (A B : Type 0) (error : OrMemory Refusal) → FailsUnless A error → (B → A) → FailsUnless B error
+fails_so A B OutOfMemory fails weaker = tt
+fails_so A B (refused (Shape fault)) fails weaker = absurd fails
+fails_so A B (refused (Check cause slot)) fails weaker = λ b. fails (weaker b)
+
+-- and what cannot fail there fails nowhere else
+pub fails_never : (A B : Type 0) (error : OrMemory Refusal) → FailsUnless A error → (B → ⊥) → FailsUnless B error
+fails_never A B OutOfMemory fails never = tt
+fails_never A B (refused (Shape fault)) fails never = absurd fails
+fails_never A B (refused (Check cause slot)) fails never = never
 
 pub told_of_shape : (program : List Slot) (error : OrMemory Refusal) → IsLawful program → LacksMemoryOrMore program error → ToldOfShape program error
 told_of_shape program OutOfMemory lawful fails = lawful
@@ -23,3 +32,12 @@ pub only_memory : (program : List Slot) (error : OrMemory Refusal) → NeverLack
 only_memory program OutOfMemory lacks_not fails = refl
 only_memory program (refused (Shape fault)) lacks_not fails = absurd fails
 only_memory program (refused (Check cause slot)) lacks_not fails = absurd (fails lacks_not)
+
+pub if_err : (A B : Type 0) {X : Type 0} (result : Result X (OrMemory Refusal)) → (B → A) → IfErr result (FailsUnless A) → IfErr result (FailsUnless B)
+if_err A B (Ok x) weaker fails = fails
+if_err A B (Err error) weaker fails = fails_so A B error fails weaker
+
+-- what holds in any case holds where all goes well
+pub on_ok : {X E P : Type 0} (result : Result X E) → P → OnOk result P
+on_ok (Ok x) holds = holds
+on_ok (Err error) holds = tt

@@ -1,11 +1,12 @@
 -- What is known at each place of a program by the promises of descriptions alone, whatever the machine: a program of
 -- which that is enough everywhere is not refused.
-use Rattle.std.specs.Prelude.{◌≡◌, ℕ, ◌<◌, List, length, Option, Some}
+use Rattle.std.specs.Prelude.{◌≡◌, ℕ, ◌<◌, List, [], length, Option, Some}
 use Rattle.bpf_insn.specs.declared.insn.Insn.{Insn}
 use Rattle.bpf_insn.specs.declared.program.Slot.{Slot}
 use Rattle.bpf_insn.specs.Program.{insn_at}
 use Rattle.call_shape.specs.Shape.{behind, target_in}
 use Rattle.reg_domain.specs.declared.description.Description.{Description}
+use Rattle.reg_domain.specs.declared.saved.SavedRegisters.{SavedRegisters}
 use Rattle.reg_domain.specs.declared.following.Way.{Way}
 use Rattle.reg_domain.specs.declared.following.Way.TheVariants.{FallThrough, Taken}
 use Rattle.reg_domain.specs.Enough.{Enough, Leaves, IsEntryKnown, Agree, JoinsTo}
@@ -35,13 +36,17 @@ pub record NeverLacks (program : List Slot) : Type 0 where
 abbrev pub AllArrive : List Slot → Table → Type 0
 AllArrive program table = (place : ℕ) (d : Description) → described table place ≡ Some d → Arrives program place d
 
--- memory was refused, or what is known is somewhere not enough; the shape is at fault for neither
-abbrev pub LacksMemoryOrMore : List Slot → OrMemory Refusal → Type 0
-LacksMemoryOrMore program OutOfMemory = Unit {0}
-LacksMemoryOrMore program (refused (Shape fault)) = ⊥
-LacksMemoryOrMore program (refused (Check cause slot)) = NeverLacks program → ⊥
+-- memory was refused, or a check failed, where it is not so that none ever does; the shape is at fault for neither
+abbrev pub FailsUnless : Type 0 → OrMemory Refusal → Type 0
+FailsUnless never OutOfMemory = Unit {0}
+FailsUnless never (refused (Shape fault)) = ⊥
+FailsUnless never (refused (Check cause slot)) = never → ⊥
 
--- the check of an instruction, or a join, fails
-abbrev pub IsCheck : Refusal → Type 0
-IsCheck (Shape fault) = ⊥
-IsCheck (Check cause slot) = Unit {0}
+abbrev pub LacksMemoryOrMore : List Slot → OrMemory Refusal → Type 0
+LacksMemoryOrMore program = FailsUnless (NeverLacks program)
+
+-- in the outermost function of a program of which it is enough everywhere
+pub record IsNeverLacking (program : List Slot) (callers : List SavedRegisters) (start : ℕ) : Type 0 where
+  pub lacks_not : NeverLacks program
+  pub outermost : callers ≡ []
+  pub first : start ≡ 0

@@ -1,7 +1,10 @@
 pub use Rattle.bpf_machine.specs.Reached
 pub use Rattle.call_shape.specs.StaticPath
-pub mod Table
-pub mod Arrives
-pub mod Verdict
-pub mod Plain
 pub mod RefusalText
+pub mod Table
+pub mod Goes
+pub mod OnTheWay
+pub mod Function
+pub mod Arrives
+pub mod Plain
+pub mod Verdict

@@ -6,17 +6,20 @@ use Rattle.helpers.specs.declared.limits.HelperLimits.{HelperLimits}
 use Rattle.bpf_machine.specs.Reached.{Safe, Within}
 use Rattle.call_shape.specs.Shape.{IsLawful, FaultIs}
 use Rattle.call_shape.specs.StaticPath.{outermost, StaticPath, IsFrames}
+use Rattle.call_shape.specs.WrittenOut.{IsWrittenOut}
 use Rattle.verifier.specs.declared.refusal.Refusal.TheVariants.{Shape, Check}
 use Rattle.or_memory.specs.declared.OrMemory.{OrMemory}
 use Rattle.verifier.specs.declared.refusal.Refusal.{Refusal}
 use Rattle.or_memory.specs.declared.OrMemory.TheVariants.{OutOfMemory, Fault as refused}
 
--- a program, the limits under which it was verified, its budget in instructions, and its greatest number of frames
+-- a program, the limits under which it was verified, its budget in instructions, its greatest number of frames, and how many
+-- checks were made of it
 pub record Verdict : Type 0 where
   pub program : List Slot
   pub limits : HelperLimits
   pub budget : ℕ
   pub frames : ℕ
+  pub visits : ℕ
 
 -- no run of it is ever stuck, and none executes more instructions than its budget
 pub record IsAccepted (v : Verdict) : Type 0 where
@@ -29,6 +32,10 @@ pub record IsBudget (program : List Slot) (budget : ℕ) : Type 0 where
   pub path : StaticPath program (outermost 0) budget
   pub longest : (n : ℕ) → StaticPath program (outermost 0) n → n ≤ budget
 
+-- no more checks than it has instructions with its local calls written out
+pub record AreFew (program : List Slot) (visits : ℕ) : Type 0 where
+  pub few : (count : ℕ) → IsWrittenOut program 0 count → visits ≤ count
+
 -- A verdict on this program under these limits. Its frames are the most that there are at a time on a static path.
 pub record IsVerdictOn (program : List Slot) (limits : HelperLimits) (v : Verdict) : Type 0 where
   pub program_is : v.program ≡ program
@@ -36,6 +43,7 @@ pub record IsVerdictOn (program : List Slot) (limits : HelperLimits) (v : Verdic
   pub accepted : IsAccepted v
   pub budget : IsBudget program v.budget
   pub frames : IsFrames program v.frames
+  pub visits : AreFew program v.visits
 
 -- A shape fault is answered for a program that has it, and for a program of lawful shape none is. No two shape faults
 -- are answered for one program, since a fault that is named has the lowest number and slot.

@@ -15,6 +15,7 @@ pub struct Accepted {
     limits: HelperLimits,
     budget: u32,
     frames: u8,
+    visits: u32,
 }
 
 impl Model for Accepted {
@@ -27,6 +28,7 @@ impl Model for Accepted {
       limits = a.limits;
       budget = a.budget;
       frames = a.frames;
+      visits = a.visits;
     } };
 
     ghost invariant = { λ a. IsAccepted (record {
@@ -34,19 +36,27 @@ impl Model for Accepted {
       limits = a.limits;
       budget = a.budget;
       frames = a.frames;
+      visits = a.visits;
     }) };
 }
 
 impl Accepted {
-    pub(crate) fn new(program: Program, limits: HelperLimits, budget: u32, frames: u8) -> Self
-        requires { IsAccepted (record { program = program; limits = limits; budget = budget; frames = frames }) }
-        ensures { result ≡ record { program = program; limits = limits; budget = budget; frames = frames } }
+    pub(crate) fn new(
+        program: Program,
+        limits: HelperLimits,
+        budget: u32,
+        frames: u8,
+        visits: u32,
+    ) -> Self
+        requires { IsAccepted (record { program = program; limits = limits; budget = budget; frames = frames; visits = visits }) }
+        ensures { result ≡ record { program = program; limits = limits; budget = budget; frames = frames; visits = visits } }
     {
         Accepted {
             program,
             limits,
             budget,
             frames,
+            visits,
         }
     }
 
@@ -64,6 +74,14 @@ impl Accepted {
         ensures accepted { IsAccepted self.now }
     {
         self.frames
+    }
+
+    /// How many checks were made of it, each of one instruction under one chain of local calls that were open there.
+    pub fn visits(&self) -> u32
+        ensures value { result ≡ self.now.visits }
+        ensures accepted { IsAccepted self.now }
+    {
+        self.visits
     }
 
     /// The program.

@@ -7,7 +7,9 @@
 mod accepted;
 mod pass;
 mod refusal;
+mod table;
 mod verification;
+mod ways;
 
 pub use accepted::Accepted;
 pub use refusal::{Refusal, VerifyError};

@@ -1,162 +1,254 @@
-// The pass over a program's slots, from the first to the last: what is known at a place is joined from all that leads
-// there. It relies on `reg_domain` for what is known and what an instruction makes of it, and on the shape for that
-// jumps lead forward.
+// The pass over a program: each function under each chain of calls that are open, its places from the first to the last. What
+// is known at a place is joined from all that leads there; a function that is called is visited where its call is, from
+// what is known there. It relies on `table` for what a check does, and on the shape for that jumps lead forward and that
+// no chain of calls is too long.
 
-ghost use Rattle.std.specs.Prelude.{◌≡◌, ◌<◌, ◌≤◌, ◌+◌, List, length, Some, IfOk, IfErr, IsOk, IsOkAnd};
-ghost use Rattle.bpf_insn.specs.declared.program.Slot.{Slot};
-ghost use Rattle.bpf_insn.specs.declared.program.TheConstants.{MAX_SLOTS};
-ghost use Rattle.bpf_insn.specs.Program.{IsProgram, insn_at};
+ghost use Rattle.std.specs.Prelude.{◌≡◌, ◌<◌, ◌≤◌, ◌+◌, ◌-◌, ◌++◌, ◌∷◌, [], List, ℕ, ℤ, length, Some, IfOk, IfErr, OnOk, IsOkAnd};
+ghost use Rattle.bpf_insn.specs.declared.insn.Callee.TheVariants.{Local};
+ghost use Rattle.bpf_insn.specs.declared.insn.Insn.{Insn};
+ghost use Rattle.bpf_insn.specs.declared.insn.Insn.TheVariants.{Call};
+ghost use Rattle.bpf_insn.specs.Program.{insn_at};
+ghost use Rattle.bpf_insn.specs.Target.{target};
+ghost use Rattle.bpf_machine.specs.MachineState.{MachineState};
 ghost use Rattle.bpf_machine.specs.Reached.{Safe};
-ghost use Rattle.call_shape.specs.Shape.{IsLawful, target_in};
-ghost use Rattle.verifier.specs.Arrives.{AllArrive, Arrives, IsCheck, LacksMemoryOrMore, NeverLacks, goes_to};
-ghost use Rattle.verifier.specs.Table.{AreDone, HasJoined, HasLed, IsFirstTable};
+ghost use Rattle.call_shape.specs.Calls.{callee_at, function_of};
+ghost use Rattle.call_shape.specs.WrittenOut.{written_out};
+ghost use Rattle.call_shape.specs.declared.lawful_shape.TheConstants.{MAX_WRITTEN_OUT};
+ghost use Rattle.helpers.specs.declared.limits.HelperLimits.{HelperLimits};
+ghost use Rattle.reg_domain.specs.declared.description.Description.{Description};
+ghost use Rattle.reg_domain.specs.Description.{Describes};
+ghost use Rattle.reg_domain.specs.Enough.{IsEntryKnown};
+ghost use Rattle.reg_domain.specs.Follows.{NeverStuck, StepsBy, Stays};
+ghost use Rattle.verifier.specs.Arrives.{AllArrive, FailsUnless, IsNeverLacking, LacksMemoryOrMore, NeverLacks};
+ghost use Rattle.verifier.specs.Function.{AreDone, HasChecked, IsEnd, IsLawfulProgram, IsOwn, checks_at, deep_under};
+ghost use Rattle.verifier.specs.Goes.{FunctionIsSound, IsBack, StaysWell};
+ghost use Rattle.verifier.specs.Table.{Grows, described};
+ghost use Rattle.verifier.specs.Verdict.{AreFew};
 
-use crate::refusal::{Refusal, VerifyError};
-use bpf_insn::{Insn, Program, jump_target};
+use crate::refusal::VerifyError;
+use crate::table::{Check, come_back, first_table, lead, leave};
+use crate::ways::{callee_of, end_of, returning, target_of};
+use bpf_insn::Program;
 use call_shape::Shape;
 use helpers::HelperLimits;
-use or_memory::OrMemory;
-use reg_domain::{Cause, Description, Way};
-use std::alloc::{AllocError, Global};
+use reg_domain::{Description, SavedRegisters, Way};
+use std::alloc::Global;
 
 /// Describes each place of a program of lawful shape, and checks each instruction that something leads to, under these
-/// limits. It takes memory for one description a slot.
-pub fn pass(alloc: Global, limits: &HelperLimits, shape: &Shape<'_>) -> Result<(), VerifyError>
+/// limits. The answer is how many checks were made. It takes memory for one description a slot of each function that is open
+/// at a time.
+pub fn pass(alloc: Global, limits: &HelperLimits, shape: &Shape<'_>) -> Result<u32, VerifyError>
     ensures safe { IfOk result (λ _. Safe shape.now limits.now) }
+    ensures visits { IfOk result (AreFew shape.now) }
     ensures fails { IfErr result (LacksMemoryOrMore shape.now) }
 {
     let program = shape.program();
-    let mut table = first_table(alloc, program.len())?;
-    match visit_all(limits, program, &mut table) {
-        Ok(()) => Ok(()),
-        Err(refusal) => Err(OrMemory::Fault(refusal)),
-    }
+    let entry = Description::entry();
+    let mut callers = Vec::new(alloc);
+    let mut visits = 0;
+    visit_function(
+        alloc,
+        limits,
+        program,
+        0,
+        0,
+        &entry,
+        &mut callers,
+        &mut visits,
+    )?;
+    Ok(visits)
 }
 
-// The table of so many places at the start: the entry alone is described.
-fn first_table(alloc: Global, len: usize) -> Result<Vec<Option<Description>>, AllocError>
-    requires some { 1 ≤ len }
-    ensures { IfOk result (λ table. IsFirstTable len table.items) }
-{
-    let mut table = Vec::with_capacity(alloc, len)?;
-    table.push_reserved(Some(Description::entry()));
-    for _ in 1..len {
-        table.push_reserved(None);
-    }
-    Ok(table)
-}
-
-// Visits all places in their order.
-fn visit_all(
+// Visits a function that starts at a slot, while these wait for it, from what is known there. What is known where it is left
+// is the answer, if it is anywhere, for the place behind its call.
+#[cycle(functions)]
+fn visit_function(
+    alloc: Global,
     limits: &HelperLimits,
     program: &Program,
-    table: &mut [Option<Description>],
-) -> Result<(), Refusal>
-    requires program { IsProgram program.now }
-    requires lawful { IsLawful program.now }
-    requires start { AreDone limits.now program.now table.old 0 }
-    ensures done { IfOk result (λ _. AreDone limits.now program.now table.new (length program.now)) }
-    ensures passes { NeverLacks program.now → AllArrive program.now table.old → IsOk result }
-    ensures check { IfErr result IsCheck }
+    start: usize,
+    behind_call: usize,
+    entry: &Description,
+    callers: &mut Vec<SavedRegisters>,
+    visits: &mut u32,
+) -> Result<Option<Description>, VerifyError>
+    requires lawful { IsLawfulProgram program.now }
+    requires own { IsOwn program.now callers.old.items start start entry.now }
+    requires few { visits.old + written_out (8 - length callers.old.items) program.now start ≤ MAX_WRITTEN_OUT }
+    ensures sound { IfOk result (FunctionIsSound limits.now program.now callers.old.items entry.now start) }
+    ensures frames { IfOk result (λ left. (d : Description) → left ≡ Some d → length d.stack ≡ length callers.old.items) }
+    ensures callers { OnOk result (callers.new.items ≡ callers.old.items) }
+    ensures visits { OnOk result (visits.new ≤ visits.old + written_out (8 - length callers.old.items) program.now start) }
+    ensures counts { OnOk result (visits.old ≤ visits.new) }
+    ensures fails { IfErr result (FailsUnless (IsNeverLacking program.now callers.old.items start × IsEntryKnown entry.now)) }
 {
-    for place in 0..program.len() {
-        visit(limits, program, table, place)?;
+    let len = end_of(program, start) - start;
+    let mut table = first_table(alloc, len, entry)?;
+    let mut left = None;
+    for at in 0..len {
+        visit(
+            alloc,
+            limits,
+            program,
+            start,
+            at,
+            behind_call,
+            &mut table,
+            &mut left,
+            callers,
+            visits,
+        )?;
     }
-    Ok(())
+    Ok(left)
 }
 
 // Visits one place: where something leads to it, its instruction is checked, and leads on.
+#[cycle(functions)]
 fn visit(
+    alloc: Global,
     limits: &HelperLimits,
     program: &Program,
+    start: usize,
+    at: usize,
+    behind_call: usize,
     table: &mut [Option<Description>],
-    place: usize,
-) -> Result<(), Refusal>
-    requires program { IsProgram program.now }
-    requires lawful { IsLawful program.now }
-    requires place { place < length program.now }
-    requires before { AreDone limits.now program.now table.old place }
-    ensures done { IfOk result (λ _. AreDone limits.now program.now table.new (place + 1)) }
-    ensures passes { NeverLacks program.now → AllArrive program.now table.old → IsOkAnd result (λ _. AllArrive program.now table.new) }
-    ensures check { IfErr result IsCheck }
+    left: &mut Option<Description>,
+    callers: &mut Vec<SavedRegisters>,
+    visits: &mut u32,
+) -> Result<(), VerifyError>
+    requires lawful { IsLawfulProgram program.now }
+    requires at { at < length table.old }
+    requires before { AreDone limits.now program.now callers.old.items start table.old left.old at }
+    requires few { visits.old + checks_at (deep_under callers.old.items) program.now start (start + at) ≤ MAX_WRITTEN_OUT }
+    ensures whole { length table.new ≡ length table.old }
+    ensures done { IfOk result (λ _. AreDone limits.now program.now callers.old.items start table.new left.new (at + 1)) }
+    ensures grows { IfOk result (λ _. Grows table.old table.new) }
+    ensures callers { OnOk result (callers.new.items ≡ callers.old.items) }
+    ensures visits { OnOk result (visits.new ≤ visits.old + checks_at (deep_under callers.old.items) program.now start (start + at)) }
+    ensures counts { OnOk result (visits.old ≤ visits.new) }
+    ensures counted { (description : Description) (insn : Insn) → described table.old at ≡ Some description → insn_at program.now (start + at) ≡ Some insn → OnOk result (visits.old + 1 ≤ visits.new) }
+    ensures arrives { IfOk result (λ _. IsNeverLacking program.now callers.old.items start → AllArrive program.now table.old → AllArrive program.now table.new) }
+    ensures fails { IfErr result (FailsUnless (IsNeverLacking program.now callers.old.items start × AllArrive program.now table.old)) }
 {
+    let place = start + at;
     // Nothing leads to the second slot of an instruction.
     let Some(insn) = program.fetch(place) else {
         return Ok(());
     };
-    lead(
-        limits,
-        table,
-        place,
-        insn,
-        Way::FallThrough,
-        place + insn.slots(),
-    )?;
-    match target_of(place, insn) {
-        Some(target) => lead(limits, table, place, insn, Way::Taken, target),
-        None => Ok(()),
-    }
-}
-
-// Where the instruction at a place jumps to, if it is a jump.
-fn target_of(place: usize, insn: Insn) -> Option<usize>
-    requires { place < MAX_SLOTS }
-    ensures { result ≡ target_in place insn }
-{
-    match insn {
-        Insn::JumpIf { offset, .. } => Some(jump_target(place, i32::from(offset))),
-        Insn::Jump(distance) => Some(jump_target(place, distance.slots())),
-        _ => None,
-    }
-}
-
-// Where something leads to a place, checks its instruction, and joins what is known behind it one way into the table.
-// Nothing is behind the last exit.
-fn lead(
-    limits: &HelperLimits,
-    table: &mut [Option<Description>],
-    place: usize,
-    insn: Insn,
-    way: Way,
-    to: usize,
-) -> Result<(), Refusal>
-    requires place { place < length table.old }
-    requires few { place < MAX_SLOTS }
-    ensures whole { length table.new ≡ length table.old }
-    ensures led { IfOk result (λ _. HasLed limits.now table.old place insn way to table.new) }
-    ensures passes { (program : List Slot) → NeverLacks program → AllArrive program table.old → length table.old ≡ length program → insn_at program place ≡ Some insn → goes_to place insn way ≡ Some to → IsOkAnd result (λ _. AllArrive program table.new) }
-    ensures check { IfErr result IsCheck }
-{
-    let Some(description) = &table[place] else {
+    let Some(description) = table[at] else {
         return Ok(());
     };
-    let mut there = *description;
-    match there.follow(limits, insn, place as u32, way) {
-        Ok(is_open) => {
-            if is_open && to < table.len() {
-                join_into(table, to, &there)
-            } else {
-                Ok(())
-            }
-        }
-        Err(cause) => Err(Refusal::Check(cause, place)),
+    let number = count(visits);
+    if let Some(target) = callee_of(place, insn) {
+        let back = call(
+            alloc,
+            limits,
+            program,
+            place,
+            target,
+            &description,
+            callers,
+            visits,
+        )?;
+        return come_back(table, at + 1, &back, place + 1);
     }
+    if let Some(saved) = returning(insn, callers) {
+        return leave(&description, &saved, left, behind_call);
+    }
+    let check = Check {
+        place,
+        insn,
+        number,
+    };
+    check_ways(limits, program, callers, table, start, at, check)
 }
 
-// Something more leads to a place.
-fn join_into(table: &mut [Option<Description>], to: usize, new: &Description) -> Result<(), Refusal>
-    requires to { to < length table.old }
-    ensures whole { length table.new ≡ length table.old }
-    ensures joined { IfOk result (λ _. HasJoined table.old to new.now table.new) }
-    ensures passes { (program : List Slot) → NeverLacks program → AllArrive program table.old → to < length program → Arrives program to new.now → IsOkAnd result (λ _. AllArrive program table.new) }
-    ensures check { IfErr result IsCheck }
+// Counts one check: its number, which no other has.
+fn count(visits: &mut u32) -> u32
+    requires { visits.old ≤ MAX_WRITTEN_OUT }
+    ensures number { result ≡ visits.old }
+    ensures counted { visits.new ≡ visits.old + 1 }
 {
-    match &table[to] {
-        None => table[to] = Some(*new),
-        Some(old) => match old.join(new) {
-            Some(joined) => table[to] = Some(joined),
-            None => return Err(Refusal::Check(Cause::PathsDisagree, to)),
-        },
+    let number = *visits;
+    *visits += 1;
+    number
+}
+
+// Visits the function that the instruction at a place calls where that is known. What is known behind the call is the
+// answer, if any machine comes back.
+#[cycle(functions)]
+fn call(
+    alloc: Global,
+    limits: &HelperLimits,
+    program: &Program,
+    place: usize,
+    callee: usize,
+    description: &Description,
+    callers: &mut Vec<SavedRegisters>,
+    visits: &mut u32,
+) -> Result<Option<Description>, VerifyError>
+    requires lawful { IsLawfulProgram program.now }
+    requires own { IsOwn program.now callers.old.items (function_of program.now place) place description.now }
+    requires calls { callee_at program.now place ≡ Some callee }
+    requires few { visits.old + written_out (deep_under callers.old.items) program.now callee ≤ MAX_WRITTEN_OUT }
+    ensures unstuck { (limits : HelperLimits) (distance : ℤ) → NeverStuck limits callers.old.items (Call (Local distance)) description.now }
+    ensures sound { IfOk result (λ left. (distance : ℤ) (m m' : MachineState) → Describes callers.old.items description.now m → m.place ≡ place → target place distance ≡ callee → StepsBy m (Call (Local distance)) m' → (n : ℕ) → StaysWell program.now limits.now (IsBack callers.old.items left (place + 1) m.open_calls) n m') }
+    ensures frames { IfOk result (λ left. (d : Description) → left ≡ Some d → length d.stack ≡ length callers.old.items + 1) }
+    ensures callers { OnOk result (callers.new.items ≡ callers.old.items) }
+    ensures visits { OnOk result (visits.new ≤ visits.old + written_out (deep_under callers.old.items) program.now callee) }
+    ensures counts { OnOk result (visits.old ≤ visits.new) }
+    ensures fails { IfErr result (FailsUnless ⊥) }
+{
+    let mut entry = *description;
+    let saved = entry.enter();
+    callers.reserve(1)?;
+    callers.push_reserved(saved);
+    let left = visit_function(
+        alloc,
+        limits,
+        program,
+        callee,
+        place + 1,
+        &entry,
+        callers,
+        visits,
+    )?;
+    callers.pop();
+    Ok(left)
+}
+
+// Checks the instruction at a place by which control stays in its function, and lets it lead on both ways.
+fn check_ways(
+    limits: &HelperLimits,
+    program: &Program,
+    callers: &[SavedRegisters],
+    table: &mut [Option<Description>],
+    start: usize,
+    at: usize,
+    check: Check,
+) -> Result<(), VerifyError>
+    requires lawful { IsLawfulProgram program.now }
+    requires at { at < length table.old }
+    requires end { IsEnd program.now start (start + length table.old) }
+    requires here { insn_at program.now (start + at) ≡ Some check.insn }
+    requires stays { Stays callers.now check.insn }
+    ensures whole { length table.new ≡ length table.old }
+    ensures checked { IfOk result (λ _. HasChecked limits.now callers.now start table.old at check.insn table.new) }
+    ensures passes { start ≡ 0 → NeverLacks program.now → AllArrive program.now table.old → IsOkAnd result (λ _. AllArrive program.now table.new) }
+    ensures fails { IfErr result (FailsUnless ⊥) }
+{
+    let behind = at + check.insn.slots();
+    lead(limits, callers, table, at, check, Way::FallThrough, behind)?;
+    match target_of(start + at, check.insn) {
+        Some(target) => lead(
+            limits,
+            callers,
+            table,
+            at,
+            check,
+            Way::Taken,
+            target - start,
+        ),
+        None => Ok(()),
     }
-    Ok(())
 }

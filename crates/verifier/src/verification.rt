@@ -32,9 +32,9 @@ pub fn verify(
         Ok(shape) => shape,
         Err(fault) => return Err(OrMemory::Fault(Refusal::Shape(fault))),
     };
-    pass(alloc, limits, &shape)?;
+    let visits = pass(alloc, limits, &shape)?;
     let budget = budget(alloc, &shape)?;
     let program = program.try_clone()?;
     let limits = limits.try_clone()?;
-    Ok(Accepted::new(program, limits, budget, shape.frames()))
+    Ok(Accepted::new(program, limits, budget, shape.frames(), visits))
 }

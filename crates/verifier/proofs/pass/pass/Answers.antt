@@ -1,28 +1,48 @@
-use Rattle.std.proofs.Common.{length, subst, sym}
-use Rattle.std.proofs.lemmas.Bool.{false≢true}
+use Rattle.std.proofs.Common.{◌-◌, List, [], length, refl, ap, sym, subst, arith}
+use Rattle.bpf_insn.specs.declared.program.Slot.{Slot}
 use Rattle.bpf_insn.specs.Program.{IsProgram}
 use Rattle.bpf_machine.specs.Reached.{Safe}
-use Rattle.verifier.specs.Arrives.{LacksMemoryOrMore}
-use Rattle.verifier.specs.Table.{IsFirstTable}
-use Rattle.or_memory.specs.declared.OrMemory.TheVariants.{Fault as refused}
-use Rattle.verifier.proofs.Done.{opening, first_arrives}
-use Rattle.verifier.proofs.Sound.{table_safe}
-use Rattle.verifier.proofs.Told.{lacks}
+use Rattle.call_shape.specs.Shape.{IsLawful}
+use Rattle.call_shape.specs.WrittenOut.{written_out}
+use Rattle.call_shape.proofs.Places.{begins_first}
+use Rattle.call_shape.proofs.WrittenFew.{within_count}
+use Rattle.reg_domain.specs.declared.saved.SavedRegisters.{SavedRegisters}
+use Rattle.verifier.specs.Function.{IsOwn}
+use Rattle.verifier.specs.Goes.{FunctionIsSound}
+use Rattle.verifier.proofs.OnItsWay.{chain_first}
+use Rattle.verifier.proofs.Sound.{outermost_safe}
 use Rattle.verifier.proofs.pass.pass.Goals as goal
 
-pub visit_all-requires-clause-start : goal.visit_all-requires-clause-start
-visit_all-requires-clause-start c =
-    let first : IsFirstTable (length c.program-program.result.now) c.deref_mut.result.now = subst (λ n. IsFirstTable n c.deref_mut.result.now) c.len.ensures.slots (subst (IsFirstTable c.len.result) (sym c.deref_mut.ensures.value) c.in_ok-table.ensures) in
-    opening c.args.limits.now c.program-program.result.now c.deref_mut.result.now (subst IsProgram (sym c.program-program.ensures.value) c.program-program.ensures.program) first
+pub visit_function-requires-clause-own : goal.visit_function-requires-clause-own
+visit_function-requires-clause-own c =
+    let program = c.program-program.result.now in
+    let is : IsProgram program = subst IsProgram (sym c.program-program.ensures.value) c.program-program.ensures.program in
+    let own : IsOwn program [] 0 0 c.entry-entry.result = record {
+      begun = begins_first program is;
+      within = refl;
+      frames = c.entry-entry.ensures.known.depth;
+      chain = chain_first program;
+    } in
+    subst (λ (cs : List SavedRegisters). IsOwn program cs 0 0 c.entry-entry.result) (sym c.new-callers.ensures.items) own
 
-pub returns-in-Ok-clause-safe : goal.returns-in-Ok-clause-safe
-returns-in-Ok-clause-safe c =
-    subst (λ program. Safe program c.args.limits.now) c.program-program.ensures.value
-    (table_safe c.args.limits.now c.program-program.result.now c.visit_all.new.table c.in-Ok.ensures.done)
+pub visit_function-requires-clause-few : goal.visit_function-requires-clause-few
+visit_function-requires-clause-few c =
+    let program = c.program-program.result.now in
+    let lawful : IsLawful program = subst IsLawful (sym c.program-program.ensures.value) c.program-program.ensures.lawful in
+    let deep = ap (λ (cs : List SavedRegisters). written_out (8 - length cs) program 0) c.new-callers.ensures.items in
+    omega (arith, deep, within_count 8 program 0 lawful.count lawful.written_out, lawful.short)
 
-pub returns-clause-fails : goal.returns-clause-fails
-returns-clause-fails c =
-    let first : IsFirstTable (length c.program-program.result.now) c.deref_mut.result.now = subst (λ n. IsFirstTable n c.deref_mut.result.now) c.len.ensures.slots (subst (IsFirstTable c.len.result) (sym c.deref_mut.ensures.value) c.in_ok-table.ensures) in
-    subst (λ program. LacksMemoryOrMore program (refused c.in-Err.refusal)) c.program-program.ensures.value
-    (lacks c.program-program.result.now c.in-Err.refusal c.in-Err.ensures.check
-    (λ lacks_not. false≢true (c.in-Err.ensures.passes lacks_not (first_arrives c.program-program.result.now c.deref_mut.result.now first))))
+pub returns-clause-safe : goal.returns-clause-safe
+returns-clause-safe c =
+    let program = c.program-program.result.now in
+    let limits = c.args.limits.now in
+    let left = c.in_ok-visit_function.field-0 in
+    let sound : FunctionIsSound limits program [] c.entry-entry.result 0 left =
+    subst (λ (cs : List SavedRegisters). FunctionIsSound limits program cs c.entry-entry.result 0 left) c.new-callers.ensures.items c.in_ok-visit_function.ensures.sound in
+    subst (λ (p : List Slot). Safe p limits) c.program-program.ensures.value (outermost_safe limits program c.entry-entry.result left c.entry-entry.ensures.entries sound)
+
+pub returns-clause-visits : goal.returns-clause-visits
+returns-clause-visits c =
+    let deep = ap (λ (cs : List SavedRegisters). written_out (8 - length cs) c.program-program.result.now 0) c.new-callers.ensures.items in
+    let same = ap (λ (p : List Slot). written_out 8 p 0) c.program-program.ensures.value in
+    record { few = λ count is. omega (arith, deep, same, c.in_ok-visit_function.ensures.visits, within_count 8 c.args.shape.now 0 count is) }

@@ -13,21 +13,21 @@ use Rattle.or_memory.specs.declared.OrMemory.TheVariants.{OutOfMemory}
 use Rattle.verifier.proofs.Within.{safe_within}
 use Rattle.verifier.proofs.verification.verify.Goals as goal
 
-pub returns-in_err-pass-clause-shape : goal.returns-in_err-pass-clause-shape
-returns-in_err-pass-clause-shape c =
+pub returns-in_err-visits-clause-shape : goal.returns-in_err-visits-clause-shape
+returns-in_err-visits-clause-shape c =
     let shape_is : c.in-Ok.shape ≡ c.args.program.now = c.in-Ok.ensures.value in
-    let fails = subst (λ (p : List Slot). LacksMemoryOrMore p c.in_err-pass.field-0.0) shape_is c.in_err-pass.ensures.fails in
-    let told = told_of_shape c.args.program.now c.in_err-pass.field-0.0 c.in-Ok.ensures.lawful fails in
+    let fails = subst (λ (p : List Slot). LacksMemoryOrMore p c.in_err-visits.field-0.0) shape_is c.in_err-visits.ensures.fails in
+    let told = told_of_shape c.args.program.now c.in_err-visits.field-0.0 c.in-Ok.ensures.lawful fails in
     search (rules, told)
 
 pub returns-in-Err-clause-plain : goal.returns-in-Err-clause-plain
 returns-in-Err-clause-plain c = λ plain. absurd (plain_lawful c.args.program.now c.in-Err.fault plain c.in-Err.ensures.fault)
 
-pub returns-in_err-pass-clause-plain : goal.returns-in_err-pass-clause-plain
-returns-in_err-pass-clause-plain c =
+pub returns-in_err-visits-clause-plain : goal.returns-in_err-visits-clause-plain
+returns-in_err-visits-clause-plain c =
     let shape_is : c.in-Ok.shape ≡ c.args.program.now = c.in-Ok.ensures.value in
-    let fails = subst (λ (p : List Slot). LacksMemoryOrMore p c.in_err-pass.field-0.0) shape_is c.in_err-pass.ensures.fails in
-    let told : IsPlain c.args.program.now → c.in_err-pass.field-0.0 ≡ OutOfMemory = λ is. only_memory c.args.program.now c.in_err-pass.field-0.0 (plain_never_lacks c.args.program.now is) fails in
+    let fails = subst (λ (p : List Slot). LacksMemoryOrMore p c.in_err-visits.field-0.0) shape_is c.in_err-visits.ensures.fails in
+    let told : IsPlain c.args.program.now → c.in_err-visits.field-0.0 ≡ OutOfMemory = λ is. only_memory c.args.program.now c.in_err-visits.field-0.0 (plain_never_lacks c.args.program.now is) fails in
     search (rules, told)
 
 pub new-requires : goal.new-requires
@@ -36,7 +36,7 @@ new-requires c =
     let same : c.in_ok-program.program ≡ c.args.program.now = c.in_ok-program.ensures in
     let is : IsProgram c.args.program.now = subst IsProgram same (rw (← c.program.view_is) c.program.invariant.0) in
     let lawful : IsLawful c.args.program.now = c.in-Ok.ensures.lawful in
-    let safe : Safe c.args.program.now c.args.limits.now = subst (λ (p : List Slot). Safe p c.args.limits.now) shape_is c.in_ok-pass.ensures.safe in
+    let safe : Safe c.args.program.now c.args.limits.now = subst (λ (p : List Slot). Safe p c.args.limits.now) shape_is c.in_ok-visits.ensures.safe in
     let longest = subst (λ (p : List Slot). (n : ℕ) → StaticPath p (outermost 0) n → n ≤ c.in_ok-budget.budget) shape_is c.in_ok-budget.ensures.longest in
     rw same (record {
       is_program = is;

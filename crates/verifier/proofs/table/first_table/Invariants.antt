@@ -1,8 +1,8 @@
 use Rattle.std.proofs.Common.{◌≤◌}
 use Rattle.std.specs.Prelude.{vec_capacity}
 use Rattle.verifier.specs.Table.{IsFirstTable}
-use Rattle.verifier.proofs.pass.first_table.Given as goal
+use Rattle.verifier.proofs.table.first_table.Given as goal
 
 -- the entry, and as many places that nothing leads to yet
 abbrev pub invariant-loop : goal.invariant-loop
-invariant-loop l = IsFirstTable l.counter l.table.items × (l.len ≤ vec_capacity l.table) × (l.counter ≤ l.len)
+invariant-loop l = IsFirstTable l.counter l.entry l.table.items × (l.len ≤ vec_capacity l.table) × (l.counter ≤ l.len)

@@ -1,0 +1,147 @@
+-- A local call: what is called is sound from what is known there, and what comes back is known behind the call.
+use Rattle.std.proofs.Common.{◌≡◌, true, false, ℕ, ℤ, ◌+◌, ◌<◌, ◌≤◌, List, [], ◌∷◌, ◌++◌, length, Option, Some, refl, ap, sym, subst, ◌∙◌, arith, inl, inr}
+use Rattle.std.specs.Option.{option_and_then}
+use Rattle.std.proofs.lemmas.Bool.{cases_eq}
+use Rattle.std.proofs.lemmas.List.{length-append}
+use Rattle.bpf_insn.specs.declared.insn.Insn.{Insn}
+use Rattle.bpf_insn.specs.declared.insn.Insn.TheVariants.{Call}
+use Rattle.bpf_insn.specs.declared.insn.Callee.TheVariants.{Local}
+use Rattle.bpf_insn.specs.declared.program.Slot.{Slot}
+use Rattle.bpf_insn.specs.Program.{insn_at}
+use Rattle.bpf_insn.specs.Target.{target}
+use Rattle.bpf_machine.specs.MachineState.{MachineState, OpenCall}
+use Rattle.bpf_machine.specs.Step.{does}
+use Rattle.bpf_machine.specs.Stuck.{insn_is_stuck}
+use Rattle.call_shape.specs.Calls.{begins, callee_at, callee_in, function_of}
+use Rattle.call_shape.proofs.Places.{begins_there}
+use Rattle.call_shape.proofs.Ways.{further_behind}
+use Rattle.helpers.specs.declared.limits.HelperLimits.{HelperLimits}
+use Rattle.reg_domain.specs.declared.description.Description.{Description}
+use Rattle.reg_domain.specs.declared.saved.SavedRegisters.{SavedRegisters}
+use Rattle.reg_domain.specs.Description.{Describes}
+use Rattle.reg_domain.specs.Follows.{NeverStuck, StepsBy}
+use Rattle.verifier.specs.Function.{AreDone, IsLawfulProgram, IsOwn, Stands}
+use Rattle.verifier.specs.Goes.{FunctionIsSound, IsBack, IsLeft, StaysWell}
+use Rattle.verifier.specs.OnTheWay.{IsChain}
+use Rattle.verifier.specs.Table.{Table, described, HasComeBack, IsKnown}
+use Rattle.verifier.proofs.Led.{described_so}
+use Rattle.verifier.proofs.OnItsWay.{callee_own, chain_back, chain_called, local_call, room_left}
+use Rattle.verifier.proofs.Sound.{well_until}
+use Rattle.verifier.proofs.Steps.{enters}
+use Rattle.verifier.proofs.Visited.{HasVisited, same_widens}
+
+-- the local call at a place
+pub call_at : (program : List Slot) (place callee : ℕ) → begins program place ≡ true → callee_at program place ≡ Some callee → (distance : ℤ) × (insn_at program place ≡ Some (Call (Local distance))) × (target place distance ≡ callee)
+call_at program place callee begun calls =
+    let insn = begins_there program place begun in
+    let leads : callee_in place insn.0 ≡ Some callee = sym (ap (option_and_then (callee_in place)) insn.1) ∙ calls in
+    let call = local_call place callee insn.0 leads in
+    (call.0, insn.1 ∙ ap Some call.1, call.2)
+
+-- there is room for one frame more
+pub room_to_enter : (program : List Slot) (callers : List SavedRegisters) (place callee : ℕ) (d : Description) → IsLawfulProgram program → IsOwn program callers (function_of program place) place d → callee_at program place ≡ Some callee → length callers + 1 < 8
+room_to_enter program callers place callee d lawful own calls =
+    let call = call_at program place callee own.begun calls in
+    room_left program (length callers) place call.0 lawful call.1 own.chain
+
+pub more_callers : (callers : List SavedRegisters) (saved : SavedRegisters) → length (callers ++ saved ∷ []) ≡ length callers + 1
+more_callers callers saved = omega (arith, length-append callers (saved ∷ []))
+
+-- the start of the function that is called is its own
+pub entry_own : (program : List Slot) (callers : List SavedRegisters) (saved : SavedRegisters) (place callee : ℕ) (d entry : Description) → IsLawfulProgram program → IsOwn program callers (function_of program place) place d → callee_at program place ≡ Some callee → length entry.stack ≡ length d.stack + 1 → IsOwn program (callers ++ saved ∷ []) callee callee entry
+entry_own program callers saved place callee d entry lawful own calls deep =
+    let call = call_at program place callee own.begun calls in
+    let start = callee_own program place callee (Call (Local call.0)) lawful call.1 (ap Some call.2) in
+    let chain : IsChain program (length callers + 1) callee = subst (IsChain program (length callers + 1)) call.2 (chain_called program (length callers) place call.0 lawful call.1 own.chain) in
+    record {
+      begun = start.0;
+      within = start.1;
+      frames = omega (arith, deep, own.frames, more_callers callers saved);
+      chain = subst (λ (n : ℕ). IsChain program n callee) (sym (more_callers callers saved)) chain;
+    }
+
+-- what stands before the last one
+same_front : (xs ys : List SavedRegisters) (x y : SavedRegisters) → xs ++ x ∷ [] ≡ ys ++ y ∷ [] → xs ≡ ys
+same_front [] [] x y e = refl
+same_front [] (b ∷ ys) x y e = absurd (omega (arith, ap length e, length-append ys (y ∷ [])))
+same_front (a ∷ xs) [] x y e = absurd (omega (arith, ap length e, length-append xs (x ∷ [])))
+same_front (a ∷ xs) (b ∷ ys) x y e =
+    let rest : xs ++ x ∷ [] ≡ ys ++ y ∷ [] = cc in
+    let first : a ≡ b = cc in
+    let fronts : xs ≡ ys = same_front xs ys x y rest in
+    λ i. first i ∷ fronts i
+
+same_call : (a b : OpenCall) (xs ys : List OpenCall) → a ∷ xs ≡ b ∷ ys → (a ≡ b) × (xs ≡ ys)
+same_call a b xs ys e = (cc, cc)
+
+left_back : (callers : List SavedRegisters) (saved : SavedRegisters) (left : Option Description) (place : ℕ) (call : OpenCall) (calls entered : List OpenCall) → call.return_place ≡ place → entered ≡ call ∷ calls → (m : MachineState) → IsLeft (callers ++ saved ∷ []) left entered m → IsBack callers left place calls m
+left_back callers saved left place call calls entered returns opened m is =
+    let same = same_call call is.call calls is.rest (sym opened ∙ is.calls_were) in
+    let outer : callers ≡ is.outer = same_front callers is.outer saved is.saved is.callers_were in
+    record {
+      description = is.description;
+      known = is.known;
+      behind_call = is.place ∙ (ap (λ (c : OpenCall). c.return_place) (sym same.0) ∙ returns);
+      calls_are = is.calls_are ∙ sym same.1;
+      holds = subst (λ (cs : List SavedRegisters). Describes cs is.description m) (sym outer) is.holds;
+    }
+
+-- a machine that is let into what is called is well until it comes back
+pub call_sound : (limits : HelperLimits) (program : List Slot) (callers : List SavedRegisters) (saved : SavedRegisters) (d entry : Description) (place callee : ℕ) (left : Option Description) → ((callers : List SavedRegisters) (distance : ℤ) (m m' : MachineState) → Describes callers d m → does m (Call (Local distance)) ≡ Some m' → Describes (callers ++ saved ∷ []) entry m') → FunctionIsSound limits program (callers ++ saved ∷ []) entry callee left → (distance : ℤ) (m m' : MachineState) → Describes callers d m → m.place ≡ place → target place distance ≡ callee → StepsBy m (Call (Local distance)) m' → (n : ℕ) → StaysWell program limits (IsBack callers left (place + 1) m.open_calls) n m'
+call_sound limits program callers saved d entry place callee left known sound distance m m' holds at leads step n =
+    let in_callee = enters m m' distance step in
+    let start : m'.place ≡ callee = in_callee.place ∙ (ap (λ (k : ℕ). target k distance) at ∙ leads) in
+    let returns : in_callee.call.return_place ≡ place + 1 = in_callee.behind_call ∙ ap (λ (k : ℕ). k + 1) at in
+    well_until program limits (IsLeft (callers ++ saved ∷ []) left m'.open_calls) (IsBack callers left (place + 1) m.open_calls)
+    (left_back callers saved left (place + 1) in_callee.call m.open_calls m'.open_calls returns in_callee.calls)
+    n m' (sound m' start (known callers distance m m' holds in_callee.step) n)
+
+back_stands : (callers : List SavedRegisters) (start : ℕ) (before : Table) (at : ℕ) (back : Option Description) (after : Table) (calls : List OpenCall) → HasComeBack before (at + 1) back after → (m : MachineState) → IsBack callers back (start + at + 1) calls m → Stands callers calls start after m
+back_stands callers start before at back after calls come m is = record {
+  at = at + 1;
+  place = omega (arith, is.behind_call);
+  known = come.here is.description is.known callers m is.holds;
+  calls_are = is.calls_are;
+}
+
+-- a place where a function is called is done with
+pub visited_call : (limits : HelperLimits) (program : List Slot) (callers : List SavedRegisters) (start : ℕ) (before : Table) (left : Option Description) (at : ℕ) (insn : Insn) (callee : ℕ) (d : Description) (back : Option Description) (after : Table) → IsLawfulProgram program → insn_at program (start + at) ≡ Some insn → callee_in (start + at) insn ≡ Some callee → described before at ≡ Some d → AreDone limits program callers start before left at → ((limits : HelperLimits) (distance : ℤ) → NeverStuck limits callers (Call (Local distance)) d) → ((distance : ℤ) (m m' : MachineState) → Describes callers d m → m.place ≡ start + at → target (start + at) distance ≡ callee → StepsBy m (Call (Local distance)) m' → (n : ℕ) → StaysWell program limits (IsBack callers back (start + at + 1) m.open_calls) n m') → ((there : Description) → back ≡ Some there → length there.stack ≡ length callers + 1) → length after ≡ length before → HasComeBack before (at + 1) back after → HasVisited limits program callers start before left at insn after left
+visited_call limits program callers start before left at insn callee d back after lawful here leads there are unstuck sound frames whole come =
+    let call = local_call (start + at) callee insn leads in
+    let call_here : insn_at program (start + at) ≡ Some (Call (Local call.0)) = here ∙ ap Some call.1 in
+    let own = are.own at d there in
+    let next = further_behind program (start + at) (Call (Local call.0)) lawful.0 lawful.1.frames.calls.functions call_here refl in
+    let slot : start + at + 1 ≡ start + (at + 1) = omega arith in
+    let kept : (k : ℕ) → k ≤ at → described after k ≡ described before k = λ k le. come.others k (λ same. omega (arith, same, le)) in
+    let all = come.frames (length callers + 1) frames (λ k e is. (are.own k e is).frames) in
+    record {
+      whole = whole;
+      grows = come.grows;
+      widens = same_widens left;
+      kept = kept;
+      own = λ k e is. elim (cases_eq k (at + 1)) [
+        | inl same ↦
+            let place : start + at + 1 ≡ start + k = omega (arith, same) in
+            record {
+              begun = subst (λ (n : ℕ). begins program n ≡ true) place next.there;
+              within = subst (λ (n : ℕ). function_of program n ≡ start) place (next.within ∙ own.within);
+              frames = all k e is;
+              chain = subst (IsChain program (length callers)) place (chain_back program (length callers) (start + at) call.0 lawful call_here own.chain);
+            }
+        | inr other ↦ are.own k e (sym (come.others k other) ∙ is)
+      ];
+      left_frames = are.left_frames;
+      done = record {
+        unstuck = λ m known.
+            let was : IsKnown callers before at m = record { description = known.description; there = sym (kept at (omega arith)) ∙ known.there; holds = known.holds } in
+            let stuck = unstuck limits call.0 m (described_so callers before at d m there was) in
+            subst (λ (i : Insn). insn_is_stuck limits m i ≡ false) (sym call.1) stuck;
+        follows = λ m m' place known step.
+            let was : IsKnown callers before at m = record { description = known.description; there = sym (kept at (omega arith)) ∙ known.there; holds = known.holds } in
+            let stepped : StepsBy m (Call (Local call.0)) m' = subst (λ (i : Insn). StepsBy m i m') call.1 step in
+            inr (inr (λ n.
+            well_until program limits (IsBack callers back (start + at + 1) m.open_calls) (Stands callers m.open_calls start after)
+            (back_stands callers start before at back after m.open_calls come) n m'
+            (sound call.0 m m' (described_so callers before at d m there was) place call.2 stepped n)));
+      };
+    }

@@ -1,0 +1,117 @@
+-- A place where a function is left is done with, and so is one where control stays in it.
+use Rattle.std.proofs.Common.{◌≡◌, true, false, ℕ, ◌+◌, ◌≤◌, List, [], ◌∷◌, ◌++◌, length, Option, Some, None, refl, ap, sym, subst, ◌∙◌, arith, ◌⊎◌, inl, inr}
+use Rattle.std.proofs.lemmas.Bool.{cases_Bool, cases_eq}
+use Rattle.bpf_insn.specs.declared.insn.Insn.{Insn}
+use Rattle.bpf_insn.specs.declared.insn.Insn.TheVariants.{Exit}
+use Rattle.bpf_insn.specs.declared.program.Slot.{Slot}
+use Rattle.bpf_insn.specs.Program.{insn_at}
+use Rattle.bpf_machine.specs.MachineState.{MachineState}
+use Rattle.bpf_machine.specs.Stuck.{insn_is_stuck}
+use Rattle.call_shape.specs.Shape.{behind, goes_on_behind, target_in}
+use Rattle.call_shape.proofs.Ways.{IsFurther, further_behind}
+use Rattle.call_shape.specs.Shape.{AreContained}
+use Rattle.call_shape.proofs.Contained.{jumps_forward, jumps_to_insn, jumps_within, target_there}
+use Rattle.helpers.specs.declared.limits.HelperLimits.{HelperLimits}
+use Rattle.reg_domain.specs.declared.description.Description.{Description}
+use Rattle.reg_domain.specs.declared.saved.SavedRegisters.{SavedRegisters}
+use Rattle.reg_domain.specs.Description.{Describes}
+use Rattle.reg_domain.specs.Follows.{NeverStuck, Stays, StepsBy}
+use Rattle.verifier.specs.Function.{AreDone, HasChecked, IsLawfulProgram, IsOwn}
+use Rattle.verifier.specs.Goes.{IsLeft}
+use Rattle.verifier.specs.OnTheWay.{IsChain}
+use Rattle.verifier.specs.Table.{Table, described, HasLeft}
+use Rattle.verifier.proofs.Led.{described_so}
+use Rattle.verifier.proofs.OnItsWay.{chain_behind, chain_target}
+use Rattle.verifier.proofs.Steps.{leaves}
+use Rattle.verifier.proofs.Visited.{HasVisited, known_as, same_widens}
+
+gone : (callers outer : List SavedRegisters) (saved : SavedRegisters) (d : Description) (left wider : Option Description) (m m' : MachineState) → callers ≡ outer ++ saved ∷ [] → HasLeft saved d left wider → Describes callers d m → StepsBy m Exit m' → IsLeft callers wider m.open_calls m'
+gone callers outer saved d left wider m m' waits has holds step =
+    let out = leaves m m' step in
+    let now = has.leaves outer m m' (subst (λ (cs : List SavedRegisters). Describes cs d m) waits holds) out.step in
+    record {
+      call = out.call;
+      rest = out.outer;
+      calls_were = out.before;
+      outer = outer;
+      saved = saved;
+      callers_were = waits;
+      description = now.0;
+      known = now.1;
+      place = out.place;
+      calls_are = out.calls;
+      holds = now.2;
+    }
+
+pub visited_leave : (limits : HelperLimits) (program : List Slot) (callers : List SavedRegisters) (start : ℕ) (table : Table) (left : Option Description) (at : ℕ) (insn : Insn) (outer : List SavedRegisters) (saved : SavedRegisters) (d : Description) (wider : Option Description) → insn ≡ Exit → callers ≡ outer ++ saved ∷ [] → described table at ≡ Some d → AreDone limits program callers start table left at → ((limits : HelperLimits) (outer : List SavedRegisters) → NeverStuck limits (outer ++ saved ∷ []) Exit d) → HasLeft saved d left wider → HasVisited limits program callers start table left at insn table wider
+visited_leave limits program callers start table left at insn outer saved d wider exit waits there are unstuck has = record {
+  whole = refl;
+  grows = λ others k m known. known;
+  widens = has.keeps;
+  kept = λ k le. refl;
+  own = are.own;
+  left_frames = has.frames (length callers) (are.own at d there).frames are.left_frames;
+  done = record {
+    unstuck = λ m known.
+        let holds = subst (λ (cs : List SavedRegisters). Describes cs d m) waits (described_so callers table at d m there known) in
+        subst (λ (i : Insn). insn_is_stuck limits m i ≡ false) (sym exit) (unstuck limits outer m holds);
+    follows = λ m m' place known step.
+        inr (inl (gone callers outer saved d left wider m m' waits has (described_so callers table at d m there known) (subst (λ (i : Insn). StepsBy m i m') exit step)));
+  };
+}
+
+further_target : (program : List Slot) (place to : ℕ) (insn : Insn) → AreContained program → insn_at program place ≡ Some insn → target_in place insn ≡ Some to → IsFurther program place to
+further_target program place to insn functions here leads =
+    let there = target_there program place to insn here leads in
+    record {
+      forward = jumps_forward program place to functions.calls.jumps there;
+      there = jumps_to_insn program place to functions.calls.jumps.targets there;
+      within = jumps_within program place to functions there;
+    }
+
+-- a place further on is the function's own
+own_on : (program : List Slot) (callers : List SavedRegisters) (start place next : ℕ) (d e : Description) → IsOwn program callers start place d → IsFurther program place next → length e.stack ≡ length callers + 1 → IsChain program (length callers) next → IsOwn program callers start next e
+own_on program callers start place next d e own on frames chain = record {
+  begun = on.there;
+  within = on.within ∙ own.within;
+  frames = frames;
+  chain = chain;
+}
+
+pub cases_target : (o : Option ℕ) (n : ℕ) → (o ≡ Some n) ⊎ (o ≡ Some n → ⊥)
+cases_target None n = inr (λ e. absurd cc)
+cases_target (Some k) n = elim (cases_eq k n) [
+  | inl same ↦ inl (ap Some same)
+  | inr apart ↦ inr (λ e. apart (let is : k ≡ n = cc in is))
+]
+
+pub visited_check : (limits : HelperLimits) (program : List Slot) (callers : List SavedRegisters) (start : ℕ) (before : Table) (left : Option Description) (at : ℕ) (insn : Insn) (d : Description) (after : Table) → IsLawfulProgram program → insn_at program (start + at) ≡ Some insn → Stays callers insn → described before at ≡ Some d → AreDone limits program callers start before left at → length after ≡ length before → HasChecked limits callers start before at insn after → HasVisited limits program callers start before left at insn after left
+visited_check limits program callers start before left at insn d after lawful here stays there are whole checked =
+    let own = are.own at d there in
+    let functions = lawful.1.frames.calls.functions in
+    let all = checked.frames (length callers + 1) (λ k e is. (are.own k e is).frames) in
+    let kept : (k : ℕ) → k ≤ at → described after k ≡ described before k = λ k le.
+    checked.others k (λ goes same. omega (arith, same, le)) (λ leads. omega (arith, le, (further_target program (start + at) (start + k) insn functions here leads).forward)) in
+    record {
+      whole = whole;
+      grows = checked.grows;
+      widens = same_widens left;
+      kept = kept;
+      own = λ k e is. elim (cases_target (target_in (start + at) insn) (start + k)) [
+        | inl leads ↦ own_on program callers start (start + at) (start + k) d e own (further_target program (start + at) (start + k) insn functions here leads) (all k e is)
+            (chain_target program (length callers) (start + at) (start + k) insn here leads own.chain)
+        | inr no_target ↦ elim (cases_eq (start + k) (behind (start + at) insn)) [
+          | inr not_behind ↦ are.own k e (sym (checked.others k (λ goes same. not_behind same) no_target) ∙ is)
+          | inl same ↦ elim (cases_Bool (goes_on_behind insn)) [
+            | inl goes ↦ rw same (own_on program callers start (start + at) (behind (start + at) insn) d e own (further_behind program (start + at) insn lawful.0 functions here goes) (all k e is)
+                (chain_behind program (length callers) (start + at) callers insn here stays goes own.chain))
+            | inr ends ↦ are.own k e (sym (checked.others k (λ goes on. let bad : true ≡ false = sym goes ∙ ends in absurd cc) no_target) ∙ is)
+          ]
+        ]
+      ];
+      left_frames = are.left_frames;
+      done = record {
+        unstuck = λ m known. checked.unstuck m (known_as callers after before at m (sym (kept at (omega arith))) known);
+        follows = λ m m' place known step. inl (checked.follows m m' place (known_as callers after before at m (sym (kept at (omega arith))) known) step);
+      };
+    }

@@ -1,0 +1,135 @@
+-- The places of a function before one are done with, and a visit is done with that one too.
+use Rattle.std.proofs.Common.{◌≡◌, ℕ, zero, suc, ◌+◌, ◌<◌, ◌≤◌, List, ◌++◌, length, take, Option, Some, None, refl, ap, sym, subst, ◌∙◌, arith, ◌⊎◌, inl, inr}
+use Rattle.std.proofs.Math.Seq.{take-append_seam}
+use Rattle.std.proofs.lemmas.Bool.{cases_eq}
+use Rattle.bpf_insn.specs.declared.insn.Insn.{Insn}
+use Rattle.bpf_insn.specs.declared.program.Slot.{Slot}
+use Rattle.bpf_insn.specs.Program.{insn_at}
+use Rattle.bpf_machine.specs.MachineState.{MachineState, OpenCall}
+use Rattle.helpers.specs.declared.limits.HelperLimits.{HelperLimits}
+use Rattle.reg_domain.specs.declared.description.Description.{Description}
+use Rattle.reg_domain.specs.declared.saved.SavedRegisters.{SavedRegisters}
+use Rattle.reg_domain.specs.Description.{Covers, Describes}
+use Rattle.verifier.specs.Function.{AreDone, IsDone, IsEnd, IsOwn, Lands, Stands}
+use Rattle.verifier.specs.Goes.{IsLeft}
+use Rattle.verifier.specs.Table.{Table, described, Grows, IsFirstTable, IsKnown}
+use Rattle.verifier.proofs.Joined.{same_description}
+use Rattle.verifier.proofs.Sound.{well_until}
+
+-- what was known where a function is left is known still
+abbrev pub Widens : Option Description → Option Description → Type 0
+Widens before after = (old : Description) → before ≡ Some old → (now : Description) × (after ≡ Some now) × Covers old now
+
+pub same_widens : (left : Option Description) → Widens left left
+same_widens left old is = (old, is, λ callers m holds. holds)
+
+-- where the same is described the same is known
+pub known_as : (callers : List SavedRegisters) (table other : Table) (at : ℕ) (m : MachineState) → described other at ≡ described table at → IsKnown callers table at m → IsKnown callers other at m
+known_as callers table other at m same known = record { description = known.description; there = same ∙ known.there; holds = known.holds }
+
+stands_on : (callers : List SavedRegisters) (calls : List OpenCall) (start : ℕ) (before after : Table) (m : MachineState) → Grows before after → Stands callers calls start before m → Stands callers calls start after m
+stands_on callers calls start before after m grows stands = record { at = stands.at; place = stands.place; known = grows callers stands.at m stands.known; calls_are = stands.calls_are }
+
+left_wider : (callers : List SavedRegisters) (calls : List OpenCall) (before after : Option Description) (m : MachineState) → Widens before after → IsLeft callers before calls m → IsLeft callers after calls m
+left_wider callers calls before after m wider is =
+    let now = wider is.description is.known in
+    record {
+      call = is.call;
+      rest = is.rest;
+      calls_were = is.calls_were;
+      outer = is.outer;
+      saved = is.saved;
+      callers_were = is.callers_were;
+      description = now.0;
+      known = now.1;
+      place = is.place;
+      calls_are = is.calls_are;
+      holds = now.2 is.outer m is.holds;
+    }
+
+lands_on : (limits : HelperLimits) (program : List Slot) (callers : List SavedRegisters) (calls : List OpenCall) (start : ℕ) (before after : Table) (left wider : Option Description) (m : MachineState) → Grows before after → Widens left wider → Lands limits program callers calls start before left m → Lands limits program callers calls start after wider m
+lands_on limits program callers calls start before after left wider m grows widens (inl on) = inl (stands_on callers calls start before after m grows on)
+lands_on limits program callers calls start before after left wider m grows widens (inr (inl gone)) = inr (inl (left_wider callers calls left wider m widens gone))
+lands_on limits program callers calls start before after left wider m grows widens (inr (inr called)) =
+    inr (inr (λ n. well_until program limits (Stands callers calls start before) (Stands callers calls start after) (λ m' on. stands_on callers calls start before after m' grows on) n m (called n)))
+
+still_done : (limits : HelperLimits) (program : List Slot) (callers : List SavedRegisters) (start : ℕ) (before after : Table) (left wider : Option Description) (at : ℕ) (insn : Insn) → described after at ≡ described before at → Grows before after → Widens left wider → IsDone limits program callers start before left at insn → IsDone limits program callers start after wider at insn
+still_done limits program callers start before after left wider at insn same grows widens is = record {
+  unstuck = λ m known. is.unstuck m (known_as callers after before at m (sym same) known);
+  follows = λ m m' place known step. lands_on limits program callers m.open_calls start before after left wider m' grows widens (is.follows m m' place (known_as callers after before at m (sym same) known) step);
+}
+
+-- what a visit leaves as it was, and that the place is done with
+pub record HasVisited (limits : HelperLimits) (program : List Slot) (callers : List SavedRegisters) (start : ℕ) (before : Table) (left : Option Description) (at : ℕ) (insn : Insn) (after : Table) (wider : Option Description) : Type 0 where
+  pub whole : length after ≡ length before
+  pub grows : Grows before after
+  pub widens : Widens left wider
+  pub kept : (k : ℕ) → k ≤ at → described after k ≡ described before k
+  pub own : (k : ℕ) (d : Description) → described after k ≡ Some d → IsOwn program callers start (start + k) d
+  pub left_frames : (d : Description) → wider ≡ Some d → length d.stack ≡ length callers
+  pub done : IsDone limits program callers start after wider at insn
+
+same_insn : (x y : Insn) (o : Option Insn) → o ≡ Some x → o ≡ Some y → x ≡ y
+same_insn x y o e f = cc
+
+pub one_more : (limits : HelperLimits) (program : List Slot) (callers : List SavedRegisters) (start : ℕ) (before : Table) (left : Option Description) (at : ℕ) (insn : Insn) (after : Table) (wider : Option Description) → insn_at program (start + at) ≡ Some insn → AreDone limits program callers start before left at → HasVisited limits program callers start before left at insn after wider → AreDone limits program callers start after wider (at + 1)
+one_more limits program callers start before left at insn after wider here are did = record {
+  end = subst (λ (n : ℕ). IsEnd program start (start + n)) (sym did.whole) are.end;
+  own = did.own;
+  left_frames = did.left_frames;
+  done = λ k other lt there. elim (cases_eq k at) [
+    | inl same ↦
+        let is : insn ≡ other = same_insn insn other (insn_at program (start + at)) here (sym (ap (λ (n : ℕ). insn_at program (start + n)) same) ∙ there) in
+        rw (same, ← is) did.done
+    | inr apart ↦
+        let below : k < at = omega (arith, lt, apart) in
+        still_done limits program callers start before after left wider k other (did.kept k (omega (arith, below))) did.grows did.widens (are.done k other below there)
+  ];
+}
+
+-- where nothing leads to a place it is done with
+pub skipped : (limits : HelperLimits) (program : List Slot) (callers : List SavedRegisters) (start : ℕ) (table : Table) (left : Option Description) (at : ℕ) → (described table at ≡ None) ⊎ (insn_at program (start + at) ≡ None) → AreDone limits program callers start table left at → AreDone limits program callers start table left (at + 1)
+skipped limits program callers start table left at none are = record {
+  end = are.end;
+  own = are.own;
+  left_frames = are.left_frames;
+  done = λ k insn lt there. elim (cases_eq k at) [
+    | inl same ↦ elim none [
+      | inl unknown ↦
+          let never : (m : MachineState) → IsKnown callers table k m → ⊥ = λ m known. let bad : None ≡ Some known.description = sym unknown ∙ (sym (ap (described table) same) ∙ known.there) in absurd cc in
+          record {
+            unstuck = λ m known. absurd (never m known);
+            follows = λ m m' place known step. absurd (never m known);
+          }
+      | inr nothing ↦ absurd (let bad : None ≡ Some insn = sym nothing ∙ (sym (ap (λ (n : ℕ). insn_at program (start + n)) same) ∙ there) in cc)
+    ]
+    | inr apart ↦ are.done k insn (omega (arith, lt, apart)) there
+  ];
+}
+
+-- at first the function's start alone is described
+pub opening : (limits : HelperLimits) (program : List Slot) (callers : List SavedRegisters) (start len : ℕ) (entry : Description) (table : Table) → IsEnd program start (start + len) → IsOwn program callers start start entry → IsFirstTable len entry table → AreDone limits program callers start table None 0
+opening limits program callers start len entry table end own first = record {
+  end = subst (λ (n : ℕ). IsEnd program start (start + n)) (sym first.whole) end;
+  own = owned;
+  left_frames = λ d is. absurd (let bad : None ≡ Some d = is in cc);
+  done = λ k insn lt at. absurd (omega (arith, lt));
+}
+  where
+    owned : (k : ℕ) (d : Description) → described table k ≡ Some d → IsOwn program callers start (start + k) d
+    owned zero d there =
+        let is : entry ≡ d = same_description entry d (sym first.there ∙ there) in
+        let at : start ≡ start + 0 = omega arith in
+        subst (λ (n : ℕ). IsOwn program callers start n d) at (subst (IsOwn program callers start start) is own)
+    owned (suc k) d there = absurd (let bad : None ≡ Some d = sym (first.others (suc k) (omega arith)) ∙ there in cc)
+
+pub entry_known : (callers : List SavedRegisters) (len : ℕ) (entry : Description) (table : Table) → IsFirstTable len entry table → (m : MachineState) → Describes callers entry m → IsKnown callers table 0 m
+entry_known callers len entry table first m holds = record { description = entry; there = first.there; holds = holds }
+
+-- what stands in a list's place that is written back whole
+pub written_back : (xs ys : Table) (n : ℕ) → n ≡ length xs → take n (xs ++ ys) ≡ xs
+written_back xs ys n is = ap (λ (k : ℕ). take k (xs ++ ys)) is ∙ take-append_seam xs ys
+
+pub none_by : (o : Option Description) → ((d : Description) → o ≡ Some d → ⊥) → o ≡ None
+none_by None never = refl
+none_by (Some d) never = absurd (never d refl)

@@ -1,0 +1,293 @@
+use Rattle.std.proofs.Common.{◌≡◌, ℕ, ◌+◌, ◌-◌, ◌<◌, ◌≤◌, List, [], ◌∷◌, ◌++◌, length, Some, None, refl, ap, sym, subst, ◌∙◌, rules, arith, inl, inr}
+use Rattle.std.proofs.lemmas.List.{get_or_default}
+use Rattle.std.proofs.lemmas.Result.{err_from_is_err_and}
+use Rattle.bpf_insn.specs.declared.insn.Insn.TheVariants.{Call}
+use Rattle.bpf_insn.specs.declared.insn.Callee.TheVariants.{Local}
+use Rattle.bpf_insn.specs.Program.{insn_at}
+use Rattle.call_shape.specs.Calls.{callee_in}
+use Rattle.call_shape.specs.declared.lawful_shape.TheConstants.{MAX_WRITTEN_OUT}
+use Rattle.call_shape.proofs.Contained.{callee_there}
+use Rattle.reg_domain.specs.declared.saved.SavedRegisters.{SavedRegisters}
+use Rattle.reg_domain.specs.Enough.{IsEntryKnown}
+use Rattle.reg_domain.specs.Follows.{Stays}
+use Rattle.std.specs.Prelude.{IfOk}
+use Rattle.verifier.specs.Arrives.{AllArrive, IsNeverLacking}
+use Rattle.verifier.specs.Function.{AreDone, HasChecked, IsEnd, IsOwn, checks_at, deep_under}
+use Rattle.verifier.specs.Goes.{FunctionIsSound}
+use Rattle.verifier.specs.Table.{Table, described, IsKnown}
+use Rattle.verifier.proofs.Checked.{stays_by}
+use Rattle.verifier.proofs.Called.{call_sound, entry_own, more_callers, room_to_enter, visited_call}
+use Rattle.verifier.proofs.Counts.{callee_count, checks_call, checks_one, room_for_one, total_next, within_whole}
+use Rattle.verifier.proofs.Lacking.{first_arrives, never_calls}
+use Rattle.verifier.proofs.Led.{if_ok}
+use Rattle.verifier.proofs.LeftOrChecked.{visited_check, visited_leave}
+use Rattle.verifier.proofs.OnItsWay.{chain_short, local_call}
+use Rattle.verifier.proofs.Sound.{function_sound}
+use Rattle.verifier.proofs.Told.{fails_so, if_err, on_ok}
+use Rattle.verifier.proofs.Visited.{entry_known, none_by, one_more, opening, skipped, written_back}
+use Rattle.verifier.proofs.pass.+functions.Goals as goal
+
+pub call-enter-saved-requires : goal.call-enter-saved-requires
+call-enter-saved-requires t c =
+    let room = room_to_enter c.args.program.now c.args.callers.now.items c.args.place c.args.callee c.args.description.now c.requires.lawful c.requires.own c.requires.calls in
+    omega (arith, room, c.requires.own.frames)
+
+pub call-returns-in_err-reserve-clause-unstuck : goal.call-returns-in_err-reserve-clause-unstuck
+call-returns-in_err-reserve-clause-unstuck t c = λ limits distance. c.enter-saved.ensures.unstuck limits c.args.callers.now.items distance
+
+pub call-visit_function-requires : goal.call-visit_function-requires
+call-visit_function-requires t c =
+    let callers = c.args.callers.now.items in
+    let saved = c.enter-saved.result in
+    let pushed : c.push_reserved.new.self.items ≡ callers ++ saved ∷ [] = search rules in
+    let count : length c.push_reserved.new.self.items ≡ length callers + 1 = ap length pushed ∙ more_callers callers saved in
+    let room = room_to_enter c.args.program.now callers c.args.place c.args.callee c.args.description.now c.requires.lawful c.requires.own c.requires.calls in
+    let own = entry_own c.args.program.now callers saved c.args.place c.args.callee c.args.description.now c.enter-saved.new.self c.requires.lawful c.requires.own c.requires.calls c.enter-saved.ensures.depth in
+    let few = callee_count callers c.push_reserved.new.self.items c.args.program.now c.args.callee count in (
+      omega (arith, c.decreases, count, room),
+      (
+        c.requires.lawful,
+        (
+          subst (λ (cs : List SavedRegisters). IsOwn c.args.program.now cs c.args.callee c.args.callee c.enter-saved.new.self) (sym pushed) own,
+          omega (arith, few, c.requires.few),
+        ),
+      ),
+    )
+
+pub call-returns-in_err-left-clause-unstuck : goal.call-returns-in_err-left-clause-unstuck
+call-returns-in_err-left-clause-unstuck t c = λ limits distance. c.enter-saved.ensures.unstuck limits c.args.callers.now.items distance
+
+pub call-returns-clause-unstuck : goal.call-returns-clause-unstuck
+call-returns-clause-unstuck t c = λ limits distance. c.enter-saved.ensures.unstuck limits c.args.callers.now.items distance
+
+pub call-returns-clause-sound : goal.call-returns-clause-sound
+call-returns-clause-sound t c =
+    let callers = c.args.callers.now.items in
+    let saved = c.enter-saved.result in
+    let pushed : c.push_reserved.new.self.items ≡ callers ++ saved ∷ [] = search rules in
+    let sound : FunctionIsSound c.args.limits.now c.args.program.now (callers ++ saved ∷ []) c.enter-saved.new.self c.args.callee c.in_ok-left.left =
+    subst (λ (cs : List SavedRegisters). FunctionIsSound c.args.limits.now c.args.program.now cs c.enter-saved.new.self c.args.callee c.in_ok-left.left) pushed c.in_ok-left.ensures.sound in
+    call_sound c.args.limits.now c.args.program.now callers saved c.args.description.now c.enter-saved.new.self c.args.place c.args.callee c.in_ok-left.left c.enter-saved.ensures.enters sound
+
+pub visit-returns-in_default-clause-done : goal.visit-returns-in_default-clause-done
+visit-returns-in_default-clause-done t c =
+    let none : insn_at c.args.program.now (c.args.start + c.args.at) ≡ None = search rules in
+    skipped c.args.limits.now c.args.program.now c.args.callers.now.items c.args.start c.args.table.now c.args.left.now c.args.at (inr none) c.requires.before
+
+pub visit-returns-in_default-table-clause-done : goal.visit-returns-in_default-table-clause-done
+visit-returns-in_default-table-clause-done t c =
+    let unknown : described c.args.table.now c.args.at ≡ None = get_or_default c.args.table.now c.args.at None _ c.requires.at ∙ none_by _ c.in_default-table.not-Some in
+    skipped c.args.limits.now c.args.program.now c.args.callers.now.items c.args.start c.args.table.now c.args.left.now c.args.at (inl unknown) c.requires.before
+
+pub visit-call-requires : goal.visit-call-requires
+visit-call-requires t c =
+    let program = c.args.program.now in
+    let callers = c.args.callers.now.items in
+    let place = c.args.start + c.args.at in
+    let here : insn_at program place ≡ Some c.in-Some.insn = sym c.in-Some.ensures.value in
+    let leads : callee_in place c.in-Some.insn ≡ Some c.in-Some-callee_of.target = sym c.in-Some-callee_of.ensures in
+    let there : described c.args.table.now c.args.at ≡ Some c.in-Some-table.description = get_or_default c.args.table.now c.args.at None _ c.requires.at ∙ c.in-Some-table.is in
+    let own = c.requires.before.own c.args.at c.in-Some-table.description there in
+    let checks = checks_call (deep_under callers) program c.args.start place c.in-Some.insn c.in-Some-callee_of.target own.within here leads in (
+      omega (arith, c.decreases),
+      (
+        c.requires.lawful,
+        (
+          subst (λ (k : ℕ). IsOwn program callers k place c.in-Some-table.description) (sym own.within) own,
+          (callee_there program place c.in-Some-callee_of.target c.in-Some.insn here leads, omega (arith, checks, c.requires.few)),
+        ),
+      ),
+    )
+
+pub visit-returns-in_err-back-clause-fails : goal.visit-returns-in_err-back-clause-fails
+visit-returns-in_err-back-clause-fails t c =
+    let there : described c.args.table.now c.args.at ≡ Some c.in-Some-table.description = get_or_default c.args.table.now c.args.at None _ c.requires.at ∙ c.in-Some-table.is in
+    let p = err_from_is_err_and c.from_residual.result c.from_residual.ensures.1 in
+    rw (p.1, p.2) (fails_so ⊥ (IsNeverLacking c.args.program.now c.args.callers.now.items c.args.start × AllArrive c.args.program.now c.args.table.now) c.in_err-back.field-0.0 c.in_err-back.ensures.fails
+    (λ never. never_calls c.args.program.now c.args.callers.now.items c.args.start c.args.table.now c.args.at c.in-Some.insn c.in-Some-callee_of.target c.in-Some-table.description never.0 never.1
+    (sym c.in-Some.ensures.value) (sym c.in-Some-callee_of.ensures) there))
+
+pub visit-come_back-requires : goal.visit-come_back-requires
+visit-come_back-requires t c =
+    let place = c.args.start + c.args.at in
+    let call = local_call place c.in-Some-callee_of.target c.in-Some.insn (sym c.in-Some-callee_of.ensures) in
+    let below = c.requires.before.end.closed place (Call (Local call.0)) (omega arith) (omega (arith, c.requires.at)) (sym c.in-Some.ensures.value ∙ ap Some call.1) in
+    let lt : place + 1 < c.args.start + length c.args.table.now = below.goes_on refl in
+    omega (arith, lt)
+
+pub visit-returns-in-Some-callee_of-clause-done : goal.visit-returns-in-Some-callee_of-clause-done
+visit-returns-in-Some-callee_of-clause-done t c =
+    let limits = c.args.limits.now in
+    let program = c.args.program.now in
+    let callers = c.args.callers.now.items in
+    let place = c.args.start + c.args.at in
+    let here : insn_at program place ≡ Some c.in-Some.insn = sym c.in-Some.ensures.value in
+    let leads : callee_in place c.in-Some.insn ≡ Some c.in-Some-callee_of.target = sym c.in-Some-callee_of.ensures in
+    let there : described c.args.table.now c.args.at ≡ Some c.in-Some-table.description = get_or_default c.args.table.now c.args.at None _ c.requires.at ∙ c.in-Some-table.is in
+    if_ok c.come_back.result
+    (λ come. one_more limits program callers c.args.start c.args.table.now c.args.left.now c.args.at c.in-Some.insn c.come_back.new.table c.args.left.now here c.requires.before
+    (visited_call limits program callers c.args.start c.args.table.now c.args.left.now c.args.at c.in-Some.insn c.in-Some-callee_of.target c.in-Some-table.description c.in_ok-back.back c.come_back.new.table
+    c.requires.lawful here leads there c.requires.before c.call.ensures.unstuck c.in_ok-back.ensures.sound c.in_ok-back.ensures.frames c.come_back.ensures.whole come))
+    c.come_back.ensures.back
+
+pub visit-returns-in-Some-callee_of-clause-visits : goal.visit-returns-in-Some-callee_of-clause-visits
+visit-returns-in-Some-callee_of-clause-visits t c =
+    let program = c.args.program.now in
+    let callers = c.args.callers.now.items in
+    let place = c.args.start + c.args.at in
+    let there : described c.args.table.now c.args.at ≡ Some c.in-Some-table.description = get_or_default c.args.table.now c.args.at None _ c.requires.at ∙ c.in-Some-table.is in
+    let own = c.requires.before.own c.args.at c.in-Some-table.description there in
+    let checks = checks_call (deep_under callers) program c.args.start place c.in-Some.insn c.in-Some-callee_of.target own.within (sym c.in-Some.ensures.value) (sym c.in-Some-callee_of.ensures) in
+    on_ok c.come_back.result (omega (arith, checks, c.in_ok-back.ensures.visits))
+
+pub visit-returns-in-Some-callee_of-clause-arrives : goal.visit-returns-in-Some-callee_of-clause-arrives
+visit-returns-in-Some-callee_of-clause-arrives t c =
+    let there : described c.args.table.now c.args.at ≡ Some c.in-Some-table.description = get_or_default c.args.table.now c.args.at None _ c.requires.at ∙ c.in-Some-table.is in
+    if_ok c.come_back.result
+    (λ come never all. absurd (never_calls c.args.program.now c.args.callers.now.items c.args.start c.args.table.now c.args.at c.in-Some.insn c.in-Some-callee_of.target c.in-Some-table.description never all
+    (sym c.in-Some.ensures.value) (sym c.in-Some-callee_of.ensures) there))
+    c.come_back.ensures.back
+
+pub visit-returns-in-Some-callee_of-clause-fails : goal.visit-returns-in-Some-callee_of-clause-fails
+visit-returns-in-Some-callee_of-clause-fails t c =
+    let there : described c.args.table.now c.args.at ≡ Some c.in-Some-table.description = get_or_default c.args.table.now c.args.at None _ c.requires.at ∙ c.in-Some-table.is in
+    if_err ⊥ (IsNeverLacking c.args.program.now c.args.callers.now.items c.args.start × AllArrive c.args.program.now c.args.table.now) c.come_back.result
+    (λ never. never_calls c.args.program.now c.args.callers.now.items c.args.start c.args.table.now c.args.at c.in-Some.insn c.in-Some-callee_of.target c.in-Some-table.description never.0 never.1
+    (sym c.in-Some.ensures.value) (sym c.in-Some-callee_of.ensures) there)
+    c.come_back.ensures.fails
+
+pub visit-returns-in-Some-returning-clause-done : goal.visit-returns-in-Some-returning-clause-done
+visit-returns-in-Some-returning-clause-done t c =
+    let limits = c.args.limits.now in
+    let program = c.args.program.now in
+    let callers = c.args.callers.now.items in
+    let here : insn_at program (c.args.start + c.args.at) ≡ Some c.in-Some.insn = sym c.in-Some.ensures.value in
+    let there : described c.args.table.now c.args.at ≡ Some c.in-Some-table.description = get_or_default c.args.table.now c.args.at None _ c.requires.at ∙ c.in-Some-table.is in
+    let exit = c.in-Some-returning.ensures.some in
+    let waits : callers ≡ exit.1 ++ c.in-Some-returning.saved ∷ [] = sym c.deref.ensures.value ∙ exit.2 in
+    if_ok c.leave.result
+    (λ left. one_more limits program callers c.args.start c.args.table.now c.args.left.now c.args.at c.in-Some.insn c.args.table.now c.leave.new.left here c.requires.before
+    (visited_leave limits program callers c.args.start c.args.table.now c.args.left.now c.args.at c.in-Some.insn exit.1 c.in-Some-returning.saved c.in-Some-table.description c.leave.new.left
+    exit.0 waits there c.requires.before c.leave.ensures.unstuck left))
+    c.leave.ensures.left
+
+pub visit-returns-in-Some-returning-clause-visits : goal.visit-returns-in-Some-returning-clause-visits
+visit-returns-in-Some-returning-clause-visits t c =
+    let there : described c.args.table.now c.args.at ≡ Some c.in-Some-table.description = get_or_default c.args.table.now c.args.at None _ c.requires.at ∙ c.in-Some-table.is in
+    let own = c.requires.before.own c.args.at c.in-Some-table.description there in
+    let checks = checks_one (deep_under c.args.callers.now.items) c.args.program.now c.args.start (c.args.start + c.args.at) c.in-Some.insn own.within (sym c.in-Some.ensures.value) in
+    on_ok c.leave.result (omega (arith, checks))
+
+pub visit-returns-clause-done : goal.visit-returns-clause-done
+visit-returns-clause-done t c =
+    let limits = c.args.limits.now in
+    let program = c.args.program.now in
+    let callers = c.args.callers.now.items in
+    let place = c.args.start + c.args.at in
+    let here : insn_at program place ≡ Some c.in-Some.insn = sym c.in-Some.ensures.value in
+    let there : described c.args.table.now c.args.at ≡ Some c.in-Some-table.description = get_or_default c.args.table.now c.args.at None _ c.requires.at ∙ c.in-Some-table.is in
+    let stays : Stays callers c.in-Some.insn = stays_by callers place c.in-Some.insn (λ callee leads. c.in_default-callee_of.not-Some callee (c.callee_of.ensures ∙ leads)) (λ exit. sym c.deref.ensures.value ∙ c.in_default-returning.ensures.none exit) in
+    let checked = subst (λ (cs : List SavedRegisters). IfOk c.check_ways.result (λ _. HasChecked limits cs c.args.start c.args.table.now c.args.at c.in-Some.insn c.check_ways.new.table)) c.deref-2.ensures.value c.check_ways.ensures.checked in
+    if_ok c.check_ways.result
+    (λ done. one_more limits program callers c.args.start c.args.table.now c.args.left.now c.args.at c.in-Some.insn c.check_ways.new.table c.args.left.now here c.requires.before
+    (visited_check limits program callers c.args.start c.args.table.now c.args.left.now c.args.at c.in-Some.insn c.in-Some-table.description c.check_ways.new.table
+    c.requires.lawful here stays there c.requires.before c.check_ways.ensures.whole done))
+    checked
+
+pub visit-returns-clause-visits : goal.visit-returns-clause-visits
+visit-returns-clause-visits t c =
+    let there : described c.args.table.now c.args.at ≡ Some c.in-Some-table.description = get_or_default c.args.table.now c.args.at None _ c.requires.at ∙ c.in-Some-table.is in
+    let own = c.requires.before.own c.args.at c.in-Some-table.description there in
+    let checks = checks_one (deep_under c.args.callers.now.items) c.args.program.now c.args.start (c.args.start + c.args.at) c.in-Some.insn own.within (sym c.in-Some.ensures.value) in
+    on_ok c.check_ways.result (omega (arith, checks))
+
+pub visit_function-loop-at-init : goal.visit_function-loop-at-init
+visit_function-loop-at-init t c =
+    let limits = c.args.limits.now in
+    let program = c.args.program.now in
+    let callers = c.args.callers.now.items in
+    let len = c.end_of.result - c.args.start in
+    let end : IsEnd program c.args.start (c.args.start + len) = subst (IsEnd program c.args.start) (let e : c.end_of.result ≡ c.args.start + len = omega (arith, c.end_of.ensures.some) in e) c.end_of.ensures in
+    let first = c.in_ok-table.ensures in
+    record {
+      whole = first.whole;
+      done = opening limits program callers c.args.start len c.args.entry.now c.in_ok-table.table.items end c.requires.own first;
+      entry = entry_known callers len c.args.entry.now c.in_ok-table.table.items first;
+      callers = refl;
+      visits = omega arith;
+      counts = omega arith;
+      arrives = λ never known. first_arrives program len c.args.entry.now c.in_ok-table.table.items first known;
+    }
+
+pub visit_function-visit-requires : goal.visit_function-visit-requires
+visit_function-visit-requires t c =
+    let limits = c.args.limits.now in
+    let program = c.args.program.now in
+    let callers = c.args.callers.now.items in
+    let now = c.loop-at.callers.items in
+    let inv = c.loop-at.invariant in
+    let short = chain_short program (length callers) c.args.start c.requires.lawful c.requires.own.begun c.requires.own.chain in
+    let before = subst (λ (table : Table). AreDone limits program callers c.args.start table c.loop-at.left c.loop-at.at) (sym c.deref_mut.ensures.value) inv.done in
+    let inside : c.args.start + c.loop-at.at < length program = omega (arith, c.loop-at-test.true, c.end_of.ensures.inside) in
+    let room = room_for_one callers program c.args.start (c.args.start + c.loop-at.at) c.args.visits.now c.loop-at.visits MAX_WRITTEN_OUT short inside inv.visits c.requires.few in (
+      omega (arith, c.decreases, ap length inv.callers),
+      (
+        c.requires.lawful,
+        (
+          omega (arith, c.loop-at-test.true, inv.whole, ap length c.deref_mut.ensures.value),
+          (
+            subst (λ (cs : List SavedRegisters). AreDone limits program cs c.args.start c.deref_mut.result.now c.loop-at.left c.loop-at.at) (sym inv.callers) before,
+            subst (λ (cs : List SavedRegisters). c.loop-at.visits + checks_at (deep_under cs) program c.args.start (c.args.start + c.loop-at.at) ≤ MAX_WRITTEN_OUT) (sym inv.callers) room,
+          ),
+        ),
+      ),
+    )
+
+pub visit_function-returns-in_err-visit-clause-fails : goal.visit_function-returns-in_err-visit-clause-fails
+visit_function-returns-in_err-visit-clause-fails t c =
+    let program = c.args.program.now in
+    let inv = c.loop-at.invariant in
+    let p = err_from_is_err_and c.from_residual-in_err-visit.result c.from_residual-in_err-visit.ensures.1 in
+    rw (p.1, p.2) (fails_so (IsNeverLacking program c.loop-at.callers.items c.args.start × AllArrive program c.deref_mut.result.now) (IsNeverLacking program c.args.callers.now.items c.args.start × IsEntryKnown c.args.entry.now)
+    c.in_err-visit.field-0.0 c.in_err-visit.ensures.fails
+    (λ never. (subst (λ (cs : List SavedRegisters). IsNeverLacking program cs c.args.start) (sym inv.callers) never.0, subst (AllArrive program) (sym c.deref_mut.ensures.value) (inv.arrives never.0 never.1))))
+
+pub visit_function-loop-at-preserved : goal.visit_function-loop-at-preserved
+visit_function-loop-at-preserved t c =
+    let limits = c.args.limits.now in
+    let program = c.args.program.now in
+    let callers = c.args.callers.now.items in
+    let inv = c.loop-at.invariant in
+    let after = c.in_ok-visit.ensures in
+    let value : ℕ → ℕ = checks_at (deep_under callers) program c.args.start in
+    let visits : c.visit.new.visits ≤ c.loop-at.visits + value (c.args.start + c.loop-at.at) =
+    subst (λ (cs : List SavedRegisters). c.visit.new.visits ≤ c.loop-at.visits + checks_at (deep_under cs) program c.args.start (c.args.start + c.loop-at.at)) inv.callers after.visits in
+    let whole : c.loop-at.table.len ≡ length c.visit.new.table = search (rules, after.whole, c.deref_mut.ensures.value) in
+    rw (written_back c.visit.new.table _ c.loop-at.table.len whole) (record {
+      whole = after.whole ∙ (ap length c.deref_mut.ensures.value ∙ inv.whole);
+      done = subst (λ (cs : List SavedRegisters). AreDone limits program cs c.args.start c.visit.new.table c.visit.new.left (c.loop-at.at + 1)) inv.callers after.done;
+      entry = λ m holds. after.grows callers 0 m (subst (λ (table : Table). IsKnown callers table 0 m) (sym c.deref_mut.ensures.value) (inv.entry m holds));
+      callers = after.callers ∙ inv.callers;
+      visits = omega (arith, visits, inv.visits, total_next value c.args.start c.loop-at.at);
+      counts = omega (arith, after.counts, inv.counts);
+      arrives = λ never known. after.arrives (subst (λ (cs : List SavedRegisters). IsNeverLacking program cs c.args.start) (sym inv.callers) never)
+          (subst (AllArrive program) (sym c.deref_mut.ensures.value) (inv.arrives never known));
+    })
+
+pub visit_function-returns-clause-sound : goal.visit_function-returns-clause-sound
+visit_function-returns-clause-sound t c =
+    let limits = c.args.limits.now in
+    let program = c.args.program.now in
+    let callers = c.args.callers.now.items in
+    let inv = c.loop-at.invariant in
+    let at : c.loop-at.at ≡ length c.loop-at.table.items = omega (arith, c.loop-at-test.false, c.loop-at.auto.at-end, inv.whole) in
+    function_sound limits program callers c.args.entry.now c.args.start c.loop-at.table.items c.loop-at.left
+    (subst (AreDone limits program callers c.args.start c.loop-at.table.items c.loop-at.left) at inv.done) inv.entry
+
+pub visit_function-returns-clause-visits : goal.visit_function-returns-clause-visits
+visit_function-returns-clause-visits t c =
+    let program = c.args.program.now in
+    let callers = c.args.callers.now.items in
+    let short = chain_short program (length callers) c.args.start c.requires.lawful c.requires.own.begun c.requires.own.chain in
+    let inside : c.args.start + c.loop-at.at ≤ length program = omega (arith, c.loop-at.auto.at-end, c.end_of.ensures.inside, c.end_of.ensures.some) in
+    within_whole callers program c.args.start (c.args.start + c.loop-at.at) c.args.visits.now c.loop-at.visits short inside c.loop-at.invariant.visits

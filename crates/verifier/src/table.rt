@@ -1,0 +1,161 @@
+// A table of what is known at each slot of a function, and what a check of an instruction does to it. It relies on
+// `reg_domain` for what is known and what an instruction makes of it.
+
+ghost use Rattle.std.specs.Prelude.{◌≡◌, ◌<◌, ◌≤◌, ◌+◌, ◌++◌, ◌∷◌, [], List, ℕ, length, Some, IfOk, IfErr, IsOkAnd};
+ghost use Rattle.bpf_insn.specs.declared.insn.Insn.TheVariants.{Exit};
+ghost use Rattle.bpf_insn.specs.declared.program.Slot.{Slot};
+ghost use Rattle.bpf_insn.specs.Program.{insn_at};
+ghost use Rattle.helpers.specs.declared.limits.HelperLimits.{HelperLimits};
+ghost use Rattle.reg_domain.specs.declared.description.Description.{Description};
+ghost use Rattle.reg_domain.specs.declared.saved.SavedRegisters.{SavedRegisters};
+ghost use Rattle.reg_domain.specs.Follows.{NeverStuck, Stays};
+ghost use Rattle.verifier.specs.Arrives.{AllArrive, Arrives, FailsUnless, NeverLacks, goes_to};
+ghost use Rattle.verifier.specs.Table.{HasComeBack, HasJoined, HasLed, HasLeft, IsFirstTable, IsMerged};
+
+use crate::refusal::{Refusal, VerifyError};
+use bpf_insn::Insn;
+use helpers::HelperLimits;
+use or_memory::OrMemory;
+use reg_domain::{Cause, Description, SavedRegisters, Way};
+use std::alloc::{AllocError, Global};
+
+/// One check of an instruction.
+#[derive(Clone, Copy, Debug)]
+pub struct Check {
+    pub place: usize,
+    pub insn: Insn,
+    /// No other check has that number.
+    pub number: u32,
+}
+
+impl Check {
+    // The place of another entry of the table, which stands behind that of the check.
+    fn place_of(self, at: usize, to: usize) -> usize {
+        self.place.saturating_add(to.saturating_sub(at))
+    }
+}
+
+/// The table of so many slots at the start: the first alone is described.
+pub fn first_table(
+    alloc: Global,
+    len: usize,
+    entry: &Description,
+) -> Result<Vec<Option<Description>>, AllocError>
+    requires some { 1 ≤ len }
+    ensures { IfOk result (λ table. IsFirstTable len entry.now table.items) }
+{
+    let mut table = Vec::with_capacity(alloc, len)?;
+    table.push_reserved(Some(*entry));
+    for _ in 1..len {
+        table.push_reserved(None);
+    }
+    Ok(table)
+}
+
+/// Where something leads to an entry, checks its instruction, and joins what is known behind it one way into the table.
+/// Nothing is behind the last exit.
+pub fn lead(
+    limits: &HelperLimits,
+    callers: &[SavedRegisters],
+    table: &mut [Option<Description>],
+    at: usize,
+    check: Check,
+    way: Way,
+    to: usize,
+) -> Result<(), VerifyError>
+    requires at { at < length table.old }
+    requires stays { Stays callers.now check.insn }
+    ensures whole { length table.new ≡ length table.old }
+    ensures led { IfOk result (λ _. HasLed limits.now callers.now table.old at check.insn way to table.new) }
+    ensures passes { (program : List Slot) → NeverLacks program → AllArrive program table.old → length table.old ≤ length program → insn_at program at ≡ Some check.insn → goes_to at check.insn way ≡ Some to → IsOkAnd result (λ _. AllArrive program table.new) }
+    ensures fails { IfErr result (FailsUnless ⊥) }
+{
+    let Some(description) = &table[at] else {
+        return Ok(());
+    };
+    let mut there = *description;
+    match there.follow(limits, callers, check.insn, check.number, way) {
+        Ok(is_open) => {
+            if is_open && to < table.len() {
+                join_into(table, to, &there, check.place_of(at, to))
+            } else {
+                Ok(())
+            }
+        }
+        Err(cause) => Err(OrMemory::Fault(Refusal::Check(cause, check.place))),
+    }
+}
+
+/// Something more leads to an entry, of which that is the place.
+pub fn join_into(
+    table: &mut [Option<Description>],
+    to: usize,
+    new: &Description,
+    place: usize,
+) -> Result<(), VerifyError>
+    requires to { to < length table.old }
+    ensures whole { length table.new ≡ length table.old }
+    ensures joined { IfOk result (λ _. HasJoined table.old to new.now table.new) }
+    ensures passes { (program : List Slot) → NeverLacks program → AllArrive program table.old → to < length program → Arrives program to new.now → IsOkAnd result (λ _. AllArrive program table.new) }
+    ensures fails { IfErr result (FailsUnless ⊥) }
+{
+    let merged = merged(&table[to], new, place)?;
+    table[to] = Some(merged);
+    Ok(())
+}
+
+// What is known at a place to which something more leads.
+fn merged(
+    before: &Option<Description>,
+    new: &Description,
+    place: usize,
+) -> Result<Description, VerifyError>
+    ensures merged { IfOk result (λ after. IsMerged before.now new.now after) }
+    ensures passes { (program : List Slot) (to : ℕ) → NeverLacks program → to < length program → Arrives program to new.now → ((old : Description) → before.now ≡ Some old → Arrives program to old) → IsOkAnd result (Arrives program to) }
+    ensures fails { IfErr result (FailsUnless ⊥) }
+{
+    match before {
+        None => Ok(*new),
+        Some(old) => match old.join(new) {
+            Some(both) => Ok(both),
+            None => Err(OrMemory::Fault(Refusal::Check(Cause::PathsDisagree, place))),
+        },
+    }
+}
+
+/// What comes back from a function that was called, if anything does, leads to an entry, of which that is the place.
+pub fn come_back(
+    table: &mut [Option<Description>],
+    to: usize,
+    back: &Option<Description>,
+    place: usize,
+) -> Result<(), VerifyError>
+    requires to { to < length table.old }
+    ensures whole { length table.new ≡ length table.old }
+    ensures back { IfOk result (λ _. HasComeBack table.old to back.now table.new) }
+    ensures fails { IfErr result (FailsUnless ⊥) }
+{
+    match back {
+        None => Ok(()),
+        Some(there) => join_into(table, to, there, place),
+    }
+}
+
+/// A function is left where that is known, for the place behind its call.
+pub fn leave(
+    description: &Description,
+    saved: &SavedRegisters,
+    left: &mut Option<Description>,
+    place: usize,
+) -> Result<(), VerifyError>
+    requires called { 1 < length description.now.stack }
+    ensures unstuck { (limits : HelperLimits) (outer : List SavedRegisters) → NeverStuck limits (outer ++ saved.now ∷ []) Exit description.now }
+    ensures left { IfOk result (λ _. HasLeft saved.now description.now left.old left.new) }
+    ensures fails { IfErr result (FailsUnless ⊥) }
+{
+    let mut there = *description;
+    there.leave(saved);
+    let merged = merged(left, &there, place)?;
+    *left = Some(merged);
+    Ok(())
+}

@@ -32,8 +32,9 @@ pub record IsBudget (program : List Slot) (budget : ℕ) : Type 0 where
   pub path : StaticPath program (outermost 0) budget
   pub longest : (n : ℕ) → StaticPath program (outermost 0) n → n ≤ budget
 
--- no more checks than it has instructions with its local calls written out
-pub record AreFew (program : List Slot) (visits : ℕ) : Type 0 where
+-- one check at least, and no more than there are instructions with the local calls written out
+pub record IsNumberOfChecks (program : List Slot) (visits : ℕ) : Type 0 where
+  pub some : 1 ≤ visits
   pub few : (count : ℕ) → IsWrittenOut program 0 count → visits ≤ count
 
 -- A verdict on this program under these limits. Its frames are the most that there are at a time on a static path.
@@ -43,7 +44,7 @@ pub record IsVerdictOn (program : List Slot) (limits : HelperLimits) (v : Verdic
   pub accepted : IsAccepted v
   pub budget : IsBudget program v.budget
   pub frames : IsFrames program v.frames
-  pub visits : AreFew program v.visits
+  pub visits : IsNumberOfChecks program v.visits
 
 -- A shape fault is answered for a program that has it, and for a program of lawful shape none is. No two shape faults
 -- are answered for one program, since a fault that is named has the lowest number and slot.

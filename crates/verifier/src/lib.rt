@@ -1,7 +1,8 @@
 // The verifier: a program is accepted where no run of it can be stuck, and then its budget is known. It
-// describes what holds at each place before it is executed, in one pass from the first slot to the last,
-// since every jump leads forward. It relies on `call_shape` for that, on `reg_domain` for what is known of a machine
-// and what an instruction makes of it, on `budget_path` for the budget, and on `bpf_machine` for what it proves.
+// describes what holds at each place before it is executed, in one pass from a function's first slot to its last, since
+// every jump leads forward, and once for each chain of local calls by which control comes there. It relies on `call_shape`
+// for that, on `reg_domain` for what is known of a machine and what an instruction makes of it, on `budget_path` for the
+// budget, and on `bpf_machine` for what it proves.
 #![tactic(auto)]
 
 mod accepted;

@@ -5,7 +5,6 @@
 
 ghost use Rattle.std.specs.Prelude.{◌≡◌, ◌<◌, ◌≤◌, ◌+◌, ◌-◌, ◌++◌, ◌∷◌, [], List, ℕ, ℤ, length, Some, IfOk, IfErr, OnOk, IsOkAnd};
 ghost use Rattle.bpf_insn.specs.declared.insn.Callee.TheVariants.{Local};
-ghost use Rattle.bpf_insn.specs.declared.insn.Insn.{Insn};
 ghost use Rattle.bpf_insn.specs.declared.insn.Insn.TheVariants.{Call};
 ghost use Rattle.bpf_insn.specs.Program.{insn_at};
 ghost use Rattle.bpf_insn.specs.Target.{target};
@@ -23,7 +22,7 @@ ghost use Rattle.verifier.specs.Arrives.{AllArrive, FailsUnless, IsNeverLacking,
 ghost use Rattle.verifier.specs.Function.{AreDone, HasChecked, IsEnd, IsLawfulProgram, IsOwn, checks_at, deep_under};
 ghost use Rattle.verifier.specs.Goes.{FunctionIsSound, IsBack, StaysWell};
 ghost use Rattle.verifier.specs.Table.{Grows, described};
-ghost use Rattle.verifier.specs.Verdict.{AreFew};
+ghost use Rattle.verifier.specs.Verdict.{IsNumberOfChecks};
 
 use crate::refusal::VerifyError;
 use crate::table::{Check, come_back, first_table, lead, leave};
@@ -39,7 +38,7 @@ use std::alloc::Global;
 /// at a time.
 pub fn pass(alloc: Global, limits: &HelperLimits, shape: &Shape<'_>) -> Result<u32, VerifyError>
     ensures safe { IfOk result (λ _. Safe shape.now limits.now) }
-    ensures visits { IfOk result (AreFew shape.now) }
+    ensures visits { IfOk result (IsNumberOfChecks shape.now) }
     ensures fails { IfErr result (LacksMemoryOrMore shape.now) }
 {
     let program = shape.program();
@@ -79,7 +78,7 @@ fn visit_function(
     ensures frames { IfOk result (λ left. (d : Description) → left ≡ Some d → length d.stack ≡ length callers.old.items) }
     ensures callers { OnOk result (callers.new.items ≡ callers.old.items) }
     ensures visits { OnOk result (visits.new ≤ visits.old + written_out (8 - length callers.old.items) program.now start) }
-    ensures counts { OnOk result (visits.old ≤ visits.new) }
+    ensures counted { OnOk result (visits.old < visits.new) }
     ensures fails { IfErr result (FailsUnless (IsNeverLacking program.now callers.old.items start × IsEntryKnown entry.now)) }
 {
     let len = end_of(program, start) - start;
@@ -125,8 +124,8 @@ fn visit(
     ensures grows { IfOk result (λ _. Grows table.old table.new) }
     ensures callers { OnOk result (callers.new.items ≡ callers.old.items) }
     ensures visits { OnOk result (visits.new ≤ visits.old + checks_at (deep_under callers.old.items) program.now start (start + at)) }
-    ensures counts { OnOk result (visits.old ≤ visits.new) }
-    ensures counted { (description : Description) (insn : Insn) → described table.old at ≡ Some description → insn_at program.now (start + at) ≡ Some insn → OnOk result (visits.old + 1 ≤ visits.new) }
+    ensures more { OnOk result (visits.old ≤ visits.new) }
+    ensures counted { (d : Description) → described table.old at ≡ Some d → OnOk result (visits.old < visits.new) }
     ensures arrives { IfOk result (λ _. IsNeverLacking program.now callers.old.items start → AllArrive program.now table.old → AllArrive program.now table.new) }
     ensures fails { IfErr result (FailsUnless (IsNeverLacking program.now callers.old.items start × AllArrive program.now table.old)) }
 {
@@ -138,7 +137,8 @@ fn visit(
     let Some(description) = table[at] else {
         return Ok(());
     };
-    let number = count(visits);
+    let number = *visits;
+    *visits += 1;
     if let Some(target) = callee_of(place, insn) {
         let back = call(
             alloc,
@@ -163,17 +163,6 @@ fn visit(
     check_ways(limits, program, callers, table, start, at, check)
 }
 
-// Counts one check: its number, which no other has.
-fn count(visits: &mut u32) -> u32
-    requires { visits.old ≤ MAX_WRITTEN_OUT }
-    ensures number { result ≡ visits.old }
-    ensures counted { visits.new ≡ visits.old + 1 }
-{
-    let number = *visits;
-    *visits += 1;
-    number
-}
-
 // Visits the function that the instruction at a place calls where that is known. What is known behind the call is the
 // answer, if any machine comes back.
 #[cycle(functions)]
@@ -196,7 +185,7 @@ fn call(
     ensures frames { IfOk result (λ left. (d : Description) → left ≡ Some d → length d.stack ≡ length callers.old.items + 1) }
     ensures callers { OnOk result (callers.new.items ≡ callers.old.items) }
     ensures visits { OnOk result (visits.new ≤ visits.old + written_out (deep_under callers.old.items) program.now callee) }
-    ensures counts { OnOk result (visits.old ≤ visits.new) }
+    ensures counted { OnOk result (visits.old < visits.new) }
     ensures fails { IfErr result (FailsUnless ⊥) }
 {
     let mut entry = *description;

@@ -16,9 +16,10 @@ use or_memory::OrMemory;
 use std::alloc::Global;
 
 /// Accepts a program under these limits, or says why not. A shape fault comes first: it is answered exactly
-/// where the shape has one. Then the instructions that a path leads to are checked, each once and in the
-/// order of their slots, and the first check that fails is told with its slot. A plain program is refused
-/// for no cause but memory. On an answer other than `Ok` nothing is kept.
+/// where the shape has one. Then the instructions that a path leads to are checked, each once under each chain of local calls
+/// that are open there: those of a function in the order of their slots, and those of one that it calls where the call is.
+/// The first check that fails is told with its slot. A plain program is refused for no cause but memory. On an answer
+/// other than `Ok` nothing is kept.
 pub fn verify(
     alloc: Global,
     program: &Program,

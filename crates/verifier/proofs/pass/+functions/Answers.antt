@@ -1,5 +1,6 @@
 use Rattle.std.proofs.Common.{◌≡◌, ℕ, ◌+◌, ◌-◌, ◌<◌, ◌≤◌, List, [], ◌∷◌, ◌++◌, length, Some, None, refl, ap, sym, subst, ◌∙◌, rules, arith, inl, inr}
 use Rattle.std.proofs.lemmas.List.{get_or_default}
+use Rattle.std.proofs.lemmas.Bool.{cases_lt}
 use Rattle.std.proofs.lemmas.Result.{err_from_is_err_and}
 use Rattle.bpf_insn.specs.declared.insn.Insn.TheVariants.{Call}
 use Rattle.bpf_insn.specs.declared.insn.Callee.TheVariants.{Local}
@@ -7,6 +8,7 @@ use Rattle.bpf_insn.specs.Program.{insn_at}
 use Rattle.call_shape.specs.Calls.{callee_in}
 use Rattle.call_shape.specs.declared.lawful_shape.TheConstants.{MAX_WRITTEN_OUT}
 use Rattle.call_shape.proofs.Contained.{callee_there}
+use Rattle.call_shape.proofs.Places.{begins_there}
 use Rattle.reg_domain.specs.declared.saved.SavedRegisters.{SavedRegisters}
 use Rattle.reg_domain.specs.Enough.{IsEntryKnown}
 use Rattle.reg_domain.specs.Follows.{Stays}
@@ -73,6 +75,12 @@ pub visit-returns-in_default-clause-done : goal.visit-returns-in_default-clause-
 visit-returns-in_default-clause-done t c =
     let none : insn_at c.args.program.now (c.args.start + c.args.at) ≡ None = search rules in
     skipped c.args.limits.now c.args.program.now c.args.callers.now.items c.args.start c.args.table.now c.args.left.now c.args.at (inr none) c.requires.before
+
+pub visit-returns-in_default-clause-counted : goal.visit-returns-in_default-clause-counted
+visit-returns-in_default-clause-counted t c = λ d there.
+    let none : insn_at c.args.program.now (c.args.start + c.args.at) ≡ None = search rules in
+    let begun = begins_there c.args.program.now (c.args.start + c.args.at) (c.requires.before.own c.args.at d there).begun in
+    absurd (let bad : None ≡ Some begun.0 = sym none ∙ begun.1 in cc)
 
 pub visit-returns-in_default-table-clause-done : goal.visit-returns-in_default-table-clause-done
 visit-returns-in_default-table-clause-done t c =
@@ -215,7 +223,9 @@ visit_function-loop-at-init t c =
       entry = entry_known callers len c.args.entry.now c.in_ok-table.table.items first;
       callers = refl;
       visits = omega arith;
-      counts = omega arith;
+      more = omega arith;
+      first = λ none. first.there;
+      counted = λ none. absurd (omega (arith, none));
       arrives = λ never known. first_arrives program len c.args.entry.now c.in_ok-table.table.items first known;
     }
 
@@ -262,6 +272,14 @@ visit_function-loop-at-preserved t c =
     let value : ℕ → ℕ = checks_at (deep_under callers) program c.args.start in
     let visits : c.visit.new.visits ≤ c.loop-at.visits + value (c.args.start + c.loop-at.at) =
     subst (λ (cs : List SavedRegisters). c.visit.new.visits ≤ c.loop-at.visits + checks_at (deep_under cs) program c.args.start (c.args.start + c.loop-at.at)) inv.callers after.visits in
+    let counted : c.args.visits.now < c.visit.new.visits = elim (cases_lt 0 c.loop-at.at) [
+      | inl lt ↦ omega (arith, inv.counted lt, after.more)
+      | inr none ↦
+          let zero_at : c.loop-at.at ≡ 0 = omega (arith, none) in
+          let there : described c.deref_mut.result.now c.loop-at.at ≡ Some c.args.entry.now =
+          subst (λ (table : Table). described table c.loop-at.at ≡ Some c.args.entry.now) (sym c.deref_mut.ensures.value) (ap (described c.loop-at.table.items) zero_at ∙ inv.first zero_at) in
+          omega (arith, inv.more, after.counted c.args.entry.now there)
+    ] in
     let whole : c.loop-at.table.len ≡ length c.visit.new.table = search (rules, after.whole, c.deref_mut.ensures.value) in
     rw (written_back c.visit.new.table _ c.loop-at.table.len whole) (record {
       whole = after.whole ∙ (ap length c.deref_mut.ensures.value ∙ inv.whole);
@@ -269,7 +287,9 @@ visit_function-loop-at-preserved t c =
       entry = λ m holds. after.grows callers 0 m (subst (λ (table : Table). IsKnown callers table 0 m) (sym c.deref_mut.ensures.value) (inv.entry m holds));
       callers = after.callers ∙ inv.callers;
       visits = omega (arith, visits, inv.visits, total_next value c.args.start c.loop-at.at);
-      counts = omega (arith, after.counts, inv.counts);
+      more = omega (arith, after.more, inv.more);
+      first = λ none. absurd (omega (arith, none));
+      counted = λ some. counted;
       arrives = λ never known. after.arrives (subst (λ (cs : List SavedRegisters). IsNeverLacking program cs c.args.start) (sym inv.callers) never)
           (subst (AllArrive program) (sym c.deref_mut.ensures.value) (inv.arrives never known));
     })

@@ -1,11 +1,11 @@
-use Rattle.std.proofs.Common.{◌≡◌, ◌≤◌, ◌+◌, ◌-◌, ◌*◌, length}
+use Rattle.std.proofs.Common.{◌≡◌, ◌≤◌, ◌<◌, ◌+◌, ◌-◌, ◌*◌, length, Some}
 use Rattle.bpf_machine.specs.MachineState.{MachineState}
 use Rattle.call_shape.specs.WrittenOut.{total}
 use Rattle.reg_domain.specs.Description.{Describes}
 use Rattle.reg_domain.specs.Enough.{IsEntryKnown}
 use Rattle.verifier.specs.Arrives.{AllArrive, IsNeverLacking}
 use Rattle.verifier.specs.Function.{AreDone, checks_at, deep_under}
-use Rattle.verifier.specs.Table.{IsKnown}
+use Rattle.verifier.specs.Table.{described, IsKnown}
 use Rattle.verifier.proofs.pass.+functions.Given as goal
 
 -- each call has one function more that waits
@@ -26,6 +26,8 @@ invariant-visit_function-loop-at l = record {
   entry : (m : MachineState) → Describes l.fn.callers.items l.entry m → IsKnown l.fn.callers.items l.table.items 0 m;
   callers : l.callers.items ≡ l.fn.callers.items;
   visits : l.visits ≤ l.fn.visits + total (checks_at (deep_under l.fn.callers.items) l.program l.start) (l.start + l.at);
-  counts : l.fn.visits ≤ l.visits;
+  more : l.fn.visits ≤ l.visits;
+  first : l.at ≡ 0 → described l.table.items 0 ≡ Some l.entry;
+  counted : 0 < l.at → l.fn.visits < l.visits;
   arrives : IsNeverLacking l.program l.fn.callers.items l.start → IsEntryKnown l.entry → AllArrive l.program l.table.items;
 }

@@ -45,4 +45,4 @@ pub returns-clause-visits : goal.returns-clause-visits
 returns-clause-visits c =
     let deep = ap (λ (cs : List SavedRegisters). written_out (8 - length cs) c.program-program.result.now 0) c.new-callers.ensures.items in
     let same = ap (λ (p : List Slot). written_out 8 p 0) c.program-program.ensures.value in
-    record { few = λ count is. omega (arith, deep, same, c.in_ok-visit_function.ensures.visits, within_count 8 c.args.shape.now 0 count is) }
+    record { some = omega (arith, c.in_ok-visit_function.ensures.counted); few = λ count is. omega (arith, deep, same, c.in_ok-visit_function.ensures.visits, within_count 8 c.args.shape.now 0 count is) }

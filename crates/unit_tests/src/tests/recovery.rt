@@ -420,11 +420,7 @@ fn parked_and_memory_refused_once(rt: HostRuntime) -> Result<(), Fail> {
 }
 
 // C4 is no record, and the run comes back to where it is out.
-fn park_elsewhere(
-    rt: &impl Abort,
-    first: &mut Engine,
-    second: &mut Engine,
-) -> Result<(), Fail> {
+fn park_elsewhere(rt: &impl Abort, first: &mut Engine, second: &mut Engine) -> Result<(), Fail> {
     begin(rt, first)?;
     let (run, _) = fail(rt, first, completion(1, CamStatus::CommandTimeout)?)?;
     match park_once(second, run) {

@@ -8,7 +8,7 @@ use Rattle.helpers.specs.declared.helper.Asked.TheVariants.{Queue, HeldFreeze, W
 use Rattle.helpers.specs.declared.helper.Asks.{Asks}
 use Rattle.helpers.specs.declared.request.Arguments.{Arguments}
 use Rattle.helpers.specs.declared.request.Request.{Request}
-use Rattle.helpers.specs.declared.request.Request.TheVariants.{Freeze, Release, ReleaseAfter, Requeue, Finish, QueueInfo, Trace}
+use Rattle.helpers.specs.declared.request.Request.TheVariants.{Freeze, Release, ReleaseAfter, Requeue, Finish, TableGet, TablePut, TableAdd, QueueInfo, Trace, Now, SetOpenings}
 use Rattle.helpers.specs.declared.request.Answer.{Answer}
 
 abbrev pub nothing : Asks
@@ -80,16 +80,20 @@ helper_of number =
 abbrev pub is_helper : Helper → Helper → Bool
 is_helper a b = number_of a == number_of b
 
--- the call of a helper with these arguments, if it is answered and they tell all of it: not what a trace call puts into
--- the history
+-- the call of a helper with these arguments, if they tell all of it: not what a trace call puts into the history
 abbrev pub request_of : Helper → Arguments → Option Request
 request_of helpers.Freeze arguments = Some (Freeze arguments.first)
 request_of helpers.Release arguments = Some (Release arguments.first)
 request_of helpers.ReleaseAfter arguments = Some (ReleaseAfter arguments.first arguments.second)
 request_of helpers.Requeue arguments = Some (Requeue arguments.first)
 request_of helpers.Finish arguments = Some (Finish arguments.first)
+request_of helpers.TableGet arguments = Some (TableGet arguments.first arguments.second)
+request_of helpers.TablePut arguments = Some (TablePut arguments.first arguments.second arguments.third)
+request_of helpers.TableAdd arguments = Some (TableAdd arguments.first arguments.second arguments.third)
 request_of helpers.QueueInfo arguments = Some (QueueInfo arguments.first)
-request_of helper arguments = None
+request_of helpers.Trace arguments = None
+request_of helpers.Now arguments = Some Now
+request_of helpers.SetOpenings arguments = Some (SetOpenings arguments.first)
 
 -- the helper that is called
 abbrev pub helper_in : Request → Helper
@@ -98,8 +102,13 @@ helper_in (Release freeze) = helpers.Release
 helper_in (ReleaseAfter freeze milliseconds) = helpers.ReleaseAfter
 helper_in (Requeue retries) = helpers.Requeue
 helper_in (Finish code) = helpers.Finish
+helper_in (TableGet table index) = helpers.TableGet
+helper_in (TablePut table index value) = helpers.TablePut
+helper_in (TableAdd table index value) = helpers.TableAdd
 helper_in (QueueInfo address) = helpers.QueueInfo
 helper_in (Trace address bytes) = helpers.Trace
+helper_in Now = helpers.Now
+helper_in (SetOpenings openings) = helpers.SetOpenings
 
 -- the arguments with which it is called
 abbrev pub arguments_in : Request → Arguments
@@ -108,8 +117,13 @@ arguments_in (Release freeze) = record { first = freeze; second = 0; third = 0 }
 arguments_in (ReleaseAfter freeze milliseconds) = record { first = freeze; second = milliseconds; third = 0 }
 arguments_in (Requeue retries) = record { first = retries; second = 0; third = 0 }
 arguments_in (Finish code) = record { first = code; second = 0; third = 0 }
+arguments_in (TableGet table index) = record { first = table; second = index; third = 0 }
+arguments_in (TablePut table index value) = record { first = table; second = index; third = value }
+arguments_in (TableAdd table index value) = record { first = table; second = index; third = value }
 arguments_in (QueueInfo address) = record { first = address; second = 0; third = 0 }
 arguments_in (Trace address bytes) = record { first = address; second = length bytes; third = 0 }
+arguments_in Now = record { first = 0; second = 0; third = 0 }
+arguments_in (SetOpenings openings) = record { first = openings; second = 0; third = 0 }
 
 -- an answer that is a number alone
 abbrev pub answer_number : ℕ → Answer

@@ -15,7 +15,7 @@ pub struct Arguments {
     pub third: u64,
 }
 
-/// A call of a helper that is answered, with its arguments as whole 64-bit values.
+/// A call of a helper, with its arguments as whole 64-bit values.
 #[derive(Clone, Copy, Debug, PartialEq, Eq)]
 pub enum Request {
     /// Freezes a queue. The answer is the number of the new freeze, or 0 exactly at a limit.
@@ -29,15 +29,24 @@ pub enum Request {
     Requeue { retries: u64 },
     /// Ends the run's CCB with that final status code, 0 to 63. The answer is 0.
     Finish { code: u64 },
+    /// Reads a word of a table. The answer is the word.
+    TableGet { table: u64, index: u64 },
+    /// Writes a word of a table. The answer is the old word.
+    TablePut { table: u64, index: u64, value: u64 },
+    /// Adds to a word of a table, modulo 2^64. The answer is the new word.
+    TableAdd { table: u64, index: u64, value: u64 },
     /// Writes what the run's queue has to the 16 bytes from an address on. The answer is 0.
     QueueInfo { address: u64 },
     /// Puts the bytes that stand from an address on into the history, 1 to 64 of them. The answer is 0.
     Trace { address: u64, bytes: ShortBytes },
+    /// Asks for the clock. The answer is its milliseconds, 0 to 2^62.
+    Now,
+    /// Sets the openings of the run's queue, 1 to 255. The answer is the old number.
+    SetOpenings { openings: u64 },
 }
 
 impl Request {
-    /// The call of a helper; None exactly where the helper is not answered, and of a trace call, whose bytes no argument
-    /// tells.
+    /// The call of a helper; None exactly of a trace call, whose bytes no argument tells.
     pub fn new(helper: Helper, arguments: &Arguments) -> Option<Self>
         ensures { result ≡ request_of helper arguments.now }
     {
@@ -61,12 +70,25 @@ impl Request {
             Helper::QueueInfo => Some(Request::QueueInfo {
                 address: arguments.first,
             }),
-            Helper::TableGet
-            | Helper::TablePut
-            | Helper::TableAdd
-            | Helper::Trace
-            | Helper::Now
-            | Helper::SetOpenings => None,
+            Helper::TableGet => Some(Request::TableGet {
+                table: arguments.first,
+                index: arguments.second,
+            }),
+            Helper::TablePut => Some(Request::TablePut {
+                table: arguments.first,
+                index: arguments.second,
+                value: arguments.third,
+            }),
+            Helper::TableAdd => Some(Request::TableAdd {
+                table: arguments.first,
+                index: arguments.second,
+                value: arguments.third,
+            }),
+            Helper::Now => Some(Request::Now),
+            Helper::SetOpenings => Some(Request::SetOpenings {
+                openings: arguments.first,
+            }),
+            Helper::Trace => None,
         }
     }
 
@@ -80,8 +102,13 @@ impl Request {
             Request::ReleaseAfter { .. } => Helper::ReleaseAfter,
             Request::Requeue { .. } => Helper::Requeue,
             Request::Finish { .. } => Helper::Finish,
+            Request::TableGet { .. } => Helper::TableGet,
+            Request::TablePut { .. } => Helper::TablePut,
+            Request::TableAdd { .. } => Helper::TableAdd,
             Request::QueueInfo { .. } => Helper::QueueInfo,
             Request::Trace { .. } => Helper::Trace,
+            Request::Now => Helper::Now,
+            Request::SetOpenings { .. } => Helper::SetOpenings,
         }
     }
 }

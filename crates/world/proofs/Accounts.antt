@@ -7,12 +7,11 @@ use Rattle.world.specs.World.{Setup, LiveCcb, EndedCcb, World, opening}
 use Rattle.world.specs.Lookups.{ccb_of, with_ccb}
 use Rattle.world.specs.Event.{Event, Reply}
 use Rattle.world.specs.WorldRun.{Leads}
-use Rattle.world.specs.Limits.{KeepsLimits}
 use Rattle.world.specs.CcbLaws.{ended_times, AreAccounted, finished_by, finished_in, EachIsLiveOrEnded}
 use Rattle.world.proofs.Lists.Found.{leave, at_head, at_tail, found_push, missing_push, put_same, put_other, leave_same, leave_other}
 use Rattle.world.proofs.Kept.{step_keeps, opening_keeps}
 use Rattle.world.proofs.Steps.Cases.{case_of}
-use Rattle.world.proofs.Steps.Moves.{ccb_key, CcbMove, ccbs_stay, ccb_enters, ccb_changes, ccb_leaves}
+use Rattle.world.proofs.Steps.Moves.{KeepsLists, ccb_key, CcbMove, ccbs_stay, ccb_enters, ccb_changes, ccb_leaves}
 use Rattle.world.proofs.Steps.Effects.{effect_of}
 
 absent : (o : Option LiveCcb) (x : LiveCcb) → o ≡ None → o ≡ Some x → ⊥
@@ -120,7 +119,7 @@ move_accounts setup before event reply after accounts ended (ccb_changes old new
 move_accounts setup before event reply after accounts ended (ccb_leaves number code old found may e g one) =
     accounts_from _ after.live _ after.ended before.greatest_ccb after.greatest_ccb e (ended ∙ ap (λ (l : List EndedCcb). before.ended ++ l) one) g (accounts_leave before.live before.ended before.greatest_ccb number code old found accounts)
 
-leads_accounts : (setup : Setup) (before : World) (xs : List (Event × Reply)) (after : World) → KeepsLimits setup before → (run : Leads setup before xs after) → Accounts before → Accounts after × (after.ended ≡ before.ended ++ finished_in setup before xs after run)
+leads_accounts : (setup : Setup) (before : World) (xs : List (Event × Reply)) (after : World) → KeepsLists setup before → (run : Leads setup before xs after) → Accounts before → Accounts after × (after.ended ≡ before.ended ++ finished_in setup before xs after run)
 leads_accounts setup before [] after kept run accounts = (subst Accounts run accounts, sym (ap (λ (w : World). w.ended) run) ∙ sym (append-nil before.ended))
 leads_accounts setup before (x ∷ xs) after kept run accounts =
     let between : World = run.0 in

@@ -1,5 +1,5 @@
 -- The clock goes on, and a freeze that a timer holds goes by a clock reading and by nothing else.
-use Rattle.std.proofs.Common.{◌≡◌, ℕ, ◌≤◌, List, [], ◌∷◌, ◌++◌, ◌+◌, length, true, false, not, leb, Some, None, ◌⊎◌, inl, inr, ap, sym, subst, ◌∙◌, arith}
+use Rattle.std.proofs.Common.{◌≡◌, ℕ, ◌≤◌, List, [], ◌∷◌, ◌++◌, ◌+◌, length, true, false, not, leb, Some, None, inl, inr, ap, sym, subst, ◌∙◌, arith}
 use Rattle.std.proofs.lemmas.Bool.{cases_Bool, cond-true, cond-false, not_from_true, not_from_false}
 use Rattle.freeze_ledger.specs.declared.freeze.Holder.{Holder}
 use Rattle.freeze_ledger.specs.declared.freeze.Holder.TheVariants.{Timer}
@@ -11,54 +11,32 @@ use Rattle.world.specs.Event.{Event, Reply, expired}
 use Rattle.world.specs.FreezeSteps.{is_guest}
 use Rattle.world.specs.RunSteps.{is_run}
 use Rattle.world.specs.WorldRun.{Leads}
-use Rattle.world.specs.Limits.{KeepsLimits}
 use Rattle.world.specs.ClockLaws.{ClockGoesOn, lets_go, KeepsTime, TimersKeepTime}
 use Rattle.world.proofs.Lists.Found.{put, found_key, found_push, found_in_filter, put_other, leave_other}
 use Rattle.world.proofs.Lists.Rising.{filtered_out}
 use Rattle.world.proofs.Lists.Entries.{freeze_key, handed_is_put}
 use Rattle.world.proofs.Steps.Calls.{FreezeDeed, leaves_freezes, takes_one, gives_one_back, hands_one_over, Asks}
 use Rattle.world.proofs.Steps.Cases.{ReadsClock, Case, case_of, refuses, submits, dispatches, finishes_one, recovers_one, recovers_unfrozen, freezes_one, releases_one, reads_clock, turns_one, goes_on_one, asks_one, exits}
-use Rattle.world.proofs.Leads.{limits_are_kept}
+use Rattle.world.proofs.Steps.Moves.{KeepsLists}
+use Rattle.world.proofs.Steps.Answering.{moved_on}
+use Rattle.world.proofs.Steps.Effects.{effect_of}
+use Rattle.world.proofs.Kept.{step_keeps, opening_keeps}
+use Rattle.world.proofs.Leads.{lists_are_kept}
 
--- a step leaves the clock, or it reads what is neither before it nor after the last reading
-abbrev ClockMove : World → World → Type 0
-ClockMove before after = (after.clock ≡ before.clock) ⊎ ((before.clock ≤ after.clock) × (after.clock ≤ last_reading))
-
-clock_move : (setup : Setup) (before : World) (event : Event) (reply : Reply) (after : World) → Case setup before event reply after → ClockMove before after
-clock_move setup before event reply after (refuses it) = inl (ap (λ (w : World). w.clock) it.after_is)
-clock_move setup before event reply after (submits it) = inl (ap (λ (w : World). w.clock) it.after_is)
-clock_move setup before event reply after (dispatches it) = inl (ap (λ (w : World). w.clock) it.after_is)
-clock_move setup before event reply after (finishes_one it) = inl (ap (λ (w : World). w.clock) it.after_is)
-clock_move setup before event reply after (recovers_one it) = inl (ap (λ (x : Reply × World). x.1.clock) it.starts_is)
-clock_move setup before event reply after (recovers_unfrozen it) = inl (ap (λ (x : Reply × World). x.1.clock) it.starts_is)
-clock_move setup before event reply after (freezes_one it) = inl (ap (λ (w : World). w.clock) it.after_is)
-clock_move setup before event reply after (releases_one it) = inl (ap (λ (w : World). w.clock) it.after_is)
-clock_move setup before event reply after (reads_clock it) =
-    let is : after.clock ≡ it.reading = ap (λ (w : World). w.clock) it.after_is in
-    inr (rw is it.on, rw is it.within)
-clock_move setup before event reply after (turns_one it) = inl (ap (λ (w : World). w.clock) it.after_is)
-clock_move setup before event reply after (goes_on_one it) = inl (ap (λ (w : World). w.clock) it.after_is)
-clock_move setup before event reply after (asks_one it) = inl (ap (λ (x : Reply × World). x.1.clock) it.answer ∙ it.rest.clock_is)
-clock_move setup before event reply after (exits it) = inl (ap (λ (w : World). w.clock) it.after_is)
-
-moved_on : (before after : World) → ClockMove before after → before.clock ≤ last_reading → (before.clock ≤ after.clock) × (after.clock ≤ last_reading)
-moved_on before after (inl same) within = (omega (arith, same), rw same within)
-moved_on before after (inr moved) within = moved
-
-leads_on : (setup : Setup) (before : World) (xs : List (Event × Reply)) (after : World) → Leads setup before xs after → before.clock ≤ last_reading → (before.clock ≤ after.clock) × (after.clock ≤ last_reading)
-leads_on setup before [] after run within =
+leads_on : (setup : Setup) (before : World) (xs : List (Event × Reply)) (after : World) → KeepsLists setup before → Leads setup before xs after → before.clock ≤ last_reading → (before.clock ≤ after.clock) × (after.clock ≤ last_reading)
+leads_on setup before [] after kept run within =
     let same : before.clock ≡ after.clock = ap (λ (w : World). w.clock) run in
     (omega (arith, same), rw (← same) within)
-leads_on setup before (x ∷ xs) after run within =
-    let first = moved_on before run.0 (clock_move setup before x.0 x.1 run.0 (case_of setup before x.0 x.1 run.0 run.1)) within in
-    let rest = leads_on setup run.0 xs after run.2 first.1 in
+leads_on setup before (x ∷ xs) after kept run within =
+    let first = moved_on before run.0 (effect_of setup before x.0 x.1 run.0 kept (case_of setup before x.0 x.1 run.0 run.1)).answers.clock within in
+    let rest = leads_on setup run.0 xs after (step_keeps setup before x.0 x.1 run.0 run.1 kept) run.2 first.1 in
     (omega (arith, first.0, rest.0), rest.1)
 
 pub clock_goes_on : ClockGoesOn
 clock_goes_on setup xs ys before after first second =
     let opened : 0 ≤ last_reading = omega arith in
-    let begun = leads_on setup (opening setup) xs before first opened in
-    leads_on setup before ys after second begun.1
+    let begun = leads_on setup (opening setup) xs before (opening_keeps setup) first opened in
+    leads_on setup before ys after (lists_are_kept setup xs before first) second begun.1
 
 -- an event that lets nothing go leaves a timer's freeze, where the freezes are as they were, or one is more
 as_before : (before : World) (event : Event) (reply : Reply) (after : World) → ((due : ℕ) → lets_go due reply event ≡ false) → after.freezes ≡ before.freezes → KeepsTime before event reply after
@@ -102,7 +80,7 @@ runs_no_timer : (run : ℕ) (holder : Holder) → is_run run holder ≡ true →
 runs_no_timer run holder held due timer = let bad : false ≡ true = sym (ap (is_run run) timer) ∙ held in cc
 
 -- a clock reading lets go what is due
-by_the_clock : (setup : Setup) (before : World) (event : Event) (reply : Reply) (after : World) → KeepsLimits setup before → ReadsClock before event reply after → KeepsTime before event reply after
+by_the_clock : (setup : Setup) (before : World) (event : Event) (reply : Reply) (after : World) → KeepsLists setup before → ReadsClock before event reply after → KeepsTime before event reply after
 by_the_clock setup before event reply after kept it = λ freeze due found timer.
     let tests : lets_go due reply event ≡ leb due it.reading = ap (λ (r : Reply). lets_go due r event) it.reply_is ∙ ap (lets_go due (expired (length (due_at it.reading before.freezes)))) it.event_is in
     let is : is_due it.reading freeze.holder ≡ leb due it.reading = ap (is_due it.reading) timer in
@@ -119,7 +97,7 @@ by_the_clock setup before event reply after kept it = λ freeze due found timer.
     ]
 
 -- a call of a helper lets nothing go that a timer holds
-by_a_call : (setup : Setup) (before : World) (event : Event) (reply : Reply) (after : World) → KeepsLimits setup before → (it : Asks setup before event reply after) → FreezeDeed setup before it.it.run it.request it.given it.between → KeepsTime before event reply after
+by_a_call : (setup : Setup) (before : World) (event : Event) (reply : Reply) (after : World) → KeepsLists setup before → (it : Asks setup before event reply after) → FreezeDeed setup before it.it.run it.request it.given it.between → KeepsTime before event reply after
 by_a_call setup before event reply after kept it (leaves_freezes deed) = as_before before event reply after (λ due. ap (λ (x : Reply × World). lets_go due x.0 event) it.answer) (ap (λ (x : Reply × World). x.1.freezes) it.answer ∙ deed.freezes_is)
 by_a_call setup before event reply after kept it (takes_one deed) = one_more before event reply after _ (λ due. ap (λ (x : Reply × World). lets_go due x.0 event) it.answer) (ap (λ (x : Reply × World). x.1.freezes) it.answer ∙ deed.freezes_is)
 by_a_call setup before event reply after kept it (gives_one_back deed) =
@@ -132,7 +110,7 @@ by_a_call setup before event reply after kept it (hands_one_over deed) =
     (subst (λ (n : ℕ). entry_of n before.freezes ≡ Some old) (sym (found_key freeze_key deed.number before.freezes old deed.entry)) deed.entry)
     (runs_no_timer it.it.run.number old.holder deed.its)
 
-case_keeps_time : (setup : Setup) (before : World) (event : Event) (reply : Reply) (after : World) → KeepsLimits setup before → Case setup before event reply after → KeepsTime before event reply after
+case_keeps_time : (setup : Setup) (before : World) (event : Event) (reply : Reply) (after : World) → KeepsLists setup before → Case setup before event reply after → KeepsTime before event reply after
 case_keeps_time setup before event reply after kept (refuses it) = as_before before event reply after (λ due. ap (λ (r : Reply). lets_go due r event) it.reply_is) (ap (λ (w : World). w.freezes) it.after_is)
 case_keeps_time setup before event reply after kept (submits it) = as_before before event reply after (λ due. ap (λ (r : Reply). lets_go due r event) it.reply_is) (ap (λ (w : World). w.freezes) it.after_is)
 case_keeps_time setup before event reply after kept (dispatches it) = as_before before event reply after (λ due. ap (λ (r : Reply). lets_go due r event) it.reply_is) (ap (λ (w : World). w.freezes) it.after_is)
@@ -149,4 +127,4 @@ case_keeps_time setup before event reply after kept (asks_one it) = by_a_call se
 case_keeps_time setup before event reply after kept (exits it) = as_before before event reply after (λ due. ap (λ (r : Reply). lets_go due r event) it.reply_is) (ap (λ (w : World). w.freezes) it.after_is)
 
 pub timers_keep_time : TimersKeepTime
-timers_keep_time setup xs before run event reply after e = case_keeps_time setup before event reply after (limits_are_kept setup xs before run) (case_of setup before event reply after e)
+timers_keep_time setup xs before run event reply after e = case_keeps_time setup before event reply after (lists_are_kept setup xs before run) (case_of setup before event reply after e)

@@ -10,15 +10,15 @@ use Rattle.helpers.specs.declared.request.Answer.{Answer}
 use Rattle.world.specs.World.{Setup, LiveRun, World}
 use Rattle.world.specs.Told.{told_of}
 use Rattle.world.specs.Event.{call, Event, executes, Reply, run_started, result}
-use Rattle.world.specs.Limits.{KeepsLimits}
 use Rattle.world.specs.FreezeLaws.{OneFewer, Calls, MovesCounts, CountsAreEntries}
 use Rattle.world.proofs.Lists.Entries.{frozen_push, frozen_without, frozen_handed_over, frozen_due}
 use Rattle.world.proofs.Steps.Calls.{FreezeDeed, leaves_freezes, takes_one, gives_one_back, hands_one_over}
 use Rattle.world.proofs.Steps.Cases.{Case, case_of, refuses, submits, dispatches, finishes_one, recovers_one, recovers_unfrozen, freezes_one, releases_one, reads_clock, turns_one, goes_on_one, asks_one, exits}
-use Rattle.world.proofs.Leads.{limits_are_kept}
+use Rattle.world.proofs.Steps.Moves.{KeepsLists}
+use Rattle.world.proofs.Leads.{lists_are_kept}
 
 -- the count after the freeze of this number went
-goes : (setup : Setup) (before after : World) (number : ℕ) (freeze : Freeze) → KeepsLimits setup before → entry_of number before.freezes ≡ Some freeze → after.freezes ≡ without number before.freezes → OneFewer before number (frozen_with freeze (without number before.freezes)) after
+goes : (setup : Setup) (before after : World) (number : ℕ) (freeze : Freeze) → KeepsLists setup before → entry_of number before.freezes ≡ Some freeze → after.freezes ≡ without number before.freezes → OneFewer before number (frozen_with freeze (without number before.freezes)) after
 goes setup before after number freeze kept entry e =
     record {
       freeze = freeze;
@@ -30,7 +30,7 @@ goes setup before after number freeze kept entry e =
     }
 
 -- what a call of a helper does, by the freeze that it takes, gives back or hands over
-call_moves : (setup : Setup) (before after : World) (number : ℕ) (run : LiveRun) (request : Request) (given : Answer) (between : World) → KeepsLimits setup before → Calls before number request → after.freezes ≡ between.freezes → FreezeDeed setup before run request given between → MovesCounts before (executes number (call (told_of request))) (result given.r0) after
+call_moves : (setup : Setup) (before after : World) (number : ℕ) (run : LiveRun) (request : Request) (given : Answer) (between : World) → KeepsLists setup before → Calls before number request → after.freezes ≡ between.freezes → FreezeDeed setup before run request given between → MovesCounts before (executes number (call (told_of request))) (result given.r0) after
 call_moves setup before after number run request given between kept calls same (leaves_freezes deed) = deed.moves number after calls (same ∙ deed.freezes_is)
 call_moves setup before after number run request given between kept calls same (takes_one deed) =
     let above : eqb (before.greatest_freeze + 1) 0 ≡ false = ne_eqb _ _ (λ e. omega (arith, e)) in
@@ -48,7 +48,7 @@ call_moves setup before after number run request given between kept calls same (
 call_moves setup before after number run request given between kept calls same (hands_one_over deed) =
     rw deed.request_is (λ other. ap (frozen other) (same ∙ deed.freezes_is) ∙ frozen_handed_over other deed.number (before.clock + deed.milliseconds) before.freezes)
 
-pub case_moves : (setup : Setup) (before : World) (event : Event) (reply : Reply) (after : World) → KeepsLimits setup before → Case setup before event reply after → MovesCounts before event reply after
+pub case_moves : (setup : Setup) (before : World) (event : Event) (reply : Reply) (after : World) → KeepsLists setup before → Case setup before event reply after → MovesCounts before event reply after
 case_moves setup before event reply after kept (refuses it) = rw (it.reply_is, it.after_is) it.moves
 case_moves setup before event reply after kept (submits it) = rw it.event_is (ap (λ (w : World). w.freezes) it.after_is)
 case_moves setup before event reply after kept (dispatches it) = rw it.event_is (ap (λ (w : World). w.freezes) it.after_is)
@@ -82,4 +82,4 @@ case_moves setup before event reply after kept (asks_one it) =
 case_moves setup before event reply after kept (exits it) = rw it.it.event_is (ap (λ (w : World). w.freezes) it.after_is)
 
 pub counts_are_entries : CountsAreEntries
-counts_are_entries setup xs before run event reply after e = case_moves setup before event reply after (limits_are_kept setup xs before run) (case_of setup before event reply after e)
+counts_are_entries setup xs before run event reply after e = case_moves setup before event reply after (lists_are_kept setup xs before run) (case_of setup before event reply after e)

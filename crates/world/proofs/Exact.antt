@@ -20,7 +20,7 @@ use Rattle.world.proofs.Lists.Found.{at_head, at_tail}
 use Rattle.world.proofs.Lists.Rising.{rising_high}
 use Rattle.world.proofs.Lists.Entries.{freeze_key, FreezesRise}
 use Rattle.world.proofs.Steps.Cases.{Case, case_of}
-use Rattle.world.proofs.Steps.Moves.{Effect}
+use Rattle.world.proofs.Steps.Moves.{lists_of, Effect}
 use Rattle.world.proofs.Steps.Effects.{effect_of}
 use Rattle.world.proofs.Steps.Fates.{machine_of, turned, Holding, holds_the_same, holds_one_more, holds_one_fewer, Fate, stands, goes, leaves_world, fate_of}
 use Rattle.world.proofs.Lists.HeldBy.{held_head, held_tail}
@@ -171,7 +171,7 @@ got_nothing n got before after taken got_once greatest none =
 
 balance_step : (setup : Setup) (n number got given : ℕ) (before : World) (event : Event) (reply : Reply) (after : World) → IsLawful setup → IsSound setup before → IsGotOnce n got before → Case setup before event reply after → Balance n number got given before → Balanced n number got given after (taken_by number event reply) (given_by number before event)
 balance_step setup n number got given before event reply after lawful sound got_once it (had none number_given same) =
-    let effect = effect_of setup before event reply after sound.kept it in
+    let effect = effect_of setup before event reply after (lists_of sound.kept) it in
     let still = stays_over setup before event reply after number none number_given effect.runs in
     let idle = gone_stands setup before event reply after number none effect in
     let takes = effect.taken number number_given idle in
@@ -182,10 +182,10 @@ balance_step setup n number got given before event reply after lawful sound got_
       balance = had still.0 still.1 (omega (arith, same, not_taken, not_given));
     }
 balance_step setup n number got given before event reply after lawful sound got_once it (has now found same) =
-    by_fate (fate_of setup before event reply after number now sound.kept.freezes sound.held found it)
+    by_fate (fate_of setup before event reply after number now sound.kept sound.held found it)
   where
     effect : Effect setup before event reply after
-    effect = effect_of setup before event reply after sound.kept it
+    effect = effect_of setup before event reply after (lists_of sound.kept) it
 
     greatest_rises : before.greatest_freeze ≤ after.greatest_freeze
     greatest_rises = move_rises setup before event after effect.freezes
@@ -244,7 +244,7 @@ balance_step setup n number got given before event reply after lawful sound got_
 
     by_fate : Fate before event reply after number now → Balanced n number got given after (taken_by number event reply) (given_by number before event)
     by_fate (stands out idle is) =
-        let takes = effect.taken number (live_given setup before number now sound.kept found) idle in
+        let takes = effect.taken number (live_given setup before number now (lists_of sound.kept) found) idle in
         let not_taken : times_in n (taken_by number event reply) ≡ 0 = ap (times_in n) takes in
         let not_given : times_in n (given_by number before event) ≡ 0 = ap (times_in n) (nothing_given number before event idle) in
         record {
@@ -257,7 +257,7 @@ balance_step setup n number got given before event reply after lawful sound got_
         let not_given : times_in n (given_by number before event) ≡ 0 = ap (times_in n) (gives_by exit event_is) in
         let unstuck = reached_goes setup lawful before sound.kept.runs number now found (sound.reached number now found) in
         let empty : times_in n now.machine.held ≡ 0 = ap (times_in n) (lawful_exit now.program setup.limits now.machine r0 unstuck exit_is).0 in
-        let number_given = live_given setup before number now sound.kept found in
+        let number_given = live_given setup before number now (lists_of sound.kept) found in
         record {
           got_once = got_nothing n got before after (taken_by number event reply) got_once greatest_rises takes;
           balance = had none (omega (arith, number_given, rises setup before event reply after effect.runs)) (omega (arith, same, not_taken, not_given, empty));

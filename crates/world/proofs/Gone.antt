@@ -16,7 +16,6 @@ use Rattle.world.specs.Event.{call, Event, Reply, guest_release, executes}
 use Rattle.world.specs.FreezeSteps.{is_timer}
 use Rattle.world.specs.Step.{WorldStep}
 use Rattle.world.specs.WorldRun.{Leads}
-use Rattle.world.specs.Limits.{KeepsLimits}
 use Rattle.world.specs.FreezeLaws.{IsHeld, Calls, GivenUpStaysGivenUp, GivenUpByRunStaysGivenUp, HandedOverStaysHandedOver, GoneStaysGone}
 use Rattle.world.specs.TookGave.{asked}
 use Rattle.world.proofs.Lists.Found.{put, found_in_push, put_same, put_other, missing_filter}
@@ -24,10 +23,10 @@ use Rattle.world.proofs.Lists.Rising.{found_unfiltered}
 use Rattle.world.proofs.Lists.Entries.{freeze_key, entry_push, entry_removed, entry_bounds, handed_is_put, none_since}
 use Rattle.world.proofs.Steps.Calls.{LeavesFreezes, FreezeDeed, leaves_freezes, takes_one, gives_one_back, hands_one_over, Asks, asks_of}
 use Rattle.world.proofs.Steps.Cases.{case_of, guest_release_parts}
-use Rattle.world.proofs.Steps.Moves.{FreezeMove, freezes_stay, freeze_enters, freezes_leave, freeze_changes}
+use Rattle.world.proofs.Steps.Moves.{KeepsLists, FreezeMove, freezes_stay, freeze_enters, freezes_leave, freeze_changes}
 use Rattle.world.proofs.Steps.Effects.{effect_of}
 use Rattle.world.proofs.Kept.{step_keeps}
-use Rattle.world.proofs.Leads.{leads_split, leads_keeps, limits_are_kept}
+use Rattle.world.proofs.Leads.{leads_split, leads_keeps, lists_are_kept}
 
 -- numbers only rise, and one that is not there will not be given again
 pub record IsPast (number : ℕ) (world : World) : Type 0 where
@@ -51,16 +50,16 @@ move_rises setup before event after (freeze_enters queue holder known room e g c
 move_rises setup before event after (freezes_leave gone e g from) = omega (arith, g)
 move_rises setup before event after (freeze_changes old new found queue_is e g hands) = omega (arith, g)
 
-step_freezes : (setup : Setup) (before : World) (event : Event) (reply : Reply) (after : World) → KeepsLimits setup before → WorldStep setup before event reply after → FreezeMove setup before event after
+step_freezes : (setup : Setup) (before : World) (event : Event) (reply : Reply) (after : World) → KeepsLists setup before → WorldStep setup before event reply after → FreezeMove setup before event after
 step_freezes setup before event reply after kept e = (effect_of setup before event reply after kept (case_of setup before event reply after e)).freezes
 
-leads_past : (setup : Setup) (before : World) (xs : List (Event × Reply)) (after : World) (number : ℕ) → KeepsLimits setup before → Leads setup before xs after → IsPast number before → IsPast number after
+leads_past : (setup : Setup) (before : World) (xs : List (Event × Reply)) (after : World) (number : ℕ) → KeepsLists setup before → Leads setup before xs after → IsPast number before → IsPast number after
 leads_past setup before [] after number kept run past = subst (IsPast number) run past
 leads_past setup before (x ∷ xs) after number kept run past =
     leads_past setup run.0 xs after number (step_keeps setup before x.0 x.1 run.0 run.1 kept) run.2
     (move_past setup before x.0 run.0 number (step_freezes setup before x.0 x.1 run.0 kept run.1) past)
 
-pub leads_rises : (setup : Setup) (before : World) (xs : List (Event × Reply)) (after : World) → KeepsLimits setup before → Leads setup before xs after → before.greatest_freeze ≤ after.greatest_freeze
+pub leads_rises : (setup : Setup) (before : World) (xs : List (Event × Reply)) (after : World) → KeepsLists setup before → Leads setup before xs after → before.greatest_freeze ≤ after.greatest_freeze
 leads_rises setup before [] after kept run = rw run (omega arith)
 leads_rises setup before (x ∷ xs) after kept run =
     omega (arith, move_rises setup before x.0 run.0 (step_freezes setup before x.0 x.1 run.0 kept run.1), leads_rises setup run.0 xs after (step_keeps setup before x.0 x.1 run.0 run.1 kept) run.2)
@@ -69,12 +68,12 @@ none_held : (number : ℕ) (world : World) → entry_of number world.freezes ≡
 none_held number world none held = let bad : IsSome {T = Freeze} None = subst (λ (o : Option Freeze). IsSome o) none held in cc
 
 -- a number that is held was given
-held_given : (setup : Setup) (world : World) (number : ℕ) (o : Option Freeze) → KeepsLimits setup world → entry_of number world.freezes ≡ o → IsSome o → number ≤ world.greatest_freeze
+held_given : (setup : Setup) (world : World) (number : ℕ) (o : Option Freeze) → KeepsLists setup world → entry_of number world.freezes ≡ o → IsSome o → number ≤ world.greatest_freeze
 held_given setup world number None kept is some = absurd (let bad : IsSome {T = Freeze} None = some in cc)
 held_given setup world number (Some f) kept is some = (entry_bounds 0 world.freezes world.greatest_freeze number f kept.freezes.numbered is).2
 
 -- the freeze of a number was taken out, so the number is past
-removed_past : (setup : Setup) (before after : World) (number : ℕ) (freeze : Freeze) → KeepsLimits setup before → entry_of number before.freezes ≡ Some freeze → after.freezes ≡ without number before.freezes → after.greatest_freeze ≡ before.greatest_freeze → IsPast number after
+removed_past : (setup : Setup) (before after : World) (number : ℕ) (freeze : Freeze) → KeepsLists setup before → entry_of number before.freezes ≡ Some freeze → after.freezes ≡ without number before.freezes → after.greatest_freeze ≡ before.greatest_freeze → IsPast number after
 removed_past setup before after number freeze kept entry e g =
     record {
       given = rw g (entry_bounds 0 before.freezes before.greatest_freeze number freeze kept.freezes.numbered entry).2;
@@ -86,7 +85,7 @@ given_up_stays_given_up setup xs ys number reply world run held =
     let parts = leads_split setup (opening setup) xs ((guest_release number, reply) ∷ ys) world run in
     let before : World = parts.0 in
     let after : World = parts.2.0 in
-    let kept = limits_are_kept setup xs before parts.1 in
+    let kept = lists_are_kept setup xs before parts.1 in
     let it = guest_release_parts setup before number reply after parts.2.1 in
     let same : it.number ≡ number = let e : guest_release number ≡ guest_release it.number = it.event_is in cc in
     let past = removed_past setup before after number it.freeze kept (subst (λ (n : ℕ). entry_of n before.freezes ≡ Some it.freeze) same it.entry)
@@ -104,11 +103,11 @@ the_call setup before run told reply after request calls it =
     cc
 
 -- a call gives back or hands over the freeze that it asks for
-asked_for_one : (before : World) (run : LiveRun) (request : Request) (given : Answer) (between : World) (number : ℕ) → asked (Some request) ≡ number ∷ [] → LeavesFreezes before run request given between → ⊥
-asked_for_one before run request given between number is deed = let bad : [] ≡ number ∷ [] = sym deed.keeps ∙ is in cc
+asked_for_one : (setup : Setup) (before : World) (run : LiveRun) (request : Request) (given : Answer) (between : World) (number : ℕ) → asked (Some request) ≡ number ∷ [] → LeavesFreezes setup before run request given between → ⊥
+asked_for_one setup before run request given between number is deed = let bad : [] ≡ number ∷ [] = sym deed.keeps ∙ is in cc
 
-given_back_past : (setup : Setup) (before after : World) (number : ℕ) (run : LiveRun) (request : Request) (given : Answer) (between : World) → KeepsLimits setup before → request ≡ Release number → after.freezes ≡ between.freezes → after.greatest_freeze ≡ between.greatest_freeze → FreezeDeed setup before run request given between → IsPast number after
-given_back_past setup before after number run request given between kept is e g (leaves_freezes deed) = absurd (asked_for_one before run request given between number (ap (λ (r : Request). asked (Some r)) is) deed)
+given_back_past : (setup : Setup) (before after : World) (number : ℕ) (run : LiveRun) (request : Request) (given : Answer) (between : World) → KeepsLists setup before → request ≡ Release number → after.freezes ≡ between.freezes → after.greatest_freeze ≡ between.greatest_freeze → FreezeDeed setup before run request given between → IsPast number after
+given_back_past setup before after number run request given between kept is e g (leaves_freezes deed) = absurd (asked_for_one setup before run request given between number (ap (λ (r : Request). asked (Some r)) is) deed)
 given_back_past setup before after number run request given between kept is e g (takes_one deed) = absurd (let bad : FreezeQueue deed.queue ≡ Release number = sym deed.request_is ∙ is in cc)
 given_back_past setup before after number run request given between kept is e g (gives_one_back deed) =
     let both : Release deed.number ≡ Release number = sym deed.request_is ∙ is in
@@ -120,7 +119,7 @@ given_back_past setup before after number run request given between kept is e g 
 pub given_up_by_run_stays_given_up : GivenUpByRunStaysGivenUp
 given_up_by_run_stays_given_up setup xs ys run number reply before world first asks second held =
     let after : World = second.0 in
-    let kept = limits_are_kept setup xs before first in
+    let kept = lists_are_kept setup xs before first in
     let it = asks_of setup before run (plain helpers.Release) reply after second.1 in
     let past = given_back_past setup before after number it.it.run it.request it.given it.between kept (the_call setup before run (plain helpers.Release) reply after (Release number) asks it)
     (ap (λ (x : Reply × World). x.1.freezes) it.answer) (ap (λ (x : Reply × World). x.1.greatest_freeze) it.answer) it.freezes in
@@ -131,7 +130,7 @@ record IsTimed (number : ℕ) (world : World) : Type 0 where
   given : number ≤ world.greatest_freeze
   timer : (freeze : Freeze) → entry_of number world.freezes ≡ Some freeze → is_timer freeze.holder ≡ true
 
-move_timed : (setup : Setup) (before : World) (event : Event) (after : World) (number : ℕ) → KeepsLimits setup before → FreezeMove setup before event after → IsTimed number before → IsTimed number after
+move_timed : (setup : Setup) (before : World) (event : Event) (after : World) (number : ℕ) → KeepsLists setup before → FreezeMove setup before event after → IsTimed number before → IsTimed number after
 move_timed setup before event after number kept (freezes_stay e g) timed = record { given = rw g timed.given; timer = λ f found. timed.timer f (sym (ap (entry_of number) e) ∙ found) }
 move_timed setup before event after number kept (freeze_enters queue holder known room e g comes) timed =
     record {
@@ -161,14 +160,14 @@ move_timed setup before event after number kept (freeze_changes old new was queu
           ];
     }
 
-leads_timed : (setup : Setup) (before : World) (xs : List (Event × Reply)) (after : World) (number : ℕ) → KeepsLimits setup before → Leads setup before xs after → IsTimed number before → IsTimed number after
+leads_timed : (setup : Setup) (before : World) (xs : List (Event × Reply)) (after : World) (number : ℕ) → KeepsLists setup before → Leads setup before xs after → IsTimed number before → IsTimed number after
 leads_timed setup before [] after number kept run timed = subst (IsTimed number) run timed
 leads_timed setup before (x ∷ xs) after number kept run timed =
     leads_timed setup run.0 xs after number (step_keeps setup before x.0 x.1 run.0 run.1 kept) run.2
     (move_timed setup before x.0 run.0 number kept (step_freezes setup before x.0 x.1 run.0 kept run.1) timed)
 
-handed_over_timed : (setup : Setup) (before after : World) (number milliseconds : ℕ) (run : LiveRun) (request : Request) (given : Answer) (between : World) → KeepsLimits setup before → request ≡ ReleaseAfter number milliseconds → after.freezes ≡ between.freezes → after.greatest_freeze ≡ between.greatest_freeze → FreezeDeed setup before run request given between → IsTimed number after
-handed_over_timed setup before after number milliseconds run request given between kept is e g (leaves_freezes deed) = absurd (asked_for_one before run request given between number (ap (λ (r : Request). asked (Some r)) is) deed)
+handed_over_timed : (setup : Setup) (before after : World) (number milliseconds : ℕ) (run : LiveRun) (request : Request) (given : Answer) (between : World) → KeepsLists setup before → request ≡ ReleaseAfter number milliseconds → after.freezes ≡ between.freezes → after.greatest_freeze ≡ between.greatest_freeze → FreezeDeed setup before run request given between → IsTimed number after
+handed_over_timed setup before after number milliseconds run request given between kept is e g (leaves_freezes deed) = absurd (asked_for_one setup before run request given between number (ap (λ (r : Request). asked (Some r)) is) deed)
 handed_over_timed setup before after number milliseconds run request given between kept is e g (takes_one deed) = absurd (let bad : FreezeQueue deed.queue ≡ ReleaseAfter number milliseconds = sym deed.request_is ∙ is in cc)
 handed_over_timed setup before after number milliseconds run request given between kept is e g (gives_one_back deed) = absurd (let bad : Release deed.number ≡ ReleaseAfter number milliseconds = sym deed.request_is ∙ is in cc)
 handed_over_timed setup before after number milliseconds run request given between kept is e g (hands_one_over deed) =
@@ -191,7 +190,7 @@ handed_over_timed setup before after number milliseconds run request given betwe
 pub handed_over_stays_handed_over : HandedOverStaysHandedOver
 handed_over_stays_handed_over setup xs ys run number reply before world first hands second owned =
     let after : World = second.0 in
-    let kept = limits_are_kept setup xs before first in
+    let kept = lists_are_kept setup xs before first in
     let it = asks_of setup before run (plain helpers.ReleaseAfter) reply after second.1 in
     let timed = handed_over_timed setup before after number hands.0 it.it.run it.request it.given it.between kept (the_call setup before run (plain helpers.ReleaseAfter) reply after (ReleaseAfter number hands.0) hands.1 it)
     (ap (λ (x : Reply × World). x.1.freezes) it.answer) (ap (λ (x : Reply × World). x.1.greatest_freeze) it.answer) it.freezes in
@@ -200,7 +199,7 @@ handed_over_stays_handed_over setup xs ys run number reply before world first ha
 
 pub gone_stays_gone : GoneStaysGone
 gone_stays_gone setup xs ys zs number held gone later first was second not_there third is_there =
-    let kept = limits_are_kept setup xs held first in
+    let kept = lists_are_kept setup xs held first in
     let given = held_given setup held number (entry_of number held.freezes) kept refl was in
     let past : IsPast number gone = record { given = omega (arith, given, leads_rises setup held ys gone kept second); none = none_since (entry_of number gone.freezes) not_there } in
     none_held number later (leads_past setup gone zs later number (leads_keeps setup held ys gone second kept) third past).none is_there

@@ -12,11 +12,10 @@ use Rattle.world.specs.WorldRun.{Leads}
 use Rattle.world.specs.Headline.{is_own_of, steps_of, disposals_of, exits_of, StartedRun, KeepsWithin, WithinBudget, InRecoveryBy, DisposedOnce, OthersLeaveIt, GoneRunStaysGone, times_in, ExactFreezes}
 use Rattle.world.proofs.Lists.Found.{found_key, found_push, put_other, leave_other}
 use Rattle.world.proofs.Steps.Cases.{case_of}
-use Rattle.world.specs.Limits.{KeepsLimits}
-use Rattle.world.proofs.Steps.Moves.{ccb_key, run_key, Begins, RunMove, runs_stay, run_enters, run_changes, run_leaves}
+use Rattle.world.proofs.Steps.Moves.{KeepsLists, lists_of, ccb_key, run_key, Begins, RunMove, runs_stay, run_enters, run_changes, run_leaves}
 use Rattle.world.proofs.Steps.Effects.{begun_found, effect_of}
 use Rattle.world.proofs.Kept.{step_keeps}
-use Rattle.world.proofs.Leads.{leads_keeps, limits_are_kept}
+use Rattle.world.proofs.Leads.{leads_keeps, lists_are_kept}
 use Rattle.world.proofs.Held.{live_given, others_entries}
 use Rattle.world.proofs.Steps.Beginnings.{no_some, started_begins, begins_at_entry}
 use Rattle.world.proofs.Reaching.{same_found}
@@ -39,7 +38,7 @@ story setup lawful outcome run ys world it =
     let before : World = it.before in
     let started : World = it.started in
     let sound = run_sound setup it.xs before lawful it.run_before in
-    let begun = started_begins setup before outcome run it.freeze started (effect_of setup before (complete outcome) (run_started run it.freeze) started sound.kept (case_of setup before (complete outcome) (run_started run it.freeze) started it.step)).runs in
+    let begun = started_begins setup before outcome run it.freeze started (effect_of setup before (complete outcome) (run_started run it.freeze) started (lists_of sound.kept) (case_of setup before (complete outcome) (run_started run it.freeze) started it.step)).runs in
     let begins = begun.1 in
     let same_event : complete begins.outcome ≡ complete outcome = sym begins.event_is in
     let same_outcome : begins.outcome ≡ outcome = cc in
@@ -142,7 +141,7 @@ exact_freezes setup lawful outcome run ys world it =
     let event : Event = complete outcome in
     let reply : Reply = run_started run it.freeze in
     let sound = run_sound setup it.xs before lawful it.run_before in
-    let begun = started_begins setup before outcome run it.freeze started (effect_of setup before event reply started sound.kept (case_of setup before event reply started it.step)).runs in
+    let begun = started_begins setup before outcome run it.freeze started (effect_of setup before event reply started (lists_of sound.kept) (case_of setup before event reply started it.step)).runs in
     let same_reply : run_started run it.freeze ≡ run_started (before.greatest_run + 1) begun.1.freeze = begun.1.reply_is in
     let named : before.greatest_run + 1 ≡ run = cc in
     let there = subst (λ (n : ℕ). run_of n started.runs ≡ Some begun.0) named (begun_found setup before event reply started begun.0 sound.kept.runs begun.1) in
@@ -183,19 +182,19 @@ not_its_own setup before event reply after number run other found (run_leaves an
 
 pub others_leave_it : OthersLeaveIt
 others_leave_it setup xs before first event reply after e number run found =
-    let kept = limits_are_kept setup xs before first in
+    let kept = lists_are_kept setup xs before first in
     let effect = effect_of setup before event reply after kept (case_of setup before event reply after e) in
     (λ other. not_its_own setup before event reply after number run other found effect.runs, λ other. others_entries setup before event after number run kept found other effect.freezes)
 
 -- run numbers only rise, and a run that is over stays over
-leads_over : (setup : Setup) (before : World) (xs : List (Event × Reply)) (after : World) (number : ℕ) → KeepsLimits setup before → Leads setup before xs after → run_of number before.runs ≡ None → number ≤ before.greatest_run → run_of number after.runs ≡ None
+leads_over : (setup : Setup) (before : World) (xs : List (Event × Reply)) (after : World) (number : ℕ) → KeepsLists setup before → Leads setup before xs after → run_of number before.runs ≡ None → number ≤ before.greatest_run → run_of number after.runs ≡ None
 leads_over setup before [] after number kept run none given = subst (λ (w : World). run_of number w.runs ≡ None) run none
 leads_over setup before (x ∷ xs) after number kept run none given =
     let it = effect_of setup before x.0 x.1 run.0 kept (case_of setup before x.0 x.1 run.0 run.1) in
     let still = stays_over setup before x.0 x.1 run.0 number none given it.runs in
     leads_over setup run.0 xs after number (step_keeps setup before x.0 x.1 run.0 run.1 kept) run.2 still.0 still.1
 
-leads_rise : (setup : Setup) (before : World) (xs : List (Event × Reply)) (after : World) → KeepsLimits setup before → Leads setup before xs after → before.greatest_run ≤ after.greatest_run
+leads_rise : (setup : Setup) (before : World) (xs : List (Event × Reply)) (after : World) → KeepsLists setup before → Leads setup before xs after → before.greatest_run ≤ after.greatest_run
 leads_rise setup before [] after kept run = rw run (omega arith)
 leads_rise setup before (x ∷ xs) after kept run =
     let it = effect_of setup before x.0 x.1 run.0 kept (case_of setup before x.0 x.1 run.0 run.1) in
@@ -207,7 +206,7 @@ leads_rise setup before (x ∷ xs) after kept run =
 
 pub gone_run_stays_gone : GoneRunStaysGone
 gone_run_stays_gone setup xs ys zs number run live gone later first found second none third =
-    let kept = limits_are_kept setup xs live first in
+    let kept = lists_are_kept setup xs live first in
     let given = live_given setup live number run kept found in
     leads_over setup gone zs later number (leads_keeps setup live ys gone second kept) third none
     (omega (arith, given, leads_rise setup live ys gone kept second))

@@ -19,7 +19,7 @@ use Rattle.world.proofs.Lists.Found.{put, found_in_push, put_same, put_other}
 use Rattle.world.proofs.Lists.Rising.{found_bounds, found_unfiltered}
 use Rattle.world.proofs.Lists.Entries.{freeze_key}
 use Rattle.world.proofs.Steps.Cases.{Case}
-use Rattle.world.proofs.Steps.Moves.{run_key, FreezeMove, freezes_stay, freeze_enters, freezes_leave, freeze_changes, Begins, Effect}
+use Rattle.world.proofs.Steps.Moves.{KeepsLists, lists_of, run_key, FreezeMove, freezes_stay, freeze_enters, freezes_leave, freeze_changes, Begins, Effect}
 use Rattle.world.proofs.Steps.Effects.{timer_is_none, effect_of}
 use Rattle.world.proofs.Steps.Fates.{machine_of, turned, Holding, holds_the_same, holds_one_more, holds_one_fewer, Fate, stands, goes, leaves_world, fate_of}
 use Rattle.world.proofs.Steps.Beginnings.{no_some, new_run}
@@ -27,11 +27,11 @@ use Rattle.world.proofs.Reaching.{AllReached, same_found, reached_goes, lawful_e
 use Rattle.world.proofs.Lists.HeldBy.{held_push_own, entries_push_other, held_without_own, entries_kept, entries_without_other, entries_put, held_none, is_among}
 
 -- the number of a live run was given
-pub live_given : (setup : Setup) (world : World) (number : ℕ) (run : LiveRun) → KeepsLimits setup world → run_of number world.runs ≡ Some run → number ≤ world.greatest_run
+pub live_given : (setup : Setup) (world : World) (number : ℕ) (run : LiveRun) → KeepsLists setup world → run_of number world.runs ≡ Some run → number ≤ world.greatest_run
 live_given setup world number run kept found = (found_bounds run_key 0 world.runs world.greatest_run number run kept.runs.rising found).1
 
 -- a step of anyone else leaves the entries of a live run
-pub others_entries : (setup : Setup) (before : World) (event : Event) (after : World) (number : ℕ) (run : LiveRun) → KeepsLimits setup before → run_of number before.runs ≡ Some run → is_step_of number event ≡ false → FreezeMove setup before event after → entries_of number after.freezes ≡ entries_of number before.freezes
+pub others_entries : (setup : Setup) (before : World) (event : Event) (after : World) (number : ℕ) (run : LiveRun) → KeepsLists setup before → run_of number before.runs ≡ Some run → is_step_of number event ≡ false → FreezeMove setup before event after → entries_of number after.freezes ≡ entries_of number before.freezes
 others_entries setup before event after number run kept found other (freezes_stay e g) = ap (entries_of number) e
 others_entries setup before event after number run kept found other (freeze_enters queue holder known room e g comes) =
     let given = live_given setup before number run kept found in
@@ -61,7 +61,7 @@ others_entries setup before event after number run kept found other (freeze_chan
     ∙ entries_without_other number new.number 0 before.freezes before.greatest_freeze old kept.freezes.numbered was not_its)
 
 -- the entries that name a run that was not there before
-nothing_held : (setup : Setup) (before : World) (number : ℕ) → KeepsLimits setup before → HoldsWhatEntriesSay before → run_of number before.runs ≡ None → held_by number before.freezes ≡ []
+nothing_held : (setup : Setup) (before : World) (number : ℕ) → KeepsLists setup before → HoldsWhatEntriesSay before → run_of number before.runs ≡ None → held_by number before.freezes ≡ []
 nothing_held setup before number kept held none =
     held_none number 0 before.freezes before.greatest_freeze kept.freezes.numbered (λ n f entry.
     elim (cases_Bool (is_run number f.holder)) [
@@ -90,7 +90,7 @@ machines_hold : (setup : Setup) (before : World) (event : Event) (reply : Reply)
 machines_hold setup before event reply after kept held it number now some = split (run_of number before.runs) refl
   where
     effect : Effect setup before event reply after
-    effect = effect_of setup before event reply after kept it
+    effect = effect_of setup before event reply after (lists_of kept) it
 
     by_holding : (run : LiveRun) (instruction : Instruction) (machine : MachineState) → run_of number before.runs ≡ Some run → Holding before event reply after number run instruction machine → machine.held ≡ held_by number after.freezes
     by_holding run instruction machine found (holds_the_same same freezes gives takes) = same ∙ (held.machines number run found ∙ sym (ap (held_by number) freezes))
@@ -106,7 +106,7 @@ machines_hold setup before event reply after kept held it number now some = spli
     by_fate : (run : LiveRun) → run_of number before.runs ≡ Some run → Fate before event reply after number run → now.machine.held ≡ held_by number after.freezes
     by_fate run found (stands out idle is) =
         let same = same_found after number (turned run out) now is some in
-        sym (ap (λ (r : LiveRun). r.machine.held) same) ∙ (held.machines number run found ∙ sym (ap (map freeze_key) (others_entries setup before event after number run kept found (ap is_some idle) effect.freezes)))
+        sym (ap (λ (r : LiveRun). r.machine.held) same) ∙ (held.machines number run found ∙ sym (ap (map freeze_key) (others_entries setup before event after number run (lists_of kept) found (ap is_some idle) effect.freezes)))
     by_fate run found (goes instruction machine event_is no_exit steps is holding disposing) =
         let same = same_found after number (machine_of run machine) now is some in
         sym (ap (λ (r : LiveRun). r.machine.held) same) ∙ by_holding run instruction machine found holding
@@ -115,11 +115,11 @@ machines_hold setup before event reply after kept held it number now some = spli
     split : (o : Option LiveRun) → run_of number before.runs ≡ o → now.machine.held ≡ held_by number after.freezes
     split None none =
         let it_is = new_run setup before event reply after number now effect.runs none some in
-        held_at_start setup before event reply after number now (nothing_held setup before number kept held none) it_is.number_is it_is.begins
-    split (Some run) found = by_fate run found (fate_of setup before event reply after number run kept.freezes held found it)
+        held_at_start setup before event reply after number now (nothing_held setup before number (lists_of kept) held none) it_is.number_is it_is.begins
+    split (Some run) found = by_fate run found (fate_of setup before event reply after number run kept held found it)
 
 -- where an entry that names a run comes from: it was there before, or it came for a run that is there
-entry_source : (setup : Setup) (before : World) (event : Event) (after : World) (n r : ℕ) (f : Freeze) → KeepsLimits setup before → entry_of n after.freezes ≡ Some f → is_run r f.holder ≡ true → FreezeMove setup before event after → (entry_of n before.freezes ≡ Some f) ⊎ IsSome (run_of r after.runs)
+entry_source : (setup : Setup) (before : World) (event : Event) (after : World) (n r : ℕ) (f : Freeze) → KeepsLists setup before → entry_of n after.freezes ≡ Some f → is_run r f.holder ≡ true → FreezeMove setup before event after → (entry_of n before.freezes ≡ Some f) ⊎ IsSome (run_of r after.runs)
 entry_source setup before event after n r f kept some its (freezes_stay e g) = inl (sym (ap (entry_of n) e) ∙ some)
 entry_source setup before event after n r f kept some its (freeze_enters queue holder known room e g comes) =
     elim (found_in_push freeze_key n before.freezes _ f (sym (ap (entry_of n) e) ∙ some)) [
@@ -141,7 +141,7 @@ some_there o run e = subst (λ (x : Option LiveRun). IsSome x) (sym e) refl
 
 entries_live : (setup : Setup) (before : World) (event : Event) (reply : Reply) (after : World) → IsLawful setup → KeepsLimits setup before → AllReached before → HoldsWhatEntriesSay before → Case setup before event reply after → (n r : ℕ) (f : Freeze) → entry_of n after.freezes ≡ Some f → is_run r f.holder ≡ true → IsSome (run_of r after.runs)
 entries_live setup before event reply after lawful kept reached held it n r f some its =
-    elim (entry_source setup before event after n r f kept some its (effect_of setup before event reply after kept it).freezes) [
+    elim (entry_source setup before event after n r f (lists_of kept) some its (effect_of setup before event reply after (lists_of kept) it).freezes) [
       | inl old ↦ split old (run_of r before.runs) refl
       | inr live ↦ live
     ]
@@ -158,7 +158,7 @@ entries_live setup before event reply after lawful kept reached held it n r f so
     split old None none =
         let live : IsSome (run_of r before.runs) = held.entries n r f old its in
         absurd (let bad : IsSome {T = LiveRun} None = subst (λ (o : Option LiveRun). IsSome o) none live in cc)
-    split old (Some run) found = by_fate old run found (fate_of setup before event reply after r run kept.freezes held found it)
+    split old (Some run) found = by_fate old run found (fate_of setup before event reply after r run kept held found it)
 
 pub case_holds : (setup : Setup) (before : World) (event : Event) (reply : Reply) (after : World) → IsLawful setup → KeepsLimits setup before → AllReached before → HoldsWhatEntriesSay before → Case setup before event reply after → HoldsWhatEntriesSay after
 case_holds setup before event reply after lawful kept reached held it =

@@ -1,8 +1,7 @@
 -- Each step keeps the limits.
-use Rattle.std.proofs.Common.{◌≡◌, ℕ, ◌+◌, ◌<◌, ◌≤◌, List, [], ◌∷◌, ◌++◌, length, length-append, Bool, true, false, not, cond, eqb, inl, inr, refl, ap, sym, subst, ◌∙◌, arith, slice_index}
-use Rattle.std.specs.Prelude.{◌&&◌}
+use Rattle.std.proofs.Common.{◌≡◌, ℕ, ◌+◌, ◌<◌, ◌≤◌, List, [], ◌∷◌, ◌++◌, length, length-append, Bool, false, not, cond, eqb, inl, inr, refl, ap, sym, subst, ◌∙◌, arith}
 use Rattle.std.specs.List.{count_by, filter}
-use Rattle.std.proofs.lemmas.Bool.{leb-false, or_parts, cases_eq, eq-eqb, ne_eqb, and_left, and_right}
+use Rattle.std.proofs.lemmas.Bool.{leb-false, or_parts, cases_eq, eq-eqb, ne_eqb}
 use Rattle.std.proofs.lemmas.List.Elements.{All-push, All-filter}
 use Rattle.std.proofs.lemmas.List.Sums.{sum_by_push, length-filter, count_by-le-length}
 use Rattle.ccb.specs.Ccb.{submitted}
@@ -11,17 +10,19 @@ use Rattle.freeze_ledger.specs.declared.freeze.Freeze.{Freeze}
 use Rattle.freeze_ledger.specs.Freezes.{frozen, names, meets_limit}
 use Rattle.world.specs.declared.ccb_state.CcbState.TheVariants.{Waiting}
 use Rattle.world.specs.World.{Setup, queue_count, queue_setup, LiveCcb, LiveRun, World, opening}
-use Rattle.world.specs.Lookups.{is_active, is_of, live_count, active_count, with_ccb}
+use Rattle.world.specs.Lookups.{is_of, live_count, with_ccb}
 use Rattle.world.specs.Event.{Event, Reply}
 use Rattle.world.specs.CcbSteps.{ccb_meets_limit}
 use Rattle.world.specs.Step.{WorldStep}
+use Rattle.world.specs.Lawful.{IsLawful}
 use Rattle.world.specs.Limits.{FreezeLimits, CcbLimits, RunLimits, KeepsLimits}
 use Rattle.world.proofs.Lists.Found.{put, leave, put_keys}
 use Rattle.world.proofs.Lists.Rising.{rising_push, rising_filter, rising_leave, count_put, count_filter, count_leave}
 use Rattle.world.proofs.Lists.Each.{all_found, all_put, put_length}
 use Rattle.world.proofs.Lists.Entries.{freeze_key, frozen_push}
+use Rattle.world.proofs.Steps.Answering.{answers_kept, opening_answers}
 use Rattle.world.proofs.Steps.Cases.{Case, case_of}
-use Rattle.world.proofs.Steps.Moves.{ccb_key, run_key, CcbMove, ccbs_stay, ccb_enters, ccb_changes, ccb_leaves, FreezeMove, freezes_stay, freeze_enters, freezes_leave, freeze_changes, RunMove, runs_stay, run_enters, run_changes, run_leaves}
+use Rattle.world.proofs.Steps.Moves.{KeepsLists, lists_of, ccb_key, run_key, CcbMove, ccbs_stay, ccb_enters, ccb_changes, ccb_leaves, FreezeMove, freezes_stay, freeze_enters, freezes_leave, freeze_changes, RunMove, runs_stay, run_enters, run_changes, run_leaves}
 use Rattle.world.proofs.Steps.Effects.{effect_of}
 
 -- below every limit of freezes
@@ -89,16 +90,14 @@ freezes_kept setup before event after (freeze_changes old new found queue_is e g
     })
 
 -- what the limits of CCBs speak of
-abbrev CcbsWithin : Setup → List ℕ → List LiveCcb → ℕ → Type 0
-CcbsWithin setup openings live greatest = CcbLimits setup (record (opening setup) { live = live; openings = openings; greatest_ccb = greatest })
+abbrev CcbsWithin : Setup → List LiveCcb → ℕ → Type 0
+CcbsWithin setup live greatest = CcbLimits setup (record (opening setup) { live = live; greatest_ccb = greatest })
 
-ccbs_from : (setup : Setup) (world : World) (openings : List ℕ) (live : List LiveCcb) (greatest : ℕ) → world.openings ≡ openings → world.live ≡ live → world.greatest_ccb ≡ greatest → CcbsWithin setup openings live greatest → CcbLimits setup world
-ccbs_from setup world openings live greatest o e g kept =
+ccbs_from : (setup : Setup) (world : World) (live : List LiveCcb) (greatest : ℕ) → world.live ≡ live → world.greatest_ccb ≡ greatest → CcbsWithin setup live greatest → CcbLimits setup world
+ccbs_from setup world live greatest e g kept =
     record {
       queues = rw e kept.queues;
       a_queue = λ q. rw e (kept.a_queue q);
-      active = λ q. rw (o, e) (kept.active q);
-      openings = rw o kept.openings;
       all = rw e kept.all;
       rising = rw (e, g) kept.rising;
       numbers = rw g kept.numbers;
@@ -116,72 +115,41 @@ ccb_room queue world e =
     let inner = or_parts _ _ outer.0 in
     record { a_queue = leb-false _ _ inner.0; all = leb-false _ _ inner.1; numbers = leb-false _ _ outer.1 }
 
-abbrev works : ℕ → LiveCcb → Bool
-works q c = is_of q c && is_active c.state
-
-pub ccbs_kept : (setup : Setup) (before : World) (event : Event) (reply : Reply) (after : World) → CcbMove setup before event reply after → after.openings ≡ before.openings → CcbLimits setup before → CcbLimits setup after
-ccbs_kept setup before event reply after (ccbs_stay e g unended) o kept =
-    ccbs_from setup after before.openings before.live before.greatest_ccb o e g (record { queues = kept.queues; a_queue = kept.a_queue; active = kept.active; openings = kept.openings; all = kept.all; rising = kept.rising; numbers = kept.numbers })
-ccbs_kept setup before event reply after (ccb_enters queue priority retries known full e g unended) o kept =
+pub ccbs_kept : (setup : Setup) (before : World) (event : Event) (reply : Reply) (after : World) → CcbMove setup before event reply after → CcbLimits setup before → CcbLimits setup after
+ccbs_kept setup before event reply after (ccbs_stay e g unended) kept =
+    ccbs_from setup after before.live before.greatest_ccb e g (record { queues = kept.queues; a_queue = kept.a_queue; all = kept.all; rising = kept.rising; numbers = kept.numbers })
+ccbs_kept setup before event reply after (ccb_enters queue priority retries known full e g unended) kept =
     let c : LiveCcb = record { ccb = submitted (record { 0 = before.greatest_ccb + 1 }) (record { 0 = queue }) priority retries; state = Waiting } in
     let room = ccb_room queue before full in
     let one_more : (q : ℕ) → live_count q before.live + cond {A = ℕ} (eqb queue q) 1 0 ≤ 256 = λ q. elim (cases_eq queue q) [
       | inl same ↦ let here : live_count q before.live < 256 = subst (λ (x : ℕ). live_count x before.live < 256) same room.a_queue in rw (eq-eqb queue q same) (omega arith)
       | inr apart ↦ rw (ne_eqb queue q apart) (omega (arith, kept.a_queue q))
     ] in
-    let none_active : (q : ℕ) → works q c ≡ false = λ q. and_right (is_of q c) false refl in
-    ccbs_from setup after before.openings (before.live ++ c ∷ []) (before.greatest_ccb + 1) o e g (record {
+    ccbs_from setup after (before.live ++ c ∷ []) (before.greatest_ccb + 1) e g (record {
       queues = All-push (λ (x : LiveCcb). x.ccb.queue.0 < queue_count setup) before.live c kept.queues known;
       a_queue = λ q. omega (arith, sum_by_push (λ (x : LiveCcb). cond (is_of q x) 1 0) before.live c, one_more q);
-      active = λ q.
-          let none : cond {A = ℕ} (works q c) 1 0 ≡ 0 = ap (λ (b : Bool). cond {A = ℕ} b 1 0) (none_active q) in
-          omega (arith, sum_by_push (λ (x : LiveCcb). cond (works q x) 1 0) before.live c, none, kept.active q);
-      openings = kept.openings;
       all = omega (arith, room.all, length-append before.live (c ∷ []));
       rising = rising_push ccb_key 0 before.live before.greatest_ccb c kept.rising refl;
       numbers = omega (arith, room.numbers);
     })
-ccbs_kept setup before event reply after (ccb_changes old new found queue_is active_or_not may e g unended) o kept =
+ccbs_kept setup before event reply after (ccb_changes old new found queue_is active_or_not may e g unended) kept =
     let of_old : (q : ℕ) → is_of q new ≡ is_of q old = λ q. ap (λ (x : ℕ). eqb x q) queue_is in
     let known : new.ccb.queue.0 < queue_count setup = rw queue_is (all_found ccb_key (λ (x : LiveCcb). x.ccb.queue.0 < queue_count setup) new.ccb.number.0 before.live old kept.queues found) in
     let moved : (p : LiveCcb → Bool) → count_by p (with_ccb new before.live) + cond (p old) 1 0 ≡ count_by p before.live + cond (p new) 1 0 = λ p.
     count_put ccb_key p 0 before.live before.greatest_ccb new old kept.rising found in
-    ccbs_from setup after before.openings (with_ccb new before.live) before.greatest_ccb o e g (record {
+    ccbs_from setup after (with_ccb new before.live) before.greatest_ccb e g (record {
       queues = all_put ccb_key (λ (x : LiveCcb). x.ccb.queue.0 < queue_count setup) new before.live known kept.queues;
       a_queue = λ q.
           let same : cond {A = ℕ} (is_of q new) 1 0 ≡ cond (is_of q old) 1 0 = ap (λ (b : Bool). cond {A = ℕ} b 1 0) (of_old q) in
           omega (arith, moved (is_of q), same, kept.a_queue q);
-      active = λ q.
-          elim active_or_not [
-            | inl idle ↦
-                let none : cond {A = ℕ} (works q new) 1 0 ≡ 0 = ap (λ (b : Bool). cond {A = ℕ} b 1 0) (and_right (is_of q new) (is_active new.state) idle) in
-                omega (arith, moved (works q), none, kept.active q)
-            | inr free ↦
-                elim (cases_eq new.ccb.queue.0 q) [
-                  | inl same ↦
-                      let here : active_count q before.live < slice_index before.openings q = subst (λ (x : ℕ). active_count x before.live < slice_index before.openings x) same free in
-                      let most : cond {A = ℕ} (works q new) 1 0 ≤ 1 = at_most_one (works q new) in
-                      omega (arith, moved (works q), most, here)
-                  | inr apart ↦
-                      let none : cond {A = ℕ} (works q new) 1 0 ≡ 0 = ap (λ (b : Bool). cond {A = ℕ} b 1 0) (and_left (is_of q new) (is_active new.state) (ne_eqb _ _ apart)) in
-                      omega (arith, moved (works q), none, kept.active q)
-                ]
-          ];
-      openings = kept.openings;
       all = omega (arith, put_length ccb_key new before.live, kept.all);
       rising = rw (put_keys ccb_key new before.live) kept.rising;
       numbers = kept.numbers;
     })
-  where
-    at_most_one : (b : Bool) → cond {A = ℕ} b 1 0 ≤ 1
-    at_most_one true = omega arith
-    at_most_one false = omega arith
-ccbs_kept setup before event reply after (ccb_leaves number code old found may e g one) o kept =
-    ccbs_from setup after before.openings (leave ccb_key number before.live) before.greatest_ccb o e g (record {
+ccbs_kept setup before event reply after (ccb_leaves number code old found may e g one) kept =
+    ccbs_from setup after (leave ccb_key number before.live) before.greatest_ccb e g (record {
       queues = All-filter (λ (x : LiveCcb). not (eqb x.ccb.number.0 number)) (λ (x : LiveCcb). x.ccb.queue.0 < queue_count setup) before.live kept.queues;
       a_queue = λ q. omega (arith, kept.a_queue q, count_leave ccb_key (is_of q) before.live number);
-      active = λ q. omega (arith, kept.active q, count_leave ccb_key (works q) before.live number);
-      openings = kept.openings;
       all = omega (arith, kept.all, length-filter (λ (x : LiveCcb). not (eqb x.ccb.number.0 number)) before.live, count_by-le-length (λ (x : LiveCcb). not (eqb x.ccb.number.0 number)) before.live);
       rising = rising_leave ccb_key 0 before.live before.greatest_ccb number kept.rising;
       numbers = kept.numbers;
@@ -236,22 +204,39 @@ runs_kept setup before event reply after (run_leaves run found e g quiet its) ke
       numbers = kept.numbers;
     })
 
-pub case_keeps : (setup : Setup) (before : World) (event : Event) (reply : Reply) (after : World) → Case setup before event reply after → KeepsLimits setup before → KeepsLimits setup after
+-- the limits of the lists
+pub case_keeps : (setup : Setup) (before : World) (event : Event) (reply : Reply) (after : World) → Case setup before event reply after → KeepsLists setup before → KeepsLists setup after
 case_keeps setup before event reply after it kept =
     let effect = effect_of setup before event reply after kept it in
     record {
       freezes = freezes_kept setup before event after effect.freezes kept.freezes;
-      ccbs = ccbs_kept setup before event reply after effect.ccbs effect.openings kept.ccbs;
+      ccbs = ccbs_kept setup before event reply after effect.ccbs kept.ccbs;
       runs = runs_kept setup before event reply after effect.runs kept.runs;
     }
 
-pub step_keeps : (setup : Setup) (before : World) (event : Event) (reply : Reply) (after : World) → WorldStep setup before event reply after → KeepsLimits setup before → KeepsLimits setup after
+pub step_keeps : (setup : Setup) (before : World) (event : Event) (reply : Reply) (after : World) → WorldStep setup before event reply after → KeepsLists setup before → KeepsLists setup after
 step_keeps setup before event reply after e kept = case_keeps setup before event reply after (case_of setup before event reply after e) kept
 
-pub opening_keeps : (setup : Setup) → KeepsLimits setup (opening setup)
+-- and all limits
+pub case_keeps_limits : (setup : Setup) (before : World) (event : Event) (reply : Reply) (after : World) → Case setup before event reply after → KeepsLimits setup before → KeepsLimits setup after
+case_keeps_limits setup before event reply after it kept =
+    let lists = case_keeps setup before event reply after it (lists_of kept) in
+    record {
+      freezes = lists.freezes;
+      ccbs = lists.ccbs;
+      runs = lists.runs;
+      answers = answers_kept setup before after (effect_of setup before event reply after (lists_of kept) it).answers kept.answers;
+    }
+
+pub opening_keeps : (setup : Setup) → KeepsLists setup (opening setup)
 opening_keeps setup =
     record {
       freezes = record { queues = λ agreed k d below. absurd (omega arith); a_queue = λ q. omega arith; ledger = omega arith; numbered = omega arith; numbers = omega arith };
-      ccbs = record { queues = λ k d below. absurd (omega arith); a_queue = λ q. omega arith; active = λ q. omega arith; openings = refl; all = omega arith; rising = omega arith; numbers = omega arith };
+      ccbs = record { queues = λ k d below. absurd (omega arith); a_queue = λ q. omega arith; all = omega arith; rising = omega arith; numbers = omega arith };
       runs = record { queues = λ k d below. absurd (omega arith); programs = λ k d below. absurd (omega arith); all = omega arith; rising = omega arith; numbers = omega arith };
     }
+
+pub opening_keeps_limits : (setup : Setup) → IsLawful setup → KeepsLimits setup (opening setup)
+opening_keeps_limits setup lawful =
+    let lists = opening_keeps setup in
+    record { freezes = lists.freezes; ccbs = lists.ccbs; runs = lists.runs; answers = opening_answers setup lawful }

@@ -19,3 +19,4 @@ pub mod Headline
 pub mod Parking
 pub mod Moved
 pub mod Accounts
+pub mod Starting

@@ -15,7 +15,7 @@ use Rattle.world.specs.WorldRun.{Leads}
 use Rattle.world.specs.Headline.{is_step_of, is_disposal, is_exit, is_disposal_of, is_exit_of, steps_of, disposals_of, exits_of}
 use Rattle.world.proofs.Lists.Each.{all_found}
 use Rattle.world.proofs.Steps.Cases.{case_of}
-use Rattle.world.proofs.Steps.Moves.{run_key, RunMove, runs_stay, run_enters, run_changes, run_leaves, Effect}
+use Rattle.world.proofs.Steps.Moves.{lists_of, run_key, RunMove, runs_stay, run_enters, run_changes, run_leaves, Effect}
 use Rattle.world.proofs.Steps.Effects.{effect_of}
 use Rattle.world.proofs.Steps.Fates.{machine_of, turned, Disposing, leaves_its_ccb, disposes_of_it, Fate, stands, goes, leaves_world, fate_of}
 use Rattle.world.proofs.Steps.Beginnings.{new_run}
@@ -135,7 +135,7 @@ alive_step setup start number k j e before event reply after lawful sound effect
     let unstuck = reached_goes setup lawful before sound.kept.runs number now found (k, reached) in
     let used = spent now j disposed (lawful_exit now.program setup.limits now.machine r0 unstuck exit_is).1 in
     let most : k + 1 ≤ (queue_setup setup now.queue).budget = (within setup before number now lawful sound found k now.machine reached).1 (subst (λ (o : Option ℕ). IsSome o) (sym exit_is) refl) in
-    let given = live_given setup before number now sound.kept found in
+    let given = live_given setup before number now (lists_of sound.kept) found in
     recount setup start number (k + 1) j 1 _ _ _ after (omega (arith, counted)) (omega (arith, again)) (omega (arith, gone, none_yet))
     (over none (omega (arith, given, rises setup before event reply after effect.runs))
     (subst (λ (q : ℕ). k + 1 ≤ (queue_setup setup q).budget) queue most) used refl)
@@ -143,10 +143,10 @@ alive_step setup start number k j e before event reply after lawful sound effect
 life_step : (setup : Setup) (start : LiveRun) (number k j e : ℕ) (before : World) (event : Event) (reply : Reply) (after : World) → IsLawful setup → IsSound setup before → WorldStep setup before event reply after → Life setup start number k j e before → Later setup start number k j e event after
 life_step setup start number k j e before event reply after lawful sound step (alive now found queue ccb reached disposed none_yet) =
     let it = case_of setup before event reply after step in
-    alive_step setup start number k j e before event reply after lawful sound (effect_of setup before event reply after sound.kept it) now found queue ccb reached disposed none_yet
-    (fate_of setup before event reply after number now sound.kept.freezes sound.held found it)
+    alive_step setup start number k j e before event reply after lawful sound (effect_of setup before event reply after (lists_of sound.kept) it) now found queue ccb reached disposed none_yet
+    (fate_of setup before event reply after number now sound.kept sound.held found it)
 life_step setup start number k j e before event reply after lawful sound step (over none given most used gone) =
-    let it = effect_of setup before event reply after sound.kept (case_of setup before event reply after step) in
+    let it = effect_of setup before event reply after (lists_of sound.kept) (case_of setup before event reply after step) in
     let still = stays_over setup before event reply after number none given it.runs in
     not_counted setup start number k j e event after (gone_stands setup before event reply after number none it) (over still.0 still.1 most used gone)
 

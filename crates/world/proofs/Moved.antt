@@ -9,7 +9,7 @@ use Rattle.ccb.specs.Completion.{Outcome}
 use Rattle.ccb.specs.Ccb.{completed}
 use Rattle.helpers.specs.declared.limits.HelperLimits.{HelperLimits}
 use Rattle.helpers.specs.declared.request.Request.{Request}
-use Rattle.helpers.specs.declared.request.Request.TheVariants.{Freeze as FreezeQueue, Release, ReleaseAfter, Requeue, Finish, QueueInfo, Trace}
+use Rattle.helpers.specs.declared.request.Request.TheVariants.{Freeze as FreezeQueue, Release, ReleaseAfter, Requeue, Finish, TableGet, TablePut, TableAdd, QueueInfo, Trace, Now, SetOpenings}
 use Rattle.freeze_ledger.specs.declared.freeze.Freeze.{Freeze}
 use Rattle.freeze_ledger.specs.declared.freeze.Holder.TheVariants.{Run, Guest}
 use Rattle.freeze_ledger.specs.Freezes.{frozen, meets_limit, entry_of, due_at}
@@ -24,7 +24,7 @@ use Rattle.world.specs.Told.{Told}
 use Rattle.world.specs.Event.{Instruction, private, call, exit, Event, submit, dispatch, complete, guest_freeze, guest_release, clock_reads, parks, resumes, executes, Reply, ccb_given, done, freeze_given, expired, ok, went_on, result, refused}
 use Rattle.world.specs.FreezeSteps.{froze, thawed, timed, step_guest_freeze, step_guest_release, clock_at, step_clock_reads}
 use Rattle.world.specs.CcbSteps.{ccb_meets_limit, step_submit, starts, step_dispatch, is_success, run_meets_limit, ended_with, finishes as finishes_done, run_starts, recovers, completes}
-use Rattle.world.specs.RunSteps.{goes_on, takes, releases, hands_over, requeues, finishes, step_request, step_call, ends, step_run, step_executes}
+use Rattle.world.specs.RunSteps.{goes_on, takes, releases, hands_over, requeues, finishes, with_table_word, step_request, step_call, ends, step_run, step_executes}
 use Rattle.world.specs.ParkSteps.{step_parks, step_resumes}
 use Rattle.world.specs.Step.{step, WorldStep}
 use Rattle.world.specs.WorldRun.{Leads}
@@ -187,8 +187,13 @@ module _ (r : ℕ) (c : LiveRun) (named : c.number ≡ r) (w : World) where
   requests run apart (ReleaseAfter freeze milliseconds) = hands run apart milliseconds (entry_of freeze w.freezes)
   requests run apart (Requeue retries) = waits_again run apart retries (ccb_of run.ccb w.live)
   requests run apart (Finish code) = is_finished run apart code (ccb_of run.ccb w.live)
+  requests run apart (TableGet table index) = an_event _ _ (changes _ w _ refl apart)
+  requests run apart (TablePut table index value) = an_event _ _ (changes _ (with_table_word w table index _) _ refl apart)
+  requests run apart (TableAdd table index value) = an_event _ _ (changes _ (with_table_word w table index _) _ refl apart)
   requests run apart (QueueInfo address) = an_event _ _ (changes _ w _ refl apart)
   requests run apart (Trace address bytes) = an_event _ _ (changes _ w _ refl apart)
+  requests run apart Now = an_event _ _ (changes _ w _ refl apart)
+  requests run apart (SetOpenings openings) = an_event _ _ (changes _ (record w { openings = _ }) _ refl apart)
 
   calls : (limits : HelperLimits) (run : LiveRun) → (run.number ≡ r → ⊥) → (told : Told) (o : Option Request) → AlikeOr (option_and_then (step_call limits w run told) o) (option_and_then (step_call limits (changed c w) run told) o)
   calls limits run apart told None = neither

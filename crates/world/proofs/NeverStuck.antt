@@ -5,7 +5,7 @@ use Rattle.std.proofs.lemmas.Bool.{cond-true, and_from, and_parts, not-true}
 use Rattle.freeze_ledger.specs.declared.freeze.Freeze.{Freeze}
 use Rattle.freeze_ledger.specs.Freezes.{entry_of}
 use Rattle.helpers.specs.declared.request.Request.{Request}
-use Rattle.helpers.specs.declared.request.Request.TheVariants.{Freeze as FreezeQueue, Release, ReleaseAfter, Requeue, Finish, QueueInfo, Trace}
+use Rattle.helpers.specs.declared.request.Request.TheVariants.{Freeze as FreezeQueue, Release, ReleaseAfter, Requeue, Finish, TableGet, TablePut, TableAdd, QueueInfo, Trace, Now, SetOpenings}
 use Rattle.bpf_machine.specs.Calls.{is_held, meets_rule}
 use Rattle.bpf_machine.specs.MachineState.{MachineState}
 use Rattle.bpf_machine.specs.Step.{private_step, request_at, exit_at}
@@ -120,8 +120,13 @@ leads_on setup world number run sound found (Requeue n) rule =
 leads_on setup world number run sound found (Finish code) rule =
     let recovery = sound.recovering.ccbs number run found (not-true _ (and_parts (not run.machine.disposed) _ rule).0) in
     (_, ap (finishes world run code) recovery.found)
+leads_on setup world number run sound found (TableGet table index) rule = (_, refl)
+leads_on setup world number run sound found (TablePut table index value) rule = (_, refl)
+leads_on setup world number run sound found (TableAdd table index value) rule = (_, refl)
 leads_on setup world number run sound found (QueueInfo address) rule = (_, refl)
 leads_on setup world number run sound found (Trace address bytes) rule = (_, refl)
+leads_on setup world number run sound found Now rule = (_, refl)
+leads_on setup world number run sound found (SetOpenings openings) rule = (_, refl)
 
 at_call : (setup : Setup) (world : World) (number : ℕ) (run : LiveRun) → IsSound setup world → run_of number world.runs ≡ Some run → run.out ≡ true → (request : Request) → request_at run.program run.machine ≡ Some request → meets_rule setup.limits run.machine request ≡ true → private_step run.program run.machine ≡ None → exit_at run.program run.machine ≡ None → HasOneStep setup world number
 at_call setup world number run sound found out request call_is rule no_step no_exit =

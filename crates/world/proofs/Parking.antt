@@ -11,16 +11,16 @@ use Rattle.world.specs.Event.{Instruction, Event, submit, dispatch, complete, gu
 use Rattle.world.specs.ParkSteps.{with_out, step_parks, step_resumes}
 use Rattle.world.specs.Step.{WorldStep}
 use Rattle.world.specs.WorldRun.{Leads}
-use Rattle.world.specs.Limits.{KeepsLimits}
 use Rattle.world.specs.FreezeLaws.{entries_of}
 use Rattle.world.specs.Headline.{is_step_of, is_turn_of, is_own_of, steps_of}
 use Rattle.world.specs.ParkLaws.{is_resume_of, resumes_of, ParkedStaysAsItIs}
 use Rattle.world.proofs.Steps.Running.{some_is, executes_parts}
 use Rattle.world.proofs.Steps.Cases.{case_of}
+use Rattle.world.proofs.Steps.Moves.{KeepsLists}
 use Rattle.world.proofs.Steps.Effects.{effect_of}
 use Rattle.world.proofs.Steps.Fates.{turned, changed_same}
 use Rattle.world.proofs.Kept.{step_keeps}
-use Rattle.world.proofs.Leads.{limits_are_kept}
+use Rattle.world.proofs.Leads.{lists_are_kept}
 use Rattle.world.proofs.Held.{others_entries}
 use Rattle.world.proofs.Recovering.{others_ccb}
 use Rattle.world.proofs.Reaching.{same_found}
@@ -69,7 +69,7 @@ record Stands (setup : Setup) (number : ℕ) (run : LiveRun) (before : World) (y
   freezes : entries_of number later.freezes ≡ entries_of number before.freezes
   ccb : IsLawful setup → IsSound setup before → run.machine.disposed ≡ false → ccb_of run.ccb later.live ≡ ccb_of run.ccb before.live
 
-stands_along : (setup : Setup) (number : ℕ) (run : LiveRun) (before : World) (ys : List (Event × Reply)) (later : World) → KeepsLimits setup before → run.out ≡ false → run_of number before.runs ≡ Some run → Leads setup before ys later → resumes_of number ys ≡ 0 → Stands setup number run before ys later
+stands_along : (setup : Setup) (number : ℕ) (run : LiveRun) (before : World) (ys : List (Event × Reply)) (later : World) → KeepsLists setup before → run.out ≡ false → run_of number before.runs ≡ Some run → Leads setup before ys later → resumes_of number ys ≡ 0 → Stands setup number run before ys later
 stands_along setup number run before [] later kept parked found leads none =
     record {
       no_step = refl;
@@ -122,7 +122,7 @@ gives_back setup number run later out found = (
 pub parked_stays_as_it_is : ParkedStaysAsItIs
 parked_stays_as_it_is setup xs ys number run reply before parked later first found park leads none =
     let it = park_parts before number run reply parked (sym (ap (step_parks before) found) ∙ park) in
-    let kept = limits_are_kept setup xs before first in
+    let kept = lists_are_kept setup xs before first in
     let there = changed_same before.runs parked.runs number run (turned run false) refl found (ap (λ (w : World). w.runs) it.after_is) in
     let stands = stands_along setup number (turned run false) parked ys later (step_keeps setup before (parks number) reply parked park kept) refl there leads none in (
       stands.no_step,

@@ -15,7 +15,7 @@ use Rattle.world.specs.Limits.{RunLimits, KeepsLimits}
 use Rattle.world.specs.FreezeLaws.{HoldsWhatEntriesSay}
 use Rattle.world.proofs.Lists.Each.{all_found}
 use Rattle.world.proofs.Steps.Cases.{Case}
-use Rattle.world.proofs.Steps.Moves.{run_key}
+use Rattle.world.proofs.Steps.Moves.{lists_of, run_key}
 use Rattle.world.proofs.Steps.Effects.{effect_of}
 use Rattle.world.proofs.Steps.Fates.{machine_of, turned, Fate, stands, goes, leaves_world, fate_of, same_run}
 use Rattle.world.proofs.Steps.Beginnings.{new_run, begins_at_entry}
@@ -43,8 +43,8 @@ pub case_reaches : (setup : Setup) (before : World) (event : Event) (reply : Rep
 case_reaches setup before event reply after kept held it reached number now some = split (run_of number before.runs) refl
   where
     split : (o : Option LiveRun) → run_of number before.runs ≡ o → (n : ℕ) × Reached now.program n now.machine
-    split None none = (0, begins_at_entry setup before event reply after now (new_run setup before event reply after number now (effect_of setup before event reply after kept it).runs none some).begins)
-    split (Some run) found = from_fate before event reply after number run now (reached number run found) some (fate_of setup before event reply after number run kept.freezes held found it)
+    split None none = (0, begins_at_entry setup before event reply after now (new_run setup before event reply after number now (effect_of setup before event reply after (lists_of kept) it).runs none some).begins)
+    split (Some run) found = from_fate before event reply after number run now (reached number run found) some (fate_of setup before event reply after number run kept held found it)
 
 -- the queue of a live run is lawful
 pub lawful_queue : (setup : Setup) → IsLawful setup → (queue : ℕ) → queue < queue_count setup → IsLawfulQueue setup.limits (queue_setup setup queue)

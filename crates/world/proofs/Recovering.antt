@@ -13,7 +13,7 @@ use Rattle.world.specs.FreezeLaws.{HoldsWhatEntriesSay}
 use Rattle.world.specs.Headline.{is_step_of}
 use Rattle.world.proofs.Lists.Found.{found_key, found_push, put_same, put_other, leave_other}
 use Rattle.world.proofs.Steps.Cases.{Case}
-use Rattle.world.proofs.Steps.Moves.{ccb_key, ccb_found, MayTouch, CcbMove, ccbs_stay, ccb_enters, ccb_changes, ccb_leaves, Begins, Effect}
+use Rattle.world.proofs.Steps.Moves.{lists_of, ccb_key, ccb_found, MayTouch, CcbMove, ccbs_stay, ccb_enters, ccb_changes, ccb_leaves, Begins, Effect}
 use Rattle.world.proofs.Steps.Effects.{effect_of}
 use Rattle.world.proofs.Steps.Fates.{machine_of, turned, Disposing, leaves_its_ccb, disposes_of_it, Fate, stands, goes, leaves_world, fate_of, Newly}
 use Rattle.world.proofs.Steps.Beginnings.{no_some, new_run}
@@ -104,8 +104,8 @@ origin : (setup : Setup) (before : World) (event : Event) (reply : Reply) (after
 origin setup before event reply after number now kept held it some = split (run_of number before.runs) refl
   where
     split : (o : Option LiveRun) → run_of number before.runs ≡ o → Continues before number now ⊎ Newly setup before event reply after number now
-    split None none = inr (new_run setup before event reply after number now (effect_of setup before event reply after kept it).runs none some)
-    split (Some run) found = inl (continues before event reply after number run now found some (fate_of setup before event reply after number run kept.freezes held found it))
+    split None none = inr (new_run setup before event reply after number now (effect_of setup before event reply after (lists_of kept) it).runs none some)
+    split (Some run) found = inl (continues before event reply after number run now found some (fate_of setup before event reply after number run kept held found it))
 
 -- the CCB of a run that begins is in recovery
 pub begun_recovers : (setup : Setup) (before : World) (event : Event) (reply : Reply) (after : World) (run : LiveRun) → Begins setup before event reply after run → IsInRecovery run.ccb after
@@ -119,7 +119,7 @@ ccbs_recover : (setup : Setup) (before : World) (event : Event) (reply : Reply) 
 ccbs_recover setup before event reply after kept held recovering it number now some fresh_now = split (run_of number before.runs) refl
   where
     effect : Effect setup before event reply after
-    effect = effect_of setup before event reply after kept it
+    effect = effect_of setup before event reply after (lists_of kept) it
 
     by_disposing : (run : LiveRun) (instruction : Instruction) (machine : MachineState) → run_of number before.runs ≡ Some run → machine.disposed ≡ false → Disposing before after run instruction machine → IsInRecovery run.ccb after
     by_disposing run instruction machine found fresh (leaves_its_ccb same live calm) = same_live run.ccb before after live (recovering.ccbs number run found (sym same ∙ fresh))
@@ -138,7 +138,7 @@ ccbs_recover setup before event reply after kept held recovering it number now s
 
     split : (o : Option LiveRun) → run_of number before.runs ≡ o → IsInRecovery now.ccb after
     split None none = begun_recovers setup before event reply after now (new_run setup before event reply after number now effect.runs none some).begins
-    split (Some run) found = by_fate run found (fate_of setup before event reply after number run kept.freezes held found it)
+    split (Some run) found = by_fate run found (fate_of setup before event reply after number run kept held found it)
 
 runs_alone : (setup : Setup) (before : World) (event : Event) (reply : Reply) (after : World) → KeepsLimits setup before → HoldsWhatEntriesSay before → Recovering before → Case setup before event reply after → (n m : ℕ) (a b : LiveRun) → run_of n after.runs ≡ Some a → run_of m after.runs ≡ Some b → a.ccb ≡ b.ccb → a.machine.disposed ≡ false → b.machine.disposed ≡ false → n ≡ m
 runs_alone setup before event reply after kept held recovering it n m a b first second same fresh fresh_too =

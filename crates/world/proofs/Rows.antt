@@ -8,4 +8,5 @@ pub mod Lawful
 pub mod Telling
 pub mod Calls
 pub mod Handing
+pub mod Tables
 pub mod Parks

@@ -9,7 +9,7 @@ use Rattle.world.specs.Limits.{KeepsLimits}
 use Rattle.world.specs.FreezeLaws.{HoldsWhatEntriesSay, HeldAreEntries}
 use Rattle.world.specs.Headline.{MachinesAreReached}
 use Rattle.world.proofs.Steps.Cases.{case_of}
-use Rattle.world.proofs.Kept.{case_keeps, opening_keeps}
+use Rattle.world.proofs.Kept.{case_keeps_limits, opening_keeps_limits}
 use Rattle.world.proofs.Reaching.{AllReached, case_reaches}
 use Rattle.world.proofs.Held.{case_holds}
 use Rattle.world.proofs.Recovering.{Recovering, case_recovers}
@@ -24,7 +24,7 @@ pub step_sound : (setup : Setup) (before : World) (event : Event) (reply : Reply
 step_sound setup before event reply after lawful e sound =
     let it = case_of setup before event reply after e in
     record {
-      kept = case_keeps setup before event reply after it sound.kept;
+      kept = case_keeps_limits setup before event reply after it sound.kept;
       reached = case_reaches setup before event reply after sound.kept sound.held it sound.reached;
       held = case_holds setup before event reply after lawful sound.kept sound.reached sound.held it;
       recovering = case_recovers setup before event reply after sound.kept sound.held sound.recovering it;
@@ -34,10 +34,10 @@ pub leads_sound : (setup : Setup) (before : World) (xs : List (Event × Reply)) 
 leads_sound setup before [] after lawful run sound = subst (IsSound setup) run sound
 leads_sound setup before (x ∷ xs) after lawful run sound = leads_sound setup run.0 xs after lawful run.2 (step_sound setup before x.0 x.1 run.0 lawful run.1 sound)
 
-pub opening_sound : (setup : Setup) → IsSound setup (opening setup)
-opening_sound setup =
+pub opening_sound : (setup : Setup) → IsLawful setup → IsSound setup (opening setup)
+opening_sound setup lawful =
     record {
-      kept = opening_keeps setup;
+      kept = opening_keeps_limits setup lawful;
       reached = λ number run found. absurd (let bad : None ≡ Some run = found in cc);
       held = record {
         machines = λ number run found. absurd (let bad : None ≡ Some run = found in cc);
@@ -50,7 +50,7 @@ opening_sound setup =
     }
 
 pub run_sound : (setup : Setup) (xs : List (Event × Reply)) (world : World) → IsLawful setup → WorldRun setup xs world → IsSound setup world
-run_sound setup xs world lawful run = leads_sound setup (opening setup) xs world lawful run (opening_sound setup)
+run_sound setup xs world lawful run = leads_sound setup (opening setup) xs world lawful run (opening_sound setup lawful)
 
 pub held_are_entries : HeldAreEntries
 held_are_entries setup lawful xs world run = (run_sound setup xs world lawful run).held

@@ -1,10 +1,12 @@
--- The law of CCB numbers: each that was given is live or ended, and the ended ones are those that events ended.
-use Rattle.std.specs.Prelude.{◌≡◌, ℕ, ◌<◌, ◌≤◌, ◌==◌, List, [], ◌∷◌, ◌++◌, Option, Some, None, ◌⊎◌, count_by}
+-- The laws of CCBs: each number that was given is live or ended, and the ended ones are those that events ended; and no
+-- more start than there are openings.
+use Rattle.std.specs.Prelude.{◌≡◌, ℕ, ◌<◌, ◌≤◌, ◌==◌, List, [], ◌∷◌, ◌++◌, Option, Some, None, ◌⊎◌, count_by, slice_index}
 use Rattle.ccb.specs.Status.{code_of}
 use Rattle.world.specs.World.{Setup, LiveCcb, EndedCcb, LiveRun, World, opening}
-use Rattle.world.specs.Lookups.{ccb_of, run_of}
+use Rattle.world.specs.Lookups.{active_count, ccb_of, run_of}
 use Rattle.world.specs.Told.{finishes}
 use Rattle.world.specs.Event.{call, Event, complete, executes, Reply, done}
+use Rattle.world.specs.Step.{WorldStep}
 use Rattle.world.specs.WorldRun.{Leads, WorldRun}
 
 -- how often the number is among those that ended
@@ -47,3 +49,12 @@ abbrev pub EachIsLiveOrEnded : Type 0
 EachIsLiveOrEnded =
     (setup : Setup) (xs : List (Event × Reply)) (world : World) → (run : WorldRun setup xs world) →
     AreAccounted world.live world.ended world.greatest_ccb × (world.ended ≡ finished_in setup (opening setup) xs world run)
+
+-- No step makes more CCBs of a queue active than it has openings then. Openings that a run lowers below the active ones
+-- stop starts and nothing else, so there may be more active ones, but none is added.
+abbrev pub StartsKeepOpenings : Type 0
+StartsKeepOpenings =
+    (setup : Setup) (xs : List (Event × Reply)) (before : World) → WorldRun setup xs before →
+    (event : Event) (reply : Reply) (after : World) → WorldStep setup before event reply after →
+    (queue : ℕ) →
+    (active_count queue after.live ≤ active_count queue before.live) ⊎ (active_count queue after.live ≤ slice_index before.openings queue)

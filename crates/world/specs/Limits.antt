@@ -1,10 +1,11 @@
 -- The limits that every world keeps.
-use Rattle.std.specs.Prelude.{◌≡◌, ℕ, ◌<◌, ◌≤◌, List, length, map, slice_index, All}
+use Rattle.std.specs.Prelude.{◌≡◌, ℕ, ◌<◌, ◌≤◌, ◌^◌, List, length, map, All}
 use Rattle.ccb.specs.Rising.{AreRising}
 use Rattle.freeze_ledger.specs.Freezes.{frozen}
-use Rattle.world.specs.Capacities.{most_ccbs, most_ccbs_of_queue, most_runs, most_freezes, most_freezes_of_queue, last_number}
+use Rattle.world.specs.Capacities.{most_openings, most_ccbs, most_ccbs_of_queue, most_runs, most_freezes, most_freezes_of_queue, last_number, last_reading}
 use Rattle.world.specs.World.{Setup, queue_count, queue_setup, World}
-use Rattle.world.specs.Lookups.{live_count, active_count}
+use Rattle.world.specs.Lookups.{live_count}
+use Rattle.world.specs.Lawful.{IsLawful}
 use Rattle.world.specs.Event.{Event, Reply}
 use Rattle.world.specs.WorldRun.{WorldRun}
 
@@ -21,13 +22,10 @@ pub record FreezeLimits (setup : Setup) (world : World) : Type 0 where
   pub numbered : AreRising 0 (map (λ freeze. freeze.number) world.freezes) world.greatest_freeze
   pub numbers : world.greatest_freeze ≤ last_number
 
--- Each CCB is of a queue that exists, no queue has too many, nor have all together, no more of a queue are active
--- than it has openings, and numbers rise.
+-- Each CCB is of a queue that exists, no queue has too many, nor have all together, and numbers rise.
 pub record CcbLimits (setup : Setup) (world : World) : Type 0 where
   pub queues : All (λ live. live.ccb.queue.0 < queue_count setup) world.live
   pub a_queue : (queue : ℕ) → live_count queue world.live ≤ most_ccbs_of_queue
-  pub active : (queue : ℕ) → active_count queue world.live ≤ slice_index world.openings queue
-  pub openings : world.openings ≡ map (λ queue. queue.openings) setup.queues
   pub all : length world.live ≤ most_ccbs
   pub rising : AreRising 0 (map (λ live. live.ccb.number.0) world.live) world.greatest_ccb
   pub numbers : world.greatest_ccb ≤ last_number
@@ -40,11 +38,21 @@ pub record RunLimits (setup : Setup) (world : World) : Type 0 where
   pub rising : AreRising 0 (map (λ run. run.number) world.runs) world.greatest_run
   pub numbers : world.greatest_run ≤ last_number
 
+-- What calls are answered with keeps its limits: each queue has 1 to 255 openings, the tables are as long as the limits of
+-- the helper calls say and have words below 2^64, and the clock has not read more than it can.
+pub record AnswerLimits (setup : Setup) (world : World) : Type 0 where
+  pub queues : length world.openings ≡ queue_count setup
+  pub openings : All (λ openings. (1 ≤ openings) × (openings ≤ most_openings)) world.openings
+  pub lengths : map (λ table. length table) world.tables ≡ setup.limits.table_lengths
+  pub words : All (λ table. All (λ word. word < 2 ^ 64) table) world.tables
+  pub clock : world.clock ≤ last_reading
+
 pub record KeepsLimits (setup : Setup) (world : World) : Type 0 where
   pub freezes : FreezeLimits setup world
   pub ccbs : CcbLimits setup world
   pub runs : RunLimits setup world
+  pub answers : AnswerLimits setup world
 
--- at every moment of every run the limits are kept
+-- at every moment of every run of a lawful setup the limits are kept
 abbrev pub LimitsAreKept : Type 0
-LimitsAreKept = (setup : Setup) (xs : List (Event × Reply)) (world : World) → WorldRun setup xs world → KeepsLimits setup world
+LimitsAreKept = (setup : Setup) → IsLawful setup → (xs : List (Event × Reply)) (world : World) → WorldRun setup xs world → KeepsLimits setup world

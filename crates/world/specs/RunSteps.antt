@@ -1,5 +1,5 @@
 -- What one instruction of a run does: to its own machine, and by a helper call or its exit to the world.
-use Rattle.std.specs.Prelude.{ℕ, ◌+◌, Bool, false, not, ◌&&◌, ◌==◌, if◌then◌else◌, Option, Some, None, filter}
+use Rattle.std.specs.Prelude.{ℕ, ◌+◌, ◌%◌, ◌^◌, Bool, false, not, ◌&&◌, ◌==◌, if◌then◌else◌, Option, Some, None, filter, slice_index, slice_set}
 use Rattle.std.specs.Option.{option_map, option_and_then}
 use Rattle.ccb.specs.Ccb.{requeued}
 use Rattle.freeze_ledger.specs.declared.freeze.Holder.{Holder}
@@ -8,12 +8,13 @@ use Rattle.freeze_ledger.specs.declared.freeze.Freeze.{Freeze}
 use Rattle.freeze_ledger.specs.Freezes.{entry_of, meets_limit}
 use Rattle.helpers.specs.declared.limits.HelperLimits.{HelperLimits}
 use Rattle.helpers.specs.declared.request.Request.{Request}
-use Rattle.helpers.specs.declared.request.Request.TheVariants.{Freeze as FreezeQueue, Release, ReleaseAfter, Requeue, Finish, QueueInfo, Trace}
+use Rattle.helpers.specs.declared.request.Request.TheVariants.{Freeze as FreezeQueue, Release, ReleaseAfter, Requeue, Finish, TableGet, TablePut, TableAdd, QueueInfo, Trace, Now, SetOpenings}
 use Rattle.helpers.specs.declared.request.Answer.{Answer}
 use Rattle.helpers.specs.Table.{answer_number}
 use Rattle.bpf_machine.specs.MachineState.{MachineState}
 use Rattle.bpf_machine.specs.Calls.{meets_rule}
 use Rattle.bpf_machine.specs.Step.{private_step, request_at, exit_at, answered}
+use Rattle.table_store.specs.Tables.{word_at, with_word}
 use Rattle.world.specs.declared.ccb_state.CcbState.TheVariants.{Waiting}
 use Rattle.world.specs.World.{LiveCcb, LiveRun, World}
 use Rattle.world.specs.Lookups.{ccb_of, with_ccb, with_run}
@@ -74,6 +75,32 @@ abbrev pub finishes : World → LiveRun → ℕ → Option LiveCcb → Option (R
 finishes world run code None = None
 finishes world run code (Some live) = Some (answers (ended_with world live.ccb code) run (Finish code) (answer_number 0))
 
+-- the tables with this one word changed
+abbrev pub with_table_word : World → ℕ → ℕ → ℕ → World
+with_table_word world table index word = record world { tables = with_word world.tables table index word }
+
+-- a word of a table is read
+abbrev pub gets : World → LiveRun → ℕ → ℕ → Reply × World
+gets world run table index = answers world run (TableGet table index) (answer_number (word_at world.tables table index))
+
+-- a word of a table is written, and the answer is the old one
+abbrev pub puts : World → LiveRun → ℕ → ℕ → ℕ → Reply × World
+puts world run table index value =
+    let after = with_table_word world table index (value % 2 ^ 64) in
+    answers after run (TablePut table index value) (answer_number (word_at world.tables table index))
+
+-- a word of a table grows, modulo 2^64, and the answer is the new one
+abbrev pub adds : World → LiveRun → ℕ → ℕ → ℕ → Reply × World
+adds world run table index value =
+    let sum = (word_at world.tables table index + value) % 2 ^ 64 in
+    answers (with_table_word world table index sum) run (TableAdd table index value) (answer_number sum)
+
+-- the run's queue has so many openings from now on, and the answer is how many it had
+abbrev pub opens : World → LiveRun → ℕ → Reply × World
+opens world run openings =
+    let after = record world { openings = slice_set world.openings run.queue openings } in
+    answers after run (SetOpenings openings) (answer_number (slice_index world.openings run.queue))
+
 -- what the run's queue has, as 16 bytes from the address on
 abbrev pub info_answer : World → LiveRun → ℕ → Answer
 info_answer world run address =
@@ -86,8 +113,13 @@ step_request world run (Release freeze) = releases world run (entry_of freeze wo
 step_request world run (ReleaseAfter freeze milliseconds) = hands_over world run milliseconds (entry_of freeze world.freezes)
 step_request world run (Requeue retries) = requeues world run retries (ccb_of run.ccb world.live)
 step_request world run (Finish code) = finishes world run code (ccb_of run.ccb world.live)
+step_request world run (TableGet table index) = Some (gets world run table index)
+step_request world run (TablePut table index value) = Some (puts world run table index value)
+step_request world run (TableAdd table index value) = Some (adds world run table index value)
 step_request world run (QueueInfo address) = Some (answers world run (QueueInfo address) (info_answer world run address))
 step_request world run (Trace address bytes) = Some (answers world run (Trace address bytes) (answer_number 0))
+step_request world run Now = Some (answers world run Now (answer_number world.clock))
+step_request world run (SetOpenings openings) = Some (opens world run openings)
 
 -- it is the very call that is told, by the helper's rule
 abbrev pub may_call : HelperLimits → LiveRun → Told → Request → Bool

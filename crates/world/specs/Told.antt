@@ -4,7 +4,7 @@ use Rattle.std.specs.Prelude.{ℕ, ◌==◌, Bool, false, List, bytes_eq}
 use Rattle.helpers.specs.declared.helper.Helper.{Helper}
 use Rattle.helpers.specs.declared.helper.Helper.TheVariants as helpers
 use Rattle.helpers.specs.declared.request.Request.{Request}
-use Rattle.helpers.specs.declared.request.Request.TheVariants.{Freeze, Release, ReleaseAfter, Requeue, Finish, QueueInfo, Trace}
+use Rattle.helpers.specs.declared.request.Request.TheVariants.{Freeze, Release, ReleaseAfter, Requeue, Finish, TableGet, TablePut, TableAdd, QueueInfo, Trace, Now, SetOpenings}
 use Rattle.helpers.specs.Table.{is_helper}
 
 pub data Told : Type 0 where
@@ -21,8 +21,13 @@ told_of (Release freeze) = plain helpers.Release
 told_of (ReleaseAfter freeze milliseconds) = plain helpers.ReleaseAfter
 told_of (Requeue retries) = plain helpers.Requeue
 told_of (Finish code) = finishes code
+told_of (TableGet table index) = plain helpers.TableGet
+told_of (TablePut table index value) = plain helpers.TablePut
+told_of (TableAdd table index value) = plain helpers.TableAdd
 told_of (QueueInfo address) = plain helpers.QueueInfo
 told_of (Trace address bytes) = traces bytes
+told_of Now = plain helpers.Now
+told_of (SetOpenings openings) = plain helpers.SetOpenings
 
 -- both tell the same
 abbrev pub is_told : Told → Told → Bool

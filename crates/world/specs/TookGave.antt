@@ -2,7 +2,7 @@
 use Rattle.std.specs.Prelude.{ℕ, ◌==◌, ◌&&◌, not, if◌then◌else◌, List, [], ◌∷◌, ◌++◌, Option, Some, None}
 use Rattle.helpers.specs.declared.helper.Helper.TheVariants as helpers
 use Rattle.helpers.specs.declared.request.Request.{Request}
-use Rattle.helpers.specs.declared.request.Request.TheVariants.{Freeze, Release, ReleaseAfter, Requeue, Finish, QueueInfo, Trace}
+use Rattle.helpers.specs.declared.request.Request.TheVariants.{Freeze, Release, ReleaseAfter, Requeue, Finish, TableGet, TablePut, TableAdd, QueueInfo, Trace, Now, SetOpenings}
 use Rattle.bpf_machine.specs.Step.{request_at}
 use Rattle.world.specs.World.{Setup, LiveRun, World}
 use Rattle.world.specs.Lookups.{run_of}
@@ -28,8 +28,13 @@ asked (Some (Release freeze)) = freeze ∷ []
 asked (Some (ReleaseAfter freeze milliseconds)) = freeze ∷ []
 asked (Some (Requeue retries)) = []
 asked (Some (Finish code)) = []
+asked (Some (TableGet table index)) = []
+asked (Some (TablePut table index value)) = []
+asked (Some (TableAdd table index value)) = []
 asked (Some (QueueInfo address)) = []
 asked (Some (Trace address bytes)) = []
+asked (Some Now) = []
+asked (Some (SetOpenings openings)) = []
 
 -- the request at which the run stands
 abbrev pub request_of_run : Option LiveRun → Option Request

@@ -1,11 +1,13 @@
 -- The world at one moment, as CAM (ANSI X3.232) has it: device queues with openings, the CCBs that were submitted to
--- them, the freezes that hold them, and the runs of recovery programs (RFC 9669). It is lists, and no count is kept.
+-- them, the freezes that hold them, and the runs of recovery programs (RFC 9669) with the tables that they share. It is
+-- lists, and no count is kept.
 use Rattle.std.specs.Prelude.{ℕ, Bool, List, [], length, map, slice_index_or}
 use Rattle.ccb.specs.declared.ccb.Ccb.{Ccb}
 use Rattle.freeze_ledger.specs.declared.freeze.Freeze.{Freeze}
 use Rattle.helpers.specs.declared.limits.HelperLimits.{HelperLimits}
 use Rattle.bpf_insn.specs.declared.program.Slot.{Slot}
 use Rattle.bpf_machine.specs.MachineState.{MachineState}
+use Rattle.table_store.specs.Tables.{zero_table}
 use Rattle.world.specs.declared.ccb_state.CcbState.{CcbState}
 
 -- What an engine is opened with for one device queue: its openings, the recovery program that it starts at a failed
@@ -62,6 +64,8 @@ pub record World : Type 0 where
   pub runs : List LiveRun
   -- of each queue, how many of its CCBs may be active at a time
   pub openings : List ℕ
+  -- the words of each table
+  pub tables : List (List ℕ)
   -- the greatest CCB, run and freeze numbers that were given, 0 before the first
   pub greatest_ccb : ℕ
   pub greatest_run : ℕ
@@ -77,6 +81,7 @@ opening setup = record {
   freezes = [];
   runs = [];
   openings = map (λ queue. queue.openings) setup.queues;
+  tables = map zero_table setup.limits.table_lengths;
   greatest_ccb = 0;
   greatest_run = 0;
   greatest_freeze = 0;

@@ -10,18 +10,18 @@ use Rattle.world.specs.Step.{step}
 use Rattle.world.specs.WorldRun.{WorldRun}
 use Rattle.world.specs.Flat.{flat}
 use Rattle.world.specs.TotalsOf.{TotalsOf}
-use Rattle.world.proofs.Rows.Worked.{one_queue, with_freezes, freeze_of}
+use Rattle.world.proofs.Rows.Worked.{one_queue, zero_tables, with_freezes, freeze_of}
 
 -- a guest freezes queue 0 and gives the freeze back
-two_lines : (l : HelperLimits) → WorldRun (one_queue l) ((guest_freeze 0 7, freeze_given 1) ∷ (guest_release 1, count_left 0) ∷ []) (with_freezes [] 1)
-two_lines l = (with_freezes (freeze_of 1 7 ∷ []) 1, refl, (with_freezes [] 1, refl, refl))
+two_lines : (l : HelperLimits) → WorldRun (one_queue l) ((guest_freeze 0 7, freeze_given 1) ∷ (guest_release 1, count_left 0) ∷ []) (zero_tables l (with_freezes [] 1))
+two_lines l = (zero_tables l (with_freezes (freeze_of 1 7 ∷ []) 1), refl, (zero_tables l (with_freezes [] 1), refl, refl))
 
 -- which is what its two records stand for, and their totals
 two_records : flat (GuestFreeze (record { 0 = 0 }) 7 (Ok 1) ∷ GuestRelease 1 0 ∷ []) ≡ (guest_freeze 0 7, freeze_given 1) ∷ (guest_release 1, count_left 0) ∷ []
 two_records = refl
 
 two_totals : (l : HelperLimits) → TotalsOf (one_queue l) (GuestFreeze (record { 0 = 0 }) 7 (Ok 1) ∷ GuestRelease 1 0 ∷ []) (record { history = 2; frozen = 0; active = 0; runs = 0 })
-two_totals l = (with_freezes [] 1, two_lines l, refl)
+two_totals l = (zero_tables l (with_freezes [] 1), two_lines l, refl)
 
 -- there is no queue 1
 unknown_queue : (l : HelperLimits) → step (one_queue l) (opening (one_queue l)) (guest_freeze 1 7) ≡ Some (refused Unknown, opening (one_queue l))

@@ -90,6 +90,7 @@ at_end = record {
   freezes = record { number = 2; queue = record { 0 = 1 }; holder = Timer 1500 } ∷ [];
   runs = [];
   openings = 1 ∷ 1 ∷ [];
+  tables = [];
   greatest_ccb = 1;
   greatest_run = 1;
   greatest_freeze = 2;

@@ -5,6 +5,7 @@ use Rattle.ccb.specs.declared.cam_status.CamStatus.TheVariants.{CommandTimeout, 
 use Rattle.helpers.specs.declared.helper.Helper.TheVariants as helpers
 use Rattle.freeze_ledger.specs.declared.freeze.Holder.TheVariants.{Run}
 use Rattle.helpers.specs.declared.limits.HelperLimits.{HelperLimits}
+use Rattle.table_store.specs.Tables.{zero_table}
 use Rattle.world.specs.declared.record.Completed.TheVariants.{Started}
 use Rattle.world.specs.declared.record.StoppedAt.TheVariants.{Helper, Exit}
 use Rattle.world.specs.declared.record.Record.{Record}
@@ -48,8 +49,8 @@ abbrev at_exit : HelperLimits → World
 at_exit l = next (one_queue l) (requeued_one l) (executes 1 private)
 
 -- at the end no freeze is there and no run, and the CCB waits, started once, with one retry fewer
-abbrev at_end : World
-at_end = record {
+abbrev at_end : HelperLimits → World
+at_end l = record {
   live = record {
     ccb = record {
       number = record { 0 = 1 };
@@ -68,6 +69,7 @@ at_end = record {
   freezes = [];
   runs = [];
   openings = 2 ∷ [];
+  tables = map zero_table l.table_lengths;
   greatest_ccb = 1;
   greatest_run = 1;
   greatest_freeze = 1;
@@ -96,7 +98,7 @@ events =
 what_they_stand_for : flat records ≡ events
 what_they_stand_for = refl
 
-it_runs : (l : HelperLimits) → WorldRun (one_queue l) events at_end
+it_runs : (l : HelperLimits) → WorldRun (one_queue l) events (at_end l)
 it_runs l = (
   submitted_one l,
   refl,
@@ -125,7 +127,7 @@ it_runs l = (
                   at_exit l,
                   refl,
                   (
-                    at_end,
+                    at_end l,
                     refl,
                     refl,
                   ),
@@ -140,13 +142,13 @@ it_runs l = (
 )
 
 its_totals : (l : HelperLimits) → TotalsOf (one_queue l) records (record { history = 6; frozen = 0; active = 0; runs = 0 })
-its_totals l = (at_end, it_runs l, refl)
+its_totals l = (at_end l, it_runs l, refl)
 
 -- the run got freeze 1 at its start, and gave it up
 it_took : took 1 events ≡ 1 ∷ []
 it_took = refl
 
-it_gave : (l : HelperLimits) → gave 1 (one_queue l) (opening (one_queue l)) events at_end (it_runs l) ≡ 1 ∷ []
+it_gave : (l : HelperLimits) → gave 1 (one_queue l) (opening (one_queue l)) events (at_end l) (it_runs l) ≡ 1 ∷ []
 unfolding it_runs
 it_gave l = refl
 
@@ -159,12 +161,12 @@ its_steps : (steps_of 1 events ≡ 7) × (disposals_of 1 events ≡ 1) × (exits
 its_steps = (refl, refl, refl)
 
 -- no CCB ended
-none_ended : (l : HelperLimits) → finished_in (one_queue l) (opening (one_queue l)) events at_end (it_runs l) ≡ []
+none_ended : (l : HelperLimits) → finished_in (one_queue l) (opening (one_queue l)) events (at_end l) (it_runs l) ≡ []
 unfolding it_runs
 none_ended l = refl
 
 -- by the steps alone the events lead there
-its_world : (l : HelperLimits) → world_after (one_queue l) (opening (one_queue l)) events ≡ at_end
+its_world : (l : HelperLimits) → world_after (one_queue l) (opening (one_queue l)) events ≡ at_end l
 its_world l = refl
 
 -- while the run holds its freeze, the queue starts nothing
@@ -202,8 +204,8 @@ not_out : (l : HelperLimits) → step (one_queue l) (record (failed l) { runs = 
 not_out l = refl
 
 -- the first run made the CCB wait again, which is started again and then succeeds; it ends with its code
-starts_again : (l : HelperLimits) → answer (one_queue l) at_end (dispatch 0) ≡ Some (ccb_given 1)
+starts_again : (l : HelperLimits) → answer (one_queue l) (at_end l) (dispatch 0) ≡ Some (ccb_given 1)
 starts_again l = refl
 
-succeeds_at_last : (l : HelperLimits) → (next (one_queue l) (next (one_queue l) at_end (dispatch 0)) (complete (outcome_of 1 RequestCompleted))).ended ≡ record { number = 1; code = 1 } ∷ []
+succeeds_at_last : (l : HelperLimits) → (next (one_queue l) (next (one_queue l) (at_end l) (dispatch 0)) (complete (outcome_of 1 RequestCompleted))).ended ≡ record { number = 1; code = 1 } ∷ []
 succeeds_at_last l = refl

@@ -1,5 +1,5 @@
 -- What the worked rows are about: a program of seven instructions, and setups of one and two queues.
-use Rattle.std.proofs.Common.{ℕ, pos, List, [], ◌∷◌, Option, Some, None}
+use Rattle.std.proofs.Common.{ℕ, pos, List, [], ◌∷◌, map, Option, Some, None}
 use Rattle.ccb.specs.declared.cam_status.CamStatus.{CamStatus}
 use Rattle.ccb.specs.Completion.{Outcome}
 use Rattle.ccb.specs.Ccb.{submitted}
@@ -15,6 +15,7 @@ use Rattle.bpf_insn.specs.declared.insn.Condition.TheVariants.{Equal}
 use Rattle.bpf_insn.specs.declared.reg.Reg.TheVariants.{R0, R1, R2}
 use Rattle.bpf_insn.specs.declared.program.Slot.{Slot}
 use Rattle.bpf_insn.specs.declared.program.Slot.TheVariants.{First}
+use Rattle.table_store.specs.Tables.{zero_table}
 use Rattle.world.specs.declared.ccb_state.CcbState.{CcbState}
 use Rattle.world.specs.World.{QueueSetup, Setup, LiveCcb, World}
 use Rattle.world.specs.Event.{Event, Reply}
@@ -41,7 +42,11 @@ one_queue limits = record { limits = limits; queues = queue_of 2 ∷ [] }
 abbrev pub two_queues : HelperLimits → Setup
 two_queues limits = record { limits = limits; queues = queue_of 1 ∷ queue_of 2 ∷ [] }
 
--- the world of one queue with these freezes
+-- with the tables as they are at the opening
+abbrev pub zero_tables : HelperLimits → World → World
+zero_tables limits world = record world { tables = map zero_table limits.table_lengths }
+
+-- the world of one queue with these freezes, and without tables
 abbrev pub with_freezes : List Freeze → ℕ → World
 with_freezes freezes greatest = record {
   live = [];
@@ -49,13 +54,14 @@ with_freezes freezes greatest = record {
   freezes = freezes;
   runs = [];
   openings = 2 ∷ [];
+  tables = [];
   greatest_ccb = 0;
   greatest_run = 0;
   greatest_freeze = greatest;
   clock = 0;
 }
 
--- the world of one queue with these CCBs
+-- the world of one queue with these CCBs, and without tables
 abbrev pub with_ccbs : List LiveCcb → ℕ → World
 with_ccbs live greatest = record {
   live = live;
@@ -63,6 +69,7 @@ with_ccbs live greatest = record {
   freezes = [];
   runs = [];
   openings = 2 ∷ [];
+  tables = [];
   greatest_ccb = greatest;
   greatest_run = 0;
   greatest_freeze = 0;

@@ -24,15 +24,16 @@ use Rattle.world.specs.RunSteps.{is_run}
 use Rattle.world.specs.TookGave.{given_to, taken_by}
 use Rattle.world.specs.CcbLaws.{finished_by_run, finished_by}
 use Rattle.world.specs.Headline.{is_disposing, is_step_of, is_turn_of, is_own_of}
-use Rattle.world.specs.Limits.{CcbLimits, RunLimits, KeepsLimits}
+use Rattle.world.specs.Limits.{CcbLimits, RunLimits}
 use Rattle.world.proofs.Lists.Found.{leave, found_key, missing_push, at_head, put_same}
 use Rattle.world.proofs.Lists.Rising.{missing_high}
 use Rattle.world.proofs.Lists.Each.{all_found}
 use Rattle.world.proofs.Lists.Entries.{freeze_key, handed_is_put}
+use Rattle.world.proofs.Steps.Answering.{OpeningsMove, openings_stay, TablesMove, tables_stay, AnswerMove, answers_stay}
 use Rattle.world.proofs.Steps.Running.{Executes, pair_parts}
 use Rattle.world.proofs.Steps.Calls.{FreezeDeed, leaves_freezes, takes_one, gives_one_back, hands_one_over, HasItsCcb, CcbDeed, leaves_ccbs, requeues_one, ends_one, Asks}
 use Rattle.world.proofs.Steps.Cases.{Recovers, RecoversUnfrozen, Case, refuses, submits, dispatches, finishes_one, recovers_one, recovers_unfrozen, freezes_one, releases_one, reads_clock, Turns, turns_one, goes_on_one, asks_one, exits}
-use Rattle.world.proofs.Steps.Moves.{ccb_key, run_key, ccb_found, run_found, next_found, MayTouch, CcbMove, ccbs_stay, ccb_enters, ccb_changes, ccb_leaves, Comes, FreezeMove, freezes_stay, freeze_enters, freezes_leave, freeze_changes, Begins, tells_start, runs_stay, run_enters, run_changes, run_leaves, Effect}
+use Rattle.world.proofs.Steps.Moves.{KeepsLists, ccb_key, run_key, ccb_found, run_found, next_found, MayTouch, CcbMove, ccbs_stay, ccb_enters, ccb_changes, ccb_leaves, Comes, FreezeMove, freezes_stay, freeze_enters, freezes_leave, freeze_changes, Begins, tells_start, runs_stay, run_enters, run_changes, run_leaves, Effect}
 
 -- the queue of a live CCB exists
 pub known_queue : (setup : Setup) (world : World) → CcbLimits setup world → (number : ℕ) (live : LiveCcb) → ccb_of number world.live ≡ Some live → live.ccb.queue.0 < queue_count setup
@@ -258,7 +259,7 @@ its_freeze : (before : World) (event : Event) (instruction : Instruction) → (i
 its_freeze before event instruction it freeze its run held =
     subst (λ (k : ℕ). is_step_of k event ≡ true) (one_run it.run.number run freeze.holder its held) (its_own_step before event instruction it)
 
-call_freezes : (setup : Setup) (before : World) (event : Event) (reply : Reply) (after : World) → KeepsLimits setup before → (it : Asks setup before event reply after) → FreezeDeed setup before it.it.run it.request it.given it.between → FreezeMove setup before event after
+call_freezes : (setup : Setup) (before : World) (event : Event) (reply : Reply) (after : World) → KeepsLists setup before → (it : Asks setup before event reply after) → FreezeDeed setup before it.it.run it.request it.given it.between → FreezeMove setup before event after
 call_freezes setup before event reply after kept it (leaves_freezes deed) =
     freezes_stay (ap (λ (x : Reply × World). x.1.freezes) it.answer ∙ deed.freezes_is) (ap (λ (x : Reply × World). x.1.greatest_freeze) it.answer ∙ deed.greatest_is)
 call_freezes setup before event reply after kept it (takes_one deed) =
@@ -289,6 +290,15 @@ call_freezes setup before event reply after kept it (hands_one_over deed) =
     (ap (λ (x : Reply × World). x.1.greatest_freeze) it.answer ∙ deed.greatest_is)
     (record { owned = run_is_owned it.it.run.number old.holder deed.its; timed = refl; whose = λ run held. its_freeze before event _ it.it old deed.its run held })
 
+-- what it is answered from
+call_answers : (setup : Setup) (before : World) (event : Event) (reply : Reply) (after : World) → Asks setup before event reply after → AnswerMove before after
+call_answers setup before event reply after it =
+    record {
+      openings = subst (OpeningsMove before.openings) (sym (ap (λ (x : Reply × World). x.1.openings) it.answer)) it.rest.openings;
+      tables = subst (TablesMove before.tables) (sym (ap (λ (x : Reply × World). x.1.tables) it.answer)) it.rest.tables;
+      clock = inl (ap (λ (x : Reply × World). x.1.clock) it.answer ∙ it.rest.clock_is);
+    }
+
 -- what a call takes it takes for its own run
 call_taken : (setup : Setup) (before : World) (event : Event) (reply : Reply) (after : World) (run : ℕ) → instruction_of run event ≡ None → (it : Asks setup before event reply after) → FreezeDeed setup before it.it.run it.request it.given it.between → taken_by run event reply ≡ []
 call_taken setup before event reply after run idle it deed = by_deed deed
@@ -309,7 +319,7 @@ call_taken setup before event reply after run idle it deed = by_deed deed
     by_deed (hands_one_over deed) = taken_as (ReleaseAfter deed.number deed.milliseconds) _ deed.request_is deed.given_is
 
 -- what each step does
-pub effect_of : (setup : Setup) (before : World) (event : Event) (reply : Reply) (after : World) → KeepsLimits setup before → Case setup before event reply after → Effect setup before event reply after
+pub effect_of : (setup : Setup) (before : World) (event : Event) (reply : Reply) (after : World) → KeepsLists setup before → Case setup before event reply after → Effect setup before event reply after
 effect_of setup before event reply after kept (refuses it) =
     let none : finished_by before event reply ≡ [] = ap (finished_by before event) it.reply_is ∙ it.ends in
     record {
@@ -317,7 +327,7 @@ effect_of setup before event reply after kept (refuses it) =
       ended = none_ended before after event reply none (ap (λ (w : World). w.ended) it.after_is);
       freezes = freezes_stay (ap (λ (w : World). w.freezes) it.after_is) (ap (λ (w : World). w.greatest_freeze) it.after_is);
       runs = runs_stay (ap (λ (w : World). w.runs) it.after_is) (ap (λ (w : World). w.greatest_run) it.after_is) (ap tells_start it.reply_is);
-      openings = ap (λ (w : World). w.openings) it.after_is;
+      answers = answers_stay before after (ap (λ (w : World). w.openings) it.after_is) (ap (λ (w : World). w.tables) it.after_is) (ap (λ (w : World). w.clock) it.after_is);
       taken = λ run given idle. ap (taken_by run event) it.reply_is ∙ it.taken run;
       acts = idle_acts before event it.idle;
     }
@@ -328,7 +338,7 @@ effect_of setup before event reply after kept (submits it) =
       ended = none_ended before after event reply none (ap (λ (w : World). w.ended) it.after_is);
       freezes = freezes_stay (ap (λ (w : World). w.freezes) it.after_is) (ap (λ (w : World). w.greatest_freeze) it.after_is);
       runs = runs_stay (ap (λ (w : World). w.runs) it.after_is) (ap (λ (w : World). w.greatest_run) it.after_is) (ap tells_start it.reply_is);
-      openings = ap (λ (w : World). w.openings) it.after_is;
+      answers = answers_stay before after (ap (λ (w : World). w.openings) it.after_is) (ap (λ (w : World). w.tables) it.after_is) (ap (λ (w : World). w.clock) it.after_is);
       taken = λ run given idle. λ i. taken_by run (it.event_is i) (it.reply_is i);
       acts = idle_acts before event (λ run. ap (instruction_of run) it.event_is);
     }
@@ -342,7 +352,7 @@ effect_of setup before event reply after kept (dispatches it) =
       ended = none_ended before after event reply none (ap (λ (w : World). w.ended) it.after_is);
       freezes = freezes_stay (ap (λ (w : World). w.freezes) it.after_is) (ap (λ (w : World). w.greatest_freeze) it.after_is);
       runs = runs_stay (ap (λ (w : World). w.runs) it.after_is) (ap (λ (w : World). w.greatest_run) it.after_is) (ap tells_start it.reply_is);
-      openings = ap (λ (w : World). w.openings) it.after_is;
+      answers = answers_stay before after (ap (λ (w : World). w.openings) it.after_is) (ap (λ (w : World). w.tables) it.after_is) (ap (λ (w : World). w.clock) it.after_is);
       taken = λ run given idle. λ i. taken_by run (it.event_is i) (it.reply_is i);
       acts = idle_acts before event (λ run. ap (instruction_of run) it.event_is);
     }
@@ -356,7 +366,7 @@ effect_of setup before event reply after kept (finishes_one it) =
       ended = ap (λ (w : World). w.ended) it.after_is ∙ sym (ap (λ (l : List EndedCcb). before.ended ++ l) one);
       freezes = freezes_stay (ap (λ (w : World). w.freezes) it.after_is) (ap (λ (w : World). w.greatest_freeze) it.after_is);
       runs = runs_stay (ap (λ (w : World). w.runs) it.after_is) (ap (λ (w : World). w.greatest_run) it.after_is) (ap tells_start it.reply_is);
-      openings = ap (λ (w : World). w.openings) it.after_is;
+      answers = answers_stay before after (ap (λ (w : World). w.openings) it.after_is) (ap (λ (w : World). w.tables) it.after_is) (ap (λ (w : World). w.clock) it.after_is);
       taken = λ run given idle. λ i. taken_by run (it.event_is i) (it.reply_is i);
       acts = idle_acts before event (λ run. ap (instruction_of run) it.event_is);
     }
@@ -373,7 +383,7 @@ effect_of setup before event reply after kept (recovers_one it) =
       ended = none_ended before after event reply none (ap (λ (w : World). w.ended) parts.1);
       freezes = freeze_enters it.fails.live.ccb.queue.0 (Run (before.greatest_run + 1)) (λ agreed. known) it.free (ap (λ (w : World). w.freezes) parts.1) (ap (λ (w : World). w.greatest_freeze) parts.1) (comes_begun setup before event reply after begun.0 kept.runs begun.1);
       runs = run_enters begun.0 begun.1 (known_begun setup before event reply after begun.0 kept.ccbs begun.1) it.fails.room (ap (λ (w : World). w.greatest_run) parts.1);
-      openings = ap (λ (w : World). w.openings) parts.1;
+      answers = answers_stay before after (ap (λ (w : World). w.openings) parts.1) (ap (λ (w : World). w.tables) parts.1) (ap (λ (w : World). w.clock) parts.1);
       taken = λ run given idle. (λ i. taken_by run (it.fails.event_is i) (parts.0 i)) ∙ given_to_other run (before.greatest_run + 1) (before.greatest_freeze + 1) (λ e. omega (arith, e, given));
       acts = idle_acts before event (λ run. ap (instruction_of run) it.fails.event_is);
     }
@@ -390,7 +400,7 @@ effect_of setup before event reply after kept (recovers_unfrozen it) =
       ended = none_ended before after event reply none (ap (λ (w : World). w.ended) parts.1);
       freezes = freezes_stay (ap (λ (w : World). w.freezes) parts.1) (ap (λ (w : World). w.greatest_freeze) parts.1);
       runs = run_enters begun.0 begun.1 (known_begun setup before event reply after begun.0 kept.ccbs begun.1) it.fails.room (ap (λ (w : World). w.greatest_run) parts.1);
-      openings = ap (λ (w : World). w.openings) parts.1;
+      answers = answers_stay before after (ap (λ (w : World). w.openings) parts.1) (ap (λ (w : World). w.tables) parts.1) (ap (λ (w : World). w.clock) parts.1);
       taken = λ run given idle. (λ i. taken_by run (it.fails.event_is i) (parts.0 i)) ∙ given_to_other run (before.greatest_run + 1) 0 (λ e. omega (arith, e, given));
       acts = idle_acts before event (λ run. ap (instruction_of run) it.fails.event_is);
     }
@@ -402,7 +412,7 @@ effect_of setup before event reply after kept (freezes_one it) =
       freezes = freeze_enters it.queue (Guest it.guest) (λ agreed. it.known) it.room (ap (λ (w : World). w.freezes) it.after_is) (ap (λ (w : World). w.greatest_freeze) it.after_is)
           (record { whose = λ run its. absurd (let bad : false ≡ true = its in cc); live = λ run its. absurd (let bad : false ≡ true = its in cc) });
       runs = runs_stay (ap (λ (w : World). w.runs) it.after_is) (ap (λ (w : World). w.greatest_run) it.after_is) (ap tells_start it.reply_is);
-      openings = ap (λ (w : World). w.openings) it.after_is;
+      answers = answers_stay before after (ap (λ (w : World). w.openings) it.after_is) (ap (λ (w : World). w.tables) it.after_is) (ap (λ (w : World). w.clock) it.after_is);
       taken = λ run given idle. λ i. taken_by run (it.event_is i) (it.reply_is i);
       acts = idle_acts before event (λ run. ap (instruction_of run) it.event_is);
     }
@@ -417,7 +427,7 @@ effect_of setup before event reply after kept (releases_one it) =
           let other : is_run run f.holder ≡ false = guest_is_none run f.holder (subst (λ (x : Freeze). is_guest x.holder ≡ true) (sym same) it.guests) in
           absurd (let bad : false ≡ true = sym other ∙ its in cc));
       runs = runs_stay (ap (λ (w : World). w.runs) it.after_is) (ap (λ (w : World). w.greatest_run) it.after_is) (ap tells_start it.reply_is);
-      openings = ap (λ (w : World). w.openings) it.after_is;
+      answers = answers_stay before after (ap (λ (w : World). w.openings) it.after_is) (ap (λ (w : World). w.tables) it.after_is) (ap (λ (w : World). w.clock) it.after_is);
       taken = λ run given idle. λ i. taken_by run (it.event_is i) (it.reply_is i);
       acts = idle_acts before event (λ run. ap (instruction_of run) it.event_is);
     }
@@ -429,7 +439,11 @@ effect_of setup before event reply after kept (reads_clock it) =
       freezes = freezes_leave (λ (f : Freeze). is_due it.reading f.holder) (ap (λ (w : World). w.freezes) it.after_is) (ap (λ (w : World). w.greatest_freeze) it.after_is)
           (λ n f entry goes run its. absurd (let bad : false ≡ true = sym (due_is_none it.reading run f.holder goes) ∙ its in cc));
       runs = runs_stay (ap (λ (w : World). w.runs) it.after_is) (ap (λ (w : World). w.greatest_run) it.after_is) (ap tells_start it.reply_is);
-      openings = ap (λ (w : World). w.openings) it.after_is;
+      answers = record {
+        openings = openings_stay (ap (λ (w : World). w.openings) it.after_is);
+        tables = tables_stay (ap (λ (w : World). w.tables) it.after_is);
+        clock = let is : after.clock ≡ it.reading = ap (λ (w : World). w.clock) it.after_is in inr (rw is it.on, rw is it.within);
+      };
       taken = λ run given idle. λ i. taken_by run (it.event_is i) (it.reply_is i);
       acts = idle_acts before event (λ run. ap (instruction_of run) it.event_is);
     }
@@ -440,7 +454,7 @@ effect_of setup before event reply after kept (turns_one it) =
       ended = none_ended before after event reply none (ap (λ (w : World). w.ended) it.after_is);
       freezes = freezes_stay (ap (λ (w : World). w.freezes) it.after_is) (ap (λ (w : World). w.greatest_freeze) it.after_is);
       runs = run_changes it.run (record it.run { out = it.out }) (run_found _ before.runs it.run it.found) refl refl (ap (λ (w : World). w.runs) it.after_is) (ap (λ (w : World). w.greatest_run) it.after_is) (ap tells_start it.reply_is) (turn_is_own before event reply after it);
-      openings = ap (λ (w : World). w.openings) it.after_is;
+      answers = answers_stay before after (ap (λ (w : World). w.openings) it.after_is) (ap (λ (w : World). w.tables) it.after_is) (ap (λ (w : World). w.clock) it.after_is);
       taken = λ run given idle. ap (taken_by run event) it.reply_is ∙ it.taken run;
       acts = idle_acts before event it.idle;
     }
@@ -451,7 +465,7 @@ effect_of setup before event reply after kept (goes_on_one it) =
       ended = none_ended before after event reply none (ap (λ (w : World). w.ended) it.after_is);
       freezes = freezes_stay (ap (λ (w : World). w.freezes) it.after_is) (ap (λ (w : World). w.greatest_freeze) it.after_is);
       runs = run_changes it.it.run (record it.it.run { machine = it.machine }) (run_found _ before.runs it.it.run it.it.found) refl refl (ap (λ (w : World). w.runs) it.after_is) (ap (λ (w : World). w.greatest_run) it.after_is) (ap tells_start it.reply_is) (step_is_own event _ (its_own_step before event _ it.it));
-      openings = ap (λ (w : World). w.openings) it.after_is;
+      answers = answers_stay before after (ap (λ (w : World). w.openings) it.after_is) (ap (λ (w : World). w.tables) it.after_is) (ap (λ (w : World). w.clock) it.after_is);
       taken = λ run given idle. λ i. taken_by run (it.it.event_is i) (it.reply_is i);
       acts = executes_acts before event _ it.it;
     }
@@ -463,7 +477,7 @@ effect_of setup before event reply after kept (asks_one it) =
       ended = ccbs.1;
       freezes = call_freezes setup before event reply after kept it it.freezes;
       runs = run_changes it.it.run (record it.it.run { machine = answered it.request it.given it.it.run.machine }) (run_found _ before.runs it.it.run it.it.found) refl refl (call_runs setup before event reply after it) (ap (λ (w : World). w.greatest_run) parts.1 ∙ it.rest.greatest_is) (ap tells_start parts.0) (step_is_own event _ (its_own_step before event _ it.it));
-      openings = ap (λ (w : World). w.openings) parts.1 ∙ it.rest.openings_is;
+      answers = call_answers setup before event reply after it;
       taken = λ run given idle. call_taken setup before event reply after run idle it it.freezes;
       acts = executes_acts before event _ it.it;
     }
@@ -474,7 +488,7 @@ effect_of setup before event reply after kept (exits it) =
       ended = none_ended before after event reply none (ap (λ (w : World). w.ended) it.after_is);
       freezes = freezes_stay (ap (λ (w : World). w.freezes) it.after_is) (ap (λ (w : World). w.greatest_freeze) it.after_is);
       runs = run_leaves it.it.run (run_found _ before.runs it.it.run it.it.found) (ap (λ (w : World). w.runs) it.after_is) (ap (λ (w : World). w.greatest_run) it.after_is) (ap tells_start it.reply_is) (step_is_own event _ (its_own_step before event _ it.it));
-      openings = ap (λ (w : World). w.openings) it.after_is;
+      answers = answers_stay before after (ap (λ (w : World). w.openings) it.after_is) (ap (λ (w : World). w.tables) it.after_is) (ap (λ (w : World). w.clock) it.after_is);
       taken = λ run given idle. λ i. taken_by run (it.it.event_is i) (it.reply_is i);
       acts = executes_acts before event _ it.it;
     }

@@ -1,6 +1,6 @@
 -- What a step makes of one run: it stands, and may be parked or out again, goes on by an instruction of its own, or is
 -- gone; and which run is new.
-use Rattle.std.proofs.Common.{◌≡◌, ℕ, ◌+◌, ◌≤◌, List, [], ◌∷◌, ◌++◌, Bool, true, false, not, cond, eqb, Some, None, inl, inr, refl, ap, sym, subst, ◌∙◌, arith}
+use Rattle.std.proofs.Common.{◌≡◌, ℕ, ◌+◌, ◌<◌, ◌≤◌, List, [], ◌∷◌, ◌++◌, Bool, true, false, not, cond, eqb, Some, None, inl, inr, refl, ap, sym, subst, ◌∙◌, arith}
 use Rattle.std.specs.Prelude.{◌&&◌}
 use Rattle.std.proofs.lemmas.Bool.{cases_eq, cond-true, cond-false, eq-eqb, ne_eqb, and_from, not_from_false}
 use Rattle.freeze_ledger.specs.declared.freeze.Holder.TheVariants.{Run, Timer}
@@ -15,7 +15,7 @@ use Rattle.bpf_machine.specs.Calls.{is_held}
 use Rattle.bpf_machine.specs.Step.{request_at, exit_at, IsAnswer, held_without, answered}
 use Rattle.bpf_machine.specs.Reached.{Steps}
 use Rattle.world.specs.FreezeSteps.{frozen_with}
-use Rattle.world.specs.World.{Setup, LiveRun, World}
+use Rattle.world.specs.World.{Setup, queue_count, LiveRun, World}
 use Rattle.world.specs.Lookups.{run_of, with_run}
 use Rattle.world.specs.Told.{told_of}
 use Rattle.world.specs.Event.{Instruction, private, call, exit, Event, executes, instruction_of, Reply, result}
@@ -23,8 +23,9 @@ use Rattle.world.specs.RunSteps.{is_run}
 use Rattle.world.specs.FreezeLaws.{entries_of, held_by, HoldsWhatEntriesSay}
 use Rattle.world.specs.TookGave.{taken_by, asked, given_up}
 use Rattle.world.specs.Headline.{is_disposing, is_disposal, is_exit}
-use Rattle.world.specs.Limits.{FreezeLimits}
+use Rattle.world.specs.Limits.{FreezeLimits, AnswerLimits, KeepsLimits}
 use Rattle.world.proofs.Lists.Found.{leave, found_key, found_push, put_same, put_other, leave_same, leave_other}
+use Rattle.world.proofs.Lists.Each.{all_found}
 use Rattle.world.proofs.Lists.Entries.{freeze_key, frozen_without, entry_bounds, handed_is_put}
 use Rattle.world.proofs.Lists.HeldBy.{entries_put, none_above}
 use Rattle.world.proofs.Kept.{room_from}
@@ -120,17 +121,17 @@ one_turns before event reply after it number run found =
 -- Calls of helpers.
 
 -- the answer is one that the run may get
-call_allowed : (setup : Setup) (before : World) (run : LiveRun) (request : Request) (given : Answer) (between : World) → FreezeLimits setup before → run.machine.held ≡ held_by run.number before.freezes → FreezeDeed setup before run request given between → IsAnswer run.machine request given
-call_allowed setup before run request given between kept held (leaves_freezes deed) = deed.allowed
-call_allowed setup before run request given between kept held (takes_one deed) =
+call_allowed : (setup : Setup) (before : World) (run : LiveRun) (request : Request) (given : Answer) (between : World) → FreezeLimits setup before → AnswerLimits setup before → run.queue < queue_count setup → run.machine.held ≡ held_by run.number before.freezes → FreezeDeed setup before run request given between → IsAnswer run.machine request given
+call_allowed setup before run request given between kept answers known held (leaves_freezes deed) = deed.allowed answers known
+call_allowed setup before run request given between kept answers known held (takes_one deed) =
     let room = room_from deed.queue before.freezes before.greatest_freeze deed.room in
     let fresh : is_held run.machine.held (before.greatest_freeze + 1) ≡ false =
     ap (λ (ns : List ℕ). is_held ns (before.greatest_freeze + 1)) held ∙ none_above run.number (before.greatest_freeze + 1) before.freezes before.greatest_freeze kept.numbered (omega arith) in
     rw (deed.request_is, deed.given_is) (inr (omega arith, omega (arith, room.numbers), fresh))
-call_allowed setup before run request given between kept held (gives_one_back deed) =
+call_allowed setup before run request given between kept answers known held (gives_one_back deed) =
     let named : deed.freeze.number ≡ deed.number = found_key freeze_key deed.number before.freezes deed.freeze deed.entry in
     rw (deed.request_is, deed.given_is) (subst (λ (n : ℕ). frozen_with deed.freeze (without n before.freezes) ≤ 254) named (count_after setup before deed.number deed.freeze kept deed.entry))
-call_allowed setup before run request given between kept held (hands_one_over deed) = rw (deed.request_is, deed.given_is) refl
+call_allowed setup before run request given between kept answers known held (hands_one_over deed) = rw (deed.request_is, deed.given_is) refl
 
 -- what the run holds with the answer
 call_holding : (setup : Setup) (before : World) (event : Event) (reply : Reply) (after : World) → FreezeLimits setup before → (it : Asks setup before event reply after) → FreezeDeed setup before it.it.run it.request it.given it.between → Holding before event reply after it.it.number it.it.run (call (told_of it.request)) (answered it.request it.given it.it.run.machine)
@@ -191,7 +192,7 @@ call_disposing setup before event reply after it (requeues_one deed) =
 call_disposing setup before event reply after it (ends_one deed) =
     disposes_of_it deed.its.fresh (ap (λ (r : Request). (answered r it.given it.it.run.machine).disposed) deed.request_is) (ap (λ (r : Request). is_disposing (told_of r)) deed.request_is)
 
-pub fate_of : (setup : Setup) (before : World) (event : Event) (reply : Reply) (after : World) (number : ℕ) (run : LiveRun) → FreezeLimits setup before → HoldsWhatEntriesSay before → run_of number before.runs ≡ Some run → Case setup before event reply after → Fate before event reply after number run
+pub fate_of : (setup : Setup) (before : World) (event : Event) (reply : Reply) (after : World) (number : ℕ) (run : LiveRun) → KeepsLimits setup before → HoldsWhatEntriesSay before → run_of number before.runs ≡ Some run → Case setup before event reply after → Fate before event reply after number run
 fate_of setup before event reply after number run kept held found (refuses it) = unchanged before event reply after number run found (it.idle number) (ap (λ (w : World). w.runs) it.after_is)
 fate_of setup before event reply after number run kept held found (submits it) = unchanged before event reply after number run found (ap (instruction_of number) it.event_is) (ap (λ (w : World). w.runs) it.after_is)
 fate_of setup before event reply after number run kept held found (dispatches it) = unchanged before event reply after number run found (ap (instruction_of number) it.event_is) (ap (λ (w : World). w.runs) it.after_is)
@@ -213,9 +214,10 @@ fate_of setup before event reply after number run kept held found (goes_on_one i
 fate_of setup before event reply after number run kept held found (asks_one it) =
     let named : it.it.run.number ≡ it.it.number = found_key run_key it.it.number before.runs it.it.run it.it.found in
     let holds : it.it.run.machine.held ≡ held_by it.it.run.number before.freezes = held.machines it.it.number it.it.run it.it.found ∙ ap (λ (n : ℕ). held_by n before.freezes) (sym named) in
+    let known : it.it.run.queue < queue_count setup = all_found run_key (λ (r : LiveRun). r.queue < queue_count setup) it.it.number before.runs it.it.run kept.runs.queues it.it.found in
     one_goes before event reply after (call (told_of it.request)) it.it (answered it.request it.given it.it.run.machine) (call_runs setup before event reply after it) refl
-    (inr (it.request, it.given, it.call_is, (call_allowed setup before it.it.run it.request it.given it.between kept holds it.freezes, refl)))
-    (call_holding setup before event reply after kept it it.freezes) (call_disposing setup before event reply after it it.ccbs)
+    (inr (it.request, it.given, it.call_is, (call_allowed setup before it.it.run it.request it.given it.between kept.freezes kept.answers known holds it.freezes, refl)))
+    (call_holding setup before event reply after kept.freezes it it.freezes) (call_disposing setup before event reply after it it.ccbs)
     number run found
 fate_of setup before event reply after number run kept held found (exits it) =
     let named : it.it.run.number ≡ it.it.number = found_key run_key it.it.number before.runs it.it.run it.it.found in

@@ -22,10 +22,20 @@ use Rattle.world.specs.RunSteps.{is_run}
 use Rattle.world.specs.TookGave.{taken_by}
 use Rattle.world.specs.CcbLaws.{finished_by}
 use Rattle.world.specs.Headline.{is_step_of, is_own_of}
-use Rattle.world.specs.Limits.{NamesNoOther}
+use Rattle.world.specs.Limits.{NamesNoOther, FreezeLimits, CcbLimits, RunLimits, KeepsLimits}
 use Rattle.world.proofs.Lists.Found.{put, leave, found_key}
 use Rattle.world.proofs.Lists.Rising.{found_among}
 use Rattle.world.proofs.Lists.Entries.{freeze_key}
+use Rattle.world.proofs.Steps.Answering.{AnswerMove}
+
+-- the limits of the lists, which each world keeps, whatever the setup
+pub record KeepsLists (setup : Setup) (world : World) : Type 0 where
+  pub freezes : FreezeLimits setup world
+  pub ccbs : CcbLimits setup world
+  pub runs : RunLimits setup world
+
+pub lists_of : {setup : Setup} {world : World} → KeepsLimits setup world → KeepsLists setup world
+lists_of kept = record { freezes = kept.freezes; ccbs = kept.ccbs; runs = kept.runs }
 
 abbrev pub ccb_key : LiveCcb → ℕ
 ccb_key live = live.ccb.number.0
@@ -144,13 +154,13 @@ pub data RunMove (setup : Setup) (before : World) (event : Event) (reply : Reply
   run_changes : (old new : LiveRun) → run_of new.number before.runs ≡ Some old → new.queue ≡ old.queue → new.program ≡ old.program → after.runs ≡ with_run new before.runs → after.greatest_run ≡ before.greatest_run → tells_start reply ≡ false → is_own_of new.number event ≡ true → RunMove setup before event reply after
   run_leaves : (run : LiveRun) → run_of run.number before.runs ≡ Some run → after.runs ≡ leave run_key run.number before.runs → after.greatest_run ≡ before.greatest_run → tells_start reply ≡ false → is_own_of run.number event ≡ true → RunMove setup before event reply after
 
--- all that a step does: to each list, whom its instruction is of, and that it gives a freeze to no other run that was
--- there
+-- all that a step does: to each list, to what calls are answered from, whom its instruction is of, and that it gives a
+-- freeze to no other run that was there
 pub record Effect (setup : Setup) (before : World) (event : Event) (reply : Reply) (after : World) : Type 0 where
   pub ccbs : CcbMove setup before event reply after
   pub ended : after.ended ≡ before.ended ++ finished_by before event reply
   pub freezes : FreezeMove setup before event after
   pub runs : RunMove setup before event reply after
-  pub openings : after.openings ≡ before.openings
+  pub answers : AnswerMove before after
   pub taken : (run : ℕ) → run ≤ before.greatest_run → instruction_of run event ≡ None → taken_by run event reply ≡ []
   pub acts : (run : ℕ) (instruction : Instruction) → instruction_of run event ≡ Some instruction → IsSome (run_of run before.runs)

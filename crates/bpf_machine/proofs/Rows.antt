@@ -21,7 +21,7 @@ use Rattle.helpers.specs.declared.helper.Helper.{Helper as TheHelper}
 use Rattle.helpers.specs.declared.helper.Helper.TheVariants as helpers
 use Rattle.helpers.specs.declared.request.Answer.{Answer}
 use Rattle.helpers.specs.declared.request.Request.{Request}
-use Rattle.helpers.specs.declared.request.Request.TheVariants.{Freeze, Release, ReleaseAfter, Requeue, Finish, QueueInfo, Trace}
+use Rattle.helpers.specs.declared.request.Request.TheVariants.{Freeze, Release, ReleaseAfter, Requeue, Finish, TableGet, TablePut, TableAdd, QueueInfo, Trace, Now, SetOpenings}
 use Rattle.helpers.specs.Table.{answer_number}
 use Rattle.stack_frame.specs.Frame.{written_at}
 use Rattle.bpf_machine.specs.declared.stop.Stop.TheVariants.{Helper as AtHelper, Exit as AtExit}
@@ -177,12 +177,29 @@ release_is_no_step = refl
 requeue_request : request_at (one (call (pos 4))) (with_register with_freeze R1 1) ≡ Some (Requeue 1)
 requeue_request = refl
 
--- helper 6 is not answered
-no_helper : request_at (one (call (pos 6))) (with_register with_freeze R1 7) ≡ None
+-- there is no helper 13
+no_helper : request_at (one (call (pos 13))) (with_register with_freeze R1 7) ≡ None
 no_helper = refl
 
-no_helper_stuck : is_stuck (one (call (pos 6))) limits (with_register with_freeze R1 7) ≡ true
+no_helper_stuck : is_stuck (one (call (pos 13))) limits (with_register with_freeze R1 7) ≡ true
 no_helper_stuck = refl
+
+-- a word of a table is named by both, a new one comes third, and the clock is asked for with nothing
+table_requests : (request_at (one (call (pos 6))) (with_register with_freeze R1 3) ≡ Some (TableGet 3 7))
+    × (request_at (one (call (pos 7))) (with_register (with_register with_freeze R1 3) R3 9) ≡ Some (TablePut 3 7 9))
+    × (request_at (one (call (pos 8))) (with_register (with_register with_freeze R1 3) R3 9) ≡ Some (TableAdd 3 7 9))
+    × (request_at (one (call (pos 8))) (with_register with_freeze R1 3) ≡ None)
+table_requests = (refl, refl, refl, refl)
+
+now_request : request_at (one (call (pos 11))) with_freeze ≡ Some Now
+now_request = refl
+
+openings_request : request_at (one (call (pos 12))) (with_register with_freeze R1 4) ≡ Some (SetOpenings 4)
+openings_request = refl
+
+-- under no table its words cannot be read
+no_table_stuck : is_stuck (one (call (pos 6))) limits (with_register with_freeze R1 0) ≡ true
+no_table_stuck = refl
 
 -- a queue is frozen by its number, a freeze is handed over with a time, and a CCB finished with a code
 freeze_request : request_at (one (call (pos 1))) (with_register with_freeze R1 3) ≡ Some (Freeze 3)
@@ -276,6 +293,10 @@ answered_information = refl
 -- a trace call leaves all but the registers
 answered_trace : answered (Trace 0x200001ff (3 ∷ [])) (answer_number 0) with_freeze ≡ record with_freeze { place = 1; registers = Some 0 ∷ None ∷ None ∷ None ∷ None ∷ None ∷ None ∷ None ∷ None ∷ None ∷ Some 0x20000200 ∷ [] }
 answered_trace = refl
+
+-- and so does a call of a table
+answered_table_get : answered (TableGet 0 3) (answer_number 12) with_freeze ≡ record with_freeze { place = 1; registers = Some 12 ∷ None ∷ None ∷ None ∷ None ∷ None ∷ None ∷ None ∷ None ∷ None ∷ Some 0x20000200 ∷ [] }
+answered_table_get = refl
 
 -- a helper without arguments reads no register, and one with two reads R1 and R2
 nothing_read : arguments_at (record with_freeze { registers = replicate 11 None }) helpers.Now ≡ Some (record { first = 0; second = 0; third = 0 })

@@ -2,7 +2,7 @@
 // `open_calls`, `held_freezes` and `stack_frame` for what it keeps, on `stepping` for an instruction within a function, on
 // `bpf_insn` for programs, and on `helpers` for the calls.
 
-ghost use Rattle.std.specs.Prelude.{◌≡◌, ◌+◌, ◌<◌, ◌↔◌, true, false, Some, None, IsTrue, if◌then◌else◌, length};
+ghost use Rattle.std.specs.Prelude.{◌≡◌, ◌+◌, ◌<◌, ◌↔◌, [], true, false, Some, None, IsTrue, if◌then◌else◌, length};
 ghost use Rattle.bpf_insn.specs.declared.program.TheConstants.{MAX_SLOTS};
 ghost use Rattle.bpf_machine.specs.declared.held_freezes.TheConstants.{MAX_HELD};
 ghost use Rattle.bpf_machine.specs.MachineState.{entry, register};
@@ -57,6 +57,17 @@ impl Model for Machine {
     ghost inverse = { inside_of };
 }
 
+// What the registers hold at a run's start.
+fn first_registers(freeze: u32) -> Registers
+    ensures { result ≡ (entry [] freeze).registers }
+{
+    let mut registers = Registers::unwritten();
+    registers.set(Reg::R1, CONTEXT_ADDRESS);
+    registers.set(Reg::R2, u64::from(freeze));
+    registers.set(Reg::R10, FRAME_POINTER);
+    registers
+}
+
 impl Machine {
     /// A run's first machine, over its context and with the freeze of that number, or with none as 0: R1 is
     /// the context's address, R2 the number, R10 the frame pointer, and all else is unwritten.
@@ -64,19 +75,30 @@ impl Machine {
         ensures value { result ≡ entry context.now freeze }
         ensures entry { IsEntry result }
     {
-        let mut registers = Registers::unwritten();
-        registers.set(Reg::R1, CONTEXT_ADDRESS);
-        registers.set(Reg::R2, u64::from(freeze));
-        registers.set(Reg::R10, FRAME_POINTER);
         Machine {
             place: 0,
-            registers,
+            registers: first_registers(freeze),
             context: *context,
             frames: Frames::outermost(),
             open_calls: OpenCalls::none(),
             held: HeldFreezes::at_start(freeze),
             disposed: false,
         }
+    }
+
+    /// Makes this machine a run's first one, in its place: it is what `entry` gives. Frames that are not live, or of which no
+    /// byte is written, are not touched.
+    pub fn begin(&mut self, context: &[u8; 96], freeze: u32)
+        ensures value { self.new ≡ entry context.now freeze }
+        ensures entry { IsEntry self.new }
+    {
+        self.place = 0;
+        self.registers = first_registers(freeze);
+        self.context = *context;
+        self.frames.begin();
+        self.open_calls.clear();
+        self.held = HeldFreezes::at_start(freeze);
+        self.disposed = false;
     }
 
     /// The slot of the next instruction.
@@ -129,14 +151,15 @@ impl Machine {
         ensures end { private_step program.now self.new ≡ None }
         ensures short { result < budget }
     {
-        let mut steps = self.execute_within(program, budget);
-        while self.cross(program) {
-            prove!(steps < budget);
+        let mut steps = 0;
+        // The loop within a function stands here once: so it takes each instruction in place, and calls for none.
+        loop {
+            steps += self.execute_within(program, budget - steps);
+            if !self.cross(program) {
+                return steps;
+            }
             steps += 1;
-            let further = self.execute_within(program, budget - steps);
-            steps += further;
         }
-        steps
     }
 
     // The same of the private instructions of one function, up to a call or an exit.
@@ -218,9 +241,8 @@ impl Machine {
         true
     }
 
-    /// The helper call at which the machine stands, where its arguments are written and a helper that is answered has
-    /// its number; of a trace call only where the bytes that it names, 1 to 64, lie in a live frame and are
-    /// written.
+    /// The helper call at which the machine stands, where its arguments are written and a helper has its number; of a
+    /// trace call only where the bytes that it names, 1 to 64, lie in a live frame and are written.
     pub fn request(&self, program: &Program) -> Option<Request>
         ensures { result ≡ request_at program.now self.now }
     {
@@ -350,10 +372,12 @@ impl Machine {
             Request::Requeue { retries: _ } => self.disposed = true,
             Request::Finish { code: _ } => self.disposed = true,
             Request::QueueInfo { address: _ } => self.write(&answer.written),
-            Request::Trace {
-                address: _,
-                bytes: _,
-            } => {}
+            Request::TableGet { .. }
+            | Request::TablePut { .. }
+            | Request::TableAdd { .. }
+            | Request::Trace { .. }
+            | Request::Now
+            | Request::SetOpenings { .. } => {}
         }
         self.pass_call(answer.r0);
     }

@@ -146,6 +146,15 @@ impl OpenCalls {
         self.places[self.len] = empty_call();
         call
     }
+
+    /// No call is open any more.
+    pub fn clear(&mut self)
+        ensures { self.new ≡ [] }
+    {
+        while self.len() > 0 {
+            let _returned = self.pop();
+        }
+    }
 }
 
 // What stands in a place that is not in use.

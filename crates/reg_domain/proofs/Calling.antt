@@ -32,7 +32,7 @@ use Rattle.reg_domain.specs.declared.kind.Kind.{Kind}
 use Rattle.reg_domain.specs.declared.kind.Kind.TheVariants.{Unwritten, Number, Address, Freeze}
 use Rattle.reg_domain.specs.declared.saved.SavedRegisters.{SavedRegisters}
 use Rattle.reg_domain.specs.Arguments.{AllFit, AreArguments, FitsAny}
-use Rattle.reg_domain.specs.Calls.{CallIsNeverStuck, IsAnswered, IsLawfulCall, Obeys, Passes, RunMay, after_call_kinds}
+use Rattle.reg_domain.specs.Calls.{CallIsNeverStuck, IsLawfulCall, Obeys, Passes, RunMay, after_call_kinds}
 use Rattle.reg_domain.specs.Description.{Describes, DescribesWith}
 use Rattle.reg_domain.specs.Freezes.{FreezeNumbers}
 use Rattle.reg_domain.specs.Kinds.{HoldsKind, IsWritten}
@@ -154,32 +154,32 @@ lawful limits d numbers callers m helper known is holds fit may =
           (meets_asked limits d numbers callers m known arguments (asks helper).third known.third third.0 is are third.2 fit.third)));
     }
 
--- what a helper that is answered asks of the run
-pub may_run : (numbers : FreezeNumbers) (saved callers : List SavedRegisters) (d : Description) (m : MachineState) (name : FreezeName) (helper : Helper) → IsAnswered helper → DescribesWith numbers callers d m → RunMay saved d name helper → run_may m helper ≡ true
-may_run numbers saved callers d m name helpers.Freeze answered is may =
+-- what a helper asks of the run
+pub may_run : (numbers : FreezeNumbers) (saved callers : List SavedRegisters) (d : Description) (m : MachineState) (name : FreezeName) (helper : Helper) → DescribesWith numbers callers d m → RunMay saved d name helper → run_may m helper ≡ true
+may_run numbers saved callers d m name helpers.Freeze is may =
     let few = few_held numbers d.held m.held is.held in
     let room : length m.held < 8 = omega (arith, few, may.0) in
     lt-ltb (length m.held) 8 room
-may_run numbers saved callers d m name helpers.Release answered is may = refl
-may_run numbers saved callers d m name helpers.ReleaseAfter answered is may = refl
-may_run numbers saved callers d m name helpers.Requeue answered is may = ap not (is.disposal ∙ may)
-may_run numbers saved callers d m name helpers.Finish answered is may = ap not (is.disposal ∙ may)
-may_run numbers saved callers d m name helpers.TableGet answered is may = absurd answered
-may_run numbers saved callers d m name helpers.TablePut answered is may = absurd answered
-may_run numbers saved callers d m name helpers.TableAdd answered is may = absurd answered
-may_run numbers saved callers d m name helpers.QueueInfo answered is may = refl
-may_run numbers saved callers d m name helpers.Trace answered is may = refl
-may_run numbers saved callers d m name helpers.Now answered is may = absurd answered
-may_run numbers saved callers d m name helpers.SetOpenings answered is may = absurd answered
+may_run numbers saved callers d m name helpers.Release is may = refl
+may_run numbers saved callers d m name helpers.ReleaseAfter is may = refl
+may_run numbers saved callers d m name helpers.Requeue is may = ap not (is.disposal ∙ may)
+may_run numbers saved callers d m name helpers.Finish is may = ap not (is.disposal ∙ may)
+may_run numbers saved callers d m name helpers.TableGet is may = refl
+may_run numbers saved callers d m name helpers.TablePut is may = refl
+may_run numbers saved callers d m name helpers.TableAdd is may = refl
+may_run numbers saved callers d m name helpers.QueueInfo is may = refl
+may_run numbers saved callers d m name helpers.Trace is may = refl
+may_run numbers saved callers d m name helpers.Now is may = refl
+may_run numbers saved callers d m name helpers.SetOpenings is may = refl
 
 -- a check that passes
 pub obeys_ok : (r : Result (Unit {0}) Cause) (limits : HelperLimits) (saved : List SavedRegisters) (d : Description) (name : FreezeName) (helper : Helper) (asked : Asks) (known : Known) → asked ≡ asks helper
     → ((numbers : FreezeNumbers) (callers : List SavedRegisters) (m : MachineState) → DescribesWith numbers callers d m → HoldsArguments numbers m asked known) → AllFit limits d asked known → (IsOk r → RunMay saved d name helper)
-    → IfOk r (λ x. IsAnswered helper → Obeys limits d helper)
+    → IfOk r (λ x. Obeys limits d helper)
 obeys_ok (Err cause) limits saved d name helper asked known same holds fit may = tt
-obeys_ok (Ok x) limits saved d name helper asked known same holds fit may = λ answered callers m (numbers, is).
+obeys_ok (Ok x) limits saved d name helper asked known same holds fit may = λ callers m (numbers, is).
     lawful limits d numbers callers m helper known is (subst (λ (a : Asks). HoldsArguments numbers m a known) same (holds numbers callers m is)) (subst (λ (a : Asks). AllFit limits d a known) same fit)
-    (may_run numbers saved callers d m name helper answered is (may refl))
+    (may_run numbers saved callers d m name helper is (may refl))
 
 -- what is answered
 
@@ -193,6 +193,19 @@ handed_is None p request e = absurd (let bad : None ≡ Some request = e in cc)
 handed_is (Some first) None request e = absurd (let bad : None ≡ Some request = e in cc)
 handed_is (Some first) (Some second) request e = (first, second, refl, some_same (requests.ReleaseAfter first second) request e)
 
+-- the call of a helper that names a word of a table, and of one that brings a further word
+two_is : (make : ℕ → ℕ → Request) (o p : Option ℕ) (request : Request) → option_and_then (λ (arguments : Arguments). Some (make arguments.first arguments.second)) (all_written o p (Some 0)) ≡ Some request → (first : ℕ) × (second : ℕ) × (make first second ≡ request)
+two_is make None p request e = absurd (let bad : None ≡ Some request = e in cc)
+two_is make (Some first) None request e = absurd (let bad : None ≡ Some request = e in cc)
+two_is make (Some first) (Some second) request e = (first, second, some_same (make first second) request e)
+
+three_is : (make : ℕ → ℕ → ℕ → Request) (o p q : Option ℕ) (request : Request) → option_and_then (λ (arguments : Arguments). Some (make arguments.first arguments.second arguments.third)) (all_written o p q) ≡ Some request
+    → (first : ℕ) × (second : ℕ) × (third : ℕ) × (make first second third ≡ request)
+three_is make None p q request e = absurd (let bad : None ≡ Some request = e in cc)
+three_is make (Some first) None q request e = absurd (let bad : None ≡ Some request = e in cc)
+three_is make (Some first) (Some second) None request e = absurd (let bad : None ≡ Some request = e in cc)
+three_is make (Some first) (Some second) (Some third) request e = (first, second, third, some_same (make first second third) request e)
+
 traced_is : (m : MachineState) (first second : Option ℕ) (request : Request) → option_and_then (request_with m helpers.Trace) (all_written first second (Some 0)) ≡ Some request → (address : ℕ) × (bytes : List ℕ) × (requests.Trace address bytes ≡ request)
 traced_is m None second request e = absurd (let bad : None ≡ Some request = e in cc)
 traced_is m (Some address) None request e = absurd (let bad : None ≡ Some request = e in cc)
@@ -202,65 +215,79 @@ traced_is m (Some address) (Some count) request e = of_bytes (traced m address c
     of_bytes None is = absurd (let bad : None ≡ Some request = is in cc)
     of_bytes (Some bytes) is = (address, bytes, some_same (requests.Trace address bytes) request is)
 
-passed : (name : FreezeName) (callers : List SavedRegisters) (helper : Helper) (d there : Description) (m m' : MachineState) (request : Request) (answer : Answer) → IsAnswered helper → Passes name callers helper d there → (helper ≡ helpers.Freeze → IsFresh name callers) → Describes callers d m → request_by m helper ≡ Some request → Allowed request answer m m' → Describes callers there m'
-passed name callers helpers.Freeze d there m m' request answer known passes fresh is called allowed =
+passed : (name : FreezeName) (callers : List SavedRegisters) (helper : Helper) (d there : Description) (m m' : MachineState) (request : Request) (answer : Answer) → Passes name callers helper d there → (helper ≡ helpers.Freeze → IsFresh name callers) → Describes callers d m → request_by m helper ≡ Some request → Allowed request answer m m' → Describes callers there m'
+passed name callers helpers.Freeze d there m m' request answer passes fresh is called allowed =
     let same = one_is requests.Freeze (slice_index_or m.registers 1 None) request called in
     let given = subst (λ (r : Request). Allowed r answer m m') (sym same.2) allowed in
     subst (Describes callers there) (sym given.1) (passes same.0 m answer (fresh refl) is given.0)
-passed name callers helpers.Release d there m m' request answer known passes fresh is called allowed =
+passed name callers helpers.Release d there m m' request answer passes fresh is called allowed =
     let same = one_is requests.Release (slice_index_or m.registers 1 None) request called in
     let given = subst (λ (r : Request). Allowed r answer m m') (sym same.2) allowed in
     subst (Describes callers there) (sym given.1) (passes same.0 m answer is same.1 given.0)
-passed name callers helpers.ReleaseAfter d there m m' request answer known passes fresh is called allowed =
+passed name callers helpers.ReleaseAfter d there m m' request answer passes fresh is called allowed =
     let same = handed_is (slice_index_or m.registers 1 None) (slice_index_or m.registers 2 None) request called in
     let given = subst (λ (r : Request). Allowed r answer m m') (sym same.3) allowed in
     subst (Describes callers there) (sym given.1) (passes same.0 same.1 m answer is same.2 given.0)
-passed name callers helpers.Requeue d there m m' request answer known passes fresh is called allowed =
+passed name callers helpers.Requeue d there m m' request answer passes fresh is called allowed =
     let same = one_is requests.Requeue (slice_index_or m.registers 1 None) request called in
     let given = subst (λ (r : Request). Allowed r answer m m') (sym same.2) allowed in
     subst (Describes callers there) (sym given.1) (passes same.0 m answer is given.0)
-passed name callers helpers.Finish d there m m' request answer known passes fresh is called allowed =
+passed name callers helpers.Finish d there m m' request answer passes fresh is called allowed =
     let same = one_is requests.Finish (slice_index_or m.registers 1 None) request called in
     let given = subst (λ (r : Request). Allowed r answer m m') (sym same.2) allowed in
     subst (Describes callers there) (sym given.1) (passes same.0 m answer is given.0)
-passed name callers helpers.TableGet d there m m' request answer known passes fresh is called allowed = absurd known
-passed name callers helpers.TablePut d there m m' request answer known passes fresh is called allowed = absurd known
-passed name callers helpers.TableAdd d there m m' request answer known passes fresh is called allowed = absurd known
-passed name callers helpers.QueueInfo d there m m' request answer known passes fresh is called allowed =
+passed name callers helpers.TableGet d there m m' request answer passes fresh is called allowed =
+    let same = two_is requests.TableGet (slice_index_or m.registers 1 None) (slice_index_or m.registers 2 None) request called in
+    let given = subst (λ (r : Request). Allowed r answer m m') (sym same.2) allowed in
+    subst (Describes callers there) (sym given.1) (passes m answer.r0 is (omega arith) (omega (arith, given.0)))
+passed name callers helpers.TablePut d there m m' request answer passes fresh is called allowed =
+    let same = three_is requests.TablePut (slice_index_or m.registers 1 None) (slice_index_or m.registers 2 None) (slice_index_or m.registers 3 None) request called in
+    let given = subst (λ (r : Request). Allowed r answer m m') (sym same.3) allowed in
+    subst (Describes callers there) (sym given.1) (passes m answer.r0 is (omega arith) (omega (arith, given.0)))
+passed name callers helpers.TableAdd d there m m' request answer passes fresh is called allowed =
+    let same = three_is requests.TableAdd (slice_index_or m.registers 1 None) (slice_index_or m.registers 2 None) (slice_index_or m.registers 3 None) request called in
+    let given = subst (λ (r : Request). Allowed r answer m m') (sym same.3) allowed in
+    subst (Describes callers there) (sym given.1) (passes m answer.r0 is (omega arith) (omega (arith, given.0)))
+passed name callers helpers.QueueInfo d there m m' request answer passes fresh is called allowed =
     let same = one_is requests.QueueInfo (slice_index_or m.registers 1 None) request called in
     let given = subst (λ (r : Request). Allowed r answer m m') (sym same.2) allowed in
     subst (Describes callers there) (sym given.1) (passes same.0 m answer is same.1 given.0)
-passed name callers helpers.Trace d there m m' request answer known passes fresh is called allowed =
+passed name callers helpers.Trace d there m m' request answer passes fresh is called allowed =
     let same = traced_is m (slice_index_or m.registers 1 None) (slice_index_or m.registers 2 None) request called in
     let given = subst (λ (r : Request). Allowed r answer m m') (sym same.2) allowed in
     subst (Describes callers there) (sym given.1) (passes same.0 same.1 m answer is given.0)
-passed name callers helpers.Now d there m m' request answer known passes fresh is called allowed = absurd known
-passed name callers helpers.SetOpenings d there m m' request answer known passes fresh is called allowed = absurd known
+passed name callers helpers.Now d there m m' request answer passes fresh is called allowed =
+    let given = subst (λ (r : Request). Allowed r answer m m') (sym (some_same requests.Now request called)) allowed in
+    subst (Describes callers there) (sym given.1) (passes m answer.r0 is (omega arith) (omega (arith, given.0)))
+passed name callers helpers.SetOpenings d there m m' request answer passes fresh is called allowed =
+    let same = one_is requests.SetOpenings (slice_index_or m.registers 1 None) request called in
+    let given = subst (λ (r : Request). Allowed r answer m m') (sym same.2) allowed in
+    subst (Describes callers there) (sym given.1) (passes m answer.r0 is given.0.0 given.0.1)
 
-pub follows : (name : FreezeName) (callers : List SavedRegisters) (number : ℤ) (helper : Helper) (d there : Description) (m m' : MachineState) (request : Request) (answer : Answer) → helper_of number ≡ Some helper → IsAnswered helper → Passes name callers helper d there → (helper ≡ helpers.Freeze → IsFresh name callers)
+pub follows : (name : FreezeName) (callers : List SavedRegisters) (number : ℤ) (helper : Helper) (d there : Description) (m m' : MachineState) (request : Request) (answer : Answer) → helper_of number ≡ Some helper → Passes name callers helper d there → (helper ≡ helpers.Freeze → IsFresh name callers)
     → Describes callers d m → option_and_then (request_by m) (helper_of number) ≡ Some request → Allowed request answer m m' → Describes callers there m'
-follows name callers number helper d there m m' request answer named known passes fresh is called allowed =
-    passed name callers helper d there m m' request answer known passes fresh is (sym (ap (option_and_then (request_by m)) named) ∙ called) allowed
+follows name callers number helper d there m m' request answer named passes fresh is called allowed =
+    passed name callers helper d there m m' request answer passes fresh is (sym (ap (option_and_then (request_by m)) named) ∙ called) allowed
 
 -- no machine is stuck at the call
-pub unstuck : (limits : HelperLimits) (d : Description) (number : ℤ) (helper : Helper) → helper_of number ≡ Some helper → IsAnswered helper → Obeys limits d helper → CallIsNeverStuck limits number d
-unstuck limits d number helper named known obeys callers m (numbers, is) =
+pub unstuck : (limits : HelperLimits) (d : Description) (number : ℤ) (helper : Helper) → helper_of number ≡ Some helper → Obeys limits d helper → CallIsNeverStuck limits number d
+unstuck limits d number helper named obeys callers m (numbers, is) =
     let lawful = obeys callers m (numbers, is) in
     ap (λ (o : Option Helper). call_is_stuck limits m (option_and_then (request_by m) o)) named
     ∙ (ap (λ (o : Option Arguments). call_is_stuck limits m (option_and_then (request_with m helper) o)) lawful.at
-    ∙ goes_on limits m helper lawful.arguments known is.frames.whole lawful.obeys)
+    ∙ goes_on limits m helper lawful.arguments is.frames.whole lawful.obeys)
   where
-    goes_on : (limits : HelperLimits) (m : MachineState) (helper : Helper) (arguments : Arguments) → IsAnswered helper → ((k : ℕ) → k < length m.frames → length (slice_index_or m.frames k []) ≡ 512) → obeys_rule limits m helper arguments ≡ true
+    goes_on : (limits : HelperLimits) (m : MachineState) (helper : Helper) (arguments : Arguments) → ((k : ℕ) → k < length m.frames → length (slice_index_or m.frames k []) ≡ 512) → obeys_rule limits m helper arguments ≡ true
         → call_is_stuck limits m (request_with m helper arguments) ≡ false
-    goes_on limits m helpers.Freeze arguments known whole rule = ap not rule
-    goes_on limits m helpers.Release arguments known whole rule = ap not rule
-    goes_on limits m helpers.ReleaseAfter arguments known whole rule = ap not rule
-    goes_on limits m helpers.Requeue arguments known whole rule = ap not rule
-    goes_on limits m helpers.Finish arguments known whole rule = ap not rule
-    goes_on limits m helpers.QueueInfo arguments known whole rule = ap not rule
-    goes_on limits m helpers.Trace arguments known whole rule = traced_unstuck limits m arguments whole rule
-    goes_on limits m helpers.TableGet arguments known whole rule = absurd known
-    goes_on limits m helpers.TablePut arguments known whole rule = absurd known
-    goes_on limits m helpers.TableAdd arguments known whole rule = absurd known
-    goes_on limits m helpers.Now arguments known whole rule = absurd known
-    goes_on limits m helpers.SetOpenings arguments known whole rule = absurd known
+    goes_on limits m helpers.Freeze arguments whole rule = ap not rule
+    goes_on limits m helpers.Release arguments whole rule = ap not rule
+    goes_on limits m helpers.ReleaseAfter arguments whole rule = ap not rule
+    goes_on limits m helpers.Requeue arguments whole rule = ap not rule
+    goes_on limits m helpers.Finish arguments whole rule = ap not rule
+    goes_on limits m helpers.QueueInfo arguments whole rule = ap not rule
+    goes_on limits m helpers.Trace arguments whole rule = traced_unstuck limits m arguments whole rule
+    goes_on limits m helpers.TableGet arguments whole rule = ap not rule
+    goes_on limits m helpers.TablePut arguments whole rule = ap not rule
+    goes_on limits m helpers.TableAdd arguments whole rule = ap not rule
+    goes_on limits m helpers.Now arguments whole rule = ap not rule
+    goes_on limits m helpers.SetOpenings arguments whole rule = ap not rule

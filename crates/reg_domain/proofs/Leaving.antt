@@ -1,12 +1,13 @@
 -- What is known behind a helper call, and what is enough for its check to pass.
 use Rattle.std.proofs.Common.{◌≡◌, ℕ, ℤ, pos, Bool, List, Some, length, refl, ap, sym, subst, ◌∙◌, arith}
-use Rattle.std.specs.Prelude.{◌≤◌, slice_index_or}
+use Rattle.std.specs.Prelude.{◌<◌, ◌≤◌, slice_index_or}
 use Rattle.std.proofs.lemmas.List.{get_or-drop}
 use Rattle.bpf_insn.specs.declared.insn.Callee.TheVariants.{Helper as helper_call}
 use Rattle.bpf_insn.specs.declared.insn.Insn.TheVariants.{Call}
 use Rattle.bpf_insn.specs.declared.reg.Reg.{Reg}
 use Rattle.bpf_insn.specs.declared.reg.Reg.TheVariants.{R0, R1, R2, R3, R4, R5, R6, R7, R8, R9, R10}
 use Rattle.bpf_insn.specs.Reg.{number_of}
+use Rattle.helpers.specs.declared.helper.Asked.TheVariants.{Index}
 use Rattle.helpers.specs.declared.helper.Asks.{Asks}
 use Rattle.helpers.specs.declared.helper.Helper.{Helper}
 use Rattle.helpers.specs.declared.helper.Helper.TheVariants as helpers
@@ -20,11 +21,11 @@ use Rattle.reg_domain.specs.declared.freeze_name.FreezeName.TheVariants as names
 use Rattle.reg_domain.specs.declared.kind.Kind.{Kind}
 use Rattle.reg_domain.specs.declared.kind.Kind.TheVariants.{Unwritten, Number, Address, Freeze}
 use Rattle.reg_domain.specs.declared.saved.SavedRegisters.{SavedRegisters}
-use Rattle.reg_domain.specs.Arguments.{AreKnownOf, RegistersSuit, ShowsAny}
-use Rattle.reg_domain.specs.Calls.{IsAnswered, IsSureFreeze, KeepsOver, LeavesAnswer, MayPass, RunMay, after_call_kinds}
+use Rattle.reg_domain.specs.Arguments.{AreKnownOf, RegistersSuit, ShowsAny, Suits}
+use Rattle.reg_domain.specs.Calls.{IsSureFreeze, KeepsOver, LeavesAnswer, MayPass, RunMay, after_call_kinds}
 use Rattle.reg_domain.specs.Description.{kind_at}
-use Rattle.reg_domain.specs.Enough.{AreToldBytes, EnoughFor, IsPlace, LeavesCalled, LeavesFirstGivenUp, LeavesInformation, LeavesOver, LeavesZero, Takes}
-use Rattle.reg_domain.specs.Kinds.{IsAtMost, IsBelow, IsBetween, IsKnown}
+use Rattle.reg_domain.specs.Enough.{AreToldBytes, EnoughFor, IsPlace, LeavesCalled, LeavesFirstGivenUp, LeavesInformation, LeavesOver, LeavesWithin, LeavesZero, NamesWord, Takes, UsesWord}
+use Rattle.reg_domain.specs.Kinds.{IsAtMost, IsBelow, IsBetween, IsKnown, IsNumber, IsNumberWithin}
 use Rattle.reg_domain.specs.Memory.{ChangesStack}
 use Rattle.reg_domain.proofs.Tracing.{some_same}
 
@@ -60,6 +61,15 @@ zero_left d there kind zero answer = record {
   disposal = answer.disposal;
 }
 
+pub within_left : (least most : ℕ) (d there : Description) (kind : Kind) → IsNumberWithin least most kind → LeavesAnswer kind d there → LeavesWithin least most d there
+within_left least most d there kind within answer = record {
+  r0 = subst (IsNumberWithin least most) (sym answer.r0) within;
+  registers = answer.registers;
+  stack = answer.stack;
+  held = answer.held;
+  disposal = answer.disposal;
+}
+
 -- behind a freeze that is given up and an answer
 pub given_up_left : (d between there : Description) (kind : Kind) → LeavesFirstGivenUp 0 d between → LeavesAnswer kind between there → LeavesFirstGivenUp 6 d there
 given_up_left d between there kind given answer = λ name is.
@@ -85,6 +95,13 @@ zero_keeps d there zero same = record {
   registers = λ reg late apart. zero.registers reg late;
   depth = ap length same;
   known = same_stack d there same;
+}
+
+pub within_keeps : (least most : ℕ) (d there : Description) → LeavesWithin least most d there → KeepsOver d there
+within_keeps least most d there within = record {
+  registers = λ reg late apart. within.registers reg late;
+  depth = ap length within.stack;
+  known = same_stack d there within.stack;
 }
 
 pub given_up_keeps : (d there : Description) → IsSureFreeze d (kind_at d R1) → LeavesFirstGivenUp 6 d there → KeepsOver d there
@@ -151,19 +168,23 @@ at_most_between most (Number scalar) is = (omega arith, is)
 at_most_between most (Address region offsets) is = absurd is
 at_most_between most (Freeze name) is = absurd is
 
+-- the one number that is possible lies below
+known_below : (n bound : ℕ) (kind : Kind) → IsKnown n kind → n < bound → IsBelow bound kind
+known_below n bound Unwritten is below = absurd is
+known_below n bound (Number scalar) is below = omega (arith, is.1, below)
+known_below n bound (Address region offsets) is below = absurd is
+known_below n bound (Freeze name) is below = absurd is
+
 pub record MayCall (limits : HelperLimits) (callers : List SavedRegisters) (d : Description) (name : FreezeName) (helper : Helper) : Type 0 where
-  pub answered : IsAnswered helper
   pub suit : RegistersSuit limits d (asks helper)
   pub run : RunMay callers d name helper
 
 pub enough_calls : (limits : HelperLimits) (callers : List SavedRegisters) (d : Description) (name : FreezeName) (helper : Helper) → EnoughFor helper d → MayCall limits callers d name helper
 enough_calls limits callers d name helpers.Release enough = record {
-  answered = tt;
   suit = λ known are. record { first = (enough.name, are.first ∙ enough.freeze, enough.sure); second = are.second; third = are.third };
   run = tt;
 }
 enough_calls limits callers d name helpers.ReleaseAfter enough = record {
-  answered = tt;
   suit = λ known are. record {
     first = (enough.freeze.name, are.first ∙ enough.freeze.freeze, enough.freeze.sure);
     second = subst (IsBetween 1 600000) (sym are.second) enough.milliseconds;
@@ -172,22 +193,18 @@ enough_calls limits callers d name helpers.ReleaseAfter enough = record {
   run = tt;
 }
 enough_calls limits callers d name helpers.Requeue enough = record {
-  answered = tt;
   suit = λ known are. record { first = subst (IsBetween 0 1) (sym are.first) (at_most_between 1 (kind_at d R1) enough.retries); second = are.second; third = are.third };
   run = enough.waits_not;
 }
 enough_calls limits callers d name helpers.Finish enough = record {
-  answered = tt;
   suit = λ known are. record { first = subst (IsBetween 0 63) (sym are.first) (at_most_between 63 (kind_at d R1) enough.code); second = are.second; third = are.third };
   run = enough.waits_not;
 }
 enough_calls limits callers d name helpers.QueueInfo enough = record {
-  answered = tt;
   suit = λ known are. record { first = subst (IsPlace d 16) (sym are.first) enough; second = are.second; third = are.third };
   run = tt;
 }
 enough_calls limits callers d name helpers.Trace enough = record {
-  answered = tt;
   suit = λ known are. record {
     first =
         subst (λ (kind : Kind). AreToldBytes d kind known.second) (sym are.first)
@@ -201,15 +218,55 @@ enough_calls limits callers d name helpers.Freeze enough = absurd enough
 enough_calls limits callers d name helpers.TableGet enough = absurd enough
 enough_calls limits callers d name helpers.TablePut enough = absurd enough
 enough_calls limits callers d name helpers.TableAdd enough = absurd enough
-enough_calls limits callers d name helpers.Now enough = absurd enough
-enough_calls limits callers d name helpers.SetOpenings enough = absurd enough
+enough_calls limits callers d name helpers.Now enough = record { suit = λ known are. record { first = are.first; second = are.second; third = are.third }; run = tt }
+enough_calls limits callers d name helpers.SetOpenings enough = record {
+  suit = λ known are. record { first = subst (IsBetween 1 255) (sym are.first) enough; second = are.second; third = are.third };
+  run = tt;
+}
+
+-- a word of a table that is there
+word_suits : (limits : HelperLimits) (d : Description) (known : Known) → NamesWord limits d → known.first ≡ kind_at d R1 → known.second ≡ kind_at d R2
+    → IsBelow (length limits.table_lengths) known.first × Suits limits d known Index known.second
+word_suits limits d known names first second =
+    let table = subst (IsKnown names.table) (sym first) names.known in (
+      known_below names.table (length limits.table_lengths) known.first table names.there,
+      (names.table, table, subst (IsBelow (slice_index_or limits.table_lengths names.table 0)) (sym second) names.index),
+    )
+
+pub word_calls : (limits : HelperLimits) (callers : List SavedRegisters) (d : Description) (name : FreezeName) (helper : Helper) → UsesWord limits d helper → MayCall limits callers d name helper
+word_calls limits callers d name helpers.TableGet uses = record {
+  suit = λ known are.
+      let suits = word_suits limits d known uses are.first are.second in
+      record { first = suits.0; second = suits.1; third = are.third };
+  run = tt;
+}
+word_calls limits callers d name helpers.TablePut uses = record {
+  suit = λ known are.
+      let suits = word_suits limits d known uses.0 are.first are.second in
+      record { first = suits.0; second = suits.1; third = subst IsNumber (sym are.third) uses.1 };
+  run = tt;
+}
+word_calls limits callers d name helpers.TableAdd uses = record {
+  suit = λ known are.
+      let suits = word_suits limits d known uses.0 are.first are.second in
+      record { first = suits.0; second = suits.1; third = subst IsNumber (sym are.third) uses.1 };
+  run = tt;
+}
+word_calls limits callers d name helpers.Freeze uses = absurd uses
+word_calls limits callers d name helpers.Release uses = absurd uses
+word_calls limits callers d name helpers.ReleaseAfter uses = absurd uses
+word_calls limits callers d name helpers.Requeue uses = absurd uses
+word_calls limits callers d name helpers.Finish uses = absurd uses
+word_calls limits callers d name helpers.QueueInfo uses = absurd uses
+word_calls limits callers d name helpers.Trace uses = absurd uses
+word_calls limits callers d name helpers.Now uses = absurd uses
+word_calls limits callers d name helpers.SetOpenings uses = absurd uses
 
 pub taking_calls : (limits : HelperLimits) (callers : List SavedRegisters) (d : Description) (number : ℤ) (place : ℕ) → Takes limits callers d (Call (helper_call number)) place → (helper_of number ≡ Some helpers.Freeze) × MayCall limits callers d (names.Call place) helpers.Freeze
 taking_calls limits callers d number place takes =
     let same : number ≡ pos 1 = let e = takes.call in cc in (
       ap helper_of same,
       record {
-        answered = tt;
         suit = λ known are. record { first = subst (IsBelow limits.queues) (sym are.first) takes.queue; second = are.second; third = are.third };
         run = (takes.room, takes.fresh, takes.fresh_saved);
       },

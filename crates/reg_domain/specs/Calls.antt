@@ -15,9 +15,10 @@ use Rattle.helpers.specs.declared.request.Request.TheVariants as requests
 use Rattle.bpf_machine.specs.declared.held_freezes.TheConstants.{MAX_HELD}
 use Rattle.bpf_machine.specs.Calls.{arguments_at, obeys}
 use Rattle.bpf_machine.specs.MachineState.{MachineState, register}
-use Rattle.bpf_machine.specs.Step.{Allowed, IsAnswer, IsNewFreeze, answered, request_in}
+use Rattle.bpf_machine.specs.Step.{Allowed, IsAnswer, IsNewFreeze, after_call, answered, request_in}
 use Rattle.bpf_machine.specs.Stuck.{call_is_stuck}
 use Rattle.stack_domain.specs.Stack.{Knows}
+use Rattle.reg_domain.specs.declared.calls.TheConstants.{GREATEST_WORD, LAST_READING, MOST_OPENINGS}
 use Rattle.reg_domain.specs.declared.description.Description.{Description}
 use Rattle.reg_domain.specs.declared.freeze_name.FreezeName.{FreezeName}
 use Rattle.reg_domain.specs.declared.held.Certainty.TheVariants.{Sure}
@@ -47,17 +48,6 @@ pub record IsLawfulCall (limits : HelperLimits) (m : MachineState) (helper : Hel
 abbrev pub Obeys : HelperLimits → Description → Helper → Type 0
 Obeys limits d helper = (callers : List SavedRegisters) (m : MachineState) → Describes callers d m → IsLawfulCall limits m helper
 
--- these are answered
-abbrev pub IsAnswered : Helper → Type 0
-IsAnswered helpers.Freeze = Unit {0}
-IsAnswered helpers.Release = Unit {0}
-IsAnswered helpers.ReleaseAfter = Unit {0}
-IsAnswered helpers.Requeue = Unit {0}
-IsAnswered helpers.Finish = Unit {0}
-IsAnswered helpers.QueueInfo = Unit {0}
-IsAnswered helpers.Trace = Unit {0}
-IsAnswered helper = ⊥
-
 -- a freeze that is held, and sure not to be 0
 abbrev pub IsSureFreeze : Description → Kind → Type 0
 IsSureFreeze d kind = (name : FreezeName) × (kind ≡ Freeze name) × (certainty_of d.held name ≡ Some Sure)
@@ -76,6 +66,11 @@ MayPass d name helpers.Release = IsSureFreeze d (kind_at d R1)
 MayPass d name helpers.ReleaseAfter = IsSureFreeze d (kind_at d R1)
 MayPass d name helpers.QueueInfo = IsPlace d 16 (kind_at d R1)
 MayPass d name helper = Unit {0}
+
+-- the machine after a call that only answers is described, whatever number of this range is answered
+abbrev pub AnswersWithin : List SavedRegisters → ℕ → ℕ → Description → Description → Type 0
+AnswersWithin callers least most d there =
+    (m : MachineState) (r0 : ℕ) → Describes callers d m → least ≤ r0 → r0 ≤ most → Describes callers there (after_call m r0)
 
 -- The machine after the call is described, whatever the call is answered that it may be. A freeze that is taken gets that
 -- name, and one that is given up is the one that R1 holds.
@@ -99,7 +94,11 @@ Passes name callers helpers.QueueInfo d there =
 Passes name callers helpers.Trace d there =
     (address : ℕ) (bytes : List ℕ) (m : MachineState) (answer : Answer) → Describes callers d m → answer.r0 ≡ 0 →
     Describes callers there (answered (requests.Trace address bytes) answer m)
-Passes name callers helper d there = Unit {0}
+Passes name callers helpers.TableGet d there = AnswersWithin callers 0 GREATEST_WORD d there
+Passes name callers helpers.TablePut d there = AnswersWithin callers 0 GREATEST_WORD d there
+Passes name callers helpers.TableAdd d there = AnswersWithin callers 0 GREATEST_WORD d there
+Passes name callers helpers.Now d there = AnswersWithin callers 0 LAST_READING d there
+Passes name callers helpers.SetOpenings d there = AnswersWithin callers 1 MOST_OPENINGS d there
 
 -- the registers after a call
 abbrev pub after_call_kinds : List Kind → Kind → List Kind

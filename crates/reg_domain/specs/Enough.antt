@@ -1,6 +1,6 @@
 -- What is enough for the check of an instruction to pass, and what is known behind it then. It says nothing of machines:
 -- it is what a program may rely on that is to be accepted.
-use Rattle.std.specs.Prelude.{◌≡◌, ℕ, ℤ, pos, ◌+◌, ◌<◌, ◌≤◌, ◌==◌, true, false, List, [], ◌∷◌, ◌++◌, length, Some, None, ◌⊎◌}
+use Rattle.std.specs.Prelude.{◌≡◌, ℕ, ℤ, pos, ◌+◌, ◌<◌, ◌≤◌, ◌==◌, true, false, List, [], ◌∷◌, ◌++◌, length, Some, None, ◌⊎◌, ◌^◌, slice_index_or}
 use Rattle.std.specs.Int.{w64, byte_len, cast_unsigned}
 use Rattle.bpf_insn.specs.declared.insn.AluOp.{AluOp}
 use Rattle.bpf_insn.specs.declared.insn.AluOp.TheVariants.{Mov}
@@ -14,7 +14,7 @@ use Rattle.bpf_insn.specs.declared.insn.Operand.TheVariants.{Immediate, Register
 use Rattle.bpf_insn.specs.declared.insn.Width.{Width}
 use Rattle.bpf_insn.specs.declared.insn.Width.TheVariants.{Bits64}
 use Rattle.bpf_insn.specs.declared.reg.Reg.{Reg}
-use Rattle.bpf_insn.specs.declared.reg.Reg.TheVariants.{R0, R1, R2, R10}
+use Rattle.bpf_insn.specs.declared.reg.Reg.TheVariants.{R0, R1, R2, R10, R3}
 use Rattle.bpf_insn.specs.Reg.{number_of}
 use Rattle.helpers.specs.declared.helper.Helper.{Helper}
 use Rattle.helpers.specs.declared.helper.Helper.TheVariants as helpers
@@ -137,7 +137,8 @@ pub record Traces (d : Description) : Type 0 where
   pub count : IsBetween 1 64 (kind_at d R2)
   pub bytes : AreToldBytes d (kind_at d R1) (kind_at d R2)
 
--- the call of a helper, under any limits; what the queue has is written to 16 bytes of a live frame
+-- the call of a helper, under any limits; what the queue has is written to 16 bytes of a live frame, and the clock asks
+-- nothing
 abbrev pub EnoughFor : Helper → Description → Type 0
 EnoughFor helpers.Release d = GivesBack d
 EnoughFor helpers.ReleaseAfter d = HandsOver d
@@ -145,6 +146,8 @@ EnoughFor helpers.Requeue d = Requeues d
 EnoughFor helpers.Finish d = Finishes d
 EnoughFor helpers.QueueInfo d = IsPlace d 16 (kind_at d R1)
 EnoughFor helpers.Trace d = Traces d
+EnoughFor helpers.Now d = Unit {0}
+EnoughFor helpers.SetOpenings d = IsBetween 1 255 (kind_at d R1)
 EnoughFor helper d = ⊥
 
 abbrev pub EnoughToCall : ℤ → Description → Type 0
@@ -158,6 +161,23 @@ pub record Takes (limits : HelperLimits) (callers : List SavedRegisters) (d : De
   pub room : length d.held < MAX_HELD
   pub fresh : certainty_of d.held (names.Call place) ≡ None
   pub fresh_saved : IsFresh (names.Call place) callers
+
+-- a word of a table: the table is one known number, and the index lies below its length
+pub record NamesWord (limits : HelperLimits) (d : Description) : Type 0 where
+  pub table : ℕ
+  pub known : IsKnown table (kind_at d R1)
+  pub there : table < length limits.table_lengths
+  pub index : IsBelow (slice_index_or limits.table_lengths table 0) (kind_at d R2)
+
+-- the call of a helper that reads a word of a table, or writes or adds a number there, under these limits
+abbrev pub UsesWord : HelperLimits → Description → Helper → Type 0
+UsesWord limits d helpers.TableGet = NamesWord limits d
+UsesWord limits d helpers.TablePut = NamesWord limits d × IsNumber (kind_at d R3)
+UsesWord limits d helpers.TableAdd = NamesWord limits d × IsNumber (kind_at d R3)
+UsesWord limits d helper = ⊥
+
+abbrev pub UsesTable : HelperLimits → ℤ → Description → Type 0
+UsesTable limits number d = (helper : Helper) × (helper_of number ≡ Some helper) × UsesWord limits d helper
 
 -- a register is copied, or numbers are computed with
 abbrev pub EnoughToCompute : Description → Width → AluOp → Reg → Operand → Type 0
@@ -255,6 +275,14 @@ pub record LeavesZero (d there : Description) : Type 0 where
   pub held : there.held ≡ d.held
   pub disposal : there.disposed ≡ d.disposed
 
+-- R0 is a number of this range, and R6 to R10, the stack, the freezes and the CCB are as before
+pub record LeavesWithin (least most : ℕ) (d there : Description) : Type 0 where
+  pub r0 : IsNumberWithin least most (kind_at there R0)
+  pub registers : (reg : Reg) → 6 ≤ number_of reg → kind_at there reg ≡ kind_at d reg
+  pub stack : there.stack ≡ d.stack
+  pub held : there.held ≡ d.held
+  pub disposal : there.disposed ≡ d.disposed
+
 -- 16 bytes are written from R1's address on, where it is one address
 abbrev pub LeavesInformation : Description → Description → Type 0
 LeavesInformation d there = (frame at : ℕ) → IsAt (Frame frame) at (kind_at d R1) → AreKnown there frame at 16
@@ -272,7 +300,12 @@ LeavesOver helpers.Requeue d there = LeavesZero (record d { disposed = true }) t
 LeavesOver helpers.Finish d there = LeavesZero (record d { disposed = true }) there × (there.stack ≡ d.stack)
 LeavesOver helpers.QueueInfo d there = LeavesZero d there × LeavesInformation d there
 LeavesOver helpers.Trace d there = LeavesZero d there × (there.stack ≡ d.stack)
-LeavesOver helper d there = Unit {0}
+LeavesOver helpers.TableGet d there = LeavesWithin 0 0xffff_ffff_ffff_ffff d there
+LeavesOver helpers.TablePut d there = LeavesWithin 0 0xffff_ffff_ffff_ffff d there
+LeavesOver helpers.TableAdd d there = LeavesWithin 0 0xffff_ffff_ffff_ffff d there
+LeavesOver helpers.Now d there = LeavesWithin 0 (2 ^ 62) d there
+LeavesOver helpers.SetOpenings d there = LeavesWithin 1 255 d there
+LeavesOver helpers.Freeze d there = Unit {0}
 
 -- and behind that of any: what is in R6 to R10 and no freeze is there as before
 pub record LeavesCalled (d : Description) (number : ℤ) (there : Description) : Type 0 where

@@ -63,7 +63,8 @@ impl Description {
     /// Whether all arguments are written and as asked.
     ///
     /// # Errors
-    /// `UnwrittenRegister`; `ArgumentAgainstRule`, or `UnwrittenByte` where only bytes that are read are unwritten.
+    /// `UnwrittenRegister`; `ArgumentAgainstRule`, or `UnwrittenByte` where only bytes that are read are unwritten, or
+    /// `AddressStored` where only the word that is to be stored in a table is no number.
     pub(crate) fn check_arguments(
         &self,
         limits: &HelperLimits,
@@ -114,6 +115,7 @@ impl Description {
     {
         match asked {
             Asked::Bytes => self.check_bytes(kind, known.second),
+            Asked::Word if !kind.is_number() => Err(Cause::AddressStored),
             _ => told(self.is_fit(limits, known, asked, kind)),
         }
     }

@@ -1,7 +1,7 @@
 // Helper calls where a machine is described. It relies on `arguments` for what is known of their arguments, on `freeze` for
 // freezes that are taken or given up, and on `helpers` for what is asked of arguments.
 
-ghost use Rattle.std.specs.Prelude.{◌≡◌, ◌↔◌, ◌<◌, ℕ, false, List, length, IfOk, IfSome, IsOk, IsOkAnd, IsTrue, None, Some};
+ghost use Rattle.std.specs.Prelude.{◌≡◌, ◌↔◌, ◌<◌, ◌≤◌, ℕ, false, List, length, IfOk, IfSome, IsOk, IsOkAnd, IsTrue, None, Some};
 ghost use Rattle.bpf_insn.specs.declared.insn.Callee.TheVariants.{Helper as helper_call};
 ghost use Rattle.bpf_insn.specs.declared.insn.Insn.TheVariants.{Call};
 ghost use Rattle.bpf_insn.specs.declared.reg.Reg.TheVariants.{R1};
@@ -11,9 +11,9 @@ ghost use Rattle.helpers.specs.declared.helper.Helper.TheVariants as helpers;
 ghost use Rattle.helpers.specs.Table.{asks, helper_of};
 ghost use Rattle.reg_domain.specs.declared.freeze_name.FreezeName.TheVariants as names;
 ghost use Rattle.reg_domain.specs.Arguments.{RegistersSuit};
-ghost use Rattle.reg_domain.specs.Calls.{CallFollows, CallIsNeverStuck, IsAnswered, IsSureFreeze, KeepsOver, LeavesAnswer, MayPass, Obeys, Passes, RunMay, after_call_kinds};
+ghost use Rattle.reg_domain.specs.Calls.{AnswersWithin, CallFollows, CallIsNeverStuck, IsSureFreeze, KeepsOver, LeavesAnswer, MayPass, Obeys, Passes, RunMay, after_call_kinds};
 ghost use Rattle.reg_domain.specs.Description.{Describes, DescribesWith, kind_at};
-ghost use Rattle.reg_domain.specs.Enough.{EnoughToCall, IsPlace, LeavesCalled, LeavesFirstGivenUp, LeavesInformation, LeavesOver, LeavesTaken, LeavesZero, Takes};
+ghost use Rattle.reg_domain.specs.Enough.{EnoughToCall, IsPlace, LeavesCalled, LeavesFirstGivenUp, LeavesInformation, LeavesOver, LeavesTaken, LeavesWithin, LeavesZero, Takes, UsesTable};
 ghost use Rattle.reg_domain.specs.Freezes.{FreezeNumbers, certainty_of};
 ghost use Rattle.reg_domain.specs.Kinds.{HoldsKind};
 ghost use Rattle.reg_domain.specs.Memory.{ChangesStack, WritesFrom};
@@ -33,6 +33,15 @@ use scalar_domain::Scalar;
 
 /// The most freezes that a queue can have once one is given back.
 const MOST_FROZEN_LEFT: u64 = 254;
+
+/// The greatest word.
+const GREATEST_WORD: u64 = u64::MAX;
+
+/// The last clock reading, in milliseconds: 2^62.
+const LAST_READING: u64 = 1 << 62;
+
+/// The most openings that a queue may have.
+const MOST_OPENINGS: u64 = 255;
 
 /// How many bytes tell what a queue has.
 const INFORMATION_BYTES: u16 = 16;
@@ -55,9 +64,10 @@ impl Description {
         ensures follows { IfOk result (λ _. CallFollows callers.now number self.old self.new) }
         ensures leaves { EnoughToCall number self.old → IsOkAnd result (λ _. LeavesCalled self.old number self.new) }
         ensures takes { Takes limits.now callers.now self.old (Call (helper_call number)) place → IsOkAnd result (λ _. LeavesTaken (names.Call place) self.old self.new) }
+        ensures words { UsesTable limits.now number self.old → IsOkAnd result (λ _. LeavesCalled self.old number self.new) }
         ensures depth { IfOk result (λ _. length self.new.stack ≡ length self.old.stack) }
     {
-        let Some(helper) = answered_helper(number) else {
+        let Some(helper) = Helper::with_number(number) else {
             return Err(Cause::UnknownHelper);
         };
         let name = FreezeName::Call(place);
@@ -74,7 +84,7 @@ impl Description {
         helper: Helper,
         name: FreezeName,
     ) -> Result<(), Cause>
-        ensures obeys { IfOk result (λ _. IsAnswered helper → Obeys limits.now self.now helper) }
+        ensures obeys { IfOk result (λ _. Obeys limits.now self.now helper) }
         ensures found { IfOk result (λ _. MayPass self.now name helper) }
         ensures fresh { IfOk result (λ _. helper ≡ helpers.Freeze → IsFresh name callers.now) }
         ensures suits { RegistersSuit limits.now self.now (asks helper) → RunMay callers.now self.now name helper → IsOk result }
@@ -136,12 +146,12 @@ impl Description {
         }
     }
 
-    // After a call of a helper that is answered, where a freeze that it took gets that name.
+    // After a call of a helper, where a freeze that it took gets that name.
     fn pass(&mut self, helper: Helper, name: FreezeName)
         requires { MayPass self.old name helper }
         ensures passes { (callers : List SavedRegisters) → Passes name callers helper self.old self.new }
         ensures leaves { LeavesOver helper self.old self.new }
-        ensures keeps { IsAnswered helper → KeepsOver self.old self.new }
+        ensures keeps { KeepsOver self.old self.new }
         ensures takes { helper ≡ helpers.Freeze → LeavesTaken name self.old self.new }
     {
         match helper {
@@ -152,11 +162,11 @@ impl Description {
             Helper::Finish => self.finish(),
             Helper::QueueInfo => self.queue_info(),
             Helper::Trace => self.trace(),
-            Helper::TableGet
-            | Helper::TablePut
-            | Helper::TableAdd
-            | Helper::Now
-            | Helper::SetOpenings => {}
+            Helper::TableGet | Helper::TablePut | Helper::TableAdd => {
+                self.answer_within(0, GREATEST_WORD);
+            }
+            Helper::Now => self.answer_within(0, LAST_READING),
+            Helper::SetOpenings => self.answer_within(1, MOST_OPENINGS),
         }
     }
 
@@ -260,6 +270,16 @@ impl Description {
         self.answer_zero();
     }
 
+    // R0 is a number of this range, R1 to R5 are unwritten, and all else is as before.
+    fn answer_within(&mut self, least: u64, most: u64)
+        requires { least ≤ most }
+        ensures passes { (callers : List SavedRegisters) → AnswersWithin callers least most self.old self.new }
+        ensures leaves { LeavesWithin least most self.old self.new }
+        ensures keeps { KeepsOver self.old self.new }
+    {
+        self.answer(Kind::Number(Scalar::within(least, most)));
+    }
+
     // R0 is 0, R1 to R5 are unwritten, and all else is as before.
     fn answer_zero(&mut self)
         ensures passes { (numbers : FreezeNumbers) (callers : List SavedRegisters) (r0 : ℕ) (m : MachineState) → DescribesWith numbers callers self.old m → r0 ≡ 0 → DescribesWith numbers callers self.new (called m r0) }
@@ -274,37 +294,6 @@ impl Description {
         ensures leaves { LeavesAnswer kind self.old self.new }
     {
         self.registers = after_call(self.registers, kind);
-    }
-}
-
-// The helper of that number, where it is answered.
-fn answered_helper(number: i32) -> Option<Helper>
-    ensures found { IfSome result (λ helper. (helper_of number ≡ Some helper) × IsAnswered helper) }
-    ensures all { (helper : Helper) → helper_of number ≡ Some helper → IsAnswered helper → result ≡ Some helper }
-{
-    match Helper::with_number(number) {
-        Some(helper) if is_answered(helper) => Some(helper),
-        _ => None,
-    }
-}
-
-// Whether the helper is answered.
-fn is_answered(helper: Helper) -> bool
-    ensures { IsTrue result ↔ IsAnswered helper }
-{
-    match helper {
-        Helper::Freeze
-        | Helper::Release
-        | Helper::ReleaseAfter
-        | Helper::Requeue
-        | Helper::Finish
-        | Helper::QueueInfo
-        | Helper::Trace => true,
-        Helper::TableGet
-        | Helper::TablePut
-        | Helper::TableAdd
-        | Helper::Now
-        | Helper::SetOpenings => false,
     }
 }
 

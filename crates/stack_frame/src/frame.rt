@@ -77,6 +77,15 @@ impl Frame {
         *self = *other;
     }
 
+    /// Makes this frame an unwritten one. Where nothing is written no byte is touched.
+    pub fn clear(&mut self)
+        ensures { self.new ≡ replicate 512 None }
+    {
+        if !self.is_unwritten() {
+            *self = Frame::unwritten();
+        }
+    }
+
     /// The byte at that offset, as 0 where it is unwritten.
     #[inline(always)]
     pub fn read8(&self, offset: usize) -> u64

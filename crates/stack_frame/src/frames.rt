@@ -95,7 +95,17 @@ impl Frames {
         ensures { self.new ≡ take (length self.old - 1) self.old }
     {
         self.depth -= 1;
-        self.frames[self.depth].copy_from(&Frame::unwritten());
+        self.frames[self.depth].clear();
+    }
+
+    /// Makes these frames the outermost one alone, of which nothing is written. Only those that are live are looked at.
+    pub fn begin(&mut self)
+        ensures { self.new ≡ replicate 512 None ∷ [] }
+    {
+        while self.depth() > 0 {
+            self.close();
+        }
+        self.open();
     }
 
     /// A live frame, the outermost being 0.

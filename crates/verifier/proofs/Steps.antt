@@ -14,7 +14,7 @@ use Rattle.bpf_insn.specs.declared.reg.Reg.{Reg}
 use Rattle.bpf_insn.specs.declared.insn.Callee.TheVariants.{Helper, Local}
 use Rattle.bpf_insn.specs.Target.{target, distance_of}
 use Rattle.helpers.specs.declared.request.Request.{Request}
-use Rattle.helpers.specs.declared.request.Request.TheVariants.{Freeze, Release, ReleaseAfter, Requeue, Finish, QueueInfo, Trace}
+use Rattle.helpers.specs.declared.request.Request.TheVariants.{Freeze, Release, ReleaseAfter, Requeue, Finish, TableGet, TablePut, TableAdd, QueueInfo, Trace, Now, SetOpenings}
 use Rattle.helpers.specs.declared.request.Answer.{Answer}
 use Rattle.bpf_machine.specs.MachineState.{OpenCall, MachineState, register, with_register, moved_to}
 use Rattle.bpf_machine.specs.Memory.{address_of, load_width, loaded, word_from}
@@ -181,8 +181,13 @@ answered_next (Release freeze) answer m = record { calls = refl; place = refl }
 answered_next (ReleaseAfter freeze milliseconds) answer m = record { calls = refl; place = refl }
 answered_next (Requeue retries) answer m = record { calls = refl; place = refl }
 answered_next (Finish code) answer m = record { calls = refl; place = refl }
+answered_next (TableGet table index) answer m = record { calls = refl; place = refl }
+answered_next (TablePut table index value) answer m = record { calls = refl; place = refl }
+answered_next (TableAdd table index value) answer m = record { calls = refl; place = refl }
 answered_next (QueueInfo address) answer m = record { calls = refl; place = refl }
 answered_next (Trace address bytes) answer m = record { calls = refl; place = refl }
+answered_next Now answer m = record { calls = refl; place = refl }
+answered_next (SetOpenings openings) answer m = record { calls = refl; place = refl }
 
 no_request : (request : Request) → None ≡ Some request → ⊥
 no_request request e = absurd cc

@@ -1,12 +1,11 @@
-use Rattle.std.proofs.Common.{◌<◌, refl}
+use Rattle.std.proofs.Common.{◌<◌}
 use Rattle.std.proofs.lemmas.List.Elements.{All-from_get_or}
 use Rattle.bpf_machine.proofs.Entries.{entry_is}
 use Rattle.bpf_machine.proofs.machine.Machine.entry.Goals as goal
 
 pub returns-clause-value : goal.returns-clause-value
 returns-clause-value c =
-    entry_is c.args.context.now c.args.freeze _ _ _ _
-    (rw (c.set-3.ensures, c.set-2.ensures, c.set.ensures, c.unwritten-registers.ensures, c.from.ensures) refl) c.outermost.ensures c.none.ensures c.at_start.ensures
+    entry_is c.args.context.now c.args.freeze _ _ _ _ c.first_registers.ensures c.outermost.ensures c.none.ensures c.at_start.ensures
 
 pub returns-clause-entry : goal.returns-clause-entry
 returns-clause-entry c = record {

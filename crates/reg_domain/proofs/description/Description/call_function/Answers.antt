@@ -9,3 +9,6 @@ returns-clause-unstuck c = rw c.in-Helper.is (call_never_stuck c.call.result c.a
 
 pub returns-clause-follows : goal.returns-clause-follows
 returns-clause-follows c = rw c.in-Helper.is (call_follows c.call.result c.args.callers.now c.args.self.now c.call.new.self c.in-Helper.number (rw (to_z-of_z w32 c.in-Helper.number (search rules)) at c.call.ensures.follows))
+
+pub returns-clause-leaves : goal.returns-clause-leaves
+returns-clause-leaves c = rw c.in-Helper.is (rw (to_z-of_z w32 c.in-Helper.number (search rules)) at c.call.ensures.leaves)

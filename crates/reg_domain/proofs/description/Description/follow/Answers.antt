@@ -1,7 +1,10 @@
-use Rattle.std.proofs.Common.{refl, rules, subst}
+use Rattle.std.proofs.Common.{◌≡◌, refl, rules, subst, sym}
 use Rattle.std.specs.Int.{w16}
 use Rattle.std.proofs.lemmas.Int.{to_z-of_z}
+use Rattle.bpf_insn.specs.declared.insn.Callee.TheVariants.{Helper as helper_call}
 use Rattle.bpf_insn.specs.declared.insn.Insn.TheVariants.{Call}
+use Rattle.reg_domain.specs.declared.description.Description.{Description}
+use Rattle.reg_domain.specs.Enough.{LeavesCalled}
 use Rattle.reg_domain.specs.Follows.{Stays}
 use Rattle.reg_domain.proofs.Ways.{exit_never_stuck, follows_way, goes_way, jump_goes, jump_never_stuck}
 use Rattle.reg_domain.proofs.description.Description.follow.Goals as goal
@@ -36,4 +39,17 @@ returns-clause-follows c = elim c.match-insn.branch [
   | in-Load+in_ok-load-in-Load w ↦ rw (c.is_taken-2.ensures, w.in-Load.is, w.self-is) (goes_way c.args.callers.now _ c.args.way c.args.self.now w.load.new.self (λ m. refl) (rw (to_z-of_z w16 w.in-Load.offset (search rules)) at w.in_ok-load-in-Load.ensures.goes))
   | in-Store+in_ok-store_operand-in-Store w ↦ rw (c.is_taken-2.ensures, w.in-Store.is, w.self-is) (goes_way c.args.callers.now _ c.args.way c.args.self.now w.store_operand.new.self (λ m. refl) (rw (to_z-of_z w16 w.in-Store.offset (search rules)) at w.in_ok-store_operand-in-Store.ensures.goes))
   | in-Call+in_ok-call_function-in-Call w ↦ rw (c.is_taken-2.ensures, w.in-Call.is, w.self-is) (follows_way c.args.callers.now (Call w.in-Call.callee) c.args.way c.args.self.now w.call_function.new.self (λ m. refl) w.in_ok-call_function-in-Call.ensures.follows)
+]
+
+pub returns-clause-words : goal.returns-clause-words
+returns-clause-words c = λ number call uses falls. elim c.match-insn.branch [
+  | in-Alu+in_ok-compute-in-Alu w ↦ absurd (let e = w.in-Alu.is in cc)
+  | in-InPlace+in_ok-change-in-InPlace w ↦ absurd (let e = w.in-InPlace.is in cc)
+  | in-SignExtend+in_ok-extend-in-SignExtend w ↦ absurd (let e = w.in-SignExtend.is in cc)
+  | in-LoadImmediate w ↦ absurd (let e = w.in-LoadImmediate.is in cc)
+  | in-Load+in_ok-load-in-Load w ↦ absurd (let e = w.in-Load.is in cc)
+  | in-Store+in_ok-store_operand-in-Store w ↦ absurd (let e = w.in-Store.is in cc)
+  | in-Call+in_ok-call_function-in-Call w ↦
+      let same : w.in-Call.callee ≡ helper_call number = let e = w.in-Call.is in cc in
+      subst (λ (there : Description). LeavesCalled c.args.self.now number there) (sym w.self-is) (w.in_ok-call_function-in-Call.ensures.words number same uses)
 ]

@@ -1,127 +1,126 @@
-// The form of a manifest: its keys, their types, ranges, and how many there are of each. It relies on `code`
-// for the form of a program's text, and on `engine_config` for the limits.
+// A whole manifest, read once into what it says: each entry from its table, and of all faults of the form the lowest.
+// It relies on `entries` for one entry, and on `engine_config` for how many there may be.
 
-ghost use Rattle.std.specs.Prelude.{◌≤◌, IfSome};
+ghost use Rattle.std.specs.Prelude.{◌≡◌, ◌++◌, Some, None, map, filter_map, IfOk, IfErr};
+ghost use Rattle.toml.specs.View.{view};
+ghost use Rattle.manifest.specs.Entries.{queue_of, length_of, program_of, plan_of};
+ghost use Rattle.manifest.specs.Faults.{lower, lowest_among, queue_fault, table_fault, program_fault, document_fault, form_fault, has_arrays};
+ghost use Rattle.manifest.specs.Seen.{queue_seen, program_seen, plan_seen, IfFault};
 
-use super::{ManifestFault, code, elements, text_of};
-use engine_config::{MAX_QUEUES, MAX_TABLES, MAX_WORDS};
-use toml::{Table, Value};
+use crate::document::{array, elements, has, has_keys, integer};
+use crate::entries::{FormError, ProgramEntry, QueueEntry, program, queue, table};
+use crate::form_fault::{FormFault, note};
+use or_memory::OrMemory;
+use std::alloc::{AllocError, Global};
+use toml::Value;
 
-/// How many programs there may be.
-const MAX_PROGRAMS: usize = 64;
-
-/// The lowest of M2 to M5 that holds.
-pub fn fault_of(manifest: &Table) -> Option<ManifestFault> {
-    if !has_known_keys(manifest) {
-        return Some(ManifestFault::Key);
-    }
-    if !has_known_types(manifest) {
-        return Some(ManifestFault::Form);
-    }
-    if !is_in_range(manifest) {
-        return Some(ManifestFault::Range);
-    }
-    if !has_lawful_numbers(manifest) {
-        return Some(ManifestFault::Number);
-    }
-    None
+/// What a manifest says, entry by entry, in the text's order.
+#[derive(Drop)]
+pub struct Plan<'a> {
+    pub queues: Vec<QueueEntry<'a>>,
+    pub tables: Vec<u16>,
+    pub programs: Vec<ProgramEntry<'a>>,
 }
 
-fn has_known_keys(manifest: &Table) -> bool {
-    has_keys(manifest, &["version", "queue", "program"], &["table"])
-        && all_have_keys(elements(manifest, "queue"), &["openings", "program"])
-        && all_have_keys(elements(manifest, "table"), &["length"])
-        && elements(manifest, "program").iter().all(has_program_keys)
+/// What a manifest says, or the lowest fault of its form.
+pub fn read(alloc: Global, manifest: &Value) -> Result<Plan<'_>, FormError>
+    ensures says { IfOk result (λ plan. plan_seen plan ≡ plan_of (view manifest.now)) }
+    ensures lawful { IfOk result (λ _. form_fault (view manifest.now) ≡ None) }
+    ensures fault { IfErr result (IfFault (λ fault. form_fault (view manifest.now) ≡ Some fault)) }
+{
+    let mut lowest = document_fault(manifest);
+    let queues = queues(alloc, elements(manifest, "queue"), &mut lowest)?;
+    let tables = tables(alloc, elements(manifest, "table"), &mut lowest)?;
+    let programs = programs(alloc, elements(manifest, "program"), &mut lowest)?;
+    match lowest {
+        None => Ok(Plan {
+            queues,
+            tables,
+            programs,
+        }),
+        Some(fault) => Err(OrMemory::Fault(fault)),
+    }
 }
 
-// All required keys are there, and beside them only optional ones.
-fn has_keys(table: &Table, required: &[&str], optional: &[&str]) -> bool {
-    required.iter().all(|key| table.contains_key(*key))
-        && table.keys().all(|key| required.contains(&key.as_str())
-            || optional.contains(&key.as_str()))
+// The fault of what is no entry: the keys, their types, and the version.
+fn document_fault(manifest: &Value) -> Option<FormFault>
+    ensures { result ≡ document_fault (view manifest.now) }
+{
+    if !has_keys(manifest, &["version", "queue", "program"], &["table"]) {
+        return Some(FormFault::Key);
+    }
+    if !has_arrays(manifest) {
+        return Some(FormFault::Form);
+    }
+    match integer(manifest, "version") {
+        None => Some(FormFault::Form),
+        Some(1) => None,
+        Some(_) => Some(FormFault::Range),
+    }
 }
 
-// Each has just these keys. What is no table has none that could be wrong.
-fn all_have_keys(elements: &[Value], keys: &[&str]) -> bool {
-    elements.iter().all(|element| match element {
-        Value::Table(table) => has_keys(table, keys, &[]),
-        _ => true,
-    })
+fn has_arrays(manifest: &Value) -> bool
+    ensures { result ≡ has_arrays (view manifest.now) }
+{
+    array(manifest, "queue").is_some()
+        && array(manifest, "program").is_some()
+        && (!has(manifest, "table") || array(manifest, "table").is_some())
 }
 
-// A program has a name, and is written either as code or as text.
-fn has_program_keys(program: &Value) -> bool {
-    match program {
-        Value::Table(table) => {
-            has_keys(table, &["name"], &["code", "asm"])
-                && table.contains_key("code") != table.contains_key("asm")
+// The queues that have no fault; of the faults the lowest is noted.
+fn queues<'a>(
+    alloc: Global,
+    entries: &'a [Value],
+    lowest: &mut Option<FormFault>,
+) -> Result<Vec<QueueEntry<'a>>, AllocError>
+    ensures says { IfOk result (λ queues. lowest.new ≡ None → map queue_seen queues.items ≡ filter_map queue_of (map view entries.now)) }
+    ensures fault { IfOk result (λ _. lowest.new ≡ lower lowest.old (lowest_among queue_fault (map view entries.now))) }
+{
+    let mut queues = Vec::new(alloc);
+    for entry in entries {
+        match queue(entry) {
+            Ok(queue) => queues.push(queue)?,
+            Err(fault) => note(lowest, fault),
         }
-        _ => true,
     }
+    Ok(queues)
 }
 
-fn has_known_types(manifest: &Table) -> bool {
-    manifest.get("version").is_some_and(Value::is_integer)
-        && manifest.get("queue").is_some_and(Value::is_array)
-        && manifest.get("program").is_some_and(Value::is_array)
-        && (!manifest.contains_key("table") || manifest.get("table").is_some_and(Value::is_array))
-        && elements(manifest, "queue").iter().all(is_queue)
-        && elements(manifest, "table").iter().all(is_table)
-        && elements(manifest, "program").iter().all(is_program)
-}
-
-fn is_queue(queue: &Value) -> bool {
-    integer_of(queue, "openings").is_some() && text_of(queue, "program").is_some()
-}
-
-fn is_table(table: &Value) -> bool {
-    integer_of(table, "length").is_some()
-}
-
-fn is_program(program: &Value) -> bool {
-    text_of(program, "name").is_some()
-        && (text_of(program, "asm").is_some()
-            || text_of(program, "code").is_some_and(code::is_code))
-}
-
-fn is_in_range(manifest: &Table) -> bool {
-    manifest.get("version").and_then(Value::as_integer) == Some(1)
-        && elements(manifest, "queue")
-            .iter()
-            .all(|queue| openings_of(queue).is_some())
-        && elements(manifest, "table")
-            .iter()
-            .all(|table| length_of(table).is_some())
-}
-
-fn has_lawful_numbers(manifest: &Table) -> bool {
-    let queues = elements(manifest, "queue").len();
-    let programs = elements(manifest, "program").len();
-    (1..=MAX_QUEUES).contains(&queues)
-        && (1..=MAX_PROGRAMS).contains(&programs)
-        && elements(manifest, "table").len() <= MAX_TABLES
-}
-
-fn integer_of(table: &Value, key: &str) -> Option<i64> {
-    table.as_table()?.get(key)?.as_integer()
-}
-
-/// A queue's openings, where they are 1 to 255.
-pub fn openings_of(queue: &Value) -> Option<u8>
-    ensures { IfSome result (λ openings. 1 ≤ openings) }
+// The lengths of the tables, likewise.
+fn tables(
+    alloc: Global,
+    entries: &[Value],
+    lowest: &mut Option<FormFault>,
+) -> Result<Vec<u16>, AllocError>
+    ensures says { IfOk result (λ tables. lowest.new ≡ None → tables.items ≡ filter_map length_of (map view entries.now)) }
+    ensures fault { IfOk result (λ _. lowest.new ≡ lower lowest.old (lowest_among table_fault (map view entries.now))) }
 {
-    match u8::try_from(integer_of(queue, "openings")?) {
-        Ok(openings) if openings > 0 => Some(openings),
-        _ => None,
+    let mut tables = Vec::new(alloc);
+    for entry in entries {
+        match table(entry) {
+            Ok(length) => tables.push(length)?,
+            Err(fault) => note(lowest, fault),
+        }
     }
+    Ok(tables)
 }
 
-/// How many words a table has, where they are 1 to 4096.
-pub fn length_of(table: &Value) -> Option<u16>
-    ensures { IfSome result (λ length. (1 ≤ length) × (length ≤ 4096)) }
+// The programs, likewise.
+fn programs<'a>(
+    alloc: Global,
+    entries: &'a [Value],
+    lowest: &mut Option<FormFault>,
+) -> Result<Vec<ProgramEntry<'a>>, AllocError>
+    ensures says { IfOk result (λ programs. lowest.new ≡ None → map program_seen programs.items ≡ filter_map program_of (map view entries.now)) }
+    ensures fault { IfOk result (λ _. lowest.new ≡ lower lowest.old (lowest_among program_fault (map view entries.now))) }
 {
-    match u16::try_from(integer_of(table, "length")?) {
-        Ok(length) if 0 < length && length <= MAX_WORDS => Some(length),
-        _ => None,
+    let mut programs = Vec::new(alloc);
+    for entry in entries {
+        match program(alloc, entry) {
+            Ok(program) => programs.push(program)?,
+            Err(OrMemory::OutOfMemory) => return Err(AllocError),
+            Err(OrMemory::Fault(fault)) => note(lowest, fault),
+        }
     }
+    Ok(programs)
 }

@@ -1,20 +1,34 @@
-// The manifest, version 1: TOML that is read untyped with `toml`. It relies on `form` and `names` for what a
-// manifest has to be, and on `programs` for what its programs are.
+// The manifest, version 1: TOML that is parsed untyped with `toml`, and read once into what it says. It relies on `form`
+// and `names` for what a manifest has to be, and on `programs` for what its programs are.
 #![tactic(auto)]
 
+ghost use Rattle.std.specs.Prelude.{◌≡◌, ◌≤◌, Some, None, map, length, IfOk, IfErr};
+ghost use Rattle.toml.specs.Parse.{parse_document};
+ghost use Rattle.toml.specs.View.{view, table_view};
+ghost use Rattle.manifest.specs.Entries.{plan_of};
+ghost use Rattle.manifest.specs.Meaning.{Means, HasFault, HasProgramFault, IsSetUp, lowest_fault};
+ghost use Rattle.manifest.specs.declared.ManifestFault.TheVariants as ManifestFault;
+ghost use Rattle.manifest.specs.Seen.{plan_seen, queue_seen, named_seen, named, IfFault, IsLawfulPlan};
+
 mod code;
+mod document;
+mod entries;
 mod form;
+mod form_fault;
 mod names;
 mod programs;
+mod setup;
 
 use bpf_asm::AsmFault;
 use bpf_decode::DecodeFault;
 use engine_config::Config;
+use entries::QueueEntry;
+use form::Plan;
+use form_fault::FormFault;
 use helpers::{HelperLimits, TableLengths};
 use or_memory::OrMemory;
 pub use programs::NamedProgram;
-use std::alloc::{AllocError, Global};
-use std::sync::Arc;
+use std::alloc::Global;
 use thiserror::Error;
 use toml::{Table, Value};
 use verifier::Refusal;
@@ -63,68 +77,82 @@ pub enum ManifestFault {
 /// Why a manifest was not read: memory was refused, or what it says is faulty.
 pub type ManifestError = OrMemory<ManifestFault>;
 
-/// Reads a manifest and verifies its programs.
-pub fn read(alloc: Global, text: &str) -> Result<Manifest, ManifestError> {
-    let table = match toml::table_from_str(alloc, text) {
-        Ok(table) => table,
-        Err(error) if error.is_memory() => return Err(OrMemory::OutOfMemory),
-        Err(_) => return Err(OrMemory::Fault(ManifestFault::Text)),
+/// Reads a manifest and verifies its programs. An error for want of memory says nothing of the text, and a fault is the one that
+/// `HasFault` names: the lowest, and of M7 and M8 that of the first program with one.
+pub fn read(alloc: Global, text: &str) -> Result<Manifest, ManifestError>
+    // What is read is what the text means.
+    ensures found { IfOk result (λ manifest. Means text.now manifest.config (map named_seen manifest.programs.items)) }
+    // Which fault it is.
+    ensures fault { IfErr result (IfFault (HasFault text.now)) }
+{
+    let document = Value::Table(parse(alloc, text)?);
+    let plan = plan(alloc, &document)?;
+    set_up(alloc, plan)
+}
+
+// A plan set up.
+fn set_up(alloc: Global, plan: Plan<'_>) -> Result<Manifest, ManifestError>
+    requires { IsLawfulPlan (plan_seen plan) }
+    ensures found { IfOk result (λ manifest. IsSetUp (plan_seen plan.entry) manifest.config (map named_seen manifest.programs.items)) }
+    ensures fault { IfErr result (IfFault (HasProgramFault (plan_seen plan.entry))) }
+{
+    let Plan {
+        queues,
+        tables,
+        programs,
+    } = plan;
+    let limits = HelperLimits {
+        queues: count(&queues),
+        table_lengths: TableLengths::new(tables),
     };
-    if let Some(fault) = form::fault_of(&table) {
-        return Err(OrMemory::Fault(fault));
-    }
-    if !names::are_lawful(&table) {
-        return Err(OrMemory::Fault(ManifestFault::Name));
-    }
-    let limits = limits_of(alloc, &table)?;
-    let programs = programs::read(alloc, elements(&table, "program"), &limits)?;
-    let config = config_of(alloc, &table, limits, &programs)?;
+    let programs = programs::read(alloc, &programs, &limits)?;
+    let config = setup::config(alloc, &queues, limits, &programs)?;
     Ok(Manifest { config, programs })
 }
 
-// Each queue with its openings and the program that it names.
-fn config_of(
-    alloc: Global,
-    manifest: &Table,
-    limits: HelperLimits,
-    programs: &[NamedProgram],
-) -> Result<Config, ManifestError> {
-    let mut queues = Vec::new(alloc);
-    for queue in elements(manifest, "queue") {
-        let openings = form::openings_of(queue).unwrap_or(0);
-        let Some(program) = programs::of_queue(queue, programs) else {
-            return Err(OrMemory::Fault(ManifestFault::Name));
-        };
-        queues
-            .push((openings, Arc::try_clone(&program.accepted)?))
-            .map_err(AllocError::from)?;
-    }
-    Config::new(limits, queues).ok_or(OrMemory::Fault(ManifestFault::Number))
-}
-
-fn limits_of(alloc: Global, manifest: &Table) -> Result<HelperLimits, AllocError> {
-    let queues = u32::try_from(elements(manifest, "queue").len()).unwrap_or(0);
-    let mut lengths = Vec::new(alloc);
-    for table in elements(manifest, "table") {
-        lengths
-            .push(form::length_of(table).unwrap_or(0))
-            .map_err(AllocError::from)?;
-    }
-    Ok(HelperLimits {
-        queues,
-        table_lengths: TableLengths::new(lengths),
-    })
-}
-
-// The elements of an array, and none where the key is of no array.
-fn elements<'a>(table: &'a Table, key: &str) -> &'a [Value] {
-    match table.get(key) {
-        Some(Value::Array(elements)) => elements.as_slice(),
-        _ => &[],
+// The text as TOML.
+fn parse(alloc: Global, text: &str) -> Result<Table, ManifestError>
+    ensures parsed { IfOk result (λ table. parse_document text.now ≡ Some (table_view table)) }
+    ensures fault { IfErr result (IfFault (λ fault. (fault ≡ ManifestFault.Text) × (parse_document text.now ≡ None))) }
+{
+    match toml::table_from_str(alloc, text) {
+        Ok(table) => Ok(table),
+        Err(error) if error.is_memory() => Err(OrMemory::OutOfMemory),
+        Err(_) => Err(OrMemory::Fault(ManifestFault::Text)),
     }
 }
 
-// The text of a key of a table.
-fn text_of<'a>(table: &'a Value, key: &str) -> Option<&'a str> {
-    table.as_table()?.get(key)?.as_str()
+// What the document says, if it has none of M2 to M6.
+fn plan(alloc: Global, document: &Value) -> Result<Plan<'_>, ManifestError>
+    ensures says { IfOk result (λ plan. plan_seen plan ≡ plan_of (view document.now)) }
+    ensures lawful { IfOk result (λ _. lowest_fault (view document.now) ≡ None) }
+    ensures fault { IfErr result (IfFault (λ fault. lowest_fault (view document.now) ≡ Some fault)) }
+{
+    match form::read(alloc, document) {
+        Ok(plan) if !names::has_lawful_numbers(&plan) => Err(OrMemory::Fault(
+            ManifestFault::Number,
+        )),
+        Ok(plan) if !names::has_lawful_names(&plan) => Err(OrMemory::Fault(ManifestFault::Name)),
+        Ok(plan) => Ok(plan),
+        Err(OrMemory::OutOfMemory) => Err(OrMemory::OutOfMemory),
+        Err(OrMemory::Fault(fault)) => Err(OrMemory::Fault(named(fault))),
+    }
+}
+
+fn named(fault: FormFault) -> ManifestFault
+    ensures { result ≡ named fault }
+{
+    match fault {
+        FormFault::Key => ManifestFault::Key,
+        FormFault::Form => ManifestFault::Form,
+        FormFault::Range => ManifestFault::Range,
+    }
+}
+
+// How many queues there are.
+fn count(queues: &[QueueEntry<'_>]) -> u32
+    requires { length queues.now ≤ 64 }
+    ensures { result ≡ length queues.now }
+{
+    queues.len() as u32
 }

@@ -1,7 +1,16 @@
-// The programs of a manifest: decoded or assembled first, and then verified. It relies on `bpf_decode`, `bpf_asm` and
+// The programs of a manifest: all decoded or assembled first, and then verified. It relies on `bpf_decode`, `bpf_asm` and
 // `verifier`.
 
-use super::{ManifestError, ManifestFault, code, text_of};
+ghost use Rattle.std.specs.Prelude.{◌≡◌, ◌⊎◌, [], ◌∷◌, ◌++◌, map, IfOk, IfErr, OnOk};
+ghost use Rattle.std.specs.List.{AllZip};
+ghost use Rattle.bpf_decode.specs.Spells.{Spells};
+ghost use Rattle.bpf_asm.specs.Assembly.{Says};
+ghost use Rattle.manifest.specs.Entries.{code, asm};
+ghost use Rattle.manifest.specs.Meaning.{IsAccepted, IsUnread, IsUnaccepted};
+ghost use Rattle.manifest.specs.Seen.{program_seen, read_seen, named_seen, IsReadLine, IsAcceptedLine, IsUnreadLine, IsUnacceptedLine, IsUnacceptedAmong, IfFault};
+
+use crate::entries::{ProgramEntry, Source};
+use crate::{ManifestError, ManifestFault};
 use bpf_asm::assemble;
 use bpf_decode::decode;
 use bpf_insn::Program;
@@ -9,7 +18,6 @@ use helpers::HelperLimits;
 use or_memory::OrMemory;
 use std::alloc::{AllocError, Global};
 use std::sync::Arc;
-use toml::Value;
 use verifier::{Accepted, verify};
 
 /// A program that was accepted, with its name.
@@ -26,38 +34,52 @@ struct ReadProgram<'a> {
     program: Program,
 }
 
-/// The programs of a manifest that is of the form. All are decoded or assembled before the first is
-/// verified.
+/// The programs of a manifest, each accepted under these limits. All are decoded or assembled before the first is verified.
 pub fn read(
     alloc: Global,
-    programs: &[Value],
+    entries: &[ProgramEntry<'_>],
     limits: &HelperLimits,
-) -> Result<Vec<NamedProgram>, ManifestError> {
-    let mut read = Vec::new(alloc);
-    for program in programs {
-        read.push(read_program(alloc, program)?)
-            .map_err(AllocError::from)?;
-    }
-    let mut accepted = Vec::new(alloc);
-    for program in &read {
-        accepted
-            .push(accepted_program(alloc, program, limits)?)
-            .map_err(AllocError::from)?;
-    }
-    Ok(accepted)
+) -> Result<Vec<NamedProgram>, ManifestError>
+    ensures accepted { IfOk result (λ programs. AllZip (IsAccepted limits.now) (map program_seen entries.now) (map named_seen programs.items)) }
+    ensures fault { IfErr result (IfFault (λ fault. IsUnread (map program_seen entries.now) fault ⊎ IsUnaccepted limits.now (map program_seen entries.now) fault)) }
+{
+    let programs = read_all(alloc, entries)?;
+    accept_all(alloc, &programs, limits)
 }
 
-// A program is written as text or as code.
-fn read_program(alloc: Global, program: &Value) -> Result<ReadProgram<'_>, ManifestError> {
-    let name = text_of(program, "name").unwrap_or("");
-    let program = match text_of(program, "asm") {
-        Some(text) => assembled(alloc, name, text)?,
-        None => decoded(alloc, name, text_of(program, "code").unwrap_or(""))?,
+fn read_all<'a>(
+    alloc: Global,
+    entries: &'a [ProgramEntry<'_>],
+) -> Result<Vec<ReadProgram<'a>>, ManifestError>
+    ensures read { IfOk result (λ programs. AllZip IsReadLine (map program_seen entries.now) (map read_seen programs.items)) }
+    ensures fault { IfErr result (IfFault (IsUnread (map program_seen entries.now))) }
+{
+    let mut programs = Vec::new(alloc);
+    for entry in entries {
+        keep(&mut programs, read_program(alloc, entry)?)?;
+    }
+    Ok(programs)
+}
+
+fn read_program<'a>(
+    alloc: Global,
+    entry: &'a ProgramEntry<'_>,
+) -> Result<ReadProgram<'a>, ManifestError>
+    ensures read { IfOk result (λ read. IsReadLine (program_seen entry.now) (read_seen read)) }
+    ensures fault { IfErr result (IfFault (IsUnreadLine (program_seen entry.now))) }
+{
+    let name = entry.name;
+    let program = match &entry.source {
+        Source::Code(bytes) => decoded(alloc, name, bytes)?,
+        Source::Asm(text) => assembled(alloc, name, text)?,
     };
     Ok(ReadProgram { name, program })
 }
 
-fn assembled(alloc: Global, name: &str, text: &str) -> Result<Program, ManifestError> {
+fn assembled(alloc: Global, name: &str, text: &str) -> Result<Program, ManifestError>
+    ensures says { IfOk result (Says text.now) }
+    ensures fault { IfErr result (IfFault (IsUnreadLine (record { name = name.now; source = asm text.now }))) }
+{
     match assemble(alloc, text) {
         Ok(program) => Ok(program),
         Err(OrMemory::OutOfMemory) => Err(OrMemory::OutOfMemory),
@@ -68,9 +90,11 @@ fn assembled(alloc: Global, name: &str, text: &str) -> Result<Program, ManifestE
     }
 }
 
-fn decoded(alloc: Global, name: &str, code: &str) -> Result<Program, ManifestError> {
-    let bytes = code::bytes(alloc, code)?;
-    match decode(alloc, &bytes) {
+fn decoded(alloc: Global, name: &str, bytes: &[u8]) -> Result<Program, ManifestError>
+    ensures spells { IfOk result (Spells bytes.now) }
+    ensures fault { IfErr result (IfFault (IsUnreadLine (record { name = name.now; source = code bytes.now }))) }
+{
+    match decode(alloc, bytes) {
         Ok(program) => Ok(program),
         Err(OrMemory::OutOfMemory) => Err(OrMemory::OutOfMemory),
         Err(OrMemory::Fault(fault)) => {
@@ -80,11 +104,29 @@ fn decoded(alloc: Global, name: &str, code: &str) -> Result<Program, ManifestErr
     }
 }
 
-fn accepted_program(
+fn accept_all(
+    alloc: Global,
+    programs: &[ReadProgram<'_>],
+    limits: &HelperLimits,
+) -> Result<Vec<NamedProgram>, ManifestError>
+    ensures accepted { IfOk result (λ accepted. AllZip (IsAcceptedLine limits.now) (map read_seen programs.now) (map named_seen accepted.items)) }
+    ensures fault { IfErr result (IfFault (IsUnacceptedAmong limits.now (map read_seen programs.now))) }
+{
+    let mut accepted = Vec::new(alloc);
+    for program in programs {
+        keep(&mut accepted, accept(alloc, program, limits)?)?;
+    }
+    Ok(accepted)
+}
+
+fn accept(
     alloc: Global,
     read: &ReadProgram<'_>,
     limits: &HelperLimits,
-) -> Result<NamedProgram, ManifestError> {
+) -> Result<NamedProgram, ManifestError>
+    ensures accepted { IfOk result (λ named. IsAcceptedLine limits.now (read_seen read.now) (named_seen named)) }
+    ensures fault { IfErr result (IfFault (IsUnacceptedLine (read_seen read.now))) }
+{
     let name = String::from_str(alloc, read.name)?;
     match verify(alloc, &read.program, limits) {
         Ok(accepted) => Ok(NamedProgram {
@@ -98,10 +140,9 @@ fn accepted_program(
     }
 }
 
-/// The program that a queue names.
-pub fn of_queue<'a>(queue: &Value, programs: &'a [NamedProgram]) -> Option<&'a NamedProgram> {
-    let name = text_of(queue, "program")?;
-    programs
-        .iter()
-        .find(|program| program.name.as_str() == name)
+// One more at the end.
+fn keep<T: Drop>(list: &mut Vec<T>, item: T) -> Result<(), AllocError>
+    ensures { OnOk result (list.new.items ≡ list.old.items ++ item ∷ []) }
+{
+    Ok(list.push(item)?)
 }

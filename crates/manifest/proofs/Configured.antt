@@ -1,0 +1,241 @@
+-- A configuration of what a manifest says: it is lawful, and its queues are those that are written.
+use Rattle.std.proofs.Common.{arith, ◌⊎◌, inl, inr, string_bytes, ◌≡◌, ℕ, ℤ, pos, negsuc, zero, suc, ◌<◌, ◌≤◌, Bool, true, false, ◌&&◌, ◌||◌, cond, List, [], ◌∷◌, length, get_or, map, find, filter_map, Option, Some, None, IsSome, is_some, option_map, refl, ap, ◌∙◌, sym, subst, bytes_eq, codes, nat_le, if◌then◌else◌}
+use Rattle.std.specs.List.{AllZip, AllByRecursion, All, list_all, cons_option}
+use Rattle.std.proofs.lemmas.Bool.{and_parts, leb-true, cases_Bool}
+use Rattle.std.proofs.lemmas.List.Elements.{All-nil, All-cons}
+use Rattle.toml.specs.Data.{Data, table, Members}
+use Rattle.toml.specs.Parse.{parse_document}
+use Rattle.helpers.specs.declared.limits.HelperLimits.{HelperLimits}
+use Rattle.engine_config.specs.Configured.{Given, IsConfigured, IsGivenUnder, queue_of as queue_given}
+use Rattle.verifier.specs.Verdict.{Verdict}
+use Rattle.world.specs.World.{QueueSetup}
+use Rattle.manifest.specs.Document.{elements_at, integer_at, text_at, is_among}
+use Rattle.manifest.specs.Entries.{QueueLine, ProgramLine, Plan, up_to, openings_at, queue_by, queue_of, length_of, plan_of}
+use Rattle.manifest.specs.Faults.{has_lawful_keys, has_lawful_form, has_lawful_ranges}
+use Rattle.manifest.specs.Names.{has_lawful_numbers, has_lawful_names, names_of, is_name, is_alone, is_between}
+use Rattle.manifest.specs.Meaning.{lowest, lowest_fault, limits_of, Named, is_named, setup_of, setup_with, IsAccepted, IsUnread, IsUnaccepted, HasProgramFault, Writes}
+use Rattle.manifest.specs.declared.programs.NamedProgram.{NamedProgram}
+use Rattle.manifest.specs.declared.form.Plan.{Plan as Entries}
+use Rattle.manifest.specs.declared.entries.QueueEntry.{QueueEntry}
+use Rattle.manifest.specs.declared.ManifestFault.{ManifestFault}
+use Rattle.std.proofs.lemmas.List.{length-map}
+use Rattle.manifest.specs.Seen.{IsGivenFor, IsReady, IsLawfulPlan, named_seen, queue_seen, plan_seen}
+
+pub all_at : {E X : Type 0} (P : X → Type 0) (f : E → X) (entries : List E) (i : ℕ) (entry : E) → i < length entries → entry ≡ get_or entries i entry → AllByRecursion P (map f entries) → P (f entry)
+all_at P f [] i entry within is all = absurd (omega arith)
+all_at {E = E} P f (e ∷ es) zero entry within is all = subst (λ (x : E). P (f x)) (sym is) all.0
+all_at P f (e ∷ es) (suc i) entry within is all = all_at P f es i entry (omega arith) is all.1
+
+some_is : {X : Type 0} (a b : X) → Some a ≡ Some b → a ≡ b
+some_is a b is = cc
+
+setup_is : (programs : List Named) (queue : QueueLine) (given : Given) → IsGivenFor programs queue given → setup_of programs queue ≡ Some (queue_given given)
+setup_is programs queue given h =
+    let named : setup_with queue h.program ≡ queue_given given = λ i. record { openings = sym h.openings i; program = (h.verdict i).program; budget = (h.verdict i).budget } in
+    ap (option_map (setup_with queue)) h.found ∙ ap Some named
+
+-- the setup of each queue
+pub setups : (programs : List Named) (queues : List QueueLine) (given : List Given) → AllZip (IsGivenFor programs) queues given → map (setup_of programs) queues ≡ map Some (map queue_given given)
+setups programs [] [] h = refl
+setups programs [] (g ∷ gs) h = absurd h
+setups programs (q ∷ qs) [] h = absurd h
+setups programs (q ∷ qs) (g ∷ gs) h =
+    let first : setup_of programs q ≡ Some (queue_given g) = setup_is programs q g h.0 in
+    λ i. first i ∷ setups programs qs gs h.1 i
+
+pub as_many : {X Y : Type 0} (R : X → Y → Type 0) (xs : List X) (ys : List Y) → AllZip R xs ys → length xs ≡ length ys
+as_many R [] [] h = refl
+as_many R [] (y ∷ ys) h = absurd h
+as_many R (x ∷ xs) [] h = absurd h
+as_many R (x ∷ xs) (y ∷ ys) h = ap suc (as_many R xs ys h.1)
+
+found_has : (P : Named → Type 0) (test : Named → Bool) (programs : List Named) (found : Named) → AllByRecursion P programs → find test programs ≡ Some found → P found
+found_has P test [] found all is = cc
+found_has P test (n ∷ ns) found all is =
+    elim (cases_Bool (test n)) [
+      | inl passes ↦ subst P (some_is n found (sym (rw passes) ∙ is)) all.0
+      | inr fails ↦ found_has P test ns found all.1 (sym (rw fails) ∙ is)
+    ]
+
+-- each queue is given under the limits
+pub all_given : (limits : HelperLimits) (programs : List Named) (queues : List QueueLine) (given : List Given) → AllZip (IsGivenFor programs) queues given
+    → AllByRecursion (λ queue. 1 ≤ queue.openings) queues → AllByRecursion (λ named. named.1.limits ≡ limits) programs → All (IsGivenUnder limits) given
+all_given limits programs [] [] h openings accepted = All-nil (IsGivenUnder limits)
+all_given limits programs [] (g ∷ gs) h openings accepted = absurd h
+all_given limits programs (q ∷ qs) [] h openings accepted = absurd h
+all_given limits programs (q ∷ qs) (g ∷ gs) h openings accepted =
+    let some : 1 ≤ g.0 = rw h.0.openings openings.0 in
+    let under : g.1.limits ≡ limits = sym (ap (λ (v : Verdict). v.limits) h.0.verdict) ∙ found_has (λ named. named.1.limits ≡ limits) (is_named q.program) programs h.0.program accepted h.0.found in
+    All-cons (IsGivenUnder limits) g gs (some, under) (all_given limits programs qs gs h.1 openings.1 accepted)
+
+all_from : {X : Type 0} (P : X → Type 0) (xs : List X) → AllByRecursion P xs → All P xs
+all_from P [] h = All-nil P
+all_from P (x ∷ xs) h = All-cons P x xs h.0 (all_from P xs h.1)
+
+pub configured : (limits : HelperLimits) (queues : List QueueLine) (programs : List Named) (given : List Given) → IsReady limits queues programs → AllZip (IsGivenFor programs) queues given → IsConfigured limits given
+configured limits queues programs given ready h =
+    let many : length queues ≡ length given = as_many (IsGivenFor programs) queues given h in
+    record {
+      queue_number = (rw (← many) ready.queue_number.0, rw (← many) ready.queue_number.1);
+      agreed = ready.agreed ∙ many;
+      table_number = ready.table_number;
+      table_lengths = all_from (λ words. (1 ≤ words) × (words ≤ 4096)) limits.table_lengths ready.lengths;
+      queues = all_given limits programs queues given h ready.openings ready.accepted;
+    }
+
+all_cons : {Y : Type 0} (P : Y → Type 0) (o : Option Y) (rest : List Y) → ((y : Y) → o ≡ Some y → P y) → AllByRecursion P rest → AllByRecursion P (cons_option o rest)
+all_cons P None rest here h = h
+all_cons P (Some y) rest here h = (here y refl, h)
+
+all_filtered : {Y : Type 0} (P : Y → Type 0) (f : Data → Option Y) → ((d : Data) (y : Y) → f d ≡ Some y → P y) → (ds : List Data) → AllByRecursion P (filter_map f ds)
+all_filtered P f each [] = tt
+all_filtered P f each (d ∷ ds) = all_cons P (f d) (filter_map f ds) (each d) (all_filtered P f each ds)
+
+range_by : (a b : Bool) (m n : ℕ) → (if a && b then Some m else None) ≡ Some n → (a ≡ true) × (b ≡ true) × (m ≡ n)
+range_by true true m n is = (refl, refl, some_is m n is)
+range_by true false m n is = absurd (cc)
+range_by false b m n is = absurd (cc)
+
+up_to_range : (most : ℕ) (number : Option ℤ) (n : ℕ) → up_to most number ≡ Some n → (1 ≤ n) × (n ≤ most)
+up_to_range most None n is = absurd (cc)
+up_to_range most (Some (negsuc k)) n is = absurd (cc)
+up_to_range most (Some (pos m)) n is =
+    let (low, high, same) = range_by (nat_le 1 m) (nat_le m most) m n is in
+    let least : 1 ≤ m = leb-true 1 m low in
+    let greatest : m ≤ most = leb-true m most high in
+    (rw (← same) least, rw (← same) greatest)
+
+least_by : (openings : Option ℕ) (program : Option (List ℕ)) (queue : QueueLine) → ((n : ℕ) → openings ≡ Some n → 1 ≤ n) → queue_by openings program ≡ Some queue → 1 ≤ queue.openings
+least_by None program queue least is = absurd (cc)
+least_by (Some n) None queue least is = absurd (cc)
+least_by (Some n) (Some name) queue least is = subst (λ (q : QueueLine). 1 ≤ q.openings) (some_is _ _ is) (least n refl)
+
+queue_least : (d : Data) (queue : QueueLine) → queue_of d ≡ Some queue → 1 ≤ queue.openings
+queue_least d queue is = least_by (openings_at d) (text_at (codes "program") d) queue (λ n h. (up_to_range 255 (integer_at (codes "openings") d) n h).0) is
+
+found_by : (here : Bool) (n : Named) (rest : Option Named) (more : Bool) → more ≡ is_some rest → (here || more) ≡ is_some (cond here (Some n) rest)
+found_by true n rest more h = refl
+found_by false n rest more h = h
+
+among_found : (name : List ℕ) (programs : List Named) → is_among (map (λ (n : Named). n.0) programs) name ≡ is_some (find (is_named name) programs)
+among_found name [] = refl
+among_found name (n ∷ ns) = found_by (bytes_eq n.0 name) n (find (is_named name) ns) (is_among (map (λ (n : Named). n.0) ns) name) (among_found name ns)
+
+all_known : (programs : List Named) (names : List (List ℕ)) (queues : List QueueLine) → names ≡ map (λ (n : Named). n.0) programs → list_all (λ queue. is_among names queue.program) queues ≡ true
+    → AllByRecursion (λ queue. IsSome (find (is_named queue.program) programs)) queues
+all_known programs names [] same h = tt
+all_known programs names (q ∷ qs) same h =
+    let (here, more) = and_parts (is_among names q.program) (list_all (λ queue. is_among names queue.program) qs) h in
+    let found : is_among (map (λ (n : Named). n.0) programs) q.program ≡ true = ap (λ (ns : List (List ℕ)). is_among ns q.program) (sym same) ∙ here in
+    (sym (among_found q.program programs) ∙ found, all_known programs names qs same more)
+
+abbrev line_name : ProgramLine → List ℕ
+line_name line = line.name
+
+same_names : (limits : HelperLimits) (lines : List ProgramLine) (programs : List Named) → AllZip (IsAccepted limits) lines programs → map line_name lines ≡ map (λ (n : Named). n.0) programs
+same_names limits [] [] h = refl
+same_names limits [] (n ∷ ns) h = absurd h
+same_names limits (l ∷ ls) [] h = absurd h
+same_names limits (l ∷ ls) (n ∷ ns) h = λ i. sym h.0.name i ∷ same_names limits ls ns h.1 i
+
+all_under : (limits : HelperLimits) (lines : List ProgramLine) (programs : List Named) → AllZip (IsAccepted limits) lines programs → AllByRecursion (λ named. named.1.limits ≡ limits) programs
+all_under limits [] [] h = tt
+all_under limits [] (n ∷ ns) h = absurd h
+all_under limits (l ∷ ls) [] h = absurd h
+all_under limits (l ∷ ls) (n ∷ ns) h = (h.0.verdict.limits_are, all_under limits ls ns h.1)
+
+pub lowest_parts : (keys form ranges numbers names : Bool) → lowest keys form ranges numbers names ≡ None → (numbers ≡ true) × (names ≡ true)
+lowest_parts true true true true true is = (refl, refl)
+lowest_parts true true true true false is = absurd (cc)
+lowest_parts true true true false names is = absurd (cc)
+lowest_parts true true false numbers names is = absurd (cc)
+lowest_parts true false ranges numbers names is = absurd (cc)
+lowest_parts false form ranges numbers names is = absurd (cc)
+
+pub record Numbers (plan : Plan) : Type 0 where
+  pub queues : (1 ≤ length plan.queues) × (length plan.queues ≤ 64)
+  pub tables : length plan.tables ≤ 16
+
+pub numbers_of : (plan : Plan) → has_lawful_numbers plan ≡ true → Numbers plan
+unfolding has_lawful_numbers
+numbers_of plan h =
+    let (both, few) = and_parts (is_between 1 64 (length plan.queues) && is_between 1 64 (length plan.programs)) (nat_le (length plan.tables) 16) h in
+    let (queues, programs) = and_parts (is_between 1 64 (length plan.queues)) (is_between 1 64 (length plan.programs)) both in
+    let (low, high) = and_parts (nat_le 1 (length plan.queues)) (nat_le (length plan.queues) 64) queues in
+    record { queues = (leb-true 1 (length plan.queues) low, leb-true (length plan.queues) 64 high); tables = leb-true (length plan.tables) 16 few }
+
+known_of : (plan : Plan) → has_lawful_names plan ≡ true → list_all (λ queue. is_among (names_of plan) queue.program) plan.queues ≡ true
+unfolding has_lawful_names
+known_of plan h = (and_parts (list_all is_name (names_of plan) && list_all (is_alone (names_of plan)) (names_of plan)) (list_all (λ queue. is_among (names_of plan) queue.program) plan.queues) h).1
+
+-- what is lawful makes a configuration
+pub ready : (manifest : Data) (plan : Plan) (programs : List Named) → lowest_fault manifest ≡ None → plan ≡ plan_of manifest → AllZip (IsAccepted (limits_of plan)) plan.programs programs → IsReady (limits_of plan) plan.queues programs
+ready manifest plan programs lawful says accepted =
+    let (numbers, names) = lowest_parts (has_lawful_keys manifest) (has_lawful_form manifest) (has_lawful_ranges manifest) (has_lawful_numbers (plan_of manifest)) (has_lawful_names (plan_of manifest)) lawful in
+    let counts = numbers_of plan (ap has_lawful_numbers says ∙ numbers) in
+    let Queues : List QueueLine → Type 0 = AllByRecursion (λ queue. 1 ≤ queue.openings) in
+    let Tables : List ℕ → Type 0 = AllByRecursion (λ words. (1 ≤ words) × (words ≤ 4096)) in
+    record {
+      queue_number = counts.queues;
+      agreed = refl;
+      table_number = counts.tables;
+      lengths = subst (λ (p : Plan). Tables p.tables) (sym says) (all_filtered (λ words. (1 ≤ words) × (words ≤ 4096)) length_of (λ d words is. up_to_range 4096 (integer_at (codes "length") d) words is) (elements_at (codes "table") manifest));
+      openings = subst (λ (p : Plan). Queues p.queues) (sym says) (all_filtered (λ queue. 1 ≤ queue.openings) queue_of queue_least (elements_at (codes "queue") manifest));
+      known = all_known programs (names_of plan) plan.queues (same_names (limits_of plan) plan.programs programs accepted) (known_of plan (ap has_lawful_names says ∙ names));
+      accepted = all_under (limits_of plan) plan.programs programs accepted;
+    }
+
+seen_by : (here : Bool) (program : NamedProgram) (rest : Option NamedProgram) (more : Option Named) → option_map named_seen rest ≡ more → option_map named_seen (cond here (Some program) rest) ≡ cond here (Some (named_seen program)) more
+seen_by true program rest more h = refl
+seen_by false program rest more h = h
+
+-- the program of a name, as it is found
+pub find_seen : (name : List ℕ) (programs : List NamedProgram) → option_map named_seen (find (λ program. bytes_eq (string_bytes program.name) name) programs) ≡ find (is_named name) (map named_seen programs)
+find_seen name [] = refl
+find_seen name (p ∷ ps) = seen_by (bytes_eq (string_bytes p.name) name) p (find (λ program. bytes_eq (string_bytes program.name) name) ps) (find (is_named name) (map named_seen ps)) (find_seen name ps)
+
+pub plan_numbers : (plan : Plan) → IsLawfulPlan plan → Numbers plan
+plan_numbers plan h =
+    let d = h.document in
+    let (numbers, names) = lowest_parts (has_lawful_keys d) (has_lawful_form d) (has_lawful_ranges d) (has_lawful_numbers (plan_of d)) (has_lawful_names (plan_of d)) h.lawful in
+    numbers_of plan (ap has_lawful_numbers h.says ∙ numbers)
+
+-- the programs, under the limits as they are made
+pub accepted_by : (plan : Plan) (limits : HelperLimits) (lines : List ProgramLine) (programs : List Named) → limits ≡ limits_of plan → lines ≡ plan.programs
+    → AllZip (IsAccepted limits) lines programs → AllZip (IsAccepted (limits_of plan)) plan.programs programs
+accepted_by plan limits lines programs limits_is lines_is h = rw (← limits_is, ← lines_is) h
+
+pub ready_by : (plan : Plan) (limits : HelperLimits) (queues : List QueueLine) (programs named : List Named) → IsLawfulPlan plan → limits ≡ limits_of plan → queues ≡ plan.queues → named ≡ programs
+    → AllZip (IsAccepted (limits_of plan)) plan.programs programs → IsReady limits queues named
+ready_by plan limits queues programs named lawful limits_is queues_is named_is h = rw (limits_is, queues_is, named_is) (ready lawful.document plan programs lawful.lawful lawful.says h)
+
+pub queues_by : (plan : Plan) (queues : List QueueLine) (programs named : List Named) (given : List QueueSetup) → queues ≡ plan.queues → named ≡ programs
+    → map (setup_of named) queues ≡ map Some given → map (setup_of programs) plan.queues ≡ map Some given
+queues_by plan queues programs named given queues_is named_is h = rw (← queues_is, ← named_is) h
+
+-- the limits, as they are made
+pub limits_by : (plan : Entries) (count : ℕ) (lent : List QueueEntry) (lengths : List ℕ) → lent ≡ plan.queues.items → count ≡ length lent → lengths ≡ plan.tables.items
+    → ◌≡◌ {A = HelperLimits} (record { queues = count; table_lengths = lengths }) (limits_of (plan_seen plan))
+limits_by plan count lent lengths same counted tables =
+    let queues : count ≡ length (map queue_seen plan.queues.items) = counted ∙ ap length same ∙ sym (length-map plan.queues.items queue_seen) in
+    λ i. record { queues = queues i; table_lengths = tables i }
+
+pub few_queues : (plan : Entries) (lent : List QueueEntry) → lent ≡ plan.queues.items → IsLawfulPlan (plan_seen plan) → length lent ≤ 64
+few_queues plan lent same lawful =
+    let count : length lent ≡ length (map queue_seen plan.queues.items) = ap length same ∙ sym (length-map plan.queues.items queue_seen) in
+    rw count (plan_numbers (plan_seen plan) lawful).queues.1
+
+-- a fault of the programs, under the limits as they are made
+pub fault_by : (plan : Plan) (limits : HelperLimits) (lines : List ProgramLine) (fault : ManifestFault) → limits ≡ limits_of plan → lines ≡ plan.programs
+    → IsUnread lines fault ⊎ IsUnaccepted limits lines fault → HasProgramFault plan fault
+fault_by plan limits lines fault limits_is lines_is h = rw (← limits_is, ← lines_is) h
+
+-- what was parsed and is lawful is written
+pub writes_by : (text : List ℕ) (members : Members) (document : Data) (plan : Plan) → document ≡ table members → parse_document text ≡ Some members
+    → lowest_fault document ≡ None → plan ≡ plan_of document → Writes text plan
+writes_by text members document plan is parsed lawful says = record {
+  document = members;
+  parsed = parsed;
+  lawful = ap lowest_fault (sym is) ∙ lawful;
+  says = says ∙ ap plan_of is;
+}

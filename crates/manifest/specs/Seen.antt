@@ -1,0 +1,125 @@
+-- The code's entries, seen as what they say, and how what a call gives meets what the definitions give.
+use Rattle.std.specs.Arc.{arc_value}
+use Rattle.bpf_insn.specs.declared.program.Slot.{Slot}
+use Rattle.helpers.specs.declared.limits.HelperLimits.{HelperLimits}
+use Rattle.verifier.specs.Verdict.{IsVerdictOn, ToldOfShape}
+use Rattle.verifier.specs.Plain.{IsPlain}
+use Rattle.verifier.specs.declared.refusal.Refusal.{Refusal}
+use Rattle.manifest.specs.declared.ManifestFault.{ManifestFault}
+use Rattle.manifest.specs.declared.ManifestFault.TheVariants.{Key, Form, Range, Undecoded, Unassembled, Unaccepted}
+use Rattle.manifest.specs.declared.form_fault.FormFault.{FormFault}
+use Rattle.manifest.specs.declared.form_fault.FormFault.TheVariants as form
+use Rattle.manifest.specs.declared.programs.ReadProgram.{ReadProgram}
+use Rattle.manifest.specs.declared.programs.NamedProgram.{NamedProgram}
+use Rattle.manifest.specs.Meaning.{Named, is_named, lowest_fault, IsReadAs, IsFaultyCode, IsFaultyText, FirstIs}
+use Rattle.std.specs.Prelude.{◌≡◌, ◌≤◌, ℕ, Some, None, IsSome, length, find, string_bytes, Bool, ◌&&◌, ◌==◌, List, map, count_by, bytes_eq}
+use Rattle.std.specs.List.{list_all, list_any, AllByRecursion}
+use Rattle.engine_config.specs.Configured.{Given}
+use Rattle.manifest.specs.Names.{is_name}
+use Rattle.or_memory.specs.declared.OrMemory.{OrMemory}
+use Rattle.or_memory.specs.declared.OrMemory.TheVariants.{OutOfMemory, Fault}
+use Rattle.manifest.specs.declared.entries.QueueEntry.{QueueEntry}
+use Rattle.manifest.specs.declared.entries.ProgramEntry.{ProgramEntry}
+use Rattle.manifest.specs.declared.entries.Source.{Source as Written}
+use Rattle.manifest.specs.declared.entries.Source.TheVariants.{Code, Asm}
+use Rattle.manifest.specs.Entries.{Source, code, asm, QueueLine, ProgramLine, Plan, plan_of}
+use Rattle.toml.specs.Data.{Data}
+use Rattle.manifest.specs.declared.form.Plan.{Plan as Entries}
+
+abbrev pub queue_seen : QueueEntry → QueueLine
+queue_seen queue = record { openings = queue.openings; program = queue.program.now }
+
+abbrev pub source_seen : Written → Source
+source_seen (Code bytes) = code bytes.items
+source_seen (Asm text) = asm text.now
+
+abbrev pub program_seen : ProgramEntry → ProgramLine
+program_seen program = record { name = program.name.now; source = source_seen program.source }
+
+abbrev pub plan_seen : Entries → Plan
+plan_seen entries = record {
+  queues = map queue_seen entries.queues.items;
+  tables = entries.tables.items;
+  programs = map program_seen entries.programs.items;
+}
+
+-- the tests of names, over the code's entries
+abbrev pub are_lawful : List ProgramEntry → Bool
+are_lawful programs =
+    list_all (λ program. is_name program.name.now) programs
+    && list_all (λ program. count_by (λ other. bytes_eq other.name.now program.name.now) programs == 1) programs
+
+abbrev pub are_known : List QueueEntry → List ProgramEntry → Bool
+are_known queues programs = list_all (λ queue. list_any (λ other. bytes_eq other.name.now queue.program.now) programs) queues
+
+-- P of the fault, if the error is one
+abbrev pub IfFault : {F : Type 0} → (F → Type 0) → OrMemory F → Type 0
+IfFault P OutOfMemory = Unit {0}
+IfFault P (Fault fault) = P fault
+
+-- a program that was read, and one that was accepted, with its name
+pub record ReadLine : Type 0 where
+  pub name : List ℕ
+  pub program : List Slot
+
+abbrev pub read_seen : ReadProgram → ReadLine
+read_seen read = record { name = read.name.now; program = read.program }
+
+abbrev pub named_seen : NamedProgram → Named
+named_seen named = (string_bytes named.name, arc_value named.accepted)
+
+pub record IsReadLine (line : ProgramLine) (read : ReadLine) : Type 0 where
+  pub name : read.name ≡ line.name
+  pub program : IsReadAs line.source read.program
+
+pub record IsAcceptedLine (limits : HelperLimits) (read : ReadLine) (named : Named) : Type 0 where
+  pub name : named.0 ≡ read.name
+  pub verdict : IsVerdictOn read.program limits named.1
+
+-- M7 and M8 of one program
+abbrev pub IsUnreadLine : ProgramLine → ManifestFault → Type 0
+IsUnreadLine line (Undecoded name fault) = (line.name ≡ string_bytes name) × IsFaultyCode fault line.source
+IsUnreadLine line (Unassembled name fault) = (line.name ≡ string_bytes name) × IsFaultyText fault line.source
+IsUnreadLine line _ = ⊥
+
+pub record IsRefusedLine (name : List ℕ) (refusal : Refusal) (read : ReadLine) : Type 0 where
+  pub named : read.name ≡ name
+  pub told : ToldOfShape read.program (Fault refusal)
+  pub not_plain : ¬ IsPlain read.program
+
+abbrev pub IsUnacceptedLine : ReadLine → ManifestFault → Type 0
+IsUnacceptedLine read (Unaccepted name refusal) = IsRefusedLine (string_bytes name) refusal read
+IsUnacceptedLine read _ = ⊥
+
+-- the first of those that were read that is not accepted
+abbrev pub IsUnacceptedAmong : HelperLimits → List ReadLine → ManifestFault → Type 0
+IsUnacceptedAmong limits reads fault = FirstIs (λ read. (named : Named) × IsAcceptedLine limits read named) (λ read. IsUnacceptedLine read fault) reads
+
+-- a fault of the form, as it is told
+abbrev pub named : FormFault → ManifestFault
+named form.Key = Key
+named form.Form = Form
+named form.Range = Range
+
+-- a queue as it is given to the configuration
+pub record IsGivenFor (programs : List Named) (queue : QueueLine) (given : Given) : Type 0 where
+  pub program : Named
+  pub found : find (is_named queue.program) programs ≡ Some program
+  pub verdict : program.1 ≡ given.1
+  pub openings : given.0 ≡ queue.openings
+
+-- what a configuration can be made of
+pub record IsReady (limits : HelperLimits) (queues : List QueueLine) (programs : List Named) : Type 0 where
+  pub queue_number : (1 ≤ length queues) × (length queues ≤ 64)
+  pub agreed : limits.queues ≡ length queues
+  pub table_number : length limits.table_lengths ≤ 16
+  pub lengths : AllByRecursion (λ words. (1 ≤ words) × (words ≤ 4096)) limits.table_lengths
+  pub openings : AllByRecursion (λ queue. 1 ≤ queue.openings) queues
+  pub known : AllByRecursion (λ queue. IsSome (find (is_named queue.program) programs)) queues
+  pub accepted : AllByRecursion (λ named. named.1.limits ≡ limits) programs
+
+-- a plan of a document that has none of M2 to M6
+pub record IsLawfulPlan (plan : Plan) : Type 0 where
+  pub document : Data
+  pub says : plan ≡ plan_of document
+  pub lawful : lowest_fault document ≡ None

@@ -3,7 +3,7 @@
 use Rattle.std.proofs.Common.{◌≡◌, ℕ, zero, suc, ◌+◌, ◌<◌, ◌≤◌, List, [], ◌∷◌, ◌++◌, length, map, set, get_or, true, false, cond, Bool, Option, Some, inl, inr, refl, ap, sym, subst, ◌∙◌, arith, length-append}
 use Rattle.std.specs.List.{All, count_by}
 use Rattle.std.proofs.lemmas.Bool.{cases_eq, cases_lt}
-use Rattle.std.proofs.lemmas.List.{get_or-set_same, get_or-set_other, get_or_append_left, get_or_at}
+use Rattle.std.proofs.lemmas.List.{map-set, get_or-set_same, get_or-set_other, get_or_append_left, get_or_at}
 use Rattle.std.proofs.lemmas.List.Elements.{All-weaker, All-push, All-filter}
 use Rattle.std.proofs.Math.ListN.{length-set}
 use Rattle.ccb.specs.declared.CcbId.{CcbId}
@@ -149,6 +149,46 @@ meant list queues now number answer live asked view asked_is answer_is live_is =
     let other : ccb_of number list.live ≡ Some asked = subst (λ (s : CcbsState). ccb_of number s.live ≡ Some asked) (sym view) asked_is in
     let both : Some live ≡ Some asked = sym found ∙ other in
     record { found = found; same = cc }
+
+-- a queue has other openings
+pub kept_opened : (list : ListState) (queues : List QueueState) (queue openings : ℕ) → KeepsTable list queues → queue < length queues → KeepsTable list (set queues queue (record (queue_at queues queue) { openings = openings }))
+kept_opened list queues queue openings h known =
+    record {
+      rising = h.rising;
+      known = subst (λ (k : ℕ). All (λ (l : LiveCcb). l.ccb.queue.0 < k) list.live) (sym n) h.known;
+      told = fits;
+      few = omega (arith, n, h.few);
+    }
+  where
+    new : QueueState
+    new = record (queue_at queues queue) { openings = openings }
+
+    n : length (set queues queue new) ≡ length queues
+    n = length-set queues queue new
+
+    fits : AreTold (set queues queue new) list.live
+    fits other below =
+        elim (cases_eq other queue) [
+          | inl same ↦
+              let here : queue_at (set queues queue new) queue ≡ new = get_or-set_same queues queue new (empty_queue 0) known in
+              let fits_here : queue_at (set queues queue new) queue ≡ queue_state_of queue (queue_at (set queues queue new) queue).openings list.live =
+              here
+              ∙ (ap (λ (q : QueueState). record q { openings = openings }) (h.told queue known)
+              ∙ ap (λ (o : ℕ). queue_state_of queue o list.live) (sym (ap (λ (q : QueueState). q.openings) here))) in
+              subst (λ (k : ℕ). queue_at (set queues queue new) k ≡ queue_state_of k (queue_at (set queues queue new) k).openings list.live) (sym same) fits_here
+          | inr apart ↦
+              let was : other < length queues = omega (arith, below, n) in
+              let there : queue_at (set queues queue new) other ≡ queue_at queues other = get_or-set_other queues queue other new (empty_queue 0) apart in
+              there ∙ (h.told other was ∙ ap (λ (q : QueueState). queue_state_of other q.openings list.live) (sym there))
+        ]
+
+pub opened_is : (list : ListState) (queues after : List QueueState) (now : CcbsState) (queue openings : ℕ) → seen list queues ≡ now → after ≡ set queues queue (record (queue_at queues queue) { openings = openings }) → seen list after ≡ record now { openings = set now.openings queue openings }
+opened_is list queues after now queue openings view made =
+    subst (λ (s : CcbsState). seen list after ≡ record s { openings = set s.openings queue openings }) view
+    (λ i. record { live = list.live; openings = numbers i; greatest = list.greatest })
+  where
+    numbers : map (λ (q : QueueState). q.openings) after ≡ set (map (λ (q : QueueState). q.openings) queues) queue openings
+    numbers = ap (λ (qs : List QueueState). map (λ (q : QueueState). q.openings) qs) made ∙ map-set (λ (q : QueueState). q.openings) queues queue (record (queue_at queues queue) { openings = openings })
 
 -- one queue more, which has no CCBs
 pub kept_added : (list : ListState) (queues after : List QueueState) (openings : ℕ) → KeepsTable list queues → length queues < 64 → after ≡ queues ++ empty_queue openings ∷ [] → KeepsTable list after

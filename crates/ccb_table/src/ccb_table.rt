@@ -2,7 +2,7 @@
 // recovery, and made to wait again. It relies on `ccb_list` for the CCBs and on `queue_list` for the
 // queues.
 
-ghost use Rattle.std.specs.Prelude.{◌≡◌, ℕ, ◌<◌, ◌≤◌, ◌++◌, [], ◌∷◌, ◌==◌, not, true, false, length, filter, count_by, Some, IfOk, IfSome, OnOk, OnErr};
+ghost use Rattle.std.specs.Prelude.{◌≡◌, ℕ, ◌<◌, ◌≤◌, ◌++◌, [], ◌∷◌, ◌==◌, not, true, false, length, filter, count_by, slice_index, slice_set, Some, IfOk, IfSome, OnOk, OnErr};
 ghost use Rattle.ccb.specs.Ccb.{requeued};
 ghost use Rattle.world.specs.declared.ccb_state.CcbState.TheVariants.{Waiting, InRecovery};
 ghost use Rattle.world.specs.World.{Setup, World, queue_count, LiveCcb as WorldCcb};
@@ -172,6 +172,19 @@ impl CcbTable {
             waiting,
             openings: u32::from(own.openings()),
         }
+    }
+
+    /// A queue that there is has so many openings from now on, at least 1, and the answer is how many it had. Openings
+    /// below its active CCBs stop starts and nothing else.
+    pub fn set_openings(&mut self, queue: QueueId, openings: u8) -> u8
+        requires known { queue.0 < length self.old.openings }
+        requires some { 1 ≤ openings }
+        ensures answer { result ≡ slice_index self.old.openings queue.0 }
+        ensures openings { self.new ≡ record self.old { openings = slice_set self.old.openings queue.0 openings } }
+    {
+        let old = self.queues.get(queue).openings();
+        self.queues.set_openings(queue, openings);
+        old
     }
 
     /// How many CCBs are active, at most 4096. It is a stored number.

@@ -116,6 +116,15 @@ impl QueueList {
         self.queues[queue.0 as usize].start(&FrozenTimes(freezes))
     }
 
+    /// The queue has so many openings from now on.
+    pub(crate) fn set_openings(&mut self, queue: QueueId, openings: u8)
+        requires known { queue.0 < length self.old }
+        requires some { 1 ≤ openings }
+        ensures { self.new ≡ slice_set self.old queue.0 (record (queue_at self.old queue.0) { openings = openings }) }
+    {
+        self.queues[queue.0 as usize].set_openings(openings);
+    }
+
     /// An active CCB of the queue stops: it stays, in recovery, or is out.
     pub(crate) fn stop(&mut self, queue: QueueId, stays: bool)
         requires known { queue.0 < length self.old }

@@ -69,7 +69,14 @@ impl Config {
         self.limits.queues
     }
 
-    /// How many of a queue's CCBs may be active at a time, 1 to 255.
+    /// How many words each table has, in the order of the tables' numbers.
+    pub fn table_lengths(&self) -> &[u16]
+        ensures { result.now ≡ self.now.limits.table_lengths }
+    {
+        self.limits.table_lengths.as_slice()
+    }
+
+    /// How many of a queue's CCBs may be active at a time when the engine is opened, 1 to 255.
     pub fn openings(&self, queue: u32) -> u8
         requires { queue < queue_count self.now }
         ensures value { result ≡ (queue_setup self.now queue).openings }

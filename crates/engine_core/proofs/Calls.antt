@@ -1,5 +1,7 @@
 -- What the calls of the helpers do, as the tables of CCBs and of runs tell it.
 use Rattle.std.proofs.Common.{◌≡◌, ℕ, ◌+◌, ◌<◌, ◌≤◌, List, [], ◌∷◌, ◌++◌, length, true, false, not, None, Some, inl, inr, refl, ap, sym, subst, ◌∙◌, arith, ltb, ltb-true}
+use Rattle.std.specs.Prelude.{◌%◌, ◌^◌, slice_index, slice_set}
+use Rattle.std.proofs.Math.Nat.{mod-eq_of_lt, mod-lt}
 use Rattle.std.proofs.lemmas.List.{length-map}
 use Rattle.std.proofs.lemmas.Bool.{cases_Bool, and_parts, cond-true, cond-false, not-true, leb-true}
 use Rattle.ccb.specs.declared.QueueId.{QueueId}
@@ -7,7 +9,7 @@ use Rattle.ccb.specs.Ccb.{requeued}
 use Rattle.freeze_ledger.specs.declared.freeze.Holder.TheVariants.{Run}
 use Rattle.freeze_ledger.specs.declared.freeze.Freeze.{Freeze}
 use Rattle.freeze_ledger.specs.Freezes.{entry_of, without, handed_over, meets_limit}
-use Rattle.helpers.specs.declared.request.Request.TheVariants.{Freeze as FreezeQueue, Release, ReleaseAfter, Requeue, Finish, QueueInfo, Trace}
+use Rattle.helpers.specs.declared.request.Request.TheVariants.{Freeze as FreezeQueue, Release, ReleaseAfter, Requeue, Finish, TableGet, TablePut, TableAdd, QueueInfo, Trace, Now, SetOpenings}
 use Rattle.helpers.specs.Table.{answer_number}
 use Rattle.bpf_machine.specs.Calls.{is_held}
 use Rattle.bpf_machine.specs.Step.{IsNewFreeze, Wrote}
@@ -16,16 +18,18 @@ use Rattle.interpreter.specs.Segments.{SegmentState, IsSegment}
 use Rattle.ccb_table.specs.CcbsState.{CcbsState, with_ccbs}
 use Rattle.recoveries.specs.RecoveryState.{RecoveryState, with_recoveries, taken_for}
 use Rattle.recoveries.specs.RunPlaces.{HasRunAt, HoldsFreeze}
+use Rattle.table_store.specs.Tables.{HasWord, with_word, word_at}
 use Rattle.world.specs.declared.ccb_state.CcbState.TheVariants.{Waiting, InRecovery}
 use Rattle.world.specs.declared.queue_info.QueueInfo.{QueueInfo as Info}
 use Rattle.world.specs.declared.record.Record.{Record}
-use Rattle.world.specs.Capacities.{last_reading}
+use Rattle.world.specs.Capacities.{last_reading, most_openings}
+use Rattle.world.specs.Limits.{AnswerLimits}
 use Rattle.world.specs.World.{Setup, queue_count, LiveCcb, LiveRun, World}
 use Rattle.world.specs.Lookups.{ccb_of, with_ccb, with_run}
 use Rattle.world.specs.QueueInfo.{queue_info, info_bytes}
 use Rattle.world.specs.FreezeSteps.{frozen_with, froze, thawed, timed}
 use Rattle.world.specs.CcbSteps.{ended_with}
-use Rattle.world.specs.RunSteps.{is_run, goes_on, answers, releases, hands_over, requeues, finishes}
+use Rattle.world.specs.RunSteps.{is_run, goes_on, answers, releases, hands_over, requeues, finishes, with_table_word}
 use Rattle.world.specs.FreezeLaws.{entries_of, held_by}
 use Rattle.world.specs.Flat.{flat}
 use Rattle.world.proofs.Lists.Found.{leave, found_key}
@@ -33,6 +37,8 @@ use Rattle.world.proofs.Lists.Each.{all_found}
 use Rattle.world.proofs.Lists.HeldBy.{none_above}
 use Rattle.world.proofs.Steps.Moves.{ccb_key, run_key}
 use Rattle.world.proofs.Steps.Fates.{count_after}
+use Rattle.world.proofs.Steps.Answering.{word_below}
+use Rattle.world.proofs.Steps.Rules.{word_to_get, word_to_put, word_to_add, openings_to_set}
 use Rattle.world.proofs.Kept.{room_from}
 use Rattle.world.proofs.Clocks.{clock_goes_on}
 use Rattle.world.proofs.Telling.{info_wrote}
@@ -300,6 +306,90 @@ module _ (ccbs : CcbsState) (old : RecoveryState) (place : ℕ) (segment : Segme
         };
   }
 
+  -- helpers 6 to 8: the word is there
+  answer_limits : (number : ℕ) (a : IsAdmitted ccbs old number place segment) → AnswerLimits a.setup (world_of a.setup a.history ccbs old)
+  answer_limits number a = (kept_sound a.setup a.history ccbs old a.kept).kept.answers
+
+  pub getting : (number table index : ℕ) → IsAdmitted ccbs old number place segment → segment.stop ≡ Helper (TableGet table index) → HasWord old.tables table index
+  getting number table index a stop =
+      word_to_get a.setup (world_of a.setup a.history ccbs old) segment.to table index (answer_limits number a) (rule_of ccbs old place segment is number a (TableGet table index) stop)
+
+  pub putting : (number table index value : ℕ) → IsAdmitted ccbs old number place segment → segment.stop ≡ Helper (TablePut table index value) → HasWord old.tables table index
+  putting number table index value a stop =
+      word_to_put a.setup (world_of a.setup a.history ccbs old) segment.to table index value (answer_limits number a) (rule_of ccbs old place segment is number a (TablePut table index value) stop)
+
+  pub adding : (number table index value : ℕ) → IsAdmitted ccbs old number place segment → segment.stop ≡ Helper (TableAdd table index value) → HasWord old.tables table index
+  adding number table index value a stop =
+      word_to_add a.setup (world_of a.setup a.history ccbs old) segment.to table index value (answer_limits number a) (rule_of ccbs old place segment is number a (TableAdd table index value) stop)
+
+  pub got_word : (number table index word : ℕ) → IsAdmitted ccbs old number place segment → word ≡ word_at old.tables table index → Does place segment (TableGet table index) (answer_number word) ccbs old ccbs old
+  got_word number table index word a word_is = record {
+    allowed = omega (arith, word_is, word_below old.tables table index (answer_limits number a).words);
+    runs = refl;
+    queues = refl;
+    step = λ n b setup history kept.
+        let run : LiveRun = at_stop b.out.it segment in
+        let before : World = between setup history b.out.it in
+        record {
+          world = before;
+          step = ap (λ (w : ℕ). Some (answers before run (TableGet table index) (answer_number w))) (sym word_is);
+          fields = refl;
+        };
+  }
+
+  pub put_word : (number table index value word : ℕ) (after : RecoveryState) → IsAdmitted ccbs old number place segment → value < 2 ^ 64 → word ≡ word_at old.tables table index → after ≡ record old { tables = with_word old.tables table index value } → Does place segment (TablePut table index value) (answer_number word) ccbs old ccbs after
+  put_word number table index value word after a fits word_is after_is = record {
+    allowed = omega (arith, word_is, word_below old.tables table index (answer_limits number a).words);
+    runs = ap (λ (r : RecoveryState). r.runs) after_is;
+    queues = ap (λ (r : RecoveryState). r.queues) after_is;
+    step = λ n b setup history kept.
+        let run : LiveRun = at_stop b.out.it segment in
+        let end : World = with_table_word (between setup history b.out.it) table index (value % 2 ^ 64) in
+        record {
+          world = end;
+          step = ap (λ (w : ℕ). Some (answers end run (TablePut table index value) (answer_number w))) (sym word_is);
+          fields = ap (λ (r : RecoveryState). with_ccbs ccbs (with_recoveries (record r { runs = with_run run r.runs }) end))
+              (ap (λ (v : ℕ). record old { tables = with_word old.tables table index v }) (mod-eq_of_lt fits) ∙ sym after_is);
+        };
+  }
+
+  pub added_word : (number table index value sum : ℕ) (after : RecoveryState) → IsAdmitted ccbs old number place segment → sum ≡ (word_at old.tables table index + value) % 2 ^ 64 → after ≡ record old { tables = with_word old.tables table index sum } → Does place segment (TableAdd table index value) (answer_number sum) ccbs old ccbs after
+  added_word number table index value sum after a sum_is after_is = record {
+    allowed = subst (λ (n : ℕ). n < 2 ^ 64) (sym sum_is) (mod-lt (word_at old.tables table index + value) (omega arith));
+    runs = ap (λ (r : RecoveryState). r.runs) after_is;
+    queues = ap (λ (r : RecoveryState). r.queues) after_is;
+    step = λ n b setup history kept.
+        let run : LiveRun = at_stop b.out.it segment in
+        let before : World = between setup history b.out.it in
+        let end : World = with_table_word before table index ((word_at old.tables table index + value) % 2 ^ 64) in
+        record {
+          world = end;
+          step = ap (λ (w : ℕ). Some (answers end run (TableAdd table index value) (answer_number w))) (sym sum_is);
+          fields = ap (λ (r : RecoveryState). with_ccbs ccbs (with_recoveries (record r { runs = with_run run r.runs }) end))
+              (ap (λ (w : ℕ). record old { tables = with_word old.tables table index w }) (sym sum_is) ∙ sym after_is);
+        };
+  }
+
+  -- helper 11
+  pub told_clock : (number clock : ℕ) → IsAdmitted ccbs old number place segment → clock ≡ old.clock → Does place segment Now (answer_number clock) ccbs old ccbs old
+  told_clock number clock a clock_is = record {
+    allowed = omega (arith, clock_is, (answer_limits number a).clock);
+    runs = refl;
+    queues = refl;
+    step = λ n b setup history kept.
+        let run : LiveRun = at_stop b.out.it segment in
+        let before : World = between setup history b.out.it in
+        record {
+          world = before;
+          step = ap (λ (k : ℕ). Some (answers before run Now (answer_number k))) (sym clock_is);
+          fields = refl;
+        };
+  }
+
+  -- helper 12
+  pub opening : (number openings : ℕ) → IsAdmitted ccbs old number place segment → segment.stop ≡ Helper (SetOpenings openings) → (1 ≤ openings) × (openings ≤ most_openings)
+  opening number openings a stop = openings_to_set a.setup.limits segment.to openings (rule_of ccbs old place segment is number a (SetOpenings openings) stop)
+
   -- helper 9: the run's queue is there
   pub queue_there : (number queue : ℕ) → IsAdmitted ccbs old number place segment → ((it : LiveRun) → HasRunAt old.runs place it → queue ≡ it.queue) → queue < length ccbs.openings
   queue_there number queue a queue_is =
@@ -326,6 +416,27 @@ module _ (ccbs : CcbsState) (old : RecoveryState) (place : ℕ) (segment : Segme
           fields = refl;
         };
   }
+
+  -- helper 12: the run's queue has other openings
+  pub opened : (number queue openings was : ℕ) (more : CcbsState) → IsAdmitted ccbs old number place segment → ((it : LiveRun) → HasRunAt old.runs place it → queue ≡ it.queue) → was ≡ slice_index ccbs.openings queue → more ≡ record ccbs { openings = slice_set ccbs.openings queue openings } → Does place segment (SetOpenings openings) (answer_number was) ccbs old more old
+  opened number queue openings was more a queue_is was_is more_is =
+      let each = (answer_limits number a).openings queue 0 (queue_there number queue a queue_is) in
+      record {
+        allowed = (omega (arith, was_is, each.0), omega (arith, was_is, each.1));
+        runs = refl;
+        queues = refl;
+        step = λ n b setup history kept.
+            let run : LiveRun = at_stop b.out.it segment in
+            let before : World = between setup history b.out.it in
+            let end : World = record before { openings = slice_set before.openings run.queue openings } in
+            let own : run.queue ≡ queue = sym (queue_is b.out.it b.there) in
+            record {
+              world = end;
+              step = ap (λ (k : ℕ). Some (answers end run (SetOpenings openings) (answer_number k))) (ap (λ (q : ℕ). slice_index ccbs.openings q) own ∙ sym was_is);
+              fields = ap (λ (m : CcbsState). with_ccbs m (with_recoveries (record old { runs = with_run run old.runs }) end))
+                  (ap (λ (q : ℕ). record ccbs { openings = slice_set ccbs.openings q openings }) own ∙ sym more_is);
+            };
+      }
 
   -- helper 10
   pub told_bytes : (address : ℕ) (bytes : List ℕ) → Does place segment (Trace address bytes) (answer_number 0) ccbs old ccbs old

@@ -2,11 +2,10 @@
 use Rattle.std.proofs.Common.{◌≡◌, List, [], ◌∷◌, ◌++◌, length, refl, ap, sym, subst, ◌∙◌}
 use Rattle.std.proofs.lemmas.List.Concat.{flat_map-append}
 use Rattle.std.proofs.Common.{append-nil}
-use Rattle.std.proofs.lemmas.List.{length-map}
 use Rattle.ccb_table.specs.CcbsState.{CcbsState, with_ccbs}
 use Rattle.recoveries.specs.RecoveryState.{RecoveryState, with_recoveries}
 use Rattle.world.specs.declared.record.Record.{Record}
-use Rattle.world.specs.World.{QueueSetup, Setup, World, queue_count, opening}
+use Rattle.world.specs.World.{Setup, World, queue_count, opening}
 use Rattle.world.specs.Event.{Event, Reply}
 use Rattle.world.specs.Step.{WorldStep}
 use Rattle.world.specs.WorldRun.{Leads, WorldRun}
@@ -56,4 +55,4 @@ kept_sound setup history ccbs recoveries kept = run_sound setup (flat history) (
 
 pub opening_count : (setup : Setup) (history : List Record) (ccbs : CcbsState) (recoveries : RecoveryState) → KeepsEngine setup history ccbs recoveries → queue_count setup ≡ length ccbs.openings
 opening_count setup history ccbs recoveries kept =
-    sym (ap length (kept_sound setup history ccbs recoveries kept).kept.ccbs.openings ∙ length-map setup.queues (λ (queue : QueueSetup). queue.openings))
+    sym (kept_sound setup history ccbs recoveries kept).kept.answers.queues

@@ -3,7 +3,7 @@ use Rattle.std.proofs.Common.{◌≡◌, ℕ, List, [], true, Some, refl, ap, sy
 use Rattle.std.proofs.lemmas.Bool.{and_parts, leb-true}
 use Rattle.helpers.specs.declared.limits.HelperLimits.{HelperLimits}
 use Rattle.helpers.specs.declared.request.Request.{Request}
-use Rattle.helpers.specs.declared.request.Request.TheVariants.{Freeze, Release, ReleaseAfter, Requeue, Finish, QueueInfo, Trace}
+use Rattle.helpers.specs.declared.request.Request.TheVariants.{Freeze, Release, ReleaseAfter, Requeue, Finish, TableGet, TablePut, TableAdd, QueueInfo, Trace, Now, SetOpenings}
 use Rattle.helpers.specs.declared.request.Answer.{Answer}
 use Rattle.bpf_insn.specs.declared.program.Slot.{Slot}
 use Rattle.bpf_machine.specs.MachineState.{MachineState}
@@ -39,8 +39,13 @@ rule_room limits m (Release freeze) rule = tt
 rule_room limits m (ReleaseAfter freeze milliseconds) rule = tt
 rule_room limits m (Requeue retries) rule = tt
 rule_room limits m (Finish code) rule = tt
+rule_room limits m (TableGet table index) rule = tt
+rule_room limits m (TablePut table index value) rule = tt
+rule_room limits m (TableAdd table index value) rule = tt
 rule_room limits m (QueueInfo address) rule = tt
 rule_room limits m (Trace address bytes) rule = tt
+rule_room limits m Now rule = tt
+rule_room limits m (SetOpenings openings) rule = tt
 
 rule_code : (limits : HelperLimits) (m : MachineState) (request : Request) → meets_rule limits m request ≡ true → NamesCode request
 rule_code limits m (Freeze queue) rule = tt
@@ -48,8 +53,13 @@ rule_code limits m (Release freeze) rule = tt
 rule_code limits m (ReleaseAfter freeze milliseconds) rule = tt
 rule_code limits m (Requeue retries) rule = tt
 rule_code limits m (Finish code) rule = leb-true _ _ (and_parts _ _ (and_parts _ _ (and_parts _ _ rule).1).0).1
+rule_code limits m (TableGet table index) rule = tt
+rule_code limits m (TablePut table index value) rule = tt
+rule_code limits m (TableAdd table index value) rule = tt
 rule_code limits m (QueueInfo address) rule = tt
 rule_code limits m (Trace address bytes) rule = tt
+rule_code limits m Now rule = tt
+rule_code limits m (SetOpenings openings) rule = tt
 
 -- a segment that is handed to an engine of these CCBs and runs
 module _ (ccbs : CcbsState) (old : RecoveryState) (place : ℕ) (segment : SegmentState) (is : IsSegment segment) where

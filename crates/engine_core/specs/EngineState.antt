@@ -27,9 +27,10 @@ world_of setup history ccbs recoveries = record {
   greatest_run = recoveries.greatest_run;
   greatest_freeze = recoveries.greatest_freeze;
   clock = recoveries.clock;
+  tables = recoveries.tables;
 }
 
--- these are the CCBs, freezes and runs of the world
+-- these are the CCBs, freezes, runs and tables of the world
 abbrev pub IsWorldOf : World → CcbsState → RecoveryState → Type 0
 IsWorldOf world ccbs recoveries = world ≡ with_ccbs ccbs (with_recoveries recoveries world)
 

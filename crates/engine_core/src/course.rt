@@ -12,8 +12,7 @@ ghost use Rattle.engine_core.specs.Courses.{takes, IsActive, IsOpen};
 ghost use Rattle.engine_core.specs.RunState.{IsOutUnder};
 
 use crate::run::Run;
-use bpf_machine::Machine;
-use ccb::{CONTEXT_BYTES, CamStatus, Ccb, Completion};
+use ccb::{CamStatus, Ccb, Completion};
 use ccb_table::CcbTable;
 use engine_config::Config;
 use recoveries::Recoveries;
@@ -86,12 +85,10 @@ pub(crate) fn recover(
     let program = config.program(ccb.queue);
     let recorded = Arc::try_clone(program)?;
     let handed = Arc::try_clone(program)?;
-    let mut machine = Box::new(
-        recoveries.allocator(),
-        Machine::entry(&[0; CONTEXT_BYTES], 0),
-    )?;
+    let place = recoveries.place_for_machine()?;
+    let mut machine = recoveries.place_for_machine()?;
     let mut ccb = ccb;
-    let started = recoveries.start(&mut ccb, completion, recorded, &mut machine);
+    let started = recoveries.start(&mut ccb, completion, recorded, place, &mut machine);
     ccbs.recover(ccb);
     Ok((Run::new(started.run, handed, machine), started.freeze))
 }

@@ -73,16 +73,17 @@ fn keep(history: &mut Vec<Record>, recoveries: &Recoveries, told: Record)
     history.push_reserved(told);
 }
 
-// The queues of the configuration, with no CCB, no freeze and no run.
+// The queues and tables of the configuration, with no CCB, no freeze and no run.
 fn rooms(alloc: Global, config: &Config) -> Result<(CcbTable, Recoveries), AllocError>
     ensures ccbs { IfOk result (λ rooms. rooms.0 ≡ record no_ccbs { openings = map (λ queue. queue.openings) config.now.queues }) }
-    ensures recoveries { IfOk result (λ rooms. rooms.1 ≡ no_recoveries (queue_count config.now)) }
+    ensures recoveries { IfOk result (λ rooms. rooms.1 ≡ no_recoveries (queue_count config.now) config.now.limits.table_lengths) }
 {
     let mut ccbs = CcbTable::with_room(alloc)?;
     for queue in 0..config.queues() {
         ccbs.add_queue(config.openings(queue))?;
     }
-    Ok((ccbs, Recoveries::with_room(alloc, config.queues())?))
+    let recoveries = Recoveries::with_room(alloc, config.queues(), config.table_lengths())?;
+    Ok((ccbs, recoveries))
 }
 
 impl Engine {
@@ -258,18 +259,37 @@ impl Engine {
         ensures back { IfErr result (λ fault. (fault.1 ≡ run) × (fault.2 ≡ segment) × (self.new ≡ self.old)) }
         ensures run { IsRun self.new }
     {
+        match self.advance_by(run, &segment) {
+            Ok(answer) => Ok(answer),
+            Err((fault, run)) => Err((fault, run, segment)),
+        }
+    }
+
+    /// The same of a segment that the caller keeps, to make the run's next stretch in its place.
+    pub fn advance_by(
+        &mut self,
+        run: Run,
+        segment: &Segment,
+    ) -> Result<AdvanceAnswer, (AdvanceFault, Run)>
+        ensures answered { IfOk result (λ answer. Records self.old self.new (Advance run.number segment.now.steps (stopped_at segment.now.stop) (r0_of answer))) }
+        ensures goes { IfOk result (GoesOrEnds self.old.setup self.old.world self.new.world run segment.now) }
+        ensures admitted { MatchResult result (λ _. IsOutAs self.old.world.runs run.number run.program.program segment.now)
+            (λ fault. AdmitsUnlessTold fault.0 (IsOutAs self.old.world.runs run.number run.program.program segment.now)) }
+        ensures back { IfErr result (λ fault. (fault.1 ≡ run) × (self.new ≡ self.old)) }
+        ensures run { IsRun self.new }
+    {
         let number = run.number();
-        let Some(place) = self.recoveries.admit(number, run.program(), &segment) else {
-            return Err((AdvanceFault::NotOut, run, segment));
+        let Some(place) = self.recoveries.admit(number, run.program(), segment) else {
+            return Err((AdvanceFault::NotOut, run));
         };
         let stop = segment.stop();
         let Ok(told) = recorded(*self.history.allocator(), &stop) else {
-            return Err((AdvanceFault::OutOfMemory, run, segment));
+            return Err((AdvanceFault::OutOfMemory, run));
         };
         if self.history.reserve(ROOM).is_err() {
-            return Err((AdvanceFault::OutOfMemory, run, segment));
+            return Err((AdvanceFault::OutOfMemory, run));
         }
-        let r0 = take_over(&mut self.ccbs, &mut self.recoveries, place, &segment);
+        let r0 = take_over(&mut self.ccbs, &mut self.recoveries, place, segment);
         keep(
             &mut self.history,
             &self.recoveries,
@@ -286,7 +306,7 @@ impl Engine {
                 Ok(AdvanceAnswer::Goes(run.moved(machine), r0))
             }
             Stop::Exit(_) => {
-                run.forfeit();
+                self.recoveries.keep_place(run.spent());
                 Ok(AdvanceAnswer::Ended(r0))
             }
         }

@@ -3,7 +3,7 @@
 ghost use Rattle.world.specs.Limits.{LimitsAreKept};
 ghost use Rattle.world.specs.FreezeLaws.{CountsAreEntries, HeldAreEntries};
 ghost use Rattle.world.specs.FreezeLaws.{GivenUpStaysGivenUp, GivenUpByRunStaysGivenUp, HandedOverStaysHandedOver, GoneStaysGone};
-ghost use Rattle.world.specs.CcbLaws.{EachIsLiveOrEnded};
+ghost use Rattle.world.specs.CcbLaws.{EachIsLiveOrEnded, StartsKeepOpenings};
 ghost use Rattle.world.specs.ClockLaws.{ClockGoesOn, TimersKeepTime};
 ghost use Rattle.world.specs.Flat.{EmptyAdvanceIsNone};
 ghost use Rattle.world.specs.Headline.{NeverStuck, MachinesAreReached, WithinBudget, DisposedOnce, ExactFreezes, OthersLeaveIt, GoneRunStaysGone};
@@ -15,8 +15,9 @@ ghost use Rattle.world.specs.Moved.{Moved};
 /// out has exactly one next step; each executes at most its budget; if it ends it has released or handed over
 /// exactly the freezes that it took, and it disposed of its CCB once; and every queue's frozen count is at every
 /// moment the number of entries that name it. And: each live run's machine is one that its program reaches; what
-/// a machine holds is what the entries say of its run; no limit is passed; each CCB number is of a live CCB or of
-/// one that ended, once, with its code; an event that is none of a run's own, its steps, its parks and its
+/// a machine holds is what the entries say of its run; no limit is passed; no event lets more CCBs of a queue be
+/// active than it has openings, though openings may be set below those that are; each CCB number is of a live CCB or
+/// of one that ended, once, with its code; an event that is none of a run's own, its steps, its parks and its
 /// resumes, leaves it as it is; from its park to its resume a run takes no step, and then it is what it was; a
 /// freeze that was given up, a freeze number that is gone and a run that is gone never come back; a freeze that
 /// was handed over is a timer's as long as it is there, and never a run's or a guest's again; the clock never
@@ -32,6 +33,7 @@ pub fn headline()
     ensures held { HeldAreEntries }
     ensures limits { LimitsAreKept }
     ensures ccbs { EachIsLiveOrEnded }
+    ensures starts { StartsKeepOpenings }
     ensures others { OthersLeaveIt }
     ensures parked { ParkedStaysAsItIs }
     ensures given_up { GivenUpStaysGivenUp }

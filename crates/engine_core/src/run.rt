@@ -94,6 +94,16 @@ impl Run {
         } = self;
     }
 
+    /// Spends the run: the place of its machine, for a run to come.
+    pub(crate) fn spent(self) -> Box<Machine> {
+        let Run {
+            number: _,
+            program: _,
+            machine,
+        } = self;
+        machine
+    }
+
     /// The same run with a machine further on.
     pub(crate) fn moved(self, machine: &Machine) -> Self
         requires { IsReached (record self { machine = machine.now }) }

@@ -1,5 +1,5 @@
-// What the stop of a run's segment does, and what is recorded of it. It relies on `recoveries` for the run and its
-// freezes, and on `ccb_table` for its CCB and its queue.
+// What the stop of a run's segment does, and what is recorded of it. It relies on `recoveries` for the run, its freezes,
+// the tables and the clock, and on `ccb_table` for its CCB and its queue.
 
 ghost use Rattle.std.specs.Prelude.{◌≡◌, ℕ, IfOk};
 ghost use Rattle.bpf_machine.specs.declared.stop.Stop.TheVariants.{Helper};
@@ -38,7 +38,12 @@ fn recorded_call(alloc: Global, request: &Request) -> Result<StoppedAt, AllocErr
         | Request::Release { .. }
         | Request::ReleaseAfter { .. }
         | Request::Requeue { .. }
-        | Request::QueueInfo { .. } => Ok(StoppedAt::Helper(request.helper())),
+        | Request::TableGet { .. }
+        | Request::TablePut { .. }
+        | Request::TableAdd { .. }
+        | Request::QueueInfo { .. }
+        | Request::Now
+        | Request::SetOpenings { .. } => Ok(StoppedAt::Helper(request.helper())),
     }
 }
 
@@ -121,6 +126,19 @@ fn carry_out(
             ccbs.finish(recoveries.ccb(place));
             Answer::number(0)
         }
+        Request::TableGet { table, index } => {
+            Answer::number(recoveries.table_get(table as usize, index as usize))
+        }
+        Request::TablePut {
+            table,
+            index,
+            value,
+        } => Answer::number(recoveries.table_put(table as usize, index as usize, value)),
+        Request::TableAdd {
+            table,
+            index,
+            value,
+        } => Answer::number(recoveries.table_add(table as usize, index as usize, value)),
         Request::QueueInfo { address } => {
             let info = ccbs.queue_info(recoveries.queue(place), recoveries.ledger());
             let written = Written {
@@ -136,5 +154,10 @@ fn carry_out(
             address: _,
             bytes: _,
         } => Answer::number(0),
+        Request::Now => Answer::number(recoveries.clock()),
+        Request::SetOpenings { openings } => {
+            let old = ccbs.set_openings(recoveries.queue(place), openings as u8);
+            Answer::number(u64::from(old))
+        }
     }
 }

@@ -27,9 +27,9 @@ pub record StandsReady (rs : List RunRecord) (ledger : LedgerState) (freeze plac
   pub its : is_run r.number tokens.entry.holder ≡ true
   pub named : tokens.entry.number ≡ freeze
 
-pub stands_ready : (rs : List RunRecord) (capacity greatest clock freeze place : ℕ) (ledger : LedgerState) (state : RecoveryState) (r : RunRecord) → KeepsRecoveries rs capacity ledger greatest → state_of ledger (lives_of rs) greatest clock ≡ state → HoldsFreeze state place freeze → r ≡ get_or rs place r → StandsReady rs ledger freeze place r
-stands_ready rs capacity greatest clock freeze place ledger state r k view holds stands =
-    let may : HoldsFreeze (state_of ledger (lives_of rs) greatest clock) place freeze = subst (λ (s : RecoveryState). HoldsFreeze s place freeze) (sym view) holds in
+pub stands_ready : (rs : List RunRecord) (capacity greatest clock : ℕ) (tables : List (List ℕ)) (freeze place : ℕ) (ledger : LedgerState) (state : RecoveryState) (r : RunRecord) → KeepsRecoveries rs capacity ledger greatest → state_of ledger (lives_of rs) greatest clock tables ≡ state → HoldsFreeze state place freeze → r ≡ get_or rs place r → StandsReady rs ledger freeze place r
+stands_ready rs capacity greatest clock tables freeze place ledger state r k view holds stands =
+    let may : HoldsFreeze (state_of ledger (lives_of rs) greatest clock tables) place freeze = subst (λ (s : RecoveryState). HoldsFreeze s place freeze) (sym view) holds in
     let at = run_at rs place may.run r may.there stands in
     let its : is_run r.number may.entry.holder ≡ true = ap (λ (x : LiveRun). is_run x.number may.entry.holder) at.1 ∙ may.its in
     record {

@@ -38,13 +38,13 @@ kept_taking rs capacity greatest i number before after queue r c f k l is same k
     (kept_held rs capacity greatest i before r c f k l is kept tokens (ap (λ (x : Freeze). x.number) it.next) (ap (λ (x : Freeze). x.holder) it.next ∙ ap Run same))
 
 -- what is answered, and what is left
-pub takes_so : (rs : List RunRecord) (greatest clock i number answer : ℕ) (before after : LedgerState) (queue : QueueId) (r c : RunRecord) (f : Freeze) (it : LiveRun) → i < length rs → r ≡ get_or rs i r → number ≡ r.number → live_of r ≡ it → live_of c ≡ live_of r → answer ≡ f.number → Took before after queue number f → (answer, state_of after (lives_of (set rs i c)) greatest clock) ≡ taken_for (state_of before (lives_of rs) greatest clock) it.number queue
-takes_so rs greatest clock i number answer before after queue r c f it l is same live kept told took_it =
+pub takes_so : (rs : List RunRecord) (greatest clock : ℕ) (tables : List (List ℕ)) (i number answer : ℕ) (before after : LedgerState) (queue : QueueId) (r c : RunRecord) (f : Freeze) (it : LiveRun) → i < length rs → r ≡ get_or rs i r → number ≡ r.number → live_of r ≡ it → live_of c ≡ live_of r → answer ≡ f.number → Took before after queue number f → (answer, state_of after (lives_of (set rs i c)) greatest clock tables) ≡ taken_for (state_of before (lives_of rs) greatest clock tables) it.number queue
+takes_so rs greatest clock tables i number answer before after queue r c f it l is same live kept told took_it =
     let run_is : number ≡ it.number = same ∙ ap (λ (x : LiveRun). x.number) live in
     let next : f ≡ next_freeze before queue (Run it.number) = took_it.next ∙ ap (λ (n : ℕ). next_freeze before queue (Run n)) run_is in
     let runs : lives_of (set rs i c) ≡ lives_of rs = record_kept rs i r c l is kept in
-    ap (λ (n : ℕ). (n, state_of after (lives_of (set rs i c)) greatest clock)) told
-    ∙ (ap (λ (ls : List LiveRun). (f.number, state_of after ls greatest clock)) runs
-    ∙ (ap (λ (ledger : LedgerState). (f.number, state_of ledger (lives_of rs) greatest clock)) took_it.entered
-    ∙ (ap (λ (g : Freeze). (g.number, state_of (with_entry before g) (lives_of rs) greatest clock)) next
+    ap (λ (n : ℕ). (n, state_of after (lives_of (set rs i c)) greatest clock tables)) told
+    ∙ (ap (λ (ls : List LiveRun). (f.number, state_of after ls greatest clock tables)) runs
+    ∙ (ap (λ (ledger : LedgerState). (f.number, state_of ledger (lives_of rs) greatest clock tables)) took_it.entered
+    ∙ (ap (λ (g : Freeze). (g.number, state_of (with_entry before g) (lives_of rs) greatest clock tables)) next
     ∙ sym (cond-false (meets_limit queue.0 before.freezes before.greatest) _ _ took_it.free))))

@@ -51,26 +51,26 @@ abbrev pub with_started : List LiveRun → ℕ → Ccb → List Slot → Machine
 with_started runs number ccb program machine = runs ++ run_for number ccb program machine ∷ []
 
 -- the world in which it has started
-abbrev pub started_world : LedgerState → List LiveRun → (greatest clock : ℕ) → Ccb → Outcome → List Slot → Option Freeze → World → World
-started_world ledger runs greatest clock ccb outcome program t world =
+abbrev pub started_world : LedgerState → List LiveRun → (greatest clock : ℕ) → List (List ℕ) → Ccb → Outcome → List Slot → Option Freeze → World → World
+started_world ledger runs greatest clock tables ccb outcome program t world =
     let after = completed ccb outcome (is_some t) in
     with_recoveries
-    (state_of (took ledger t) (with_started runs (greatest + 1) ccb program (entry (context_of after) (told t))) (greatest + 1) clock)
+    (state_of (took ledger t) (with_started runs (greatest + 1) ccb program (entry (context_of after) (told t))) (greatest + 1) clock tables)
     (record world { live = with_ccb (record { ccb = after; state = InRecovery }) world.live })
 
-pub starts_so : (setup : Setup) (world : World) (ledger : LedgerState) (runs : List LiveRun) (greatest clock : ℕ) (ccb : Ccb) (outcome : Outcome) (program : List Slot) (t : Option Freeze) → (IsNone t ↔ IsTrue (meets_limit ccb.queue.0 ledger.freezes ledger.greatest)) → IfSome t (λ f. f ≡ next_freeze ledger ccb.queue (Run (greatest + 1))) → (queue_setup setup ccb.queue.0).program ≡ program → recovers setup (with_recoveries (state_of ledger runs greatest clock) world) ccb outcome ≡ (run_started (greatest + 1) (told t), started_world ledger runs greatest clock ccb outcome program t world)
-starts_so setup world ledger runs greatest clock ccb outcome program None limit next is =
+pub starts_so : (setup : Setup) (world : World) (ledger : LedgerState) (runs : List LiveRun) (greatest clock : ℕ) (tables : List (List ℕ)) (ccb : Ccb) (outcome : Outcome) (program : List Slot) (t : Option Freeze) → (IsNone t ↔ IsTrue (meets_limit ccb.queue.0 ledger.freezes ledger.greatest)) → IfSome t (λ f. f ≡ next_freeze ledger ccb.queue (Run (greatest + 1))) → (queue_setup setup ccb.queue.0).program ≡ program → recovers setup (with_recoveries (state_of ledger runs greatest clock tables) world) ccb outcome ≡ (run_started (greatest + 1) (told t), started_world ledger runs greatest clock tables ccb outcome program t world)
+starts_so setup world ledger runs greatest clock tables ccb outcome program None limit next is =
     cond-true (meets_limit ccb.queue.0 ledger.freezes ledger.greatest) _ _ (limit.0 refl)
-    ∙ ap (λ (p : List Slot). (run_started (greatest + 1) 0, started_world ledger runs greatest clock ccb outcome p None world)) is
-starts_so setup world ledger runs greatest clock ccb outcome program (Some f) limit next is =
+    ∙ ap (λ (p : List Slot). (run_started (greatest + 1) 0, started_world ledger runs greatest clock tables ccb outcome p None world)) is
+starts_so setup world ledger runs greatest clock tables ccb outcome program (Some f) limit next is =
     let free : meets_limit ccb.queue.0 ledger.freezes ledger.greatest ≡ false =
     elim (cases_Bool (meets_limit ccb.queue.0 ledger.freezes ledger.greatest)) [
       | inl met ↦ let bad = limit.1 met in absurd cc
       | inr free ↦ free
     ] in
     cond-false (meets_limit ccb.queue.0 ledger.freezes ledger.greatest) _ _ free
-    ∙ (ap (λ (p : List Slot). (run_started (greatest + 1) (ledger.greatest + 1), started_world ledger runs greatest clock ccb outcome p (Some (next_freeze ledger ccb.queue (Run (greatest + 1)))) world)) is
-    ∙ ap (λ (g : Freeze). (run_started (greatest + 1) (told (Some g)), started_world ledger runs greatest clock ccb outcome program (Some g) world)) (sym next))
+    ∙ (ap (λ (p : List Slot). (run_started (greatest + 1) (ledger.greatest + 1), started_world ledger runs greatest clock tables ccb outcome p (Some (next_freeze ledger ccb.queue (Run (greatest + 1)))) world)) is
+    ∙ ap (λ (g : Freeze). (run_started (greatest + 1) (told (Some g)), started_world ledger runs greatest clock tables ccb outcome program (Some g) world)) (sym next))
 
 -- the run that was pushed is found by its number
 pub found_last : (rs items : List RunRecord) (r : RunRecord) (greatest : ℕ) → AreRising 0 (map number_of (lives_of rs)) greatest → items ≡ rs ++ r ∷ [] → r.number ≡ greatest + 1 → run_of (greatest + 1) (lives_of items) ≡ Some (live_of r)

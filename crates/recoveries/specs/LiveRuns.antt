@@ -13,7 +13,7 @@ live_of it = record {
   ccb = it.ccb.0;
   queue = it.queue.0;
   program = (arc_value it.program).program;
-  machine = it.machine;
+  machine = it.machine.value;
   out = it.out;
 }
 

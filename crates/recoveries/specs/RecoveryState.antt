@@ -1,4 +1,5 @@
--- What contracts see of the freezes of all device queues, and of the live runs that hold some of them.
+-- What contracts see of the freezes of all device queues, of the live runs that hold some of them, and of the tables and
+-- the clock that these ask for.
 use Rattle.std.specs.Prelude.{ℕ, ◌+◌, true, if◌then◌else◌, List, [], ◌∷◌, ◌++◌, map, Option, Some, None, Result, Ok, Err}
 use Rattle.ccb.specs.declared.ccb.Ccb.{Ccb}
 use Rattle.ccb.specs.declared.QueueId.{QueueId}
@@ -8,6 +9,7 @@ use Rattle.freeze_ledger.specs.Freezes.{meets_limit}
 use Rattle.freeze_ledger.specs.State.{LedgerState}
 use Rattle.bpf_insn.specs.declared.program.Slot.{Slot}
 use Rattle.bpf_machine.specs.MachineState.{MachineState}
+use Rattle.table_store.specs.Tables.{zero_table}
 use Rattle.world.specs.declared.refusal.Refusal.{Refusal}
 use Rattle.world.specs.World.{LiveRun, World}
 use Rattle.world.specs.Event.{Reply, freeze_given, refused}
@@ -24,11 +26,21 @@ pub record RecoveryState : Type 0 where
   pub greatest_run : ℕ
   -- what the clock read last, in milliseconds, 0 before the first reading
   pub clock : ℕ
+  -- the words of each table
+  pub tables : List (List ℕ)
 
-abbrev pub no_recoveries : ℕ → RecoveryState
-no_recoveries queues = record { queues = queues; freezes = []; runs = []; greatest_freeze = 0; greatest_run = 0; clock = 0 }
+abbrev pub no_recoveries : ℕ → List ℕ → RecoveryState
+no_recoveries queues lengths = record {
+  queues = queues;
+  freezes = [];
+  runs = [];
+  greatest_freeze = 0;
+  greatest_run = 0;
+  clock = 0;
+  tables = map zero_table lengths;
+}
 
--- the world with these freezes and runs, and this clock
+-- the world with these freezes, runs and tables, and this clock
 abbrev pub with_recoveries : RecoveryState → World → World
 with_recoveries state world = record world {
   freezes = state.freezes;
@@ -36,21 +48,23 @@ with_recoveries state world = record world {
   greatest_freeze = state.greatest_freeze;
   greatest_run = state.greatest_run;
   clock = state.clock;
+  tables = state.tables;
 }
 
 -- the ledger of the freezes
 abbrev pub ledger_of : RecoveryState → LedgerState
 ledger_of state = record { queues = state.queues; greatest = state.greatest_freeze; freezes = state.freezes }
 
--- what a ledger, the runs beside it and the clock are
-abbrev pub state_of : LedgerState → List LiveRun → (greatest_run clock : ℕ) → RecoveryState
-state_of ledger runs greatest_run clock = record {
+-- what a ledger, the runs beside it, the clock and the tables are
+abbrev pub state_of : LedgerState → List LiveRun → (greatest_run clock : ℕ) → List (List ℕ) → RecoveryState
+state_of ledger runs greatest_run clock tables = record {
   queues = ledger.queues;
   freezes = ledger.freezes;
   runs = runs;
   greatest_freeze = ledger.greatest;
   greatest_run = greatest_run;
   clock = clock;
+  tables = tables;
 }
 
 -- what is answered where this was taken

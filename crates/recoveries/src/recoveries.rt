@@ -1,7 +1,8 @@
-// The freezes, the live runs and the clock. It relies on `freeze_ledger` for freezes, on `timer_events` for those that a
-// clock reading lets go, on `run_record` for what is recorded of a run, and on `world` for what each call means.
+// The freezes, the live runs, and the tables and the clock that these ask for. It relies on `freeze_ledger` for freezes,
+// on `timer_events` for those that a clock reading lets go, on `table_store` for tables, on `run_record` for what is
+// recorded of a run, and on `world` for what each call means.
 
-ghost use Rattle.std.specs.Prelude.{◌≡◌, ℕ, ◌+◌, ◌<◌, ◌≤◌, ◌==◌, ◌↔◌, true, false, not, List, [], length, filter, Contains, Some, None, IsTrue, IsSome, IfSome, IfNone, IfOk, Bool};
+ghost use Rattle.std.specs.Prelude.{◌≡◌, ℕ, ◌+◌, ◌%◌, ◌^◌, ◌<◌, ◌≤◌, ◌==◌, ◌↔◌, true, false, not, List, [], length, filter, Contains, Some, None, IsTrue, IsSome, IfSome, IfNone, IfOk, Bool};
 ghost use Rattle.std.specs.Arc.{arc_value};
 ghost use Rattle.ccb.specs.Ccb.{completed};
 ghost use Rattle.freeze_ledger.specs.declared.freeze.Freeze.{Freeze};
@@ -21,6 +22,7 @@ ghost use Rattle.world.specs.Flat.{clock_reply};
 ghost use Rattle.world.specs.CcbSteps.{recovers, run_meets_limit};
 ghost use Rattle.world.specs.FreezeLaws.{entries_of};
 ghost use Rattle.recoveries.specs.RecoveryState.{no_recoveries, with_recoveries, ledger_of, taken_reply, taken_for, run_for};
+ghost use Rattle.table_store.specs.Tables.{HasWord, with_word, word_at};
 ghost use Rattle.recoveries.specs.Admits.{IsNextOut, IsOutAs, IsOutWith, IsRecorded};
 ghost use Rattle.recoveries.specs.LiveRuns.{live_of};
 ghost use Rattle.recoveries.specs.RunPlaces.{HasRunAt, HoldsFreeze};
@@ -30,13 +32,14 @@ use crate::places::place_of;
 use crate::run_record::RunRecord;
 use crate::started::Started;
 use bpf_machine::Machine;
-use ccb::{Ccb, CcbId, Completion, QueueId, context};
+use ccb::{CONTEXT_BYTES, Ccb, CcbId, Completion, QueueId, context};
 use freeze_ledger::{FreezeToken, Holder, Ledger};
 use helpers::{Answer, Request};
 use interpreter::{Segment, pass};
 use std::alloc::{AllocError, Global};
 use std::marker::Model;
 use std::sync::Arc;
+use table_store::TableStore;
 use timer_events::expire_due;
 use verifier::Accepted;
 use world::Refusal;
@@ -44,18 +47,24 @@ use world::Refusal;
 /// How many runs can be live at a time.
 pub const MAX_RUNS: usize = 256;
 
+/// How many machines of runs that ended are kept for runs to come.
+const MAX_SPARE: usize = 64;
+
 /// The last clock reading that there is, in milliseconds: 2^62.
 const LAST_READING: u64 = 4_611_686_018_427_387_904;
 
-/// The freezes of a fixed number of device queues, and the live runs with what they hold of them. Contracts see the
-/// freezes and the runs, each in the order of their numbers, the greatest numbers given so far, and what the clock read
-/// last.
+/// The freezes of a fixed number of device queues, the live runs with what they hold of them, and the tables. Contracts
+/// see the freezes and the runs, each in the order of their numbers, the greatest numbers given so far, what the clock
+/// read last, and the words of the tables.
 #[derive(Drop)]
 pub struct Recoveries {
     ledger: Ledger,
     runs: Vec<RunRecord>,
     greatest_run: u32,
     clock: u64,
+    tables: TableStore,
+    // the places of machines of runs that ended; what stands in them means nothing
+    spare: Vec<Box<Machine>>,
 }
 
 impl Model for Recoveries {
@@ -67,7 +76,7 @@ impl Model for Recoveries {
     ghost use Rattle.recoveries.specs.LiveRuns.{lives_of};
     ghost use Rattle.recoveries.specs.Invariant.{KeepsRecoveries};
 
-    ghost view = { λ r. state_of r.ledger (lives_of r.runs.items) r.greatest_run r.clock };
+    ghost view = { λ r. state_of r.ledger (lives_of r.runs.items) r.greatest_run r.clock r.tables };
 
     ghost invariant = { λ r. KeepsRecoveries r.runs.items (vec_capacity r.runs) r.ledger r.greatest_run };
 }
@@ -96,18 +105,60 @@ fn is_out_with(it: &RunRecord, program: &Accepted, machine: &Machine) -> bool
     it.out && is_same_program(program, &it.program) && machine.is_same(&it.machine)
 }
 
+// Keeps the place of a machine for a run to come, where there is room.
+fn keep_spare(spare: &mut Vec<Box<Machine>>, machine: Box<Machine>) {
+    if spare.len() < spare.capacity() {
+        spare.push_reserved(machine);
+    }
+}
+
 impl Recoveries {
-    /// No freeze and no run, for the queues from 0 to `queues` - 1, with room for all 1024 freezes and 256 live runs: no
-    /// later call takes memory.
-    pub fn with_room(alloc: Global, queues: u32) -> Result<Self, AllocError>
-        ensures { IfOk result (λ it. it ≡ no_recoveries queues) }
+    /// No freeze and no run, for the queues from 0 to `queues` - 1, and tables of these lengths in words, all 0, with room
+    /// for all 1024 freezes and 256 live runs: no later call takes memory but `place_for_machine`.
+    pub fn with_room(alloc: Global, queues: u32, lengths: &[u16]) -> Result<Self, AllocError>
+        ensures { IfOk result (λ it. it ≡ no_recoveries queues lengths.now) }
     {
         Ok(Recoveries {
             ledger: Ledger::with_room(alloc, queues)?,
             runs: Vec::with_capacity(alloc, MAX_RUNS)?,
             greatest_run: 0,
             clock: 0,
+            tables: TableStore::with_lengths(alloc, lengths)?,
+            spare: Vec::with_capacity(alloc, MAX_SPARE)?,
         })
+    }
+
+    /// What the clock read last, in milliseconds, 0 before the first reading, at most 2^62.
+    pub fn clock(&self) -> u64
+        ensures { result ≡ self.now.clock }
+    {
+        self.clock
+    }
+
+    /// The word at an index, from 0, of a table.
+    pub fn table_get(&self, table: usize, index: usize) -> u64
+        requires { HasWord self.now.tables table index }
+        ensures { result ≡ word_at self.now.tables table index }
+    {
+        self.tables.get(table, index)
+    }
+
+    /// Writes a word of a table, and answers the one that stood there.
+    pub fn table_put(&mut self, table: usize, index: usize, value: u64) -> u64
+        requires { HasWord self.old.tables table index }
+        ensures answer { result ≡ word_at self.old.tables table index }
+        ensures tables { self.new ≡ record self.old { tables = with_word self.old.tables table index value } }
+    {
+        self.tables.put(table, index, value)
+    }
+
+    /// Adds to a word of a table, modulo 2^64, and answers the sum.
+    pub fn table_add(&mut self, table: usize, index: usize, value: u64) -> u64
+        requires { HasWord self.old.tables table index }
+        ensures answer { result ≡ (word_at self.old.tables table index + value) % 2 ^ 64 }
+        ensures tables { self.new ≡ record self.old { tables = with_word self.old.tables table index result } }
+    {
+        self.tables.add(table, index, value)
     }
 
     /// The allocator of its lists.
@@ -196,15 +247,37 @@ impl Recoveries {
         self.runs.len() >= MAX_RUNS || self.greatest_run >= u32::MAX
     }
 
+    /// A place for a machine: that of a run that ended, or a new one where none is kept. Where memory is refused nothing
+    /// changes.
+    pub fn place_for_machine(&mut self) -> Result<Box<Machine>, AllocError>
+        ensures { self.new ≡ self.old }
+    {
+        match self.spare.pop() {
+            Some(machine) => Ok(machine),
+            None => {
+                let machine = Machine::entry(&[0; CONTEXT_BYTES], 0);
+                Ok(Box::new(self.allocator(), machine)?)
+            }
+        }
+    }
+
+    /// Takes the place of a machine that is needed no more, for a run to come. At most 64 are kept.
+    pub fn keep_place(&mut self, machine: Box<Machine>)
+        ensures { self.new ≡ self.old }
+    {
+        keep_spare(&mut self.spare, machine);
+    }
+
     /// Starts a run of a program for a CCB whose completion failed, under the number after the greatest given. A freeze
     /// of the CCB's queue is taken for it, or none where that meets a limit, which the run is told as number 0. The CCB
-    /// takes over what the completion brought, and the run begins at the program's entry over the CCB's context, which is
-    /// written to `machine`. It asks for a queue that exists, and for room.
+    /// takes over what the completion brought, and the run begins at the program's entry over the CCB's context. That
+    /// machine is written to `machine`, and to `place`, where it is recorded. It asks for a queue that exists, and for room.
     pub fn start(
         &mut self,
         ccb: &mut Ccb,
         completion: &Completion,
         program: Arc<Accepted>,
+        place: Box<Machine>,
         machine: &mut Machine,
     ) -> Started
         requires known { ccb.old.queue.0 < self.old.queues }
@@ -221,13 +294,15 @@ impl Recoveries {
         let token = self.ledger.take(ccb.queue, Holder::Run(number));
         ccb.complete(completion, token.is_some());
         let (freeze, tokens) = taken_at_start(token);
-        *machine = Machine::entry(&context(ccb), freeze);
+        machine.begin(&context(ccb), freeze);
+        let mut recorded = place;
+        recorded.copy_from(machine);
         self.runs.push_reserved(RunRecord {
             number,
             ccb: ccb.number,
             queue: ccb.queue,
             program,
-            machine: *machine,
+            machine: recorded,
             out: true,
             tokens,
         });
@@ -373,7 +448,7 @@ impl Recoveries {
         ensures place { (it : LiveRun) → HasRunAt self.old.runs place it →
             HasRunAt self.new.runs place (record it { machine = answered request.now answer.now to.now }) }
     {
-        let machine = &mut self.runs[place].machine;
+        let machine: &mut Machine = &mut self.runs[place].machine;
         machine.copy_from(to);
         pass(machine, request, answer);
     }
@@ -384,6 +459,7 @@ impl Recoveries {
         ensures { (it : LiveRun) → HasRunAt self.old.runs place it →
             self.new ≡ record self.old { runs = filter (λ other. not (other.number == it.number)) self.old.runs } }
     {
-        let _ended = self.runs.remove(place);
+        let ended = self.runs.remove(place);
+        keep_spare(&mut self.spare, ended.machine);
     }
 }

@@ -15,7 +15,8 @@ pub(crate) struct RunRecord {
     pub(crate) ccb: CcbId,
     pub(crate) queue: QueueId,
     pub(crate) program: Arc<Accepted>,
-    pub(crate) machine: Machine,
+    // apart, so that a record is moved as a few words
+    pub(crate) machine: Box<Machine>,
     pub(crate) out: bool,
     pub(crate) tokens: HeldTokens,
 }

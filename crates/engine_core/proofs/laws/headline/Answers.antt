@@ -4,6 +4,7 @@ use Rattle.world.proofs.Parking.{parked_stays_as_it_is}
 use Rattle.world.proofs.Counts.{counts_are_entries}
 use Rattle.world.proofs.Sound.{held_are_entries, machines_are_reached}
 use Rattle.world.proofs.Leads.{limits_are_kept}
+use Rattle.world.proofs.Starting.{starts_keep_openings}
 use Rattle.world.proofs.Empty.{empty_advance_is_none}
 use Rattle.world.proofs.Clocks.{clock_goes_on, timers_keep_time}
 use Rattle.world.proofs.Accounts.{each_is_live_or_ended}
@@ -21,6 +22,7 @@ returns c = record {
   held = held_are_entries;
   limits = limits_are_kept;
   ccbs = each_is_live_or_ended;
+  starts = starts_keep_openings;
   others = others_leave_it;
   parked = parked_stays_as_it_is;
   given_up = given_up_stays_given_up;

@@ -1,8 +1,8 @@
-use Rattle.std.proofs.Common.{ℕ, ap, sym, ◌∙◌, arith}
+use Rattle.std.proofs.Common.{ℕ, ap, sym, ◌∙◌, arith, rules}
 use Rattle.bpf_machine.specs.declared.stop.Stop.TheVariants.{Helper}
 use Rattle.freeze_ledger.specs.State.{LedgerState}
 use Rattle.world.specs.Lookups.{is_waiting, ccb_of}
-use Rattle.engine_core.proofs.Calls.{freezing, froze_one, releasing, released, handing_over, handed_one_over, requeuing, requeued_one, finishing, finished_one, queue_there, queues_there, told_queue, told_bytes}
+use Rattle.engine_core.proofs.Calls.{freezing, froze_one, releasing, released, handing_over, handed_one_over, requeuing, requeued_one, finishing, finished_one, queue_there, queues_there, told_queue, told_bytes, getting, got_word, putting, put_word, adding, added_word, told_clock, opening, opened}
 use Rattle.engine_core.proofs.taking_over.carry_out.Goals as goal
 
 -- helper 1
@@ -86,6 +86,32 @@ returns-in-Finish c =
     rw (c.in-Finish.is, c.number-in-Finish.ensures)
     (finished_one c.args.ccbs.now c.args.recoveries.now c.args.place c.args.segment.now c.requires.segment c.requires.admitted.0 c.in-Finish.code c.ccb-in-Finish.result.0 c.finish.new.self c.requires.admitted.1 it c.ccb-in-Finish.ensures c.finish.ensures)
 
+-- helpers 6 to 8
+
+pub table_get-requires : goal.table_get-requires
+table_get-requires c = getting c.args.ccbs.now c.args.recoveries.now c.args.place c.args.segment.now c.requires.segment c.requires.admitted.0 c.in-TableGet.table c.in-TableGet.index c.requires.admitted.1 (c.requires.stop ∙ ap Helper c.in-TableGet.is)
+
+pub returns-in-TableGet : goal.returns-in-TableGet
+returns-in-TableGet c =
+    rw (c.in-TableGet.is, c.number-in-TableGet.ensures)
+    (got_word c.args.ccbs.now c.args.recoveries.now c.args.place c.args.segment.now c.requires.segment c.requires.admitted.0 c.in-TableGet.table c.in-TableGet.index c.table_get.result c.requires.admitted.1 c.table_get.ensures)
+
+pub table_put-requires : goal.table_put-requires
+table_put-requires c = putting c.args.ccbs.now c.args.recoveries.now c.args.place c.args.segment.now c.requires.segment c.requires.admitted.0 c.in-TablePut.table c.in-TablePut.index c.in-TablePut.value c.requires.admitted.1 (c.requires.stop ∙ ap Helper c.in-TablePut.is)
+
+pub returns-in-TablePut : goal.returns-in-TablePut
+returns-in-TablePut c =
+    rw (c.in-TablePut.is, c.number-in-TablePut.ensures)
+    (put_word c.args.ccbs.now c.args.recoveries.now c.args.place c.args.segment.now c.requires.segment c.requires.admitted.0 c.in-TablePut.table c.in-TablePut.index c.in-TablePut.value c.table_put.result c.table_put.new.self c.requires.admitted.1 (search rules) c.table_put.ensures.answer c.table_put.ensures.tables)
+
+pub table_add-requires : goal.table_add-requires
+table_add-requires c = adding c.args.ccbs.now c.args.recoveries.now c.args.place c.args.segment.now c.requires.segment c.requires.admitted.0 c.in-TableAdd.table c.in-TableAdd.index c.in-TableAdd.value c.requires.admitted.1 (c.requires.stop ∙ ap Helper c.in-TableAdd.is)
+
+pub returns-in-TableAdd : goal.returns-in-TableAdd
+returns-in-TableAdd c =
+    rw (c.in-TableAdd.is, c.number-in-TableAdd.ensures)
+    (added_word c.args.ccbs.now c.args.recoveries.now c.args.place c.args.segment.now c.requires.segment c.requires.admitted.0 c.in-TableAdd.table c.in-TableAdd.index c.in-TableAdd.value c.table_add.result c.table_add.new.self c.requires.admitted.1 c.table_add.ensures.answer c.table_add.ensures.tables)
+
 -- helper 9
 
 pub queue_info-info-requires-clause-known : goal.queue_info-info-requires-clause-known
@@ -106,3 +132,25 @@ returns-in-QueueInfo c =
 pub returns-in-Trace : goal.returns-in-Trace
 returns-in-Trace c =
     rw (c.in-Trace.is, c.number-in-Trace.ensures) (told_bytes c.args.ccbs.now c.args.recoveries.now c.args.place c.args.segment.now c.requires.segment c.in-Trace.address c.in-Trace.bytes)
+
+-- helper 11
+
+pub returns-in-Now : goal.returns-in-Now
+returns-in-Now c =
+    rw (c.in-Now.is, c.number-in-Now.ensures) (told_clock c.args.ccbs.now c.args.recoveries.now c.args.place c.args.segment.now c.requires.segment c.requires.admitted.0 c.clock.result c.requires.admitted.1 c.clock.ensures)
+
+-- helper 12
+
+pub overflow_cast-openings : goal.overflow_cast-openings
+overflow_cast-openings c = omega (arith, (opening c.args.ccbs.now c.args.recoveries.now c.args.place c.args.segment.now c.requires.segment c.requires.admitted.0 c.in-SetOpenings.openings c.requires.admitted.1 (c.requires.stop ∙ ap Helper c.in-SetOpenings.is)).1)
+
+pub set_openings-old-requires-clause-known : goal.set_openings-old-requires-clause-known
+set_openings-old-requires-clause-known c = queue_there c.args.ccbs.now c.args.recoveries.now c.args.place c.args.segment.now c.requires.segment c.requires.admitted.0 c.queue-in-SetOpenings.result.0 c.requires.admitted.1 c.queue-in-SetOpenings.ensures
+
+pub set_openings-old-requires-clause-some : goal.set_openings-old-requires-clause-some
+set_openings-old-requires-clause-some c = (opening c.args.ccbs.now c.args.recoveries.now c.args.place c.args.segment.now c.requires.segment c.requires.admitted.0 c.in-SetOpenings.openings c.requires.admitted.1 (c.requires.stop ∙ ap Helper c.in-SetOpenings.is)).0
+
+pub returns-in-SetOpenings : goal.returns-in-SetOpenings
+returns-in-SetOpenings c =
+    rw (c.in-SetOpenings.is, c.number-in-SetOpenings.ensures, c.from-in-SetOpenings.ensures)
+    (opened c.args.ccbs.now c.args.recoveries.now c.args.place c.args.segment.now c.requires.segment c.requires.admitted.0 c.queue-in-SetOpenings.result.0 c.in-SetOpenings.openings c.set_openings-old.result c.set_openings-old.new.self c.requires.admitted.1 c.queue-in-SetOpenings.ensures c.set_openings-old.ensures.answer c.set_openings-old.ensures.openings)

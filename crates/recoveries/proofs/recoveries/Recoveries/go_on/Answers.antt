@@ -17,7 +17,7 @@ here : (c : goal.After-self-1) (it : LiveRun) → HasRunAt (lives_of c.self.insi
 here c it at = run_at c.self.inside.runs.items c.args.place it c.index_mut.result.now at c.index_mut.ensures.value
 
 -- what the run is then
-goes_on : (c : goal.After-self-1) (it : LiveRun) → HasRunAt (lives_of c.self.inside.runs.items) c.args.place it → live_of (record c.index_mut.result.now { machine = c.pass.new.machine }) ≡ record it { machine = answered c.args.request.now c.args.answer.now c.args.to.now }
+goes_on : (c : goal.After-self-1) (it : LiveRun) → HasRunAt (lives_of c.self.inside.runs.items) c.args.place it → live_of (record c.index_mut.result.now { machine = record c.index_mut.result.now.machine { value = c.pass.new.machine } }) ≡ record it { machine = answered c.args.request.now c.args.answer.now c.args.to.now }
 goes_on c it at =
     ap (λ (x : LiveRun). record x { machine = c.pass.new.machine }) (here c it at).1
     ∙ ap (λ (m : MachineState). record it { machine = m }) (c.pass.ensures.machine ∙ ap (answered c.args.request.now c.args.answer.now) c.copy_from.ensures)
@@ -32,14 +32,14 @@ returns-clause-goes c =
     let rs : List RunRecord = c.self.inside.runs.items in
     let r : RunRecord = c.index_mut.result.now in
     rw (← c.self.view_is) (λ it at.
-    ap (λ (ls : List LiveRun). state_of c.self.inside.ledger ls c.self.inside.greatest_run c.self.inside.clock)
-    (record_changed rs c.self.inside.greatest_run c.args.place (record r { machine = c.pass.new.machine }) r c.self.invariant.rising (here c it at).0 (sym (ap key_of c.index_mut.ensures.value))
+    ap (λ (ls : List LiveRun). state_of c.self.inside.ledger ls c.self.inside.greatest_run c.self.inside.clock c.self.inside.tables)
+    (record_changed rs c.self.inside.greatest_run c.args.place (record r { machine = record r.machine { value = c.pass.new.machine } }) r c.self.invariant.rising (here c it at).0 (sym (ap key_of c.index_mut.ensures.value))
     ∙ ap (λ (x : LiveRun). with_run x (lives_of rs)) (goes_on c it at)))
 
 pub returns-clause-place : goal.returns-clause-place
 returns-clause-place c =
     let rs : List RunRecord = c.self.inside.runs.items in
-    let after : RunRecord = record c.index_mut.result.now { machine = c.pass.new.machine } in
+    let after : RunRecord = record c.index_mut.result.now { machine = record c.index_mut.result.now.machine { value = c.pass.new.machine } } in
     rw (← c.self.view_is) (λ it at.
     let l : c.args.place < length (set rs c.args.place after) = omega (arith, length-set rs c.args.place after, (here c it at).0) in
     subst (HasRunAt (lives_of (set rs c.args.place after)) c.args.place) (goes_on c it at)

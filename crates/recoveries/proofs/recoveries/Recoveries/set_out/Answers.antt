@@ -22,6 +22,6 @@ returns c =
     let rs : List RunRecord = c.self.inside.runs.items in
     let r : RunRecord = c.index_mut.result.now in
     rw (← c.self.view_is) (λ it at.
-    ap (λ (ls : List LiveRun). state_of c.self.inside.ledger ls c.self.inside.greatest_run c.self.inside.clock)
+    ap (λ (ls : List LiveRun). state_of c.self.inside.ledger ls c.self.inside.greatest_run c.self.inside.clock c.self.inside.tables)
     (record_changed rs c.self.inside.greatest_run c.args.place (record r { out = c.args.out }) r c.self.invariant.rising (here c it at).0 (sym (ap key_of c.index_mut.ensures.value))
     ∙ ap (λ (x : LiveRun). with_run (record x { out = c.args.out }) (lives_of rs)) (here c it at).1))

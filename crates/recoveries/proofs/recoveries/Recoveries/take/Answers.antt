@@ -30,4 +30,4 @@ pub returns : goal.returns
 returns c =
     rw (← c.self.view_is) (λ it there.
     let at = here c it there in
-    takes_so c.self.inside.runs.items c.self.inside.greatest_run c.self.inside.clock c.args.place c.index.result.now.number c.hold.result c.self.inside.ledger c.take.new.self c.args.queue c.index_mut.result.now (record c.index_mut.result.now { tokens = c.hold.new.tokens }) c.in-Some.token it at.0 c.index_mut.ensures.value (same c at.0) at.1 refl c.hold.ensures.number (taken c))
+    takes_so c.self.inside.runs.items c.self.inside.greatest_run c.self.inside.clock c.self.inside.tables c.args.place c.index.result.now.number c.hold.result c.self.inside.ledger c.take.new.self c.args.queue c.index_mut.result.now (record c.index_mut.result.now { tokens = c.hold.new.tokens }) c.in-Some.token it at.0 c.index_mut.ensures.value (same c at.0) at.1 refl c.hold.ensures.number (taken c))

@@ -5,6 +5,7 @@ mod decoding;
 mod engine;
 mod freezes;
 mod instructions;
+mod live_runs;
 mod passes;
 mod policies;
 mod recovery;

@@ -16,9 +16,9 @@ fn freeze(recoveries: &mut Recoveries, guest: u32) -> Result<FreezeToken, Refusa
 fn takes_its_room_once(rt: HostRuntime) -> Result<(), Fail> {
     let alloc = rt.alloc();
     let queues = 1;
-    let mut recoveries = match Recoveries::with_room(alloc, queues) {
+    let mut recoveries = match Recoveries::with_room(alloc, queues, &[]) {
         Ok(recoveries) => recoveries,
-        Err(_) => Recoveries::with_room(alloc, queues)?,
+        Err(_) => Recoveries::with_room(alloc, queues, &[])?,
     };
     match freeze(&mut recoveries, 7) {
         Ok(token) => {

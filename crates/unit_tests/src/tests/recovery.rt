@@ -17,13 +17,13 @@ use std::sync::Arc;
 use std::test::Fail;
 use world::{CompletionRecord, Refusal, TracedBytes};
 
-fn completion(ccb: u32, status: CamStatus) -> Result<Completion, Fail> {
+pub fn completion(ccb: u32, status: CamStatus) -> Result<Completion, Fail> {
     Ok(Completion::new(CcbId(ccb), status, 0, &[]).ok_or("no completion")?)
 }
 
 // The engine's calls as they are: their clauses stay here, so that the tests below are checked without them.
 
-fn submit_once(
+pub fn submit_once(
     engine: &mut Engine,
     queue: QueueId,
     priority: u32,
@@ -32,11 +32,11 @@ fn submit_once(
     engine.submit(queue, priority, retries)
 }
 
-fn dispatch_once(engine: &mut Engine, queue: QueueId) -> Result<CcbId, CallFault> {
+pub fn dispatch_once(engine: &mut Engine, queue: QueueId) -> Result<CcbId, CallFault> {
     engine.dispatch(queue)
 }
 
-fn complete_once(
+pub fn complete_once(
     engine: &mut Engine,
     completion: Completion,
 ) -> Result<CompleteAnswer, (CallFault, Completion)> {
@@ -84,7 +84,11 @@ fn started(answer: Result<CompleteAnswer, (CallFault, Completion)>) -> Result<(R
 }
 
 // Where memory is refused the sums are as before and the completion comes back, and the same call again succeeds.
-fn fail(rt: &impl Abort, engine: &mut Engine, completion: Completion) -> Result<(Run, u32), Fail> {
+pub fn fail(
+    rt: &impl Abort,
+    engine: &mut Engine,
+    completion: Completion,
+) -> Result<(Run, u32), Fail> {
     let before = totals(engine);
     match complete_once(engine, completion) {
         Err((CallFault::OutOfMemory, back)) => {
@@ -126,7 +130,7 @@ fn taken_over(
 
 // Where memory is refused the sums are as before, the run and its segment come back, and the same call again
 // succeeds.
-fn advance(rt: &impl Abort, engine: &mut Engine, run: Run) -> Result<AdvanceAnswer, Fail> {
+pub fn advance(rt: &impl Abort, engine: &mut Engine, run: Run) -> Result<AdvanceAnswer, Fail> {
     let (run, segment) = with_segment(run)?;
     let before = totals(engine);
     let number = run.number();
@@ -161,7 +165,7 @@ fn end(answer: AdvanceAnswer) {
     }
 }
 
-fn going_on(answer: AdvanceAnswer) -> Result<Run, Fail> {
+pub fn going_on(answer: AdvanceAnswer) -> Result<Run, Fail> {
     match answer {
         AdvanceAnswer::Goes(run, _) => Ok(run),
         AdvanceAnswer::Ended(_) => Err(Fail::new("it ended")),
@@ -169,7 +173,7 @@ fn going_on(answer: AdvanceAnswer) -> Result<Run, Fail> {
 }
 
 // CCB 1 is active.
-fn begin(rt: &impl Abort, engine: &mut Engine) -> Result<(), CallFault> {
+pub fn begin(rt: &impl Abort, engine: &mut Engine) -> Result<(), CallFault> {
     submit(rt, engine)?;
     dispatch(rt, engine)?;
     Ok(())

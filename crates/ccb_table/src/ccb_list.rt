@@ -127,16 +127,16 @@ impl CcbList {
     }
 
     /// Puts a CCB in the place of the one of its number, which is there.
-    pub(crate) fn change(&mut self, changed: LiveCcb)
-        requires { (it : WorldCcb) × (ccb_of changed.ccb.number.0 self.old.live ≡ Some it) }
-        ensures { self.new ≡ record self.old { live = with_ccb changed self.old.live } }
+    pub(crate) fn change(&mut self, changed: &LiveCcb)
+        requires { (it : WorldCcb) × (ccb_of changed.now.ccb.number.0 self.old.live ≡ Some it) }
+        ensures { self.new ≡ record self.old { live = with_ccb changed.now self.old.live } }
     {
         let Some(place) = place_of(&self.ccbs, changed.number()) else {
             unreachable!()
         };
         let was = self.ccbs[place].is_active();
         self.active = moved(self.active, was, changed.is_active());
-        self.ccbs[place] = changed;
+        self.ccbs[place] = *changed;
     }
 
     /// Takes out the CCB of this number, which is there.

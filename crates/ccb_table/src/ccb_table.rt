@@ -100,12 +100,11 @@ impl CcbTable {
         match self.queues.start(queue, freezes) {
             Err(fault) => Err(refusal(fault)),
             Ok(number) => {
-                let Some(next) = self.ccbs.get(number) else {
+                let Some(mut next) = self.ccbs.get(number) else {
                     unreachable!()
                 };
-                let mut ccb = next.ccb();
-                ccb.start();
-                self.ccbs.change(LiveCcb::new(ccb, CcbState::Active));
+                next.start();
+                self.ccbs.change(&next);
                 Ok(number)
             }
         }
@@ -139,7 +138,8 @@ impl CcbTable {
         ensures { self.new ≡ record self.old { live = with_ccb (record { ccb = ccb; state = InRecovery }) self.old.live } }
     {
         self.queues.stop(ccb.queue, true);
-        self.ccbs.change(LiveCcb::new(ccb, CcbState::InRecovery));
+        self.ccbs
+            .change(&LiveCcb::new(ccb, CcbState::InRecovery));
     }
 
     /// The CCB of this number waits again, with so many retries fewer, as far as it has that many. It asks for one in
@@ -148,14 +148,14 @@ impl CcbTable {
         requires { (it : WorldCcb) × (ccb_of ccb.0 self.old.live ≡ Some it) × (it.state ≡ InRecovery) }
         ensures { (it : WorldCcb) → ccb_of ccb.0 self.old.live ≡ Some it → self.new ≡ record self.old { live = with_ccb (record { ccb = requeued it.ccb used; state = Waiting }) self.old.live } }
     {
-        let Some(live) = self.ccbs.get(ccb) else {
+        let Some(mut live) = self.ccbs.get(ccb) else {
             unreachable!()
         };
-        let mut again = live.ccb();
-        again.requeue(used);
+        live.requeue(used);
+        let again = live.as_ccb();
         self.queues
             .put_back(again.queue, again.number, again.priority);
-        self.ccbs.change(LiveCcb::new(again, CcbState::Waiting));
+        self.ccbs.change(&live);
     }
 
     /// What a queue that there is has: its freezes, its active CCBs, those that wait, and its openings.

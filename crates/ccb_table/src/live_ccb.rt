@@ -1,6 +1,8 @@
 // A CCB that is not finished, with where it is. It relies on `ccb` for CCBs and on `world` for what contracts see.
 
 ghost use Rattle.std.specs.Prelude.{◌≡◌};
+ghost use Rattle.ccb.specs.Ccb.{started, requeued};
+ghost use Rattle.world.specs.declared.ccb_state.CcbState.TheVariants.{Active, Waiting};
 ghost use Rattle.world.specs.Lookups.{is_active};
 
 use ccb::{Ccb, CcbId};
@@ -40,6 +42,13 @@ impl LiveCcb {
         self.ccb
     }
 
+    /// The same, where it stands.
+    pub(crate) fn as_ccb(&self) -> &Ccb
+        ensures { result.now ≡ self.now.ccb }
+    {
+        &self.ccb
+    }
+
     /// Whether a device works on it.
     pub fn is_active(&self) -> bool
         ensures { result ≡ is_active self.now.state }
@@ -48,6 +57,22 @@ impl LiveCcb {
             CcbState::Active => true,
             CcbState::Waiting | CcbState::InRecovery => false,
         }
+    }
+
+    /// Its queue started it: a device works on it.
+    pub(crate) fn start(&mut self)
+        ensures { self.new ≡ record { ccb = started self.old.ccb; state = Active } }
+    {
+        self.ccb.start();
+        self.state = CcbState::Active;
+    }
+
+    /// It waits again, with so many retries fewer, as far as it has that many.
+    pub(crate) fn requeue(&mut self, used: u32)
+        ensures { self.new ≡ record { ccb = requeued self.old.ccb used; state = Waiting } }
+    {
+        self.ccb.requeue(used);
+        self.state = CcbState::Waiting;
     }
 
     /// The number of the CCB.

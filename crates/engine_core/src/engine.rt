@@ -282,8 +282,7 @@ impl Engine {
         let Some(place) = self.recoveries.admit(number, run.program(), segment) else {
             return Err((AdvanceFault::NotOut, run));
         };
-        let stop = segment.stop();
-        let Ok(told) = recorded(*self.history.allocator(), &stop) else {
+        let Ok(told) = recorded(*self.history.allocator(), segment.stop()) else {
             return Err((AdvanceFault::OutOfMemory, run));
         };
         if self.history.reserve(ROOM).is_err() {
@@ -300,7 +299,7 @@ impl Engine {
                 r0,
             },
         );
-        match stop {
+        match segment.stop() {
             Stop::Helper(_) => {
                 let machine = self.recoveries.machine(place);
                 Ok(AdvanceAnswer::Goes(run.moved(machine), r0))

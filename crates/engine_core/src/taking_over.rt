@@ -61,10 +61,10 @@ pub(crate) fn take_over(
     ensures queues { recoveries.new.queues ≡ recoveries.old.queues }
 {
     match segment.stop() {
-        Stop::Helper(request) => answer(ccbs, recoveries, place, segment, &request),
+        Stop::Helper(request) => answer(ccbs, recoveries, place, segment, request),
         Stop::Exit(r0) => {
             recoveries.end(place);
-            r0
+            *r0
         }
     }
 }

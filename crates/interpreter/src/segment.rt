@@ -29,26 +29,14 @@ pub(crate) struct Stretch {
 }
 
 impl Model for Segment {
-    ghost use Rattle.std.specs.Arc.{arc_value};
     ghost use Rattle.interpreter.specs.Segments.{SegmentState, IsSegment};
+    ghost use Rattle.interpreter.specs.Stretches.{state_of};
 
     ghost Value = { SegmentState };
 
-    ghost view = { λ s. record {
-      program = arc_value s.stretch.program;
-      from = s.stretch.from;
-      to = s.stretch.to;
-      steps = s.stretch.steps;
-      stop = s.stretch.stop;
-    } };
+    ghost view = { λ s. state_of s.stretch };
 
-    ghost invariant = { λ s. IsSegment (record {
-      program = arc_value s.stretch.program;
-      from = s.stretch.from;
-      to = s.stretch.to;
-      steps = s.stretch.steps;
-      stop = s.stretch.stop;
-    }) };
+    ghost invariant = { λ s. IsSegment (state_of s.stretch) };
 }
 
 impl Segment {
@@ -86,10 +74,10 @@ impl Segment {
     }
 
     /// Where the run comes to the engine.
-    pub fn stop(&self) -> Stop
-        ensures value { result ≡ self.now.stop }
+    pub fn stop(&self) -> &Stop
+        ensures value { result.now ≡ self.now.stop }
         ensures segment { IsSegment self.now }
     {
-        self.stretch.stop
+        &self.stretch.stop
     }
 }

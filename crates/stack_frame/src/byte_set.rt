@@ -44,6 +44,21 @@ fn ones(first: usize, count: usize) -> u64
     }
 }
 
+// Whether all words are the same, without a jump for each.
+#[inline(always)]
+fn same_words(words: &[u64; 8], others: &[u64; 8]) -> bool
+    ensures { IsTrue result ↔ (words.now ≡ others.now) }
+{
+    (words[0] == others[0])
+        & (words[1] == others[1])
+        & (words[2] == others[2])
+        & (words[3] == others[3])
+        & (words[4] == others[4])
+        & (words[5] == others[5])
+        & (words[6] == others[6])
+        & (words[7] == others[7])
+}
+
 impl ByteSet {
     /// No byte.
     pub fn empty() -> Self
@@ -56,7 +71,7 @@ impl ByteSet {
     pub fn is_same(&self, other: &Self) -> bool
         ensures { IsTrue result ↔ (self.now ≡ other.now) }
     {
-        self.words == other.words
+        same_words(&self.words, &other.words)
     }
 
     /// Whether no byte is in the set.

@@ -1,7 +1,7 @@
 // What no command shows: want of memory, that the same call answers later, and how many checks a verdict takes.
 
 use super::policies::{jeq, limits, mov, policy};
-use bpf_insn::{Callee, Insn, LoadForm, Operand, Program, Reg};
+use bpf_insn::{Callee, Insn, Operand, Program, Reg};
 use or_memory::OrMemory;
 use std::alloc::{AllocError, Global};
 use std::test::Fail;
@@ -60,22 +60,18 @@ fn a_local_call(rt: HostRuntime) -> Result<(), Fail> {
     Ok(())
 }
 
-// So many pairs of a jump, both of whose ways are open, and a move that it jumps over: each is checked once.
+// So many pairs of a jump on what the clock read, both of whose ways are open, and a move that it jumps over: each is
+// checked once.
 #[test]
 fn pairs_of_jumps(rt: HostRuntime) -> Result<(), Fail> {
     let first = policy();
     let mut insns = Vec::new(rt.alloc());
-    insns.push(Insn::Load {
-        form: LoadForm::Word,
-        dst: Reg::R6,
-        src: Reg::R1,
-        offset: 24,
-    })?;
     for insn in &first[..3] {
         insns.push(*insn)?;
     }
+    insns.push(Insn::Call(Callee::Helper(11)))?;
     for _ in 0..1300 {
-        insns.push(jeq(Reg::R6, Operand::Immediate(0), 1))?;
+        insns.push(jeq(Reg::R0, Operand::Immediate(0), 1))?;
         insns.push(mov(Reg::R3, Operand::Immediate(1)))?;
     }
     for insn in &first[3..] {

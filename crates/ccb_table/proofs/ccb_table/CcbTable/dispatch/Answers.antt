@@ -3,6 +3,7 @@ use Rattle.std.specs.Result.{result_err}
 use Rattle.ccb.specs.Ccb.{started}
 use Rattle.dev_queue.specs.Faults.{start_fault}
 use Rattle.freeze_ledger.specs.Freezes.{frozen}
+use Rattle.world.specs.declared.ccb_state.CcbState.{CcbState}
 use Rattle.world.specs.World.{queue_count, LiveCcb}
 use Rattle.world.specs.Lookups.{ccb_of, with_ccb}
 use Rattle.world.specs.Event.{ccb_given}
@@ -25,30 +26,30 @@ unreachable-requires c =
 pub change-requires : goal.change-requires
 change-requires c =
     let known : c.args.queue.0 < length c.self.inside.queues = omega (arith, c.if-queue-len.false, c.len.ensures) in
-    let ccb_is : c.start-in-Ok.new.self ≡ started c.in-Some.next.ccb = c.start-in-Ok.ensures ∙ ap started c.ccb-ccb.ensures in
-    let d = dispatched c.self.inside.ccbs c.self.inside.queues c.args.queue.0 c.in-Ok.number c.get.result c.in-Some.next c.start-in-Ok.new.self c.self.invariant known c.in-Ok.ensures.least c.get.ensures c.in-Some.is ccb_is in
-    (c.in-Some.next, subst (λ (l : LiveCcb). ccb_of l.ccb.number.0 c.self.inside.ccbs.live ≡ Some c.in-Some.next) (sym c.new.ensures) d.found)
+    let ccb_is : c.start-in-Ok.new.self.ccb ≡ started c.in-Some.next.ccb = ap (λ (l : LiveCcb). l.ccb) c.start-in-Ok.ensures in
+    let d = dispatched c.self.inside.ccbs c.self.inside.queues c.args.queue.0 c.in-Ok.number c.get.result c.in-Some.next c.start-in-Ok.new.self.ccb c.self.invariant known c.in-Ok.ensures.least c.get.ensures c.in-Some.is ccb_is in
+    (c.in-Some.next, subst (λ (l : LiveCcb). ccb_of l.ccb.number.0 c.self.inside.ccbs.live ≡ Some c.in-Some.next) (sym (ap (λ (s : CcbState). record { ccb = c.start-in-Ok.new.self.ccb; state = s }) (ap (λ (l : LiveCcb). l.state) c.start-in-Ok.ensures))) d.found)
 
 pub invariant_of-self-in-Ok : goal.invariant_of-self-in-Ok
 invariant_of-self-in-Ok c =
     let known : c.args.queue.0 < length c.self.inside.queues = omega (arith, c.if-queue-len.false, c.len.ensures) in
-    let ccb_is : c.start-in-Ok.new.self ≡ started c.in-Some.next.ccb = c.start-in-Ok.ensures ∙ ap started c.ccb-ccb.ensures in
-    let d = dispatched c.self.inside.ccbs c.self.inside.queues c.args.queue.0 c.in-Ok.number c.get.result c.in-Some.next c.start-in-Ok.new.self c.self.invariant known c.in-Ok.ensures.least c.get.ensures c.in-Some.is ccb_is in
-    (dispatched_after c.self.inside.ccbs c.change.new.self c.self.inside.queues c.start.new.self c.args.queue.0 c.in-Ok.number c.in-Some.next c.start-in-Ok.new.self c.self.invariant d ccb_is
-    (c.change.ensures ∙ ap (λ (l : LiveCcb). listed_as c.self.inside.ccbs.greatest (with_ccb l c.self.inside.ccbs.live)) c.new.ensures) c.in-Ok.ensures.started).kept
+    let ccb_is : c.start-in-Ok.new.self.ccb ≡ started c.in-Some.next.ccb = ap (λ (l : LiveCcb). l.ccb) c.start-in-Ok.ensures in
+    let d = dispatched c.self.inside.ccbs c.self.inside.queues c.args.queue.0 c.in-Ok.number c.get.result c.in-Some.next c.start-in-Ok.new.self.ccb c.self.invariant known c.in-Ok.ensures.least c.get.ensures c.in-Some.is ccb_is in
+    (dispatched_after c.self.inside.ccbs c.change.new.self c.self.inside.queues c.start.new.self c.args.queue.0 c.in-Ok.number c.in-Some.next c.start-in-Ok.new.self.ccb c.self.invariant d ccb_is
+    (c.change.ensures ∙ ap (λ (l : LiveCcb). listed_as c.self.inside.ccbs.greatest (with_ccb l c.self.inside.ccbs.live)) (ap (λ (s : CcbState). record { ccb = c.start-in-Ok.new.self.ccb; state = s }) (ap (λ (l : LiveCcb). l.state) c.start-in-Ok.ensures))) c.in-Ok.ensures.started).kept
 
 pub returns-in-Some : goal.returns-in-Some
 returns-in-Some c = record {
   step = λ setup world count freezes.
       let known : c.args.queue.0 < length c.self.inside.queues = omega (arith, c.if-queue-len.false, c.len.ensures) in
-      let ccb_is : c.start-in-Ok.new.self ≡ started c.in-Some.next.ccb = c.start-in-Ok.ensures ∙ ap started c.ccb-ccb.ensures in
-      let d = dispatched c.self.inside.ccbs c.self.inside.queues c.args.queue.0 c.in-Ok.number c.get.result c.in-Some.next c.start-in-Ok.new.self c.self.invariant known c.in-Ok.ensures.least c.get.ensures c.in-Some.is ccb_is in
+      let ccb_is : c.start-in-Ok.new.self.ccb ≡ started c.in-Some.next.ccb = ap (λ (l : LiveCcb). l.ccb) c.start-in-Ok.ensures in
+      let d = dispatched c.self.inside.ccbs c.self.inside.queues c.args.queue.0 c.in-Ok.number c.get.result c.in-Some.next c.start-in-Ok.new.self.ccb c.self.invariant known c.in-Ok.ensures.least c.get.ensures c.in-Some.is ccb_is in
       let after =
-      dispatched_after c.self.inside.ccbs c.change.new.self c.self.inside.queues c.start.new.self c.args.queue.0 c.in-Ok.number c.in-Some.next c.start-in-Ok.new.self c.self.invariant d ccb_is
-      (c.change.ensures ∙ ap (λ (l : LiveCcb). listed_as c.self.inside.ccbs.greatest (with_ccb l c.self.inside.ccbs.live)) c.new.ensures) c.in-Ok.ensures.started in
+      dispatched_after c.self.inside.ccbs c.change.new.self c.self.inside.queues c.start.new.self c.args.queue.0 c.in-Ok.number c.in-Some.next c.start-in-Ok.new.self.ccb c.self.invariant d ccb_is
+      (c.change.ensures ∙ ap (λ (l : LiveCcb). listed_as c.self.inside.ccbs.greatest (with_ccb l c.self.inside.ccbs.live)) (ap (λ (s : CcbState). record { ccb = c.start-in-Ok.new.self.ccb; state = s }) (ap (λ (l : LiveCcb). l.state) c.start-in-Ok.ensures))) c.in-Ok.ensures.started in
       let fault : start_fault c.count-freezes.result (queue_at c.self.inside.queues c.args.queue.0) ≡ None = sym c.start.ensures.fault ∙ ap result_err c.in-Ok.is in
       subst (λ (s : CcbsState). step_dispatch setup (with_ccbs s world) c.args.queue.0 ≡ (ccb_given c.in-Ok.number.0, with_ccbs (seen c.change.new.self c.start.new.self) world)) c.self.view_is
-      (dispatch_reply setup world c.self.inside.ccbs c.change.new.self c.self.inside.queues c.start.new.self c.args.queue.0 c.count-freezes.result c.in-Ok.number c.in-Some.next c.start-in-Ok.new.self c.self.invariant known
+      (dispatch_reply setup world c.self.inside.ccbs c.change.new.self c.self.inside.queues c.start.new.self c.args.queue.0 c.count-freezes.result c.in-Ok.number c.in-Some.next c.start-in-Ok.new.self.ccb c.self.invariant known
       (subst (λ (s : CcbsState). queue_count setup ≡ length s.openings) (sym c.self.view_is) count)
       (c.count-freezes.ensures.entries ∙ sym (ap (frozen c.args.queue.0) freezes)) fault d after.seen_is);
 }

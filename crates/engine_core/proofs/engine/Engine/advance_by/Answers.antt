@@ -11,7 +11,7 @@ pub recorded-requires : goal.recorded-requires
 recorded-requires c =
     let out : IsOutAs c.self.inside.recoveries.runs c.number-number.result c.args.run.program.program c.args.segment.now = search rules in
     let admitted = is_admitted c.self.inside.config c.self.inside.history.items c.self.inside.ccbs c.self.inside.recoveries c.number-number.result c.in-Some.place c.args.run.program.program c.args.segment.now c.self.invariant.0 out c.in-Some.ensures.place in
-    subst StopsByCode (sym c.stop-stop.ensures.value) (code_of c.self.inside.ccbs c.self.inside.recoveries c.in-Some.place c.args.segment.now c.stop-stop.ensures.segment c.number-number.result admitted)
+    subst StopsByCode (sym c.stop.ensures.value) (code_of c.self.inside.ccbs c.self.inside.recoveries c.in-Some.place c.args.segment.now c.stop.ensures.segment c.number-number.result admitted)
 
 pub take_over-r0-requires : goal.take_over-r0-requires
 take_over-r0-requires c =

@@ -138,8 +138,7 @@ impl CcbTable {
         ensures { self.new ≡ record self.old { live = with_ccb (record { ccb = ccb; state = InRecovery }) self.old.live } }
     {
         self.queues.stop(ccb.queue, true);
-        self.ccbs
-            .change(&LiveCcb::new(ccb, CcbState::InRecovery));
+        self.ccbs.change(&LiveCcb::new(ccb, CcbState::InRecovery));
     }
 
     /// The CCB of this number waits again, with so many retries fewer, as far as it has that many. It asks for one in

@@ -1,5 +1,6 @@
 // A module for what is tested, and the policies that they share.
 
+mod calls;
 mod ccbs;
 mod decoding;
 mod engine;

@@ -100,12 +100,16 @@ pub fn shut(engine: Engine) -> Trace {
 }
 
 // Where memory is refused the sums are as before, and the same call again succeeds.
-fn freeze(rt: &impl Abort, engine: &mut Engine) -> Result<FreezeToken, CallFault> {
+pub fn freeze(
+    rt: &impl Abort,
+    engine: &mut Engine,
+    queue: QueueId,
+) -> Result<FreezeToken, CallFault> {
     let before = totals(engine);
-    match freeze_once(engine, QUEUE, 7) {
+    match freeze_once(engine, queue, 7) {
         Err(CallFault::OutOfMemory) => {
             assert_eq!(rt; totals(engine), before);
-            freeze_once(engine, QUEUE, 7)
+            freeze_once(engine, queue, 7)
         }
         answer => answer,
     }
@@ -123,7 +127,11 @@ fn forfeited(answer: Result<u32, (ReleaseFault, FreezeToken)>) -> Result<u32, Re
 }
 
 // Where memory is refused the sums are as before and the token comes back, and the same call again succeeds.
-fn release(rt: &impl Abort, engine: &mut Engine, token: FreezeToken) -> Result<u32, ReleaseFault> {
+pub fn release(
+    rt: &impl Abort,
+    engine: &mut Engine,
+    token: FreezeToken,
+) -> Result<u32, ReleaseFault> {
     let before = totals(engine);
     match release_once(engine, token) {
         Err((ReleaseFault::OutOfMemory, token)) => {
@@ -136,7 +144,7 @@ fn release(rt: &impl Abort, engine: &mut Engine, token: FreezeToken) -> Result<u
 }
 
 fn freeze_and_release(rt: &impl Abort, engine: &mut Engine) -> Result<u32, Fail> {
-    let token = freeze(rt, engine)?;
+    let token = freeze(rt, engine, QUEUE)?;
     Ok(release(rt, engine, token)?)
 }
 
@@ -184,7 +192,7 @@ fn released_elsewhere(
     first: &mut Engine,
     second: &mut Engine,
 ) -> Result<(), Fail> {
-    let token = freeze(rt, first)?;
+    let token = freeze(rt, first, QUEUE)?;
     match release_once(second, token) {
         Ok(_) => return Err(Fail::new("another engine's token is taken")),
         Err((fault, token)) => {

@@ -52,23 +52,23 @@ fn advance_once(
 }
 
 // Where memory is refused the sums are as before, and the same call again succeeds.
-fn submit(rt: &impl Abort, engine: &mut Engine) -> Result<CcbId, CallFault> {
+pub fn submit(rt: &impl Abort, engine: &mut Engine, queue: QueueId) -> Result<CcbId, CallFault> {
     let before = totals(engine);
-    match submit_once(engine, QUEUE, 10, 3) {
+    match submit_once(engine, queue, 10, 3) {
         Err(CallFault::OutOfMemory) => {
             assert_eq!(rt; totals(engine), before);
-            submit_once(engine, QUEUE, 10, 3)
+            submit_once(engine, queue, 10, 3)
         }
         answer => answer,
     }
 }
 
-fn dispatch(rt: &impl Abort, engine: &mut Engine) -> Result<CcbId, CallFault> {
+pub fn dispatch(rt: &impl Abort, engine: &mut Engine, queue: QueueId) -> Result<CcbId, CallFault> {
     let before = totals(engine);
-    match dispatch_once(engine, QUEUE) {
+    match dispatch_once(engine, queue) {
         Err(CallFault::OutOfMemory) => {
             assert_eq!(rt; totals(engine), before);
-            dispatch_once(engine, QUEUE)
+            dispatch_once(engine, queue)
         }
         answer => answer,
     }
@@ -100,13 +100,67 @@ pub fn fail(
     }
 }
 
+// Why the completion is refused. It comes back.
+fn handed_back(
+    answer: Result<CompleteAnswer, (CallFault, Completion)>,
+) -> Result<(CallFault, Completion), Fail> {
+    match answer {
+        Err(back) => Ok(back),
+        Ok(CompleteAnswer::Done) => Err(Fail::new("it is done")),
+        Ok(CompleteAnswer::Started(run, _)) => {
+            run.forfeit();
+            Err(Fail::new("a run starts"))
+        }
+    }
+}
+
+// The same, where memory may be refused first.
+pub fn unstarted(
+    rt: &impl Abort,
+    engine: &mut Engine,
+    completion: Completion,
+) -> Result<CallFault, Fail> {
+    let before = totals(engine);
+    let (mut fault, mut back) = handed_back(complete_once(engine, completion))?;
+    if fault == CallFault::OutOfMemory {
+        assert_eq!(rt; totals(engine), before);
+        (fault, back) = handed_back(complete_once(engine, back))?;
+    }
+    assert_eq!(rt; back, completion);
+    Ok(fault)
+}
+
+// A completion that needs no run.
+pub fn finish(rt: &impl Abort, engine: &mut Engine, completion: Completion) -> Result<(), Fail> {
+    let before = totals(engine);
+    match complete_once(engine, completion) {
+        Err((CallFault::OutOfMemory, back)) => {
+            assert_eq!(rt; totals(engine), before);
+            assert_eq!(rt; back, completion);
+            done(complete_once(engine, back))
+        }
+        answer => done(answer),
+    }
+}
+
+fn done(answer: Result<CompleteAnswer, (CallFault, Completion)>) -> Result<(), Fail> {
+    match answer {
+        Ok(CompleteAnswer::Done) => Ok(()),
+        Ok(CompleteAnswer::Started(run, _)) => {
+            run.forfeit();
+            Err(Fail::new("a run starts"))
+        }
+        Err((fault, _)) => Err(Fail::from(fault)),
+    }
+}
+
 // What the run does next.
 fn next_segment(run: &Run) -> Result<Segment, Fail> {
     Ok(to_stop(Arc::try_clone(run.program())?, run.machine()))
 }
 
 // The run with what it does next.
-fn with_segment(run: Run) -> Result<(Run, Segment), Fail> {
+pub fn with_segment(run: Run) -> Result<(Run, Segment), Fail> {
     match next_segment(&run) {
         Ok(segment) => Ok((run, segment)),
         Err(fault) => {
@@ -147,7 +201,7 @@ pub fn advance(rt: &impl Abort, engine: &mut Engine, run: Run) -> Result<Advance
 }
 
 // The run comes back: the engine has no such run at such a place.
-fn refused(engine: &mut Engine, run: Run, segment: Segment) -> Result<Run, Fail> {
+pub fn refused(engine: &mut Engine, run: Run, segment: Segment) -> Result<Run, Fail> {
     match advance_once(engine, run, segment) {
         Err((AdvanceFault::NotOut, run, _)) => Ok(run),
         answer => {
@@ -174,13 +228,13 @@ pub fn going_on(answer: AdvanceAnswer) -> Result<Run, Fail> {
 
 // CCB 1 is active.
 pub fn begin(rt: &impl Abort, engine: &mut Engine) -> Result<(), CallFault> {
-    submit(rt, engine)?;
-    dispatch(rt, engine)?;
+    submit(rt, engine, QUEUE)?;
+    dispatch(rt, engine, QUEUE)?;
     Ok(())
 }
 
 // Drives a run of at most four segments to its end.
-fn drive(rt: &impl Abort, engine: &mut Engine, run: Run) -> Result<u64, Fail> {
+pub fn drive(rt: &impl Abort, engine: &mut Engine, run: Run) -> Result<u64, Fail> {
     let mut run = run;
     for _ in 0..4 {
         match advance(rt, engine, run)? {
@@ -192,7 +246,7 @@ fn drive(rt: &impl Abort, engine: &mut Engine, run: Run) -> Result<u64, Fail> {
     Err(Fail::new("a fifth segment"))
 }
 
-fn advanced(instructions: u32, stop: StoppedAt) -> Record {
+pub fn advanced(instructions: u32, stop: StoppedAt) -> Record {
     Record::Advance {
         run: 1,
         instructions,
@@ -215,7 +269,7 @@ fn recover_once(rt: &impl Abort, engine: &mut Engine, failed: Completion) -> Res
 }
 
 // What is recorded of a completion. Where memory is refused the same call again succeeds.
-fn completed(alloc: Global, completion: &Completion) -> Result<CompletionRecord, AllocError> {
+pub fn completed(alloc: Global, completion: &Completion) -> Result<CompletionRecord, AllocError> {
     match CompletionRecord::new(alloc, completion) {
         Ok(record) => Ok(record),
         Err(AllocError) => CompletionRecord::new(alloc, completion),
@@ -364,7 +418,7 @@ fn resume_once(engine: &mut Engine, run: u32) -> Result<Run, CallFault> {
 }
 
 // A run that is out is parked, whatever memory there is.
-fn park(engine: &mut Engine, run: Run) -> Result<(), Fail> {
+pub fn park(engine: &mut Engine, run: Run) -> Result<(), Fail> {
     match park_once(engine, run) {
         Ok(()) => Ok(()),
         Err(run) => {
@@ -375,7 +429,7 @@ fn park(engine: &mut Engine, run: Run) -> Result<(), Fail> {
 }
 
 // Where memory is refused the sums are as before, and the same call again answers.
-fn resume(rt: &impl Abort, engine: &mut Engine, run: u32) -> Result<Run, CallFault> {
+pub fn resume(rt: &impl Abort, engine: &mut Engine, run: u32) -> Result<Run, CallFault> {
     let before = totals(engine);
     match resume_once(engine, run) {
         Err(CallFault::OutOfMemory) => {
@@ -387,7 +441,7 @@ fn resume(rt: &impl Abort, engine: &mut Engine, run: u32) -> Result<Run, CallFau
 }
 
 // Whether no run of that number was parked.
-fn is_unknown(answer: Result<Run, CallFault>) -> bool {
+pub fn is_unknown(answer: Result<Run, CallFault>) -> bool {
     match answer {
         Ok(run) => {
             run.forfeit();

@@ -1,0 +1,39 @@
+# For the scripts `camr` and `bench/run`, which read it: copies of a program and of the crates below it, in which `rt ci`
+# proves and links it as it does in the gate. It relies on crates.txt, where a crate's line stands behind those of the
+# crates that it needs.
+
+# Prints the lines of the repository's crates.txt, read from standard input, of the crates that are named and of all
+# below them.
+lines_below() {
+    awk -v names="$*" '
+        BEGIN { split(names, name, " "); for (it in name) wanted[name[it]] = 1 }
+        /^#/ || !/:/ { next }
+        { line[++count] = $0 }
+        END {
+            for (at = count; at >= 1; at--) {
+                split(line[at], half, ":"); split(half[1], word, " ")
+                if (!(word[1] in wanted)) continue
+                split(half[2], below, " ")
+                for (it in below) wanted[below[it]] = 1
+                print line[at]
+            }
+        }'
+}
+
+# copy_sources TOP FOLDER CRATE..: copies these crates and all below them to a folder, which becomes the top of a
+# repository. What earlier builds made stays behind, and so do the edits by which the gate shows that wrong bodies are
+# refused.
+copy_sources() {
+    from=$1 to=$2
+    shift 2
+    mkdir -p "$to/.git" "$to/crates" && cp "$from/HANDLES" "$to" && lines_below "$@" <"$from/crates.txt" >"$to/crates.txt" || return 1
+    for crate in $(sed 's/[ :].*//' "$to/crates.txt"); do
+        mkdir "$to/crates/$crate" || return 1
+        for part in "$from/crates/$crate"/*; do
+            case ${part##*/} in
+            out | must-fail) ;;
+            *) cp -R "$part" "$to/crates/$crate" || return 1 ;;
+            esac
+        done
+    done
+}

@@ -1,5 +1,5 @@
-# For the scripts `camr` and `bench/run`, which read it: copies of a program and of the crates below it, in which `rt ci`
-# proves and links it as it does in the gate. It relies on crates.txt, where a crate's line stands behind those of the
+# For the scripts `camr`, `bench/run` and `.ci/must-not-compile`, which read it: copies of crates with all below them, in
+# which rt works apart from the repository. It relies on crates.txt, where a crate's line stands behind those of the
 # crates that it needs.
 
 # Prints the lines of the repository's crates.txt, read from standard input, of the crates that are named and of all

@@ -11,8 +11,8 @@ use Rattle.dev_queue.specs.State.{QueueState, live}
 use Rattle.dev_queue.specs.Faults.{insert_fault, start_fault}
 use Rattle.dev_queue.specs.declared.queue_fault.QueueFault.{QueueFault}
 use Rattle.dev_queue.specs.declared.queue_fault.QueueFault.TheVariants as fault
-use Rattle.world.specs.declared.refusal.Refusal.{Refusal}
-use Rattle.world.specs.declared.refusal.Refusal.TheVariants.{Limit}
+use Rattle.world.specs.declared.call_refusal.CallRefusal.{CallRefusal}
+use Rattle.world.specs.declared.call_refusal.CallRefusal.TheVariants.{Limit}
 use Rattle.world.specs.declared.ccb_state.CcbState.TheVariants.{Waiting}
 use Rattle.world.specs.World.{Setup, World, queue_count, LiveCcb}
 use Rattle.world.specs.Lookups.{live_count, active_count, with_ccb, next_waiting}
@@ -98,12 +98,12 @@ roomy_by state e =
       | inr roomy ↦ roomy
     ]
 
-pub crowded_reply : (setup : Setup) (world : World) (list : ListState) (queues after : List QueueState) (queue priority retries : ℕ) (f : QueueFault) (refusal : Refusal) → KeepsTable list queues → queue < length queues → queue_count setup ≡ length (map (λ (q : QueueState). q.openings) queues) → insert_fault (queue_at queues queue) ≡ Some f → refusal ≡ refusal_of f → after ≡ queues → step_submit setup (with_ccbs (seen list queues) world) queue priority retries ≡ (refused refusal, with_ccbs (seen list after) world)
+pub crowded_reply : (setup : Setup) (world : World) (list : ListState) (queues after : List QueueState) (queue priority retries : ℕ) (f : QueueFault) (refusal : CallRefusal) → KeepsTable list queues → queue < length queues → queue_count setup ≡ length (map (λ (q : QueueState). q.openings) queues) → insert_fault (queue_at queues queue) ≡ Some f → refusal ≡ refusal_of f → after ≡ queues → step_submit setup (with_ccbs (seen list queues) world) queue priority retries ≡ (refused refusal, with_ccbs (seen list after) world)
 crowded_reply setup world list queues after queue priority retries f refusal h known count e refusal_is after_is =
     let told = crowded_by (queue_at queues queue) f e in
     let is : Limit ≡ refusal = sym (refusal_is ∙ ap refusal_of told.1) in
     submit_limit setup (with_ccbs (seen list queues) world) queue priority retries (known_to setup queues queue known count) (crowded_limit list queues queue world h known told.0)
-    ∙ (ap (λ (r : Refusal). (refused r, with_ccbs (seen list queues) world)) is
+    ∙ (ap (λ (r : CallRefusal). (refused r, with_ccbs (seen list queues) world)) is
     ∙ ap (λ (qs : List QueueState). (refused refusal, with_ccbs (seen list qs) world)) (sym after_is))
 
 -- the answer with this number, and the world with the CCB

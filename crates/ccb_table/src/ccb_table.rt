@@ -20,7 +20,7 @@ use ccb::{Ccb, CcbId, QueueId};
 use freeze_ledger::Ledger;
 use std::alloc::{AllocError, Global};
 use std::marker::Model;
-use world::{CcbState, QueueInfo, Refusal};
+use world::{CallRefusal, CcbState, QueueInfo};
 
 /// The live CCBs of all device queues, at most 4096 and 256 a queue, of at most 64 queues. Contracts see the CCBs in
 /// the order of their numbers, the openings of each queue, and the greatest number that was given.
@@ -66,14 +66,19 @@ impl CcbTable {
     /// Submits a CCB to a queue: it waits, under the number after the greatest given. C1 where there is no such
     /// queue, C2 where the queue has 256 live CCBs, there are 4096 in all, or the numbers are used up. A refusal
     /// changes nothing.
-    pub fn submit(&mut self, queue: QueueId, priority: u32, retries: u32) -> Result<CcbId, Refusal>
+    pub fn submit(
+        &mut self,
+        queue: QueueId,
+        priority: u32,
+        retries: u32,
+    ) -> Result<CcbId, CallRefusal>
         ensures step { (setup : Setup) (world : World) → queue_count setup ≡ length self.old.openings → step_submit setup (with_ccbs self.old world) queue.0 priority retries ≡ (ccb_reply result, with_ccbs self.new world) }
     {
         if queue.0 as usize >= self.queues.len() {
-            return Err(Refusal::Unknown);
+            return Err(CallRefusal::Unknown);
         }
         if self.ccbs.is_full() {
-            return Err(Refusal::Limit);
+            return Err(CallRefusal::Limit);
         }
         let number = CcbId(self.ccbs.greatest() + 1);
         match self.queues.insert(queue, number, priority) {
@@ -89,12 +94,12 @@ impl CcbTable {
     /// Starts the waiting CCB of the queue that has the lowest priority number, and among these the lowest CCB number:
     /// it is active. C1 where there is no such queue, Q2 where it is frozen, Q3 where as many of its CCBs are active
     /// as it has openings, Q4 where none waits. A refusal changes nothing.
-    pub fn dispatch(&mut self, queue: QueueId, ledger: &Ledger) -> Result<CcbId, Refusal>
+    pub fn dispatch(&mut self, queue: QueueId, ledger: &Ledger) -> Result<CcbId, CallRefusal>
         requires { ledger.now.queues ≡ length self.old.openings }
         ensures step { (setup : Setup) (world : World) → queue_count setup ≡ length self.old.openings → world.freezes ≡ ledger.now.freezes → step_dispatch setup (with_ccbs self.old world) queue.0 ≡ (ccb_reply result, with_ccbs self.new world) }
     {
         if queue.0 as usize >= self.queues.len() {
-            return Err(Refusal::Unknown);
+            return Err(CallRefusal::Unknown);
         }
         let freezes = ledger.count(queue);
         match self.queues.start(queue, freezes) {

@@ -12,7 +12,7 @@ use ccb::{CcbId, QueueId};
 use dev_queue::{DevQueue, Frozen, QueueFault};
 use std::alloc::{AllocError, Global};
 use std::marker::Model;
-use world::Refusal;
+use world::CallRefusal;
 
 /// A queue that is frozen so many times.
 #[derive(Drop)]
@@ -27,14 +27,14 @@ impl Frozen for FrozenTimes {
 }
 
 /// The refusal that tells a queue's fault.
-pub(crate) fn refusal(fault: QueueFault) -> Refusal
+pub(crate) fn refusal(fault: QueueFault) -> CallRefusal
     ensures { result ≡ refusal_of fault }
 {
     match fault {
-        QueueFault::Full => Refusal::Limit,
-        QueueFault::Frozen => Refusal::Frozen,
-        QueueFault::NoOpening => Refusal::NoOpening,
-        QueueFault::NothingWaits => Refusal::NothingWaits,
+        QueueFault::Full => CallRefusal::Limit,
+        QueueFault::Frozen => CallRefusal::Frozen,
+        QueueFault::NoOpening => CallRefusal::NoOpening,
+        QueueFault::NothingWaits => CallRefusal::NothingWaits,
     }
 }
 

@@ -1,1 +1,1 @@
-pub mod Fault
+pub mod Faults

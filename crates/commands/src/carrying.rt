@@ -3,7 +3,7 @@
 
 ghost use Rattle.std.specs.Prelude.{◌≡◌, ◌≤◌, true, Contains, IsErrAnd, IsUtf8, MatchResult, length};
 ghost use Rattle.command_line.specs.Files.{input_paths, reads_text};
-ghost use Rattle.commands.specs.Fault.{status_of};
+ghost use Rattle.commands.specs.Faults.{status_of};
 
 use crate::fault::Fault;
 use crate::verdicts;

@@ -1,7 +1,7 @@
 // Why a plan was not carried out, as a line for the user and as a status. It relies on the faults of the parts.
 
 ghost use Rattle.std.specs.Prelude.{◌≡◌, ◌≤◌, ◌⊎◌};
-ghost use Rattle.commands.specs.Fault.{fault_of_manifest, fault_of_program, fault_of_run, fault_of_scenario, fault_of_text, status_of};
+ghost use Rattle.commands.specs.Faults.{fault_of_manifest, fault_of_program, fault_of_run, fault_of_scenario, fault_of_text, status_of};
 
 use bpf_asm::{AsmError, AsmFault};
 use bpf_decode::{DecodeError, DecodeFault};

@@ -3,7 +3,7 @@ use Rattle.std.proofs.Common.{◌≡◌, Bool, true, false, not, cond, Some, Non
 use Rattle.std.specs.Prelude.{◌&&◌}
 use Rattle.std.proofs.lemmas.Bool.{cond-true, cond-false}
 use Rattle.ccb.specs.Completion.{Outcome, IsCompletion}
-use Rattle.world.specs.declared.refusal.Refusal.TheVariants.{Unknown, Limit, NotActive}
+use Rattle.world.specs.declared.call_refusal.CallRefusal.TheVariants.{Unknown, Limit, NotActive}
 use Rattle.world.specs.declared.ccb_state.CcbState.{CcbState}
 use Rattle.world.specs.declared.ccb_state.CcbState.TheVariants.{Waiting, Active, InRecovery}
 use Rattle.world.specs.World.{Setup, LiveCcb, World}

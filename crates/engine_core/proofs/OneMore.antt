@@ -7,7 +7,7 @@ use Rattle.ccb.specs.Completion.{Outcome}
 use Rattle.ccb_table.specs.CcbsState.{CcbsState, with_ccbs}
 use Rattle.freeze_ledger.specs.Freezes.{entry_of}
 use Rattle.recoveries.specs.RecoveryState.{RecoveryState, with_recoveries}
-use Rattle.world.specs.declared.refusal.Refusal.{Refusal}
+use Rattle.world.specs.declared.call_refusal.CallRefusal.{CallRefusal}
 use Rattle.world.specs.declared.record.Record.{Record}
 use Rattle.world.specs.declared.record.Record.TheVariants.{Submit, Dispatch, Complete, Advance, GuestFreeze, GuestRelease, Clock}
 use Rattle.world.specs.declared.record.StoppedAt.{StoppedAt}
@@ -25,19 +25,19 @@ use Rattle.engine_core.specs.Invariant.{KeepsEngine}
 use Rattle.engine_core.specs.TakingOver.{LeadsTo}
 use Rattle.engine_core.proofs.Recording.{Goes, goes, goes_once, opening_count}
 
-pub submits : (setup : Setup) (history later : List Record) (ccbs more : CcbsState) (recoveries : RecoveryState) (queue : QueueId) (priority retries : ℕ) (answer : Result CcbId Refusal) → KeepsEngine setup history ccbs recoveries → later ≡ history ++ Submit queue priority retries answer ∷ [] → ((setup : Setup) (world : World) → queue_count setup ≡ length ccbs.openings → step_submit setup (with_ccbs ccbs world) queue.0 priority retries ≡ (ccb_reply answer, with_ccbs more world)) → Goes setup history later ccbs more recoveries recoveries (Submit queue priority retries answer)
+pub submits : (setup : Setup) (history later : List Record) (ccbs more : CcbsState) (recoveries : RecoveryState) (queue : QueueId) (priority retries : ℕ) (answer : Result CcbId CallRefusal) → KeepsEngine setup history ccbs recoveries → later ≡ history ++ Submit queue priority retries answer ∷ [] → ((setup : Setup) (world : World) → queue_count setup ≡ length ccbs.openings → step_submit setup (with_ccbs ccbs world) queue.0 priority retries ≡ (ccb_reply answer, with_ccbs more world)) → Goes setup history later ccbs more recoveries recoveries (Submit queue priority retries answer)
 submits setup history later ccbs more recoveries queue priority retries answer kept is step =
     let before : World = world_of setup history ccbs recoveries in
     goes_once setup history later ccbs more recoveries recoveries (Submit queue priority retries answer) (submit queue.0 priority retries) (ccb_reply answer) (with_ccbs more before) kept is refl refl
     (ap Some (step setup before (opening_count setup history ccbs recoveries kept))) refl
 
-pub dispatches : (setup : Setup) (history later : List Record) (ccbs more : CcbsState) (recoveries : RecoveryState) (queue : QueueId) (answer : Result CcbId Refusal) → KeepsEngine setup history ccbs recoveries → later ≡ history ++ Dispatch queue answer ∷ [] → ((setup : Setup) (world : World) → queue_count setup ≡ length ccbs.openings → world.freezes ≡ recoveries.freezes → step_dispatch setup (with_ccbs ccbs world) queue.0 ≡ (ccb_reply answer, with_ccbs more world)) → Goes setup history later ccbs more recoveries recoveries (Dispatch queue answer)
+pub dispatches : (setup : Setup) (history later : List Record) (ccbs more : CcbsState) (recoveries : RecoveryState) (queue : QueueId) (answer : Result CcbId CallRefusal) → KeepsEngine setup history ccbs recoveries → later ≡ history ++ Dispatch queue answer ∷ [] → ((setup : Setup) (world : World) → queue_count setup ≡ length ccbs.openings → world.freezes ≡ recoveries.freezes → step_dispatch setup (with_ccbs ccbs world) queue.0 ≡ (ccb_reply answer, with_ccbs more world)) → Goes setup history later ccbs more recoveries recoveries (Dispatch queue answer)
 dispatches setup history later ccbs more recoveries queue answer kept is step =
     let before : World = world_of setup history ccbs recoveries in
     goes_once setup history later ccbs more recoveries recoveries (Dispatch queue answer) (dispatch queue.0) (ccb_reply answer) (with_ccbs more before) kept is refl refl
     (ap Some (step setup before (opening_count setup history ccbs recoveries kept) refl)) refl
 
-pub guest_freezes : (setup : Setup) (history later : List Record) (ccbs : CcbsState) (recoveries after : RecoveryState) (queue : QueueId) (guest : ℕ) (answer : Result ℕ Refusal) → KeepsEngine setup history ccbs recoveries → later ≡ history ++ GuestFreeze queue guest answer ∷ [] → after.queues ≡ recoveries.queues → ((setup : Setup) (world : World) → queue_count setup ≡ recoveries.queues → step_guest_freeze setup (with_recoveries recoveries world) queue.0 guest ≡ (freeze_reply answer, with_recoveries after world)) → Goes setup history later ccbs ccbs recoveries after (GuestFreeze queue guest answer)
+pub guest_freezes : (setup : Setup) (history later : List Record) (ccbs : CcbsState) (recoveries after : RecoveryState) (queue : QueueId) (guest : ℕ) (answer : Result ℕ CallRefusal) → KeepsEngine setup history ccbs recoveries → later ≡ history ++ GuestFreeze queue guest answer ∷ [] → after.queues ≡ recoveries.queues → ((setup : Setup) (world : World) → queue_count setup ≡ recoveries.queues → step_guest_freeze setup (with_recoveries recoveries world) queue.0 guest ≡ (freeze_reply answer, with_recoveries after world)) → Goes setup history later ccbs ccbs recoveries after (GuestFreeze queue guest answer)
 guest_freezes setup history later ccbs recoveries after queue guest answer kept is same step =
     let before : World = world_of setup history ccbs recoveries in
     goes_once setup history later ccbs ccbs recoveries after (GuestFreeze queue guest answer) (guest_freeze queue.0 guest) (freeze_reply answer) (with_recoveries after before) kept is same refl
@@ -49,13 +49,13 @@ guest_releases setup history later ccbs recoveries after freeze count kept is sa
     goes_once setup history later ccbs ccbs recoveries after (GuestRelease freeze count) (guest_release freeze) (count_left count) (with_recoveries after before) kept is same refl
     (step before) refl
 
-pub reads_clock : (setup : Setup) (history later : List Record) (ccbs : CcbsState) (recoveries after : RecoveryState) (reading : ℕ) (answer : Result ℕ Refusal) → KeepsEngine setup history ccbs recoveries → later ≡ history ++ Clock reading answer ∷ [] → after.queues ≡ recoveries.queues → ((world : World) → step_clock_reads (with_recoveries recoveries world) reading ≡ (clock_reply answer, with_recoveries after world)) → Goes setup history later ccbs ccbs recoveries after (Clock reading answer)
+pub reads_clock : (setup : Setup) (history later : List Record) (ccbs : CcbsState) (recoveries after : RecoveryState) (reading : ℕ) (answer : Result ℕ CallRefusal) → KeepsEngine setup history ccbs recoveries → later ≡ history ++ Clock reading answer ∷ [] → after.queues ≡ recoveries.queues → ((world : World) → step_clock_reads (with_recoveries recoveries world) reading ≡ (clock_reply answer, with_recoveries after world)) → Goes setup history later ccbs ccbs recoveries after (Clock reading answer)
 reads_clock setup history later ccbs recoveries after reading answer kept is same step =
     let before : World = world_of setup history ccbs recoveries in
     goes_once setup history later ccbs ccbs recoveries after (Clock reading answer) (clock_reads reading) (clock_reply answer) (with_recoveries after before) kept is same refl
     (ap Some (step before)) refl
 
-pub completes : (setup : Setup) (history later : List Record) (ccbs more : CcbsState) (recoveries after : RecoveryState) (outcome : Outcome) (answer : Result Completed Refusal) (world : World) → KeepsEngine setup history ccbs recoveries → later ≡ history ++ Complete outcome answer ∷ [] → after.queues ≡ recoveries.queues → step_complete setup (world_of setup history ccbs recoveries) outcome ≡ Some (completed_reply answer, world) → IsWorldOf world more after → Goes setup history later ccbs more recoveries after (Complete outcome answer)
+pub completes : (setup : Setup) (history later : List Record) (ccbs more : CcbsState) (recoveries after : RecoveryState) (outcome : Outcome) (answer : Result Completed CallRefusal) (world : World) → KeepsEngine setup history ccbs recoveries → later ≡ history ++ Complete outcome answer ∷ [] → after.queues ≡ recoveries.queues → step_complete setup (world_of setup history ccbs recoveries) outcome ≡ Some (completed_reply answer, world) → IsWorldOf world more after → Goes setup history later ccbs more recoveries after (Complete outcome answer)
 completes setup history later ccbs more recoveries after outcome answer world kept is same step fields =
     goes_once setup history later ccbs more recoveries after (Complete outcome answer) (complete outcome) (completed_reply answer) world kept is same refl step fields
 

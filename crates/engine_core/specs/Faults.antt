@@ -1,5 +1,5 @@
 -- What each fault says.
-use Rattle.world.specs.declared.refusal.Refusal.{Refusal}
+use Rattle.world.specs.declared.call_refusal.CallRefusal.{CallRefusal}
 use Rattle.engine_core.specs.declared.answers.CallFault.{CallFault}
 use Rattle.engine_core.specs.declared.answers.CallFault.TheVariants.{OutOfMemory, Refused}
 use Rattle.engine_core.specs.declared.answers.ReleaseFault.{ReleaseFault}
@@ -8,7 +8,7 @@ use Rattle.engine_core.specs.declared.answers.AdvanceFault.{AdvanceFault}
 use Rattle.engine_core.specs.declared.answers.AdvanceFault.TheVariants.{NotOut, OutOfMemory as advance_memory}
 
 -- want of memory, or the refusal that is recorded
-abbrev pub FaultIs : CallFault → Type 0 → (Refusal → Type 0) → Type 0
+abbrev pub FaultIs : CallFault → Type 0 → (CallRefusal → Type 0) → Type 0
 FaultIs OutOfMemory memory recorded = memory
 FaultIs (Refused refusal) memory recorded = recorded refusal
 

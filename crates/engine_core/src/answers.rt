@@ -3,7 +3,7 @@
 use crate::run::Run;
 use std::alloc::AllocError;
 use thiserror::Error;
-use world::Refusal;
+use world::CallRefusal;
 
 /// Why a call was not carried out.
 #[derive(Clone, Copy, Debug, PartialEq, Eq, Error)]
@@ -13,7 +13,7 @@ pub enum CallFault {
     OutOfMemory,
     /// The call is refused, and the refusal is recorded.
     #[error("{0}")]
-    Refused(Refusal),
+    Refused(CallRefusal),
 }
 
 impl From<AllocError> for CallFault {

@@ -18,11 +18,11 @@ use engine_config::Config;
 use recoveries::Recoveries;
 use std::alloc::AllocError;
 use std::sync::Arc;
-use world::Refusal;
+use world::CallRefusal;
 
 /// What is to be done about a completion.
 pub(crate) enum Course {
-    Refuse(Refusal),
+    Refuse(CallRefusal),
     /// The CCB is finished.
     Finish(Ccb),
     /// A run starts for the CCB.
@@ -47,13 +47,13 @@ pub(crate) fn decide(ccbs: &CcbTable, recoveries: &Recoveries, completion: &Comp
 {
     let succeeded = has_succeeded(completion);
     let Some(live) = ccbs.get(completion.ccb()) else {
-        return Course::Refuse(Refusal::Unknown);
+        return Course::Refuse(CallRefusal::Unknown);
     };
     if !succeeded && recoveries.is_full() {
-        return Course::Refuse(Refusal::Limit);
+        return Course::Refuse(CallRefusal::Limit);
     }
     if !live.is_active() {
-        return Course::Refuse(Refusal::NotActive);
+        return Course::Refuse(CallRefusal::NotActive);
     }
     if succeeded {
         Course::Finish(live.ccb())

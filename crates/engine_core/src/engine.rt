@@ -30,7 +30,7 @@ use interpreter::Segment;
 use recoveries::{MAX_RUNS, Recoveries};
 use std::alloc::{AllocError, Global};
 use std::marker::Model;
-use world::{Completed, CompletionRecord, Record, Refusal, Totals, Trace};
+use world::{CallRefusal, Completed, CompletionRecord, Record, Totals, Trace};
 
 /// The room that a call makes in the history: for its own record, and for one of each run, which may be parked behind it.
 const ROOM: usize = 1 + MAX_RUNS;
@@ -343,7 +343,7 @@ impl Engine {
     {
         self.history.reserve(ROOM)?;
         let Some(place) = self.recoveries.parked(run) else {
-            let refusal = Refusal::Unknown;
+            let refusal = CallRefusal::Unknown;
             keep(
                 &mut self.history,
                 &self.recoveries,

@@ -14,4 +14,4 @@ pub use answers::{AdvanceAnswer, AdvanceFault, CallFault, CompleteAnswer, Releas
 pub use engine::Engine;
 pub use engine_config::Config;
 pub use run::Run;
-pub use world::{Completed, Record, Refusal, StoppedAt, Totals, Trace};
+pub use world::{CallRefusal, Completed, Record, StoppedAt, Totals, Trace};

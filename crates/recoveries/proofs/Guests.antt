@@ -8,7 +8,7 @@ use Rattle.freeze_ledger.specs.declared.freeze.Holder.TheVariants.{Guest}
 use Rattle.freeze_ledger.specs.declared.freeze.Freeze.{Freeze}
 use Rattle.freeze_ledger.specs.Freezes.{entry_of, without}
 use Rattle.freeze_ledger.specs.State.{LedgerState, with_entry, with_freezes, next_freeze}
-use Rattle.world.specs.declared.refusal.Refusal.{Refusal}
+use Rattle.world.specs.declared.call_refusal.CallRefusal.{CallRefusal}
 use Rattle.world.specs.FreezeSteps.{is_guest}
 use Rattle.recoveries.specs.declared.run_record.RunRecord.{RunRecord}
 use Rattle.recoveries.specs.Invariant.{KeepsRecoveries}
@@ -24,7 +24,7 @@ kept_taken rs capacity greatest guest queue before after (Some f) k next some no
 abbrev IsTaken : LedgerState → QueueId → ℕ → Freeze → Type 0
 IsTaken after queue guest f = (f.queue ≡ queue) × (f.holder ≡ Guest guest) × Contains after.freezes f
 
-pub taken_is : (guest : ℕ) (queue : QueueId) (before after : LedgerState) (t : Option Freeze) (refusal : Refusal) → IfSome t (λ f. f ≡ next_freeze before queue (Guest guest)) → IfSome t (λ f. after ≡ with_entry before f) → IfOk (ok_or t refusal) (IsTaken after queue guest)
+pub taken_is : (guest : ℕ) (queue : QueueId) (before after : LedgerState) (t : Option Freeze) (refusal : CallRefusal) → IfSome t (λ f. f ≡ next_freeze before queue (Guest guest)) → IfSome t (λ f. after ≡ with_entry before f) → IfOk (ok_or t refusal) (IsTaken after queue guest)
 taken_is guest queue before after None refusal next some = tt
 taken_is guest queue before after (Some f) refusal next some = (
   ap (λ (x : Freeze). x.queue) next,

@@ -10,7 +10,7 @@ use Rattle.freeze_ledger.specs.State.{LedgerState}
 use Rattle.bpf_insn.specs.declared.program.Slot.{Slot}
 use Rattle.bpf_machine.specs.MachineState.{MachineState}
 use Rattle.table_store.specs.Tables.{zero_table}
-use Rattle.world.specs.declared.refusal.Refusal.{Refusal}
+use Rattle.world.specs.declared.call_refusal.CallRefusal.{CallRefusal}
 use Rattle.world.specs.World.{LiveRun, World}
 use Rattle.world.specs.Event.{Reply, freeze_given, refused}
 
@@ -68,7 +68,7 @@ state_of ledger runs greatest_run clock tables = record {
 }
 
 -- what is answered where this was taken
-abbrev pub taken_reply : Result Freeze Refusal → Reply
+abbrev pub taken_reply : Result Freeze CallRefusal → Reply
 taken_reply (Ok freeze) = freeze_given freeze.number
 taken_reply (Err refusal) = refused refusal
 

@@ -42,7 +42,7 @@ use std::sync::Arc;
 use table_store::TableStore;
 use timer_events::expire_due;
 use verifier::Accepted;
-use world::Refusal;
+use world::CallRefusal;
 
 /// How many runs can be live at a time.
 pub const MAX_RUNS: usize = 256;
@@ -184,18 +184,18 @@ impl Recoveries {
     /// Freezes a queue once more for a guest, under the number that it chose. C1 where there is no such queue; C2 where
     /// the queue has 255 freezes, there are 1024 in all, or the numbers up to 4,294,967,295 are used up. A refusal
     /// changes nothing.
-    pub fn guest_freeze(&mut self, queue: QueueId, guest: u32) -> Result<FreezeToken, Refusal>
+    pub fn guest_freeze(&mut self, queue: QueueId, guest: u32) -> Result<FreezeToken, CallRefusal>
         ensures step { (setup : Setup) (world : World) → queue_count setup ≡ self.old.queues →
             step_guest_freeze setup (with_recoveries self.old world) queue.0 guest ≡ (taken_reply result, with_recoveries self.new world) }
         ensures token { IfOk result (λ token. (token.queue ≡ queue) × (token.holder ≡ Guest guest) × Contains self.new.freezes token) }
         ensures queues { self.new.queues ≡ self.old.queues }
     {
         if queue.0 >= self.ledger.queues() {
-            return Err(Refusal::Unknown);
+            return Err(CallRefusal::Unknown);
         }
         self.ledger
             .take(queue, Holder::Guest(guest))
-            .ok_or(Refusal::Limit)
+            .ok_or(CallRefusal::Limit)
     }
 
     /// Whether an entry has the token's number, queue and holder, and that is a guest.
@@ -225,16 +225,16 @@ impl Recoveries {
     /// Reads the clock, in milliseconds: the freezes go whose timers are due at or before the reading, and no others; it
     /// answers how many these were, at most 1024. C2 above 2^62, and C5 below the last reading. A refusal changes
     /// nothing.
-    pub fn read_clock(&mut self, reading: u64) -> Result<u32, Refusal>
+    pub fn read_clock(&mut self, reading: u64) -> Result<u32, CallRefusal>
         ensures step { (world : World) →
             step_clock_reads (with_recoveries self.old world) reading ≡ (clock_reply result, with_recoveries self.new world) }
         ensures queues { self.new.queues ≡ self.old.queues }
     {
         if reading > LAST_READING {
-            return Err(Refusal::Limit);
+            return Err(CallRefusal::Limit);
         }
         if reading < self.clock {
-            return Err(Refusal::GoesBack);
+            return Err(CallRefusal::GoesBack);
         }
         self.clock = reading;
         Ok(expire_due(&mut self.ledger, reading))

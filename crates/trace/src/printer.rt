@@ -5,7 +5,7 @@ use ccb::CcbId;
 use helpers::Helper;
 use std::io;
 use std::io::Write;
-use world::{Completed, CompletionRecord, Record, Refusal, StoppedAt, Trace};
+use world::{CallRefusal, Completed, CompletionRecord, Record, StoppedAt, Trace};
 
 /// Writes the whole trace.
 pub fn print<W: Write>(trace: &Trace, out: &mut W) -> io::Result<()> {
@@ -74,14 +74,14 @@ fn print_stop<W: Write>(stop: &StoppedAt, out: &mut W) -> io::Result<()> {
     }
 }
 
-fn print_ccb<W: Write>(answer: Result<CcbId, Refusal>, out: &mut W) -> io::Result<()> {
+fn print_ccb<W: Write>(answer: Result<CcbId, CallRefusal>, out: &mut W) -> io::Result<()> {
     match answer {
         Ok(ccb) => writeln!(out, "ccb {}", ccb.0),
         Err(refusal) => writeln!(out, "{refusal}"),
     }
 }
 
-fn print_freeze<W: Write>(answer: Result<u32, Refusal>, out: &mut W) -> io::Result<()> {
+fn print_freeze<W: Write>(answer: Result<u32, CallRefusal>, out: &mut W) -> io::Result<()> {
     match answer {
         Ok(freeze) => writeln!(out, "freeze {freeze}"),
         Err(refusal) => writeln!(out, "{refusal}"),
@@ -90,7 +90,7 @@ fn print_freeze<W: Write>(answer: Result<u32, Refusal>, out: &mut W) -> io::Resu
 
 fn print_clock<W: Write>(
     reading: u64,
-    answer: Result<u32, Refusal>,
+    answer: Result<u32, CallRefusal>,
     out: &mut W,
 ) -> io::Result<()> {
     match answer {
@@ -99,14 +99,21 @@ fn print_clock<W: Write>(
     }
 }
 
-fn print_resume<W: Write>(run: u32, answer: Result<(), Refusal>, out: &mut W) -> io::Result<()> {
+fn print_resume<W: Write>(
+    run: u32,
+    answer: Result<(), CallRefusal>,
+    out: &mut W,
+) -> io::Result<()> {
     match answer {
         Ok(()) => writeln!(out, "resume {run} = ok"),
         Err(refusal) => writeln!(out, "resume {run} = {refusal}"),
     }
 }
 
-fn print_completed<W: Write>(answer: Result<Completed, Refusal>, out: &mut W) -> io::Result<()> {
+fn print_completed<W: Write>(
+    answer: Result<Completed, CallRefusal>,
+    out: &mut W,
+) -> io::Result<()> {
     match answer {
         Ok(Completed::Done) => writeln!(out, "done"),
         Ok(Completed::Started { run, freeze }) => writeln!(out, "run {run} freeze {freeze}"),
@@ -125,7 +132,7 @@ fn print_bytes<W: Write>(bytes: &[u8], out: &mut W) -> io::Result<()> {
 // The status, the SCSI status and the sense bytes are pairs of hexadecimal digits, and no bytes are `-`.
 fn print_completion<W: Write>(
     completion: &CompletionRecord,
-    answer: Result<Completed, Refusal>,
+    answer: Result<Completed, CallRefusal>,
     out: &mut W,
 ) -> io::Result<()> {
     let status = completion.status().code();

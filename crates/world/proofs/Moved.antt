@@ -17,8 +17,8 @@ use Rattle.bpf_machine.specs.MachineState.{MachineState}
 use Rattle.bpf_machine.specs.Step.{private_step, request_at, exit_at}
 use Rattle.world.specs.Capacities.{most_runs, last_number, last_reading}
 use Rattle.world.specs.World.{Setup, queue_count, LiveCcb, LiveRun, World}
-use Rattle.world.specs.declared.refusal.Refusal.TheVariants.{Unknown, Limit, NotActive, GoesBack, Frozen, NoOpening, NothingWaits}
-use Rattle.world.specs.declared.refusal.Refusal.{Refusal}
+use Rattle.world.specs.declared.call_refusal.CallRefusal.TheVariants.{Unknown, Limit, NotActive, GoesBack, Frozen, NoOpening, NothingWaits}
+use Rattle.world.specs.declared.call_refusal.CallRefusal.{CallRefusal}
 use Rattle.world.specs.Lookups.{is_active, active_count, ccb_of, next_waiting, run_of, with_run}
 use Rattle.world.specs.Told.{Told}
 use Rattle.world.specs.Event.{Instruction, private, call, exit, Event, submit, dispatch, complete, guest_freeze, guest_release, clock_reads, parks, resumes, executes, Reply, ccb_given, done, freeze_given, expired, ok, went_on, result, refused}
@@ -110,7 +110,7 @@ module _ (r : ℕ) (c : LiveRun) (named : c.number ≡ r) (w : World) where
   }
 
   -- it is refused
-  refuses : (refusal : Refusal) → Alike (refused refusal, w) (refused refusal, changed c w)
+  refuses : (refusal : CallRefusal) → Alike (refused refusal, w) (refused refusal, changed c w)
   refuses refusal = stays (refused refusal) w refl
 
   -- The events, one by one.

@@ -1,7 +1,7 @@
 -- What may happen in the world, and what is answered. One instruction of one run is one event.
 use Rattle.std.specs.Prelude.{ℕ, ◌==◌, Option, Some, None, if◌then◌else◌}
 use Rattle.ccb.specs.Completion.{Outcome}
-use Rattle.world.specs.declared.refusal.Refusal.{Refusal}
+use Rattle.world.specs.declared.call_refusal.CallRefusal.{CallRefusal}
 use Rattle.world.specs.Told.{Told}
 
 -- what one instruction of a run is: private to the run, a call of a helper with what is told of it, or the outermost exit
@@ -49,7 +49,7 @@ pub data Reply : Type 0 where
   went_on : Reply
   -- what R0 is after a helper call, or at the exit
   result : (r0 : ℕ) → Reply
-  refused : Refusal → Reply
+  refused : CallRefusal → Reply
 
 -- the instruction of this run that an event is, if it is one
 abbrev pub instruction_of : ℕ → Event → Option Instruction

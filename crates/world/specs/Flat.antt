@@ -2,7 +2,7 @@
 use Rattle.std.specs.Prelude.{ℕ, zero, suc, List, [], ◌∷◌, ◌++◌, Result, Ok, Err, replicate, ⊤}
 use Rattle.std.specs.List.{flat_map}
 use Rattle.ccb.specs.declared.CcbId.{CcbId}
-use Rattle.world.specs.declared.refusal.Refusal.{Refusal}
+use Rattle.world.specs.declared.call_refusal.CallRefusal.{CallRefusal}
 use Rattle.world.specs.declared.record.Completed.{Completed}
 use Rattle.world.specs.declared.record.Completed.TheVariants.{Done, Started}
 use Rattle.world.specs.declared.record.StoppedAt.{StoppedAt}
@@ -15,28 +15,28 @@ use Rattle.world.specs.Event.{Instruction, private, call, exit, Event, submit, d
 use Rattle.world.specs.WorldRun.{Leads}
 
 -- what is answered to a call that gives the number of a CCB
-abbrev pub ccb_reply : Result CcbId Refusal → Reply
+abbrev pub ccb_reply : Result CcbId CallRefusal → Reply
 ccb_reply (Ok ccb) = ccb_given ccb.0
 ccb_reply (Err refusal) = refused refusal
 
 -- what is answered to a completion
-abbrev pub completed_reply : Result Completed Refusal → Reply
+abbrev pub completed_reply : Result Completed CallRefusal → Reply
 completed_reply (Ok Done) = done
 completed_reply (Ok (Started run freeze)) = run_started run freeze
 completed_reply (Err refusal) = refused refusal
 
 -- what is answered to a call that gives a freeze
-abbrev pub freeze_reply : Result ℕ Refusal → Reply
+abbrev pub freeze_reply : Result ℕ CallRefusal → Reply
 freeze_reply (Ok number) = freeze_given number
 freeze_reply (Err refusal) = refused refusal
 
 -- what is answered to a clock reading
-abbrev pub clock_reply : Result ℕ Refusal → Reply
+abbrev pub clock_reply : Result ℕ CallRefusal → Reply
 clock_reply (Ok count) = expired count
 clock_reply (Err refusal) = refused refusal
 
 -- what is answered to a resume
-abbrev pub resume_reply : Result ⊤ Refusal → Reply
+abbrev pub resume_reply : Result ⊤ CallRefusal → Reply
 resume_reply (Ok x) = ok
 resume_reply (Err refusal) = refused refusal
 

@@ -4,7 +4,7 @@ use Rattle.freeze_ledger.specs.declared.freeze.Holder.{Holder}
 use Rattle.freeze_ledger.specs.declared.freeze.Holder.TheVariants.{Run, Timer, Guest}
 use Rattle.freeze_ledger.specs.declared.freeze.Freeze.{Freeze}
 use Rattle.freeze_ledger.specs.Freezes.{frozen, meets_limit, without, handed_over, due_at, not_due_at}
-use Rattle.world.specs.declared.refusal.Refusal.TheVariants.{Unknown, Limit, GoesBack}
+use Rattle.world.specs.declared.call_refusal.CallRefusal.TheVariants.{Unknown, Limit, GoesBack}
 use Rattle.world.specs.Capacities.{last_reading}
 use Rattle.world.specs.World.{Setup, queue_count, World}
 use Rattle.world.specs.Event.{Reply, freeze_given, count_left, expired, refused}

@@ -23,4 +23,4 @@ pub mod Headline
 pub mod ParkLaws
 pub mod Moved
 pub mod CcbLaws
-pub mod RefusalText
+pub mod CallRefusalText

@@ -3,20 +3,20 @@
 // `ccb` and `freeze_ledger` for what CCBs and freezes are, and on `bpf_machine` for what a program means.
 #![tactic(auto)]
 
+mod call_refusal;
 mod ccb_state;
 mod completion_record;
 mod queue_info;
 mod record;
-mod refusal;
 mod totals;
 mod trace;
 mod traced_bytes;
 
+pub use call_refusal::CallRefusal;
 pub use ccb_state::CcbState;
 pub use completion_record::CompletionRecord;
 pub use queue_info::QueueInfo;
 pub use record::{Completed, Record, StoppedAt};
-pub use refusal::Refusal;
 pub use totals::Totals;
 pub use trace::Trace;
 pub use traced_bytes::TracedBytes;

@@ -1,9 +1,9 @@
 // What an engine's history is made of: one record for each answered call. It relies on `completion_record` and
-// `traced_bytes` for what stands apart, on `helpers` for where a run stops, and on `refusal` for what a refused call
+// `traced_bytes` for what stands apart, on `helpers` for where a run stops, and on `call_refusal` for what a refused call
 // answers.
 
+use crate::call_refusal::CallRefusal;
 use crate::completion_record::CompletionRecord;
-use crate::refusal::Refusal;
 use crate::traced_bytes::TracedBytes;
 use ccb::{CcbId, QueueId};
 use helpers::Helper;
@@ -39,17 +39,17 @@ pub enum Record {
         queue: QueueId,
         priority: u32,
         retries: u32,
-        answer: Result<CcbId, Refusal>,
+        answer: Result<CcbId, CallRefusal>,
     },
     /// A queue started a CCB: its number.
     Dispatch {
         queue: QueueId,
-        answer: Result<CcbId, Refusal>,
+        answer: Result<CcbId, CallRefusal>,
     },
     /// A device was done with a CCB.
     Complete {
         completion: CompletionRecord,
-        answer: Result<Completed, Refusal>,
+        answer: Result<Completed, CallRefusal>,
     },
     /// A run went on by so many instructions, 1 to 65,536: private ones, and as the last of them the helper call
     /// or exit at which it stopped, with what R0 was after the call or at the exit.
@@ -63,7 +63,7 @@ pub enum Record {
     GuestFreeze {
         queue: QueueId,
         guest: u32,
-        answer: Result<u32, Refusal>,
+        answer: Result<u32, CallRefusal>,
     },
     /// A guest gave a freeze back: how many freezes its queue had then, 0 to 254.
     GuestRelease {
@@ -73,7 +73,7 @@ pub enum Record {
     /// The clock was read, in milliseconds: how many freezes went since their timers were due, 0 to 1024.
     Clock {
         reading: u64,
-        answer: Result<u32, Refusal>,
+        answer: Result<u32, CallRefusal>,
     },
     /// A run was parked.
     Park {
@@ -82,7 +82,7 @@ pub enum Record {
     /// A run that was parked is out again.
     Resume {
         run: u32,
-        answer: Result<(), Refusal>,
+        answer: Result<(), CallRefusal>,
     },
 }
 

@@ -13,7 +13,7 @@ use helpers::Helper;
 use std::alloc::Global;
 use std::process::Abort;
 use std::test::Fail;
-use world::Refusal;
+use world::CallRefusal;
 
 /// The other queue, and none.
 const NEIGHBOUR: QueueId = QueueId(1);
@@ -40,7 +40,7 @@ fn clock(rt: &impl Abort, engine: &mut Engine, reading: u64) -> Result<u32, Call
 }
 
 // Whether the call is refused for that cause.
-fn is_refused<T: Drop>(answer: Result<T, CallFault>, refusal: Refusal) -> bool {
+fn is_refused<T: Drop>(answer: Result<T, CallFault>, refusal: CallRefusal) -> bool {
     match answer {
         Ok(_) => false,
         Err(fault) => fault == CallFault::Refused(refusal),
@@ -52,7 +52,7 @@ fn submit_all(rt: &impl Abort, engine: &mut Engine) -> Result<(), Fail> {
     for number in 1..=3 {
         assert_eq!(rt; submit(rt, engine, QUEUE)?, CcbId(number));
     }
-    assert!(rt; is_refused(submit(rt, engine, NOWHERE), Refusal::Unknown));
+    assert!(rt; is_refused(submit(rt, engine, NOWHERE), CallRefusal::Unknown));
     Ok(())
 }
 
@@ -63,7 +63,7 @@ fn is_unfrozen(rt: &impl Abort, engine: &mut Engine) -> bool {
             token.forfeit();
             false
         }
-        Err(fault) => fault == CallFault::Refused(Refusal::Unknown),
+        Err(fault) => fault == CallFault::Refused(CallRefusal::Unknown),
     }
 }
 
@@ -71,13 +71,13 @@ fn is_unfrozen(rt: &impl Abort, engine: &mut Engine) -> bool {
 fn start_two(rt: &impl Abort, engine: &mut Engine) -> Result<(), Fail> {
     assert!(rt; is_unfrozen(rt, engine));
     let token = freeze(rt, engine, QUEUE)?;
-    let frozen = is_refused(dispatch(rt, engine, QUEUE), Refusal::Frozen);
+    let frozen = is_refused(dispatch(rt, engine, QUEUE), CallRefusal::Frozen);
     assert_eq!(rt; (release(rt, engine, token)?, frozen), (0, true));
     assert_eq!(rt; dispatch(rt, engine, QUEUE)?, CcbId(1));
     assert_eq!(rt; dispatch(rt, engine, QUEUE)?, CcbId(2));
-    assert!(rt; is_refused(dispatch(rt, engine, QUEUE), Refusal::NoOpening));
-    assert!(rt; is_refused(dispatch(rt, engine, NEIGHBOUR), Refusal::NothingWaits));
-    assert!(rt; is_refused(dispatch(rt, engine, NOWHERE), Refusal::Unknown));
+    assert!(rt; is_refused(dispatch(rt, engine, QUEUE), CallRefusal::NoOpening));
+    assert!(rt; is_refused(dispatch(rt, engine, NEIGHBOUR), CallRefusal::NothingWaits));
+    assert!(rt; is_refused(dispatch(rt, engine, NOWHERE), CallRefusal::Unknown));
     Ok(())
 }
 
@@ -85,8 +85,8 @@ fn start_two(rt: &impl Abort, engine: &mut Engine) -> Result<(), Fail> {
 fn complete_two(rt: &impl Abort, engine: &mut Engine) -> Result<Run, Fail> {
     let unknown = unstarted(rt, engine, completion(7, CamStatus::Busy)?)?;
     let waiting = unstarted(rt, engine, completion(3, CamStatus::Busy)?)?;
-    assert_eq!(rt; unknown, CallFault::Refused(Refusal::Unknown));
-    assert_eq!(rt; waiting, CallFault::Refused(Refusal::NotActive));
+    assert_eq!(rt; unknown, CallFault::Refused(CallRefusal::Unknown));
+    assert_eq!(rt; waiting, CallFault::Refused(CallRefusal::NotActive));
     finish(rt, engine, completion(2, CamStatus::RequestCompleted)?)?;
     let (run, freeze) = fail(rt, engine, completion(1, CamStatus::Busy)?)?;
     assert_eq!(rt; freeze, 2);
@@ -108,8 +108,8 @@ fn recover(rt: &impl Abort, engine: &mut Engine, run: Run) -> Result<(), Fail> {
 // A clock reading, and two that there cannot be.
 fn read_clock(rt: &impl Abort, engine: &mut Engine) -> Result<(), Fail> {
     assert_eq!(rt; clock(rt, engine, 10)?, 0);
-    assert!(rt; is_refused(clock(rt, engine, 9), Refusal::GoesBack));
-    assert!(rt; is_refused(clock(rt, engine, LATE), Refusal::Limit));
+    assert!(rt; is_refused(clock(rt, engine, 9), CallRefusal::GoesBack));
+    assert!(rt; is_refused(clock(rt, engine, LATE), CallRefusal::Limit));
     Ok(())
 }
 
@@ -121,7 +121,7 @@ fn make_each_call(rt: &impl Abort, engine: &mut Engine) -> Result<(), Fail> {
     read_clock(rt, engine)
 }
 
-fn submitted(queue: QueueId, answer: Result<CcbId, Refusal>) -> Record {
+fn submitted(queue: QueueId, answer: Result<CcbId, CallRefusal>) -> Record {
     Record::Submit {
         queue,
         priority: 10,
@@ -130,11 +130,11 @@ fn submitted(queue: QueueId, answer: Result<CcbId, Refusal>) -> Record {
     }
 }
 
-fn started(queue: QueueId, answer: Result<CcbId, Refusal>) -> Record {
+fn started(queue: QueueId, answer: Result<CcbId, CallRefusal>) -> Record {
     Record::Dispatch { queue, answer }
 }
 
-fn frozen(queue: QueueId, answer: Result<u32, Refusal>) -> Record {
+fn frozen(queue: QueueId, answer: Result<u32, CallRefusal>) -> Record {
     Record::GuestFreeze {
         queue,
         guest: 7,
@@ -146,7 +146,7 @@ fn ended(
     alloc: Global,
     ccb: u32,
     status: CamStatus,
-    answer: Result<Completed, Refusal>,
+    answer: Result<Completed, CallRefusal>,
 ) -> Result<Record, Fail> {
     Ok(Record::Complete {
         completion: completed(alloc, &completion(ccb, status)?)?,
@@ -154,7 +154,7 @@ fn ended(
     })
 }
 
-fn clock_read(reading: u64, answer: Result<u32, Refusal>) -> Record {
+fn clock_read(reading: u64, answer: Result<u32, CallRefusal>) -> Record {
     Record::Clock { reading, answer }
 }
 
@@ -170,21 +170,21 @@ fn each_call_and_memory_refused_once(rt: HostRuntime) -> Result<(), Fail> {
         submitted(QUEUE, Ok(CcbId(1))),
         submitted(QUEUE, Ok(CcbId(2))),
         submitted(QUEUE, Ok(CcbId(3))),
-        submitted(NOWHERE, Err(Refusal::Unknown)),
-        frozen(NOWHERE, Err(Refusal::Unknown)),
+        submitted(NOWHERE, Err(CallRefusal::Unknown)),
+        frozen(NOWHERE, Err(CallRefusal::Unknown)),
         frozen(QUEUE, Ok(1)),
-        started(QUEUE, Err(Refusal::Frozen)),
+        started(QUEUE, Err(CallRefusal::Frozen)),
         Record::GuestRelease {
             freeze: 1,
             count: 0,
         },
         started(QUEUE, Ok(CcbId(1))),
         started(QUEUE, Ok(CcbId(2))),
-        started(QUEUE, Err(Refusal::NoOpening)),
-        started(NEIGHBOUR, Err(Refusal::NothingWaits)),
-        started(NOWHERE, Err(Refusal::Unknown)),
-        ended(rt.alloc(), 7, CamStatus::Busy, Err(Refusal::Unknown))?,
-        ended(rt.alloc(), 3, CamStatus::Busy, Err(Refusal::NotActive))?,
+        started(QUEUE, Err(CallRefusal::NoOpening)),
+        started(NEIGHBOUR, Err(CallRefusal::NothingWaits)),
+        started(NOWHERE, Err(CallRefusal::Unknown)),
+        ended(rt.alloc(), 7, CamStatus::Busy, Err(CallRefusal::Unknown))?,
+        ended(rt.alloc(), 3, CamStatus::Busy, Err(CallRefusal::NotActive))?,
         ended(
             rt.alloc(),
             2,
@@ -196,7 +196,7 @@ fn each_call_and_memory_refused_once(rt: HostRuntime) -> Result<(), Fail> {
         Record::Park { run: 1 },
         Record::Resume {
             run: 2,
-            answer: Err(Refusal::Unknown),
+            answer: Err(CallRefusal::Unknown),
         },
         Record::Resume {
             run: 1,
@@ -205,8 +205,8 @@ fn each_call_and_memory_refused_once(rt: HostRuntime) -> Result<(), Fail> {
         advanced(2, StoppedAt::Helper(Helper::Requeue)),
         advanced(2, StoppedAt::Exit),
         clock_read(10, Ok(0)),
-        clock_read(9, Err(Refusal::GoesBack)),
-        clock_read(LATE, Err(Refusal::Limit)),
+        clock_read(9, Err(CallRefusal::GoesBack)),
+        clock_read(LATE, Err(CallRefusal::Limit)),
     ];
     assert!(rt; are_told(rt.alloc(), &trace.records, &records)?);
     assert_eq!(rt;

@@ -2,9 +2,9 @@
 
 use ccb_table::CcbTable;
 use std::test::Fail;
-use world::Refusal;
+use world::CallRefusal;
 
-fn submit(table: &mut CcbTable, queue: ccb::QueueId) -> Result<ccb::CcbId, Refusal> {
+fn submit(table: &mut CcbTable, queue: ccb::QueueId) -> Result<ccb::CcbId, CallRefusal> {
     table.submit(queue, 0, 0)
 }
 

@@ -5,9 +5,9 @@ use ccb::QueueId;
 use freeze_ledger::FreezeToken;
 use recoveries::Recoveries;
 use std::test::Fail;
-use world::Refusal;
+use world::CallRefusal;
 
-fn freeze(recoveries: &mut Recoveries, guest: u32) -> Result<FreezeToken, Refusal> {
+fn freeze(recoveries: &mut Recoveries, guest: u32) -> Result<FreezeToken, CallRefusal> {
     recoveries.guest_freeze(QueueId(0), guest)
 }
 

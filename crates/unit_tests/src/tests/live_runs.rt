@@ -7,7 +7,7 @@ use ccb::{CamStatus, QueueId};
 use engine_core::{CallFault, Engine};
 use std::process::Abort;
 use std::test::Fail;
-use world::Refusal;
+use world::CallRefusal;
 
 /// How many runs may be live at a time.
 const MOST_RUNS: u32 = 256;
@@ -34,7 +34,7 @@ fn fill(rt: &impl Abort, engine: &mut Engine) -> Result<(), Fail> {
     let before = totals(engine);
     assert_eq!(rt;
         unstarted(rt, engine, failed)?,
-        CallFault::Refused(Refusal::Limit)
+        CallFault::Refused(CallRefusal::Limit)
     );
     let after = totals(engine);
     assert_eq!(rt; Some(after.history), before.history.checked_add(1));

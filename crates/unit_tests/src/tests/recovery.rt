@@ -15,7 +15,7 @@ use std::alloc::{AllocError, Global};
 use std::process::Abort;
 use std::sync::Arc;
 use std::test::Fail;
-use world::{CompletionRecord, Refusal, TracedBytes};
+use world::{CallRefusal, CompletionRecord, TracedBytes};
 
 pub fn completion(ccb: u32, status: CamStatus) -> Result<Completion, Fail> {
     Ok(Completion::new(CcbId(ccb), status, 0, &[]).ok_or("no completion")?)
@@ -447,7 +447,7 @@ pub fn is_unknown(answer: Result<Run, CallFault>) -> bool {
             run.forfeit();
             false
         }
-        Err(fault) => fault == CallFault::Refused(Refusal::Unknown),
+        Err(fault) => fault == CallFault::Refused(CallRefusal::Unknown),
     }
 }
 

@@ -3,7 +3,7 @@ use Rattle.std.proofs.Common.{◌≡◌, ℕ, [], ◌∷◌, Some, Ok, refl}
 use Rattle.freeze_ledger.specs.declared.freeze.Holder.TheVariants.{Timer}
 use Rattle.freeze_ledger.specs.declared.freeze.Freeze.{Freeze}
 use Rattle.helpers.specs.declared.limits.HelperLimits.{HelperLimits}
-use Rattle.world.specs.declared.refusal.Refusal.TheVariants.{Limit, GoesBack}
+use Rattle.world.specs.declared.call_refusal.CallRefusal.TheVariants.{Limit, GoesBack}
 use Rattle.world.specs.declared.record.Record.TheVariants.{Clock}
 use Rattle.world.specs.World.{World}
 use Rattle.world.specs.Event.{clock_reads, expired, refused}

@@ -2,7 +2,7 @@
 use Rattle.std.proofs.Common.{◌≡◌, [], ◌∷◌, Some, None, Ok, refl, replicate}
 use Rattle.freeze_ledger.specs.declared.freeze.Holder.TheVariants.{Run, Timer, Guest}
 use Rattle.helpers.specs.declared.limits.HelperLimits.{HelperLimits}
-use Rattle.world.specs.declared.refusal.Refusal.TheVariants.{Unknown, Limit}
+use Rattle.world.specs.declared.call_refusal.CallRefusal.TheVariants.{Unknown, Limit}
 use Rattle.world.specs.declared.record.Record.TheVariants.{GuestFreeze, GuestRelease}
 use Rattle.world.specs.World.{World, opening}
 use Rattle.world.specs.Event.{guest_freeze, guest_release, freeze_given, count_left, refused}

@@ -3,7 +3,7 @@ use Rattle.std.proofs.Common.{◌≡◌, true, false, [], ◌∷◌, Some, None,
 use Rattle.ccb.specs.Completion.{Outcome}
 use Rattle.ccb.specs.declared.cam_status.CamStatus.TheVariants.{CommandTimeout}
 use Rattle.helpers.specs.declared.limits.HelperLimits.{HelperLimits}
-use Rattle.world.specs.declared.refusal.Refusal.TheVariants.{Unknown}
+use Rattle.world.specs.declared.call_refusal.CallRefusal.TheVariants.{Unknown}
 use Rattle.world.specs.declared.record.Record.TheVariants.{Park, Resume}
 use Rattle.world.specs.World.{World, opening}
 use Rattle.world.specs.Event.{private, exit, submit, dispatch, complete, parks, resumes, executes, run_started, ok, result, refused, went_on}

@@ -10,7 +10,7 @@ use Rattle.world.specs.declared.record.Completed.TheVariants.{Started}
 use Rattle.world.specs.declared.record.StoppedAt.TheVariants.{Helper, Exit}
 use Rattle.world.specs.declared.record.Record.{Record}
 use Rattle.world.specs.declared.record.Record.TheVariants.{Submit, Dispatch, Complete, Advance}
-use Rattle.world.specs.declared.refusal.Refusal.TheVariants.{NotActive, Frozen}
+use Rattle.world.specs.declared.call_refusal.CallRefusal.TheVariants.{NotActive, Frozen}
 use Rattle.world.specs.declared.ccb_state.CcbState.TheVariants.{Waiting}
 use Rattle.world.specs.World.{LiveRun, World, opening}
 use Rattle.world.specs.Told.{plain}

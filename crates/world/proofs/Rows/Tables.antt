@@ -6,7 +6,7 @@ use Rattle.bpf_insn.specs.declared.program.Slot.TheVariants.{First}
 use Rattle.bpf_machine.specs.MachineState.{unwritten_frame}
 use Rattle.helpers.specs.declared.helper.Helper.{Helper as HelperName}
 use Rattle.helpers.specs.declared.helper.Helper.TheVariants as helpers
-use Rattle.world.specs.declared.refusal.Refusal.TheVariants.{NoOpening, NothingWaits}
+use Rattle.world.specs.declared.call_refusal.CallRefusal.TheVariants.{NoOpening, NothingWaits}
 use Rattle.world.specs.declared.ccb_state.CcbState.TheVariants.{Waiting, Active, InRecovery}
 use Rattle.world.specs.World.{Setup, LiveRun, World, opening}
 use Rattle.world.specs.Told.{plain}

@@ -7,8 +7,8 @@ use Rattle.ccb.specs.Ccb.{submitted, started, completed}
 use Rattle.freeze_ledger.specs.declared.freeze.Holder.TheVariants.{Run, Guest}
 use Rattle.freeze_ledger.specs.declared.freeze.Freeze.{Freeze}
 use Rattle.freeze_ledger.specs.Freezes.{frozen, meets_limit, entry_of, without, due_at}
-use Rattle.world.specs.declared.refusal.Refusal.{Refusal}
-use Rattle.world.specs.declared.refusal.Refusal.TheVariants.{Unknown, Limit, NotActive, GoesBack, Frozen, NoOpening, NothingWaits}
+use Rattle.world.specs.declared.call_refusal.CallRefusal.{CallRefusal}
+use Rattle.world.specs.declared.call_refusal.CallRefusal.TheVariants.{Unknown, Limit, NotActive, GoesBack, Frozen, NoOpening, NothingWaits}
 use Rattle.world.specs.declared.ccb_state.CcbState.TheVariants.{Waiting, Active}
 use Rattle.world.specs.Capacities.{last_reading}
 use Rattle.world.specs.World.{Setup, queue_count, LiveCcb, LiveRun, World}
@@ -30,7 +30,7 @@ use Rattle.world.proofs.Steps.Calls.{Asks, asks_of}
 
 -- the call is refused: it is no run's step, changes no count, finishes nothing and gives no run a freeze
 pub record Refuses (before : World) (event : Event) (reply : Reply) (after : World) : Type 0 where
-  pub refusal : Refusal
+  pub refusal : CallRefusal
   pub idle : (number : ℕ) → instruction_of number event ≡ None
   pub moves : MovesCounts before event (refused refusal) before
   pub ends : finished_by before event (refused refusal) ≡ []
@@ -157,7 +157,7 @@ pub data Case (setup : Setup) (before : World) (event : Event) (reply : Reply) (
   asks_one : Asks setup before event reply after → Case setup before event reply after
   exits : Exits before event reply after → Case setup before event reply after
 
-refused_case : (setup : Setup) (before : World) (event : Event) (reply : Reply) (after : World) (refusal : Refusal) → ((number : ℕ) → instruction_of number event ≡ None) → MovesCounts before event (refused refusal) before → finished_by before event (refused refusal) ≡ [] → ((run : ℕ) → taken_by run event (refused refusal) ≡ []) → ◌≡◌ {A = Reply × World} (reply, after) (refused refusal, before) → Case setup before event reply after
+refused_case : (setup : Setup) (before : World) (event : Event) (reply : Reply) (after : World) (refusal : CallRefusal) → ((number : ℕ) → instruction_of number event ≡ None) → MovesCounts before event (refused refusal) before → finished_by before event (refused refusal) ≡ [] → ((run : ℕ) → taken_by run event (refused refusal) ≡ []) → ◌≡◌ {A = Reply × World} (reply, after) (refused refusal, before) → Case setup before event reply after
 refused_case setup before event reply after refusal idle moves ends taken e =
     refuses (record { refusal = refusal; idle = idle; moves = moves; ends = ends; taken = taken; reply_is = ap (λ (x : Reply × World). x.0) e; after_is = ap (λ (x : Reply × World). x.1) e })
 

@@ -2,8 +2,8 @@ use Rattle.std.proofs.Common.{◌≡◌, Result, sym, subst}
 use Rattle.std.specs.Prelude.{IfOk, Contains}
 use Rattle.freeze_ledger.specs.declared.freeze.Holder.TheVariants.{Guest}
 use Rattle.freeze_ledger.specs.declared.freeze.Freeze.{Freeze}
-use Rattle.world.specs.declared.refusal.Refusal.{Refusal}
-use Rattle.world.specs.declared.refusal.Refusal.TheVariants.{Limit}
+use Rattle.world.specs.declared.call_refusal.CallRefusal.{CallRefusal}
+use Rattle.world.specs.declared.call_refusal.CallRefusal.TheVariants.{Limit}
 use Rattle.recoveries.proofs.Guests.{kept_taken, taken_is}
 use Rattle.recoveries.proofs.recoveries.Recoveries.guest_freeze.Goals as goal
 
@@ -13,5 +13,5 @@ invariant_of-self c =
 
 pub returns-clause-token : goal.returns-clause-token
 returns-clause-token c =
-    subst (λ (r : Result Freeze Refusal). IfOk r (λ token. (token.queue ≡ c.args.queue) × (token.holder ≡ Guest c.args.guest) × Contains c.take.new.self.freezes token)) (sym c.ok_or.ensures.value)
+    subst (λ (r : Result Freeze CallRefusal). IfOk r (λ token. (token.queue ≡ c.args.queue) × (token.holder ≡ Guest c.args.guest) × Contains c.take.new.self.freezes token)) (sym c.ok_or.ensures.value)
     (taken_is c.args.guest c.args.queue c.self.inside.ledger c.take.new.self c.take.result Limit c.take.ensures.token c.take.ensures.entered)

@@ -4,7 +4,7 @@ use std::fmt;
 
 /// Why a call was refused. A refusal changes nothing but the history. The text is the refusal's code.
 #[derive(Clone, Copy, Debug, PartialEq, Eq)]
-pub enum Refusal {
+pub enum CallRefusal {
     /// C1: there is no such queue, no such CCB, or no such run that is parked.
     Unknown,
     /// C2: a limit is reached.
@@ -21,21 +21,21 @@ pub enum Refusal {
     NothingWaits,
 }
 
-impl fmt::Display for Refusal {
+impl fmt::Display for CallRefusal {
     ghost use Rattle.std.specs.Prelude.{Some};
-    ghost use Rattle.world.specs.RefusalText.{refusal_text};
+    ghost use Rattle.world.specs.CallRefusalText.{call_refusal_text};
 
-    ghost output = { λ refusal. Some (refusal_text refusal) };
+    ghost output = { λ refusal. Some (call_refusal_text refusal) };
 
     fn fmt<W: fmt::Write>(&self, f: &mut fmt::Formatter<W>) -> fmt::Result {
         f.write_str(match self {
-            Refusal::Unknown => "C1",
-            Refusal::Limit => "C2",
-            Refusal::NotActive => "C3",
-            Refusal::GoesBack => "C5",
-            Refusal::Frozen => "Q2",
-            Refusal::NoOpening => "Q3",
-            Refusal::NothingWaits => "Q4",
+            CallRefusal::Unknown => "C1",
+            CallRefusal::Limit => "C2",
+            CallRefusal::NotActive => "C3",
+            CallRefusal::GoesBack => "C5",
+            CallRefusal::Frozen => "Q2",
+            CallRefusal::NoOpening => "Q3",
+            CallRefusal::NothingWaits => "Q4",
         })
     }
 }

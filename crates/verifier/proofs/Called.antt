@@ -1,8 +1,10 @@
 -- A local call: what is called is sound from what is known there, and what comes back is known behind the call.
 use Rattle.std.proofs.Common.{◌≡◌, true, false, ℕ, ℤ, ◌+◌, ◌<◌, ◌≤◌, List, [], ◌∷◌, ◌++◌, length, Option, Some, refl, ap, sym, subst, ◌∙◌, arith, inl, inr}
 use Rattle.std.specs.Option.{option_and_then}
+use Rattle.std.specs.List.{Contains}
 use Rattle.std.proofs.lemmas.Bool.{cases_eq}
 use Rattle.std.proofs.lemmas.List.{length-append}
+use Rattle.std.proofs.lemmas.List.Elements.{Contains-append_right}
 use Rattle.bpf_insn.specs.declared.insn.Insn.{Insn}
 use Rattle.bpf_insn.specs.declared.insn.Insn.TheVariants.{Call}
 use Rattle.bpf_insn.specs.declared.insn.Callee.TheVariants.{Local}
@@ -13,6 +15,7 @@ use Rattle.bpf_machine.specs.MachineState.{MachineState, OpenCall}
 use Rattle.bpf_machine.specs.Step.{does}
 use Rattle.bpf_machine.specs.Stuck.{insn_is_stuck}
 use Rattle.call_shape.specs.Calls.{begins, callee_at, callee_in, function_of}
+use Rattle.call_shape.specs.StaticPath.{Standing, outermost}
 use Rattle.call_shape.proofs.Places.{begins_there}
 use Rattle.call_shape.proofs.Ways.{further_behind}
 use Rattle.helpers.specs.declared.limits.HelperLimits.{HelperLimits}
@@ -20,15 +23,17 @@ use Rattle.reg_domain.specs.declared.description.Description.{Description}
 use Rattle.reg_domain.specs.declared.saved.SavedRegisters.{SavedRegisters}
 use Rattle.reg_domain.specs.Description.{Describes}
 use Rattle.reg_domain.specs.Follows.{NeverStuck, StepsBy}
+use Rattle.verifier.specs.Checks.{returns_of}
 use Rattle.verifier.specs.Function.{AreDone, IsLawfulProgram, IsOwn, Stands}
-use Rattle.verifier.specs.Goes.{FunctionIsSound, IsBack, IsLeft, StaysWell}
+use Rattle.verifier.specs.Goes.{FunctionIsSound, IsBack, IsCallVisited, IsChecked, IsLeft, IsVisited, StaysWell}
 use Rattle.verifier.specs.OnTheWay.{IsChain}
 use Rattle.verifier.specs.Table.{Table, described, HasComeBack, IsKnown}
 use Rattle.verifier.proofs.Led.{described_so}
 use Rattle.verifier.proofs.OnItsWay.{callee_own, chain_back, chain_called, local_call, room_left}
-use Rattle.verifier.proofs.Sound.{well_until}
+use Rattle.verifier.proofs.Checks.{all_under, opened_inside, under_from, under_length, under_once, under_returns, under_there}
+use Rattle.verifier.proofs.Sound.{well_so}
 use Rattle.verifier.proofs.Steps.{enters}
-use Rattle.verifier.proofs.Visited.{HasVisited, same_widens}
+use Rattle.verifier.proofs.Visited.{HasVisited, checked_among, same_widens}
 
 -- the local call at a place
 pub call_at : (program : List Slot) (place callee : ℕ) → begins program place ≡ true → callee_at program place ≡ Some callee → (distance : ℤ) × (insn_at program place ≡ Some (Call (Local distance))) × (target place distance ≡ callee)
@@ -86,15 +91,39 @@ left_back callers saved left place call calls entered returns opened m is =
       holds = subst (λ (cs : List SavedRegisters). Describes cs is.description m) (sym outer) is.holds;
     }
 
+-- as seen from the function that calls
+checked_under : (limits : HelperLimits) (program : List Slot) (checks : List Standing) (return : ℕ) (call : OpenCall) (calls entered : List OpenCall) → call.return_place ≡ return → entered ≡ call ∷ calls → (m : MachineState) → IsChecked limits program checks entered m → IsChecked limits program (all_under return checks) calls m
+checked_under limits program checks return call calls entered returns opened m is =
+    let inner = is.inner ++ call ∷ [] in
+    let inside : m.open_calls ≡ is.inner ++ (call ∷ calls) = is.opened ∙ ap (λ (cs : List OpenCall). is.inner ++ cs) opened in
+    let there = under_there return checks (record { slot = m.place; returns = returns_of is.inner }) is.checked in
+    record {
+      unstuck = is.unstuck;
+      inner = inner;
+      opened = inside ∙ opened_inside is.inner call calls;
+      checked = subst (λ (rs : List ℕ). Contains (all_under return checks) (record { slot = m.place; returns = rs })) (sym (under_returns is.inner call return returns)) there;
+    }
+
 -- a machine that is let into what is called is well until it comes back
-pub call_sound : (limits : HelperLimits) (program : List Slot) (callers : List SavedRegisters) (saved : SavedRegisters) (d entry : Description) (place callee : ℕ) (left : Option Description) → ((callers : List SavedRegisters) (distance : ℤ) (m m' : MachineState) → Describes callers d m → does m (Call (Local distance)) ≡ Some m' → Describes (callers ++ saved ∷ []) entry m') → FunctionIsSound limits program (callers ++ saved ∷ []) entry callee left → (distance : ℤ) (m m' : MachineState) → Describes callers d m → m.place ≡ place → target place distance ≡ callee → StepsBy m (Call (Local distance)) m' → (n : ℕ) → StaysWell program limits (IsBack callers left (place + 1) m.open_calls) n m'
-call_sound limits program callers saved d entry place callee left known sound distance m m' holds at leads step n =
+call_sound : (limits : HelperLimits) (program : List Slot) (callers : List SavedRegisters) (saved : SavedRegisters) (d entry : Description) (place callee : ℕ) (left : Option Description) (checks : List Standing) → ((callers : List SavedRegisters) (distance : ℤ) (m m' : MachineState) → Describes callers d m → does m (Call (Local distance)) ≡ Some m' → Describes (callers ++ saved ∷ []) entry m') → FunctionIsSound limits program (callers ++ saved ∷ []) entry callee left checks → (distance : ℤ) (m m' : MachineState) → Describes callers d m → m.place ≡ place → target place distance ≡ callee → StepsBy m (Call (Local distance)) m' → (n : ℕ) → StaysWell program (IsChecked limits program (all_under (place + 1) checks) m.open_calls) (IsBack callers left (place + 1) m.open_calls) n m'
+call_sound limits program callers saved d entry place callee left checks known sound distance m m' holds at leads step n =
     let in_callee = enters m m' distance step in
     let start : m'.place ≡ callee = in_callee.place ∙ (ap (λ (k : ℕ). target k distance) at ∙ leads) in
     let returns : in_callee.call.return_place ≡ place + 1 = in_callee.behind_call ∙ ap (λ (k : ℕ). k + 1) at in
-    well_until program limits (IsLeft (callers ++ saved ∷ []) left m'.open_calls) (IsBack callers left (place + 1) m.open_calls)
+    well_so program (IsChecked limits program checks m'.open_calls) (IsChecked limits program (all_under (place + 1) checks) m.open_calls) (IsLeft (callers ++ saved ∷ []) left m'.open_calls) (IsBack callers left (place + 1) m.open_calls)
+    (checked_under limits program checks (place + 1) in_callee.call m.open_calls m'.open_calls returns in_callee.calls)
     (left_back callers saved left (place + 1) in_callee.call m.open_calls m'.open_calls returns in_callee.calls)
     n m' (sound m' start (known callers distance m m' holds in_callee.step) n)
+
+-- the checks of what is called, as its caller sees them
+pub call_visited : (limits : HelperLimits) (program : List Slot) (callers : List SavedRegisters) (saved : SavedRegisters) (d entry : Description) (place callee : ℕ) (left : Option Description) (before after : ℕ) → ((callers : List SavedRegisters) (distance : ℤ) (m m' : MachineState) → Describes callers d m → does m (Call (Local distance)) ≡ Some m' → Describes (callers ++ saved ∷ []) entry m') → IsVisited limits program (callers ++ saved ∷ []) entry callee left before after → IsCallVisited limits program callers d place callee left before after
+call_visited limits program callers saved d entry place callee left before after known is = record {
+  checks = all_under (place + 1) is.checks;
+  made = omega (arith, is.made, under_length (place + 1) is.checks);
+  once = under_once (place + 1) is.checks is.once;
+  inside = λ check there. let found = under_from (place + 1) is.checks check there in (found.0.returns, sym (ap (λ (x : Standing). x.returns) found.2));
+  sound = call_sound limits program callers saved d entry place callee left is.checks known is.sound;
+}
 
 back_stands : (callers : List SavedRegisters) (start : ℕ) (before : Table) (at : ℕ) (back : Option Description) (after : Table) (calls : List OpenCall) → HasComeBack before (at + 1) back after → (m : MachineState) → IsBack callers back (start + at + 1) calls m → Stands callers calls start after m
 back_stands callers start before at back after calls come m is = record {
@@ -105,8 +134,8 @@ back_stands callers start before at back after calls come m is = record {
 }
 
 -- a place where a function is called is done with
-pub visited_call : (limits : HelperLimits) (program : List Slot) (callers : List SavedRegisters) (start : ℕ) (before : Table) (left : Option Description) (at : ℕ) (insn : Insn) (callee : ℕ) (d : Description) (back : Option Description) (after : Table) → IsLawfulProgram program → insn_at program (start + at) ≡ Some insn → callee_in (start + at) insn ≡ Some callee → described before at ≡ Some d → AreDone limits program callers start before left at → ((limits : HelperLimits) (distance : ℤ) → NeverStuck limits callers (Call (Local distance)) d) → ((distance : ℤ) (m m' : MachineState) → Describes callers d m → m.place ≡ start + at → target (start + at) distance ≡ callee → StepsBy m (Call (Local distance)) m' → (n : ℕ) → StaysWell program limits (IsBack callers back (start + at + 1) m.open_calls) n m') → ((there : Description) → back ≡ Some there → length there.stack ≡ length callers + 1) → length after ≡ length before → HasComeBack before (at + 1) back after → HasVisited limits program callers start before left at insn after left
-visited_call limits program callers start before left at insn callee d back after lawful here leads there are unstuck sound frames whole come =
+pub visited_call : (limits : HelperLimits) (program : List Slot) (callers : List SavedRegisters) (start : ℕ) (before : Table) (left : Option Description) (at : ℕ) (insn : Insn) (callee : ℕ) (d : Description) (back : Option Description) (after : Table) (checks more : List Standing) → IsLawfulProgram program → insn_at program (start + at) ≡ Some insn → callee_in (start + at) insn ≡ Some callee → described before at ≡ Some d → AreDone limits program callers start before left checks at → ((limits : HelperLimits) (distance : ℤ) → NeverStuck limits callers (Call (Local distance)) d) → ((distance : ℤ) (m m' : MachineState) → Describes callers d m → m.place ≡ start + at → target (start + at) distance ≡ callee → StepsBy m (Call (Local distance)) m' → (n : ℕ) → StaysWell program (IsChecked limits program more m.open_calls) (IsBack callers back (start + at + 1) m.open_calls) n m') → ((there : Description) → back ≡ Some there → length there.stack ≡ length callers + 1) → length after ≡ length before → HasComeBack before (at + 1) back after → HasVisited limits program callers start before left at insn after left (checks ++ (outermost (start + at) ∷ more))
+visited_call limits program callers start before left at insn callee d back after checks more lawful here leads there are unstuck sound frames whole come =
     let call = local_call (start + at) callee insn leads in
     let call_here : insn_at program (start + at) ≡ Some (Call (Local call.0)) = here ∙ ap Some call.1 in
     let own = are.own at d there in
@@ -140,7 +169,9 @@ visited_call limits program callers start before left at insn callee d back afte
             let was : IsKnown callers before at m = record { description = known.description; there = sym (kept at (omega arith)) ∙ known.there; holds = known.holds } in
             let stepped : StepsBy m (Call (Local call.0)) m' = subst (λ (i : Insn). StepsBy m i m') call.1 step in
             inr (inr (λ n.
-            well_until program limits (IsBack callers back (start + at + 1) m.open_calls) (Stands callers m.open_calls start after)
+            well_so program (IsChecked limits program more m.open_calls) (IsChecked limits program (checks ++ (outermost (start + at) ∷ more)) m.open_calls) (IsBack callers back (start + at + 1) m.open_calls) (Stands callers m.open_calls start after)
+            (checked_among limits program more (checks ++ (outermost (start + at) ∷ more)) m.open_calls (λ check is.
+            Contains-append_right checks (outermost (start + at) ∷ more) check (Contains-append_right (outermost (start + at) ∷ []) more check is)))
             (back_stands callers start before at back after m.open_calls come) n m'
             (sound call.0 m m' (described_so callers before at d m there was) place call.2 stepped n)));
       };

@@ -10,6 +10,7 @@ use Rattle.bpf_machine.specs.Stuck.{insn_is_stuck}
 use Rattle.call_shape.specs.Shape.{behind, goes_on_behind, target_in}
 use Rattle.call_shape.proofs.Ways.{IsFurther, further_behind}
 use Rattle.call_shape.specs.Shape.{AreContained}
+use Rattle.call_shape.specs.StaticPath.{Standing}
 use Rattle.call_shape.proofs.Contained.{jumps_forward, jumps_to_insn, jumps_within, target_there}
 use Rattle.helpers.specs.declared.limits.HelperLimits.{HelperLimits}
 use Rattle.reg_domain.specs.declared.description.Description.{Description}
@@ -43,8 +44,8 @@ gone callers outer saved d left wider m m' waits has holds step =
       holds = now.2;
     }
 
-pub visited_leave : (limits : HelperLimits) (program : List Slot) (callers : List SavedRegisters) (start : ℕ) (table : Table) (left : Option Description) (at : ℕ) (insn : Insn) (outer : List SavedRegisters) (saved : SavedRegisters) (d : Description) (wider : Option Description) → insn ≡ Exit → callers ≡ outer ++ saved ∷ [] → described table at ≡ Some d → AreDone limits program callers start table left at → ((limits : HelperLimits) (outer : List SavedRegisters) → NeverStuck limits (outer ++ saved ∷ []) Exit d) → HasLeft saved d left wider → HasVisited limits program callers start table left at insn table wider
-visited_leave limits program callers start table left at insn outer saved d wider exit waits there are unstuck has = record {
+pub visited_leave : (limits : HelperLimits) (program : List Slot) (callers : List SavedRegisters) (start : ℕ) (table : Table) (left : Option Description) (at : ℕ) (insn : Insn) (outer : List SavedRegisters) (saved : SavedRegisters) (d : Description) (wider : Option Description) (checks more : List Standing) → insn ≡ Exit → callers ≡ outer ++ saved ∷ [] → described table at ≡ Some d → AreDone limits program callers start table left checks at → ((limits : HelperLimits) (outer : List SavedRegisters) → NeverStuck limits (outer ++ saved ∷ []) Exit d) → HasLeft saved d left wider → HasVisited limits program callers start table left at insn table wider (checks ++ more)
+visited_leave limits program callers start table left at insn outer saved d wider checks more exit waits there are unstuck has = record {
   whole = refl;
   grows = λ others k m known. known;
   widens = has.keeps;
@@ -85,8 +86,8 @@ cases_target (Some k) n = elim (cases_eq k n) [
   | inr apart ↦ inr (λ e. apart (let is : k ≡ n = cc in is))
 ]
 
-pub visited_check : (limits : HelperLimits) (program : List Slot) (callers : List SavedRegisters) (start : ℕ) (before : Table) (left : Option Description) (at : ℕ) (insn : Insn) (d : Description) (after : Table) → IsLawfulProgram program → insn_at program (start + at) ≡ Some insn → Stays callers insn → described before at ≡ Some d → AreDone limits program callers start before left at → length after ≡ length before → HasChecked limits callers start before at insn after → HasVisited limits program callers start before left at insn after left
-visited_check limits program callers start before left at insn d after lawful here stays there are whole checked =
+pub visited_check : (limits : HelperLimits) (program : List Slot) (callers : List SavedRegisters) (start : ℕ) (before : Table) (left : Option Description) (at : ℕ) (insn : Insn) (d : Description) (after : Table) (checks more : List Standing) → IsLawfulProgram program → insn_at program (start + at) ≡ Some insn → Stays callers insn → described before at ≡ Some d → AreDone limits program callers start before left checks at → length after ≡ length before → HasChecked limits callers start before at insn after → HasVisited limits program callers start before left at insn after left (checks ++ more)
+visited_check limits program callers start before left at insn d after checks more lawful here stays there are whole checked =
     let own = are.own at d there in
     let functions = lawful.1.frames.calls.functions in
     let all = checked.frames (length callers + 1) (λ k e is. (are.own k e is).frames) in

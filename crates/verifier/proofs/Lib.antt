@@ -3,6 +3,7 @@ pub mod Joined
 pub mod Led
 pub mod Ends
 pub mod Checked
+pub mod Checks
 pub mod Sound
 pub mod Within
 pub mod Visited

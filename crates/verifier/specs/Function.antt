@@ -1,5 +1,6 @@
 -- What holds while a function is visited, place after place, from what is known where it is called.
 use Rattle.std.specs.Prelude.{◌≡◌, ◌⊎◌, ℕ, ◌+◌, ◌-◌, ◌<◌, ◌≤◌, ◌==◌, true, false, List, length, Option, Some, if◌then◌else◌}
+use Rattle.std.specs.List.{Contains}
 use Rattle.bpf_insn.specs.declared.insn.Insn.{Insn}
 use Rattle.bpf_insn.specs.declared.program.Slot.{Slot}
 use Rattle.bpf_insn.specs.Program.{IsProgram, insn_at}
@@ -7,12 +8,14 @@ use Rattle.bpf_machine.specs.MachineState.{MachineState, OpenCall}
 use Rattle.bpf_machine.specs.Stuck.{insn_is_stuck}
 use Rattle.call_shape.specs.Calls.{begins, function_of}
 use Rattle.call_shape.specs.Shape.{IsLawful, behind, goes_on_behind, target_in}
+use Rattle.call_shape.specs.StaticPath.{Standing, outermost}
 use Rattle.call_shape.specs.WrittenOut.{count_at, written_out}
 use Rattle.helpers.specs.declared.limits.HelperLimits.{HelperLimits}
 use Rattle.reg_domain.specs.declared.description.Description.{Description}
 use Rattle.reg_domain.specs.declared.saved.SavedRegisters.{SavedRegisters}
 use Rattle.reg_domain.specs.Follows.{StepsBy}
-use Rattle.verifier.specs.Goes.{IsLeft, StaysWell}
+use Rattle.verifier.specs.Checks.{AreOnce, IsBefore}
+use Rattle.verifier.specs.Goes.{IsChecked, IsLeft, StaysWell}
 use Rattle.verifier.specs.OnTheWay.{IsChain}
 use Rattle.verifier.specs.Table.{Table, described, AllHave, Grows, IsKnown}
 
@@ -47,22 +50,31 @@ pub record Stands (callers : List SavedRegisters) (calls : List OpenCall) (start
 
 -- a machine is known where it stands, has left the function, or is in a function that this one calls, and is well until
 -- it comes back
-abbrev pub Lands : HelperLimits → List Slot → List SavedRegisters → List OpenCall → ℕ → Table → Option Description → MachineState → Type 0
-Lands limits program callers calls start table left m =
+abbrev pub Lands : HelperLimits → List Slot → List SavedRegisters → List OpenCall → ℕ → Table → Option Description → List Standing → MachineState → Type 0
+Lands limits program callers calls start table left checks m =
     Stands callers calls start table m
-    ⊎ (IsLeft callers left calls m ⊎ ((n : ℕ) → StaysWell program limits (Stands callers calls start table) n m))
+    ⊎ (IsLeft callers left calls m ⊎ ((n : ℕ) → StaysWell program (IsChecked limits program checks calls) (Stands callers calls start table) n m))
 
 -- A place that is done with: no machine that is known there is stuck, and what its instruction makes of one lands well.
-pub record IsDone (limits : HelperLimits) (program : List Slot) (callers : List SavedRegisters) (start : ℕ) (table : Table) (left : Option Description) (at : ℕ) (insn : Insn) : Type 0 where
+pub record IsDone (limits : HelperLimits) (program : List Slot) (callers : List SavedRegisters) (start : ℕ) (table : Table) (left : Option Description) (checks : List Standing) (at : ℕ) (insn : Insn) : Type 0 where
   pub unstuck : (m : MachineState) → IsKnown callers table at m → insn_is_stuck limits m insn ≡ false
-  pub follows : (m m' : MachineState) → m.place ≡ start + at → IsKnown callers table at m → StepsBy m insn m' → Lands limits program callers m.open_calls start table left m'
+  pub follows : (m m' : MachineState) → m.place ≡ start + at → IsKnown callers table at m → StepsBy m insn m' → Lands limits program callers m.open_calls start table left checks m'
 
--- The places before this one are done with.
-pub record AreDone (limits : HelperLimits) (program : List Slot) (callers : List SavedRegisters) (start : ℕ) (table : Table) (left : Option Description) (at : ℕ) : Type 0 where
+-- The places before this one are done with, by these checks.
+pub record AreDone (limits : HelperLimits) (program : List Slot) (callers : List SavedRegisters) (start : ℕ) (table : Table) (left : Option Description) (checks : List Standing) (at : ℕ) : Type 0 where
   pub end : IsEnd program start (start + length table)
   pub own : (place : ℕ) (d : Description) → described table place ≡ Some d → IsOwn program callers start (start + place) d
   pub left_frames : (d : Description) → left ≡ Some d → length d.stack ≡ length callers
-  pub done : (before : ℕ) (insn : Insn) → before < at → insn_at program (start + before) ≡ Some insn → IsDone limits program callers start table left before insn
+  pub done : (before : ℕ) (insn : Insn) → before < at → insn_at program (start + before) ≡ Some insn → IsDone limits program callers start table left checks before insn
+  pub checked : (before : ℕ) (d : Description) → before < at → described table before ≡ Some d → Contains checks (outermost (start + before))
+
+-- The places before this one were visited, with as many checks, none twice, as the counter went up by.
+pub record AreVisited (limits : HelperLimits) (program : List Slot) (callers : List SavedRegisters) (start : ℕ) (table : Table) (left : Option Description) (at before after : ℕ) : Type 0 where
+  pub checks : List Standing
+  pub made : before + length checks ≡ after
+  pub once : AreOnce checks
+  pub earlier : (check : Standing) → Contains checks check → IsBefore (start + at) check
+  pub done : AreDone limits program callers start table left checks at
 
 -- The instruction at an entry, by which control stays in the function, was checked, and led on both ways.
 pub record HasChecked (limits : HelperLimits) (callers : List SavedRegisters) (start : ℕ) (before : Table) (at : ℕ) (insn : Insn) (after : Table) : Type 0 where

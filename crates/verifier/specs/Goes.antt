@@ -1,20 +1,36 @@
 -- What it is for a function to be sound, from what is known where it is called: no machine is stuck in it, nor in what it
--- calls, up to where it leaves. That is said by steps counted down, so that a run need not come to an end.
-use Rattle.std.specs.Prelude.{◌≡◌, ◌⊎◌, ℕ, zero, suc, false, List, ◌∷◌, [], ◌++◌, Option, Some}
+-- calls, up to where it leaves, and where it stands a check was made. That is said by steps counted down, so that a run
+-- need not come to an end.
+use Rattle.std.specs.Prelude.{◌≡◌, ◌⊎◌, ℕ, ℤ, zero, suc, ◌+◌, false, List, ◌∷◌, [], ◌++◌, length, Option, Some}
+use Rattle.std.specs.List.{Contains}
+use Rattle.bpf_insn.specs.declared.insn.Callee.TheVariants.{Local}
+use Rattle.bpf_insn.specs.declared.insn.Insn.TheVariants.{Call}
 use Rattle.bpf_insn.specs.declared.program.Slot.{Slot}
+use Rattle.bpf_insn.specs.Target.{target}
 use Rattle.bpf_machine.specs.MachineState.{MachineState, OpenCall}
 use Rattle.bpf_machine.specs.Reached.{Steps}
 use Rattle.bpf_machine.specs.Stuck.{is_stuck}
+use Rattle.call_shape.specs.StaticPath.{Standing}
 use Rattle.helpers.specs.declared.limits.HelperLimits.{HelperLimits}
 use Rattle.reg_domain.specs.declared.description.Description.{Description}
 use Rattle.reg_domain.specs.declared.saved.SavedRegisters.{SavedRegisters}
 use Rattle.reg_domain.specs.Description.{Describes}
+use Rattle.reg_domain.specs.Follows.{StepsBy}
+use Rattle.verifier.specs.Checks.{AreOnce, returns_of}
 
--- no machine on the way is stuck for so many instructions, or until it has come to where that holds
-abbrev pub StaysWell : List Slot → HelperLimits → (MachineState → Type 0) → ℕ → MachineState → Type 0
-StaysWell program limits Ends zero m = Unit {0}
-StaysWell program limits Ends (suc n) m =
-    (is_stuck program limits m ≡ false) × ((m' : MachineState) → Steps program m m' → Ends m' ⊎ StaysWell program limits Ends n m')
+-- all is well with each machine on the way for so many instructions, or until it has come to where that ends
+abbrev pub StaysWell : List Slot → (MachineState → Type 0) → (MachineState → Type 0) → ℕ → MachineState → Type 0
+StaysWell program Well Ends zero m = Unit {0}
+StaysWell program Well Ends (suc n) m =
+    Well m × ((m' : MachineState) → Steps program m m' → Ends m' ⊎ StaysWell program Well Ends n m')
+
+-- A machine is not stuck, and one of these checks is of where it stands, as seen from a function at whose start those
+-- calls were open.
+pub record IsChecked (limits : HelperLimits) (program : List Slot) (checks : List Standing) (calls : List OpenCall) (m : MachineState) : Type 0 where
+  pub unstuck : is_stuck program limits m ≡ false
+  pub inner : List OpenCall
+  pub opened : m.open_calls ≡ inner ++ calls
+  pub checked : Contains checks (record { slot = m.place; returns = returns_of inner })
 
 -- Back in the caller, of which that is known, where these calls were open.
 pub record IsLeft (callers : List SavedRegisters) (left : Option Description) (calls : List OpenCall) (m : MachineState) : Type 0 where
@@ -30,10 +46,18 @@ pub record IsLeft (callers : List SavedRegisters) (left : Option Description) (c
   pub calls_are : m.open_calls ≡ rest
   pub holds : Describes outer description m
 
--- from where a function starts that is entered where that is known
-abbrev pub FunctionIsSound : HelperLimits → List Slot → List SavedRegisters → Description → ℕ → Option Description → Type 0
-FunctionIsSound limits program callers entry start left =
-    (m : MachineState) → m.place ≡ start → Describes callers entry m → (n : ℕ) → StaysWell program limits (IsLeft callers left m.open_calls) n m
+-- from where a function starts that is entered where that is known, with these checks
+abbrev pub FunctionIsSound : HelperLimits → List Slot → List SavedRegisters → Description → ℕ → Option Description → List Standing → Type 0
+FunctionIsSound limits program callers entry start left checks =
+    (m : MachineState) → m.place ≡ start → Describes callers entry m → (n : ℕ) →
+    StaysWell program (IsChecked limits program checks m.open_calls) (IsLeft callers left m.open_calls) n m
+
+-- The checks of a visit of a function, none twice, with which it is sound: as many as the counter went up by.
+pub record IsVisited (limits : HelperLimits) (program : List Slot) (callers : List SavedRegisters) (entry : Description) (start : ℕ) (left : Option Description) (before after : ℕ) : Type 0 where
+  pub checks : List Standing
+  pub made : before + length checks ≡ after
+  pub once : AreOnce checks
+  pub sound : FunctionIsSound limits program callers entry start left checks
 
 -- Back behind a call at that place, of which that is known.
 pub record IsBack (callers : List SavedRegisters) (left : Option Description) (place : ℕ) (calls : List OpenCall) (m : MachineState) : Type 0 where
@@ -42,3 +66,12 @@ pub record IsBack (callers : List SavedRegisters) (left : Option Description) (p
   pub behind_call : m.place ≡ place
   pub calls_are : m.open_calls ≡ calls
   pub holds : Describes callers description m
+
+-- The checks of a visit of what the call at a place calls, from what is known there.
+pub record IsCallVisited (limits : HelperLimits) (program : List Slot) (callers : List SavedRegisters) (d : Description) (place callee : ℕ) (left : Option Description) (before after : ℕ) : Type 0 where
+  pub checks : List Standing
+  pub made : before + length checks ≡ after
+  pub once : AreOnce checks
+  pub inside : (check : Standing) → Contains checks check → (inner : List ℕ) × (check.returns ≡ inner ++ (place + 1) ∷ [])
+  pub sound : (distance : ℤ) (m m' : MachineState) → Describes callers d m → m.place ≡ place → target place distance ≡ callee → StepsBy m (Call (Local distance)) m' → (n : ℕ) →
+      StaysWell program (IsChecked limits program checks m.open_calls) (IsBack callers left (place + 1) m.open_calls) n m'

@@ -2,6 +2,7 @@ pub use Rattle.bpf_machine.specs.Reached
 pub use Rattle.call_shape.specs.StaticPath
 pub mod RefusalText
 pub mod Table
+pub mod Checks
 pub mod Goes
 pub mod OnTheWay
 pub mod Function

@@ -5,8 +5,9 @@ use Rattle.bpf_insn.specs.Program.{IsProgram}
 use Rattle.helpers.specs.declared.limits.HelperLimits.{HelperLimits}
 use Rattle.bpf_machine.specs.Reached.{Safe, Within}
 use Rattle.call_shape.specs.Shape.{IsLawful, FaultIs}
-use Rattle.call_shape.specs.StaticPath.{outermost, StaticPath, IsFrames}
+use Rattle.call_shape.specs.StaticPath.{outermost, Standing, StaticPath, IsFrames}
 use Rattle.call_shape.specs.WrittenOut.{IsWrittenOut}
+use Rattle.verifier.specs.Checks.{AreChecks}
 use Rattle.verifier.specs.declared.refusal.Refusal.TheVariants.{Shape, Check}
 use Rattle.or_memory.specs.declared.OrMemory.{OrMemory}
 use Rattle.verifier.specs.declared.refusal.Refusal.{Refusal}
@@ -21,26 +22,35 @@ pub record Verdict : Type 0 where
   pub frames : ℕ
   pub visits : ℕ
 
--- no run of it is ever stuck, and none executes more instructions than its budget
+-- no run of it is ever stuck, and none executes more instructions than its budget; it has frames, and checks were made
 pub record IsAccepted (v : Verdict) : Type 0 where
   pub is_program : IsProgram v.program
   pub safe : Safe v.program v.limits
   pub within : Within v.program v.budget
+  pub some_frames : 1 ≤ v.frames
+  pub few_frames : v.frames ≤ 8
+  pub some_visits : 1 ≤ v.visits
+  pub few_visits : v.visits ≤ 65536
 
 -- the budget is the length of a static path, and none is longer
 pub record IsBudget (program : List Slot) (budget : ℕ) : Type 0 where
   pub path : StaticPath program (outermost 0) budget
   pub longest : (n : ℕ) → StaticPath program (outermost 0) n → n ≤ budget
 
--- one check at least, and no more than there are instructions with the local calls written out
+-- So many checks were made, each of one instruction under one chain of open calls: none of the same twice, one wherever a
+-- run may come, and no more than there are instructions with the local calls written out.
 pub record IsNumberOfChecks (program : List Slot) (visits : ℕ) : Type 0 where
+  pub checks : List Standing
+  pub are : AreChecks program visits checks
   pub some : 1 ≤ visits
   pub few : (count : ℕ) → IsWrittenOut program 0 count → visits ≤ count
 
--- A verdict on this program under these limits. Its frames are the most that there are at a time on a static path.
+-- A verdict on this program, whose shape is lawful, under these limits. Its frames are the most that there are at a time on
+-- a static path.
 pub record IsVerdictOn (program : List Slot) (limits : HelperLimits) (v : Verdict) : Type 0 where
   pub program_is : v.program ≡ program
   pub limits_are : v.limits ≡ limits
+  pub lawful : IsLawful program
   pub accepted : IsAccepted v
   pub budget : IsBudget program v.budget
   pub frames : IsFrames program v.frames

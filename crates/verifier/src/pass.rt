@@ -7,20 +7,17 @@ ghost use Rattle.std.specs.Prelude.{◌≡◌, ◌<◌, ◌≤◌, ◌+◌, ◌-
 ghost use Rattle.bpf_insn.specs.declared.insn.Callee.TheVariants.{Local};
 ghost use Rattle.bpf_insn.specs.declared.insn.Insn.TheVariants.{Call};
 ghost use Rattle.bpf_insn.specs.Program.{insn_at};
-ghost use Rattle.bpf_insn.specs.Target.{target};
-ghost use Rattle.bpf_machine.specs.MachineState.{MachineState};
 ghost use Rattle.bpf_machine.specs.Reached.{Safe};
 ghost use Rattle.call_shape.specs.Calls.{callee_at, function_of};
 ghost use Rattle.call_shape.specs.WrittenOut.{written_out};
 ghost use Rattle.call_shape.specs.declared.lawful_shape.TheConstants.{MAX_WRITTEN_OUT};
 ghost use Rattle.helpers.specs.declared.limits.HelperLimits.{HelperLimits};
 ghost use Rattle.reg_domain.specs.declared.description.Description.{Description};
-ghost use Rattle.reg_domain.specs.Description.{Describes};
 ghost use Rattle.reg_domain.specs.Enough.{IsEntryKnown};
-ghost use Rattle.reg_domain.specs.Follows.{NeverStuck, StepsBy, Stays};
+ghost use Rattle.reg_domain.specs.Follows.{NeverStuck, Stays};
 ghost use Rattle.verifier.specs.Arrives.{AllArrive, FailsUnless, IsNeverLacking, LacksMemoryOrMore, NeverLacks};
-ghost use Rattle.verifier.specs.Function.{AreDone, HasChecked, IsEnd, IsLawfulProgram, IsOwn, checks_at, deep_under};
-ghost use Rattle.verifier.specs.Goes.{FunctionIsSound, IsBack, StaysWell};
+ghost use Rattle.verifier.specs.Function.{AreVisited, HasChecked, IsEnd, IsLawfulProgram, IsOwn, checks_at, deep_under};
+ghost use Rattle.verifier.specs.Goes.{IsCallVisited, IsVisited};
 ghost use Rattle.verifier.specs.Table.{Grows, described};
 ghost use Rattle.verifier.specs.Verdict.{IsNumberOfChecks};
 
@@ -39,6 +36,7 @@ use std::alloc::Global;
 pub fn pass(alloc: Global, limits: &HelperLimits, shape: &Shape<'_>) -> Result<u32, VerifyError>
     ensures safe { IfOk result (λ _. Safe shape.now limits.now) }
     ensures visits { IfOk result (IsNumberOfChecks shape.now) }
+    ensures short { IfOk result (λ visits. visits ≤ MAX_WRITTEN_OUT) }
     ensures fails { IfErr result (LacksMemoryOrMore shape.now) }
 {
     let program = shape.program();
@@ -74,7 +72,7 @@ fn visit_function(
     requires lawful { IsLawfulProgram program.now }
     requires own { IsOwn program.now callers.old.items start start entry.now }
     requires few { visits.old + written_out (8 - length callers.old.items) program.now start ≤ MAX_WRITTEN_OUT }
-    ensures sound { IfOk result (FunctionIsSound limits.now program.now callers.old.items entry.now start) }
+    ensures sound { IfOk result (λ left. IsVisited limits.now program.now callers.old.items entry.now start left visits.old visits.new) }
     ensures frames { IfOk result (λ left. (d : Description) → left ≡ Some d → length d.stack ≡ length callers.old.items) }
     ensures callers { OnOk result (callers.new.items ≡ callers.old.items) }
     ensures visits { OnOk result (visits.new ≤ visits.old + written_out (8 - length callers.old.items) program.now start) }
@@ -117,10 +115,10 @@ fn visit(
 ) -> Result<(), VerifyError>
     requires lawful { IsLawfulProgram program.now }
     requires at { at < length table.old }
-    requires before { AreDone limits.now program.now callers.old.items start table.old left.old at }
+    requires before { (first : ℕ) × AreVisited limits.now program.now callers.old.items start table.old left.old at first visits.old }
     requires few { visits.old + checks_at (deep_under callers.old.items) program.now start (start + at) ≤ MAX_WRITTEN_OUT }
     ensures whole { length table.new ≡ length table.old }
-    ensures done { IfOk result (λ _. AreDone limits.now program.now callers.old.items start table.new left.new (at + 1)) }
+    ensures done { IfOk result (λ _. (first : ℕ) → AreVisited limits.now program.now callers.old.items start table.old left.old at first visits.old → AreVisited limits.now program.now callers.old.items start table.new left.new (at + 1) first visits.new) }
     ensures grows { IfOk result (λ _. Grows table.old table.new) }
     ensures callers { OnOk result (callers.new.items ≡ callers.old.items) }
     ensures visits { OnOk result (visits.new ≤ visits.old + checks_at (deep_under callers.old.items) program.now start (start + at)) }
@@ -137,8 +135,7 @@ fn visit(
     let Some(description) = table[at] else {
         return Ok(());
     };
-    let number = *visits;
-    *visits += 1;
+    let check = Check::make(place, insn, visits);
     if let Some(target) = callee_of(place, insn) {
         let back = call(
             alloc,
@@ -155,11 +152,6 @@ fn visit(
     if let Some(saved) = returning(insn, callers) {
         return leave(&description, &saved, left, behind_call);
     }
-    let check = Check {
-        place,
-        insn,
-        number,
-    };
     check_ways(limits, program, callers, table, start, at, check)
 }
 
@@ -181,7 +173,7 @@ fn call(
     requires calls { callee_at program.now place ≡ Some callee }
     requires few { visits.old + written_out (deep_under callers.old.items) program.now callee ≤ MAX_WRITTEN_OUT }
     ensures unstuck { (limits : HelperLimits) (distance : ℤ) → NeverStuck limits callers.old.items (Call (Local distance)) description.now }
-    ensures sound { IfOk result (λ left. (distance : ℤ) (m m' : MachineState) → Describes callers.old.items description.now m → m.place ≡ place → target place distance ≡ callee → StepsBy m (Call (Local distance)) m' → (n : ℕ) → StaysWell program.now limits.now (IsBack callers.old.items left (place + 1) m.open_calls) n m') }
+    ensures sound { IfOk result (λ left. IsCallVisited limits.now program.now callers.old.items description.now place callee left visits.old visits.new) }
     ensures frames { IfOk result (λ left. (d : Description) → left ≡ Some d → length d.stack ≡ length callers.old.items + 1) }
     ensures callers { OnOk result (callers.new.items ≡ callers.old.items) }
     ensures visits { OnOk result (visits.new ≤ visits.old + written_out (deep_under callers.old.items) program.now callee) }

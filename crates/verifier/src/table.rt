@@ -5,6 +5,7 @@ ghost use Rattle.std.specs.Prelude.{◌≡◌, ◌<◌, ◌≤◌, ◌+◌, ◌+
 ghost use Rattle.bpf_insn.specs.declared.insn.Insn.TheVariants.{Exit};
 ghost use Rattle.bpf_insn.specs.declared.program.Slot.{Slot};
 ghost use Rattle.bpf_insn.specs.Program.{insn_at};
+ghost use Rattle.call_shape.specs.declared.lawful_shape.TheConstants.{MAX_WRITTEN_OUT};
 ghost use Rattle.helpers.specs.declared.limits.HelperLimits.{HelperLimits};
 ghost use Rattle.reg_domain.specs.declared.description.Description.{Description};
 ghost use Rattle.reg_domain.specs.declared.saved.SavedRegisters.{SavedRegisters};
@@ -29,6 +30,21 @@ pub struct Check {
 }
 
 impl Check {
+    /// Makes a check of the instruction at a place: it is counted, and its number is how many were made before it.
+    pub fn make(place: usize, insn: Insn, visits: &mut u32) -> Self
+        requires room { visits.old < MAX_WRITTEN_OUT }
+        ensures counted { visits.new ≡ visits.old + 1 }
+        ensures of { (result.place ≡ place) × (result.insn ≡ insn) × (result.number ≡ visits.old) }
+    {
+        let number = *visits;
+        *visits += 1;
+        Check {
+            place,
+            insn,
+            number,
+        }
+    }
+
     // The place of another entry of the table, which stands behind that of the check.
     fn place_of(self, at: usize, to: usize) -> usize {
         self.place.saturating_add(to.saturating_sub(at))

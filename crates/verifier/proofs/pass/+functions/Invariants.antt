@@ -4,7 +4,7 @@ use Rattle.call_shape.specs.WrittenOut.{total}
 use Rattle.reg_domain.specs.Description.{Describes}
 use Rattle.reg_domain.specs.Enough.{IsEntryKnown}
 use Rattle.verifier.specs.Arrives.{AllArrive, IsNeverLacking}
-use Rattle.verifier.specs.Function.{AreDone, checks_at, deep_under}
+use Rattle.verifier.specs.Function.{AreVisited, checks_at, deep_under}
 use Rattle.verifier.specs.Table.{described, IsKnown}
 use Rattle.verifier.proofs.pass.+functions.Given as goal
 
@@ -22,7 +22,7 @@ decreases-visit_function l = 3 * (8 - length l.callers.now.items) + 2
 abbrev pub invariant-visit_function-loop-at : goal.invariant-visit_function-loop-at
 invariant-visit_function-loop-at l = record {
   whole : length l.table.items ≡ l.len;
-  done : AreDone l.limits l.program l.fn.callers.items l.start l.table.items l.left l.at;
+  done : AreVisited l.limits l.program l.fn.callers.items l.start l.table.items l.left l.at l.fn.visits l.visits;
   entry : (m : MachineState) → Describes l.fn.callers.items l.entry m → IsKnown l.fn.callers.items l.table.items 0 m;
   callers : l.callers.items ≡ l.fn.callers.items;
   visits : l.visits ≤ l.fn.visits + total (checks_at (deep_under l.fn.callers.items) l.program l.start) (l.start + l.at);

@@ -1,4 +1,4 @@
-use Rattle.std.proofs.Common.{◌-◌, List, [], length, refl, ap, sym, subst, arith}
+use Rattle.std.proofs.Common.{◌≡◌, ℕ, ◌-◌, List, [], Option, length, refl, ap, sym, subst, arith}
 use Rattle.bpf_insn.specs.declared.program.Slot.{Slot}
 use Rattle.bpf_insn.specs.Program.{IsProgram}
 use Rattle.bpf_machine.specs.Reached.{Safe}
@@ -6,12 +6,18 @@ use Rattle.call_shape.specs.Shape.{IsLawful}
 use Rattle.call_shape.specs.WrittenOut.{written_out}
 use Rattle.call_shape.proofs.Places.{begins_first}
 use Rattle.call_shape.proofs.WrittenFew.{within_count}
+use Rattle.helpers.specs.declared.limits.HelperLimits.{HelperLimits}
+use Rattle.reg_domain.specs.declared.description.Description.{Description}
 use Rattle.reg_domain.specs.declared.saved.SavedRegisters.{SavedRegisters}
+use Rattle.verifier.specs.Checks.{AreChecks}
 use Rattle.verifier.specs.Function.{IsOwn}
-use Rattle.verifier.specs.Goes.{FunctionIsSound}
+use Rattle.verifier.specs.Goes.{IsVisited}
 use Rattle.verifier.proofs.OnItsWay.{chain_first}
-use Rattle.verifier.proofs.Sound.{outermost_safe}
+use Rattle.verifier.proofs.Sound.{outermost_checked, outermost_safe}
 use Rattle.verifier.proofs.pass.pass.Goals as goal
+
+visited_outermost : (limits : HelperLimits) (program : List Slot) (entry : Description) (left : Option Description) (before after : ℕ) (callers : List SavedRegisters) → callers ≡ [] → IsVisited limits program callers entry 0 left before after → IsVisited limits program [] entry 0 left before after
+visited_outermost limits program entry left before after callers none = subst (λ (cs : List SavedRegisters). IsVisited limits program cs entry 0 left before after) none
 
 pub visit_function-requires-clause-own : goal.visit_function-requires-clause-own
 visit_function-requires-clause-own c =
@@ -37,12 +43,31 @@ returns-clause-safe c =
     let program = c.program-program.result.now in
     let limits = c.args.limits.now in
     let left = c.in_ok-visit_function.field-0 in
-    let sound : FunctionIsSound limits program [] c.entry-entry.result 0 left =
-    subst (λ (cs : List SavedRegisters). FunctionIsSound limits program cs c.entry-entry.result 0 left) c.new-callers.ensures.items c.in_ok-visit_function.ensures.sound in
-    subst (λ (p : List Slot). Safe p limits) c.program-program.ensures.value (outermost_safe limits program c.entry-entry.result left c.entry-entry.ensures.entries sound)
+    let visited = visited_outermost limits program c.entry-entry.result left 0 c.visit_function.new.visits c.new-callers.result.items c.new-callers.ensures.items c.in_ok-visit_function.ensures.sound in
+    subst (λ (p : List Slot). Safe p limits) c.program-program.ensures.value (outermost_safe limits program c.entry-entry.result left visited.checks c.entry-entry.ensures.entries visited.sound)
 
 pub returns-clause-visits : goal.returns-clause-visits
 returns-clause-visits c =
-    let deep = ap (λ (cs : List SavedRegisters). written_out (8 - length cs) c.program-program.result.now 0) c.new-callers.ensures.items in
+    let program = c.program-program.result.now in
+    let limits = c.args.limits.now in
+    let left = c.in_ok-visit_function.field-0 in
+    let visited = visited_outermost limits program c.entry-entry.result left 0 c.visit_function.new.visits c.new-callers.result.items c.new-callers.ensures.items c.in_ok-visit_function.ensures.sound in
+    let deep = ap (λ (cs : List SavedRegisters). written_out (8 - length cs) program 0) c.new-callers.ensures.items in
     let same = ap (λ (p : List Slot). written_out 8 p 0) c.program-program.ensures.value in
-    record { some = omega (arith, c.in_ok-visit_function.ensures.counted); few = λ count is. omega (arith, deep, same, c.in_ok-visit_function.ensures.visits, within_count 8 c.args.shape.now 0 count is) }
+    record {
+      checks = visited.checks;
+      are = subst (λ (p : List Slot). AreChecks p c.visit_function.new.visits visited.checks) c.program-program.ensures.value (record {
+        once = visited.once;
+        number = omega (arith, visited.made);
+        reached = outermost_checked limits program c.entry-entry.result left visited.checks c.entry-entry.ensures.entries visited.sound;
+      });
+      some = omega (arith, c.in_ok-visit_function.ensures.counted);
+      few = λ count is. omega (arith, deep, same, c.in_ok-visit_function.ensures.visits, within_count 8 c.args.shape.now 0 count is);
+    }
+
+pub returns-clause-short : goal.returns-clause-short
+returns-clause-short c =
+    let program = c.program-program.result.now in
+    let lawful : IsLawful program = subst IsLawful (sym c.program-program.ensures.value) c.program-program.ensures.lawful in
+    let deep = ap (λ (cs : List SavedRegisters). written_out (8 - length cs) program 0) c.new-callers.ensures.items in
+    omega (arith, deep, c.in_ok-visit_function.ensures.visits, within_count 8 program 0 lawful.count lawful.written_out, lawful.short)

@@ -42,4 +42,8 @@ new-requires c =
       is_program = is;
       safe = subst (Safe c.args.program.now) (sym c.in_ok-limits.ensures) safe;
       within = safe_within c.args.limits.now c.args.program.now c.in_ok-budget.budget is lawful safe longest;
+      some_frames = c.frames.ensures.some;
+      few_frames = c.frames.ensures.shallow;
+      some_visits = c.in_ok-visits.ensures.visits.some;
+      few_visits = c.in_ok-visits.ensures.short;
     })

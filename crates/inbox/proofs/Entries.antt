@@ -2,11 +2,12 @@
 use Rattle.std.proofs.Common.{◌≡◌, ◌≢◌, ℕ, ◌<◌, Bool, true, false, ◌==◌, if◌then◌else◌, List, [], ◌∷◌, ◌++◌, sym, refl, ap, ◌∙◌, subst, append_assoc, append-nil, eq-eqb, ne_eqb, arith}
 use Rattle.std.specs.List.{All}
 use Rattle.std.proofs.lemmas.List.{map-append}
-use Rattle.std.proofs.lemmas.List.Elements.{All-head, All-tail}
+use Rattle.std.proofs.lemmas.List.Elements.{All-head, All-tail, All-weaker}
 use Rattle.ccb.specs.Completion.{Outcome}
 use Rattle.inbox.specs.declared.account.Entry.{Entry}
+use Rattle.inbox.specs.declared.account.Seen.{Seen}
 use Rattle.inbox.specs.declared.account.Account.{Account}
-use Rattle.inbox.specs.InboxLists.{InboxLists, Agrees, StartsWith, entry, by_pass, completions}
+use Rattle.inbox.specs.InboxLists.{InboxLists, Agrees, BeginWith, StartsWith, entry, by_pass, completions}
 
 -- lists, by their parts
 abbrev pub three : List Entry → List Entry → List Outcome → InboxLists
@@ -45,9 +46,19 @@ starts_longer es seen e before = (before.0 ++ e ∷ [], ap (λ l. l ++ e ∷ [])
 pub starts_itself : (es : List Entry) → StartsWith es es
 starts_itself es = ([], sym (append-nil es))
 
+-- what was told says nothing of what is left, and stays so at a put and at a take
+pub told_whatever_left : (put taken : List Entry) (left left' : List Outcome) (told : List Seen) → All (BeginWith (three put taken left)) told → All (BeginWith (three put taken left')) told
+told_whatever_left put taken left left' told h = All-weaker (BeginWith (three put taken left)) (BeginWith (three put taken left')) (λ seen begun. begun) told h
+
+pub told_after_put : (put taken : List Entry) (left left' : List Outcome) (e : Entry) (told : List Seen) → All (BeginWith (three put taken left)) told → All (BeginWith (three (put ++ e ∷ []) taken left')) told
+told_after_put put taken left left' e told h = All-weaker (BeginWith (three put taken left)) (BeginWith (three (put ++ e ∷ []) taken left')) (λ seen begun. (starts_longer put seen.put e begun.0, begun.1)) told h
+
+pub told_after_take : (put taken : List Entry) (left left' : List Outcome) (e : Entry) (told : List Seen) → All (BeginWith (three put taken left)) told → All (BeginWith (three put (taken ++ e ∷ []) left')) told
+told_after_take put taken left left' e told h = All-weaker (BeginWith (three put taken left)) (BeginWith (three put (taken ++ e ∷ []) left')) (λ seen begun. (begun.0, starts_longer taken seen.taken e begun.1)) told h
+
 -- an account says nothing of what is left
 pub agrees_whatever_left : (put taken : List Entry) (left left' : List Outcome) (a : Account) → Agrees (three put taken left) a → Agrees (three put taken left') a
-agrees_whatever_left put taken left left' a h = record { own_put = h.own_put; own_taken = h.own_taken; seen_put = h.seen_put; seen_taken = h.seen_taken }
+agrees_whatever_left put taken left left' a h = record { own_put = h.own_put; own_taken = h.own_taken; seen_put = h.seen_put; seen_taken = h.seen_taken; told = told_whatever_left put taken left left' a.told h.told }
 
 -- another pass's put and take
 pub agrees_after_put : (put taken : List Entry) (left left' : List Outcome) (m : ℕ) (c : Outcome) (a : Account) → m ≢ a.number → Agrees (three put taken left) a → Agrees (three (put ++ entry m c ∷ []) taken left') a
@@ -56,6 +67,7 @@ agrees_after_put put taken left left' m c a apart h = record {
   own_taken = h.own_taken;
   seen_put = starts_longer put a.seen_put (entry m c) h.seen_put;
   seen_taken = h.seen_taken;
+  told = told_after_put put taken left left' (entry m c) a.told h.told;
 }
 
 pub agrees_after_take : (put taken : List Entry) (left left' : List Outcome) (m : ℕ) (c : Outcome) (a : Account) → m ≢ a.number → Agrees (three put taken left) a → Agrees (three put (taken ++ entry m c ∷ []) left') a
@@ -64,4 +76,5 @@ agrees_after_take put taken left left' m c a apart h = record {
   own_taken = by_pass-other m a.number taken a.taken c apart h.own_taken;
   seen_put = h.seen_put;
   seen_taken = starts_longer taken a.seen_taken (entry m c) h.seen_taken;
+  told = told_after_take put taken left left' (entry m c) a.told h.told;
 }

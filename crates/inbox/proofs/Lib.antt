@@ -3,5 +3,7 @@ pub mod Seating
 pub mod Steps
 pub mod Making
 pub mod Ending
+pub mod Telling
+pub mod Refusing
 pub mod Passing
 pub mod Worked

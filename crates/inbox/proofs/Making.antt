@@ -1,5 +1,5 @@
 -- The rule holds of a new inbox, and stays so as it makes its passes.
-use Rattle.std.proofs.Common.{◌≡◌, ◌≢◌, ℕ, zero, suc, ◌+◌, ◌<◌, ◌≤◌, List, [], ◌∷◌, ◌++◌, length, set, sym, refl, ap, ◌∙◌, subst, inl, ⊎_elim, length-append, length-set, arith}
+use Rattle.std.proofs.Common.{◌≡◌, ◌≢◌, ℕ, zero, suc, ◌+◌, ◌<◌, ◌≤◌, ◌==◌, Bool, if◌then◌else◌, List, [], ◌∷◌, ◌++◌, length, set, sym, refl, ap, ◌∙◌, subst, ⊎_elim, eq-eqb, ne_eqb, arith}
 use Rattle.std.specs.List.{All, sum_by}
 use Rattle.std.proofs.lemmas.List.Elements.{All-nil, All-weaker}
 use Rattle.std.proofs.lemmas.List.Sums.{sum_by_push}
@@ -8,21 +8,21 @@ use mathlib.Core.Logic.{dite}
 use native.Mathlib.Decide.{ℕ_discrete}
 use lib.ListN.{get_elem?}
 use Rattle.crossbeam_queue.specs.Fifo.{Forks}
-use Rattle.crossbeam_queue.proofs.Lists.{set_else, at_last}
+use Rattle.crossbeam_queue.proofs.Lists.{at_last}
 use Rattle.ccb.specs.Completion.{Outcome}
 use Rattle.inbox.specs.declared.account.Entry.{Entry}
 use Rattle.inbox.specs.declared.account.Shape.{Shape}
 use Rattle.inbox.specs.declared.account.Account.{Account}
 use Rattle.inbox.specs.declared.account.View.{View}
 use Rattle.inbox.specs.declared.account.Role.{Role}
-use Rattle.inbox.specs.declared.account.Role.TheVariants.{Opening, Keeper, Holder, Spent}
-use Rattle.inbox.specs.InboxLists.{InboxLists, AreLists, Agrees, completions}
+use Rattle.inbox.specs.declared.account.Role.TheVariants.{Opening, Keeper, Holder, Teller, Spent}
+use Rattle.inbox.specs.InboxLists.{InboxLists, AreLists, Agrees, BeginWith, completions}
 use Rattle.inbox.specs.Seats.{Whole, Kept, Fits, FitsAs, IsBack, IsReturned, lists_of, no_shape, new_account, opening, spent, keeping, holding, weight, weight_as}
 use Rattle.inbox.proofs.Entries.{by_pass-new}
-use Rattle.inbox.proofs.Seating.{last_or_before, single, each_set, weight-set, accounted_make}
+use Rattle.inbox.proofs.Seating.{last_or_before, single, each_set, weight-set, accounted_else, accounted_longer, back_set, back_longer}
 
 abbrev empty_whole : Shape → Whole
-empty_whole shape = record { shape = shape; made = 0; put = []; taken = []; rest = [] }
+empty_whole shape = record { shape = shape; made = 0; place = λ n. n; put = []; taken = []; rest = [] }
 
 no_lists : (shape : Shape) → AreLists shape (lists_of (empty_whole shape) [])
 no_lists shape = record { in_order = refl; room = omega arith; putters = All-nil (λ (e : Entry). e.pass < shape.puts); takers = All-nil (λ (e : Entry). (shape.puts ≤ e.pass) × (e.pass < shape.puts + shape.takes)) }
@@ -51,7 +51,7 @@ abbrev opened : Shape → List View
 opened shape = keeping shape 0 ∷ spent ∷ []
 
 opened_each : (shape : Shape) (seat : ℕ) (v : View) → get_elem? (opened shape) seat ≡ some v → Fits (opened shape) (empty_whole shape) (lists_of (empty_whole shape) []) seat v
-opened_each shape zero v at = subst (Fits (opened shape) (empty_whole shape) (lists_of (empty_whole shape) []) 0) (some-injective (keeping shape 0) v at) (refl, refl, refl, refl, λ _. refl)
+opened_each shape zero v at = subst (Fits (opened shape) (empty_whole shape) (lists_of (empty_whole shape) []) 0) (some-injective (keeping shape 0) v at) (refl, refl, refl, λ _. refl)
 opened_each shape (suc zero) v at = subst (Fits (opened shape) (empty_whole shape) (lists_of (empty_whole shape) []) 1) (some-injective spent v at) tt
 opened_each shape (suc (suc seat)) v at = absurd (some-ne-none v (sym at))
 
@@ -64,24 +64,25 @@ opens shape seat v role items views h at =
     let empty : [] ≡ items = ap completions (sym mine.2) ∙ h.are_lists.in_order ∙ (λ i. completions (mine.3 i) ++ (mine.4 i ++ items)) in
     subst (λ (y : List Outcome × List View). Kept y.0 y.1) (λ i. (empty i, sym two i)) (nothing_put shape (opened shape) refl (opened_each shape))
 
-abbrev with_one_more : Whole → Whole
-with_one_more whole = record whole { made = whole.made + 1 }
+-- one more pass has this seat
+abbrev with_one_more : Whole → ℕ → Whole
+with_one_more whole seat = record whole { made = whole.made + 1; place = λ n. if n == whole.made then seat else whole.place n }
+
+place_here : (whole : Whole) (seat : ℕ) → (with_one_more whole seat).place whole.made ≡ seat
+place_here whole seat = subst (λ (b : Bool). (if b then seat else whole.place whole.made) ≡ seat) (sym (eq-eqb whole.made whole.made refl)) refl
+
+place_else : (whole : Whole) (seat n : ℕ) → n < whole.made → (with_one_more whole seat).place n ≡ whole.place n
+place_else whole seat n less = subst (λ (b : Bool). (if b then seat else whole.place n) ≡ whole.place n) (sym (ne_eqb n whole.made (λ same. omega arith))) refl
 
 -- what the others know stays so as one more pass is made
-others_make : (r : Role) (views views' : List View) (whole : Whole) (lists : InboxLists) (seat : ℕ) (u : View) → length views ≡ whole.made + 2 → length views' ≡ length views + 1 → seat ≢ 0
-    → ((b : Account) → IsReturned views whole lists b → IsReturned views' (with_one_more whole) lists b)
-    → FitsAs views whole lists seat u r → FitsAs views' (with_one_more whole) lists seat u r
-others_make Opening views views' whole lists seat u long longer apart moves fits = absurd (omega arith)
-others_make Keeper views views' whole lists seat u long longer apart moves fits = absurd (apart fits.0)
-others_make Holder views views' whole lists seat u long longer apart moves fits = (fits.0, omega (arith, fits.1), fits.2, fits.3, fits.4, All-weaker (IsReturned views whole lists) (IsReturned views' (with_one_more whole) lists) moves u.back fits.5)
-others_make Spent views views' whole lists seat u long longer apart moves fits = tt
-
--- a pass that is back stays so as the first seat changes and a pass is made
-back_make : (views : List View) (k new : View) (n made : ℕ) → length (set views 0 k) ≡ made + 2 → n < made → IsBack views n → IsBack (set views 0 k ++ new ∷ []) n
-back_make views k new n made long less back u e = ⊎_elim
-    (λ there. back u (sym (set_else views 0 (n + 2) k (λ z. omega arith)) ∙ there))
-    (λ last. absurd (let at_end : n + 2 ≡ length (set views 0 k) = last.0 in omega arith))
-    (last_or_before (set views 0 k) new u (n + 2) e)
+others_make : (r : Role) (views views' : List View) (whole : Whole) (lists : InboxLists) (new seat : ℕ) (u : View) → seat ≢ 0
+    → ((b : Account) → IsReturned views whole lists b → IsReturned views' (with_one_more whole new) lists b)
+    → FitsAs views whole lists seat u r → FitsAs views' (with_one_more whole new) lists seat u r
+others_make Opening views views' whole lists new seat u apart moves fits = absurd (apart fits.0)
+others_make Keeper views views' whole lists new seat u apart moves fits = absurd (apart fits.0)
+others_make Holder views views' whole lists new seat u apart moves fits = (fits.0 ∙ sym (place_else whole new u.account.number fits.1), omega (arith, fits.1), fits.2, fits.3, fits.4, All-weaker (IsReturned views whole lists) (IsReturned views' (with_one_more whole new) lists) moves u.back fits.5)
+others_make Teller views views' whole lists new seat u apart moves fits = fits
+others_make Spent views views' whole lists new seat u apart moves fits = tt
 
 pub makes : (seat : ℕ) (v : View) → v.role ≡ Keeper → v.made < v.account.shape.puts + v.account.shape.takes → Forks Kept seat v (keeping v.account.shape (v.made + 1)) (holding (new_account v.account.shape v.made) [] [])
 makes seat v role room items views h at =
@@ -92,16 +93,15 @@ makes seat v role room items views h at =
     let old : List View = set views seat k in
     let views' : List View = old ++ new ∷ [] in
     let made : ℕ = h.whole.made in
-    let whole' = with_one_more h.whole in
-    let same_made : v.made ≡ made = mine.2 in
-    let same_shape : v.account.shape ≡ h.whole.shape = mine.3 in
+    let whole' = with_one_more h.whole (length old) in
+    let same_made : v.made ≡ made = mine.1 in
+    let same_shape : v.account.shape ≡ h.whole.shape = mine.2 in
     let room' : made + 1 ≤ h.whole.shape.puts + h.whole.shape.takes = subst (λ (y : Shape × ℕ). y.1 + 1 ≤ y.0.puts + y.0.takes) (λ i. (same_shape i, same_made i)) (omega arith) in
-    let empty : h.whole.rest ≡ [] = mine.4 (omega arith) in
-    let long : length old ≡ made + 2 = length-set views seat k ∙ mine.1 in
-    let longer : length views' ≡ length views + 1 = length-append old (new ∷ []) ∙ ap (λ n. n + 1) (length-set views seat k) in
-    let zero_is : set views 0 k ≡ old = ap (λ j. set views j k) (sym mine.0) in
+    let empty : h.whole.rest ≡ [] = mine.3 (omega arith) in
+    let keeper : v.role ≢ Holder = λ e. let clash : Keeper ≡ Holder = sym role ∙ e in (cc) in
+    let present : v.role ≢ Spent = λ e. let clash : Keeper ≡ Spent = sym role ∙ e in (cc) in
     let moves : (b : Account) → IsReturned views h.whole lists b → IsReturned views' whole' lists b = λ b was.
-    (omega (arith, was.0), was.1, subst (λ (l : List View). IsBack (l ++ new ∷ []) b.number) zero_is (back_make views k new b.number made (ap length zero_is ∙ long) was.0 was.2)) in
+    (omega (arith, was.0), was.1, subst (IsBack views') (sym (place_else h.whole (length old) b.number was.0)) (back_longer old (new ∷ []) (h.whole.place b.number) (back_set views (h.whole.place b.number) seat v k at present was.2).1)) in
     let none : weight v ≡ 0 = ap (λ (r : Role). weight_as r (length v.back)) role in
     let F : ℕ → View → Type 0 = λ j u. Fits views' whole' lists j u in
     let agrees : Agrees lists new.account = record {
@@ -109,9 +109,10 @@ makes seat v role room items views h at =
       own_taken = by_pass-new v.made h.whole.taken (subst (λ (n : ℕ). All (λ (e : Entry). e.pass < n) h.whole.taken) (sym same_made) h.taken_by);
       seen_put = (h.whole.put, refl);
       seen_taken = (h.whole.taken, refl);
+      told = All-nil (BeginWith lists);
     } in
-    let below : v.made < made + 1 = subst (λ (n : ℕ). n < made + 1) (sym same_made) (omega arith) in
-    let mine' : F (length old) new = (long ∙ ap (λ n. n + 2) (sym same_made), below, same_shape, sym empty, agrees, All-nil (IsReturned views' whole' lists)) in
+    let below_made : v.made < made + 1 = subst (λ (n : ℕ). n < made + 1) (sym same_made) (omega arith) in
+    let mine' : F (length old) new = (sym (ap whole'.place same_made ∙ place_here h.whole (length old)), below_made, same_shape, sym empty, agrees, All-nil (IsReturned views' whole' lists)) in
     record {
       whole = whole';
       are_lists = h.are_lists;
@@ -120,11 +121,11 @@ makes seat v role room items views h at =
       taken_by = All-weaker (λ (e : Entry). e.pass < made) (λ (e : Entry). e.pass < made + 1) (λ e (less : e.pass < made). omega arith) h.whole.taken h.taken_by;
       counted = omega (arith, sum_by_push weight old new, weight-set views seat v k at, h.counted);
       accounted = λ n less. dite (ℕ_discrete n made)
-          (λ (last : n ≡ made). inl (new, at_last old new (n + 2) (long ∙ ap (λ m. m + 2) (sym last)), refl))
-          (λ (before : n ≢ made). accounted_make views n seat v k new at role mine.0 (h.accounted n (omega arith)));
+          (λ (last : n ≡ made). (length old, new, at_last old new (length old) refl, refl, (0, omega arith, same_made ∙ sym last)))
+          (λ (before : n ≢ made). accounted_longer old (new ∷ []) n (accounted_else views n seat v k at keeper (h.accounted n (omega arith))));
       each = λ j u there. ⊎_elim
-          (λ before. each_set F views seat k (mine.0, (let two_more : length views ≡ made + 2 = mine.1 in omega (arith, longer)), ap (λ n. n + 1) same_made, same_shape, λ _. empty)
-          (λ i w apart was. others_make w.role views views' h.whole lists i w mine.1 longer (λ first. apart (first ∙ sym mine.0)) moves (h.each i w was)) j u before)
+          (λ before. each_set F views seat k (mine.0, ap (λ n. n + 1) same_made, same_shape, λ _. empty)
+          (λ i w apart was. others_make w.role views views' h.whole lists (length old) i w (λ first. apart (first ∙ sym mine.0)) moves (h.each i w was)) j u before)
           (λ last. subst (λ (y : ℕ × View). F y.0 y.1) {x = (length old, new)} {y = (j, u)} (λ i. (sym last.0 i, last.1 i)) mine')
           (last_or_before old new u j there);
     }

@@ -9,7 +9,7 @@ use lib.ListN.{get_elem?}
 use Rattle.crossbeam_queue.proofs.Lists.{at_set, set_here, set_else, at_longer}
 use Rattle.inbox.specs.declared.account.View.{View}
 use Rattle.inbox.specs.declared.account.Role.{Role}
-use Rattle.inbox.specs.declared.account.Role.TheVariants.{Keeper, Holder, Spent}
+use Rattle.inbox.specs.declared.account.Role.TheVariants.{Holder, Spent}
 use Rattle.inbox.specs.Seats.{weight, weight_as, spent, numbers, IsAccounted, IsBack}
 
 pub below : {A : Type 0} (l : List A) (j : ℕ) (a : A) → get_elem? l j ≡ some a → j < length l
@@ -53,39 +53,37 @@ only_holder views seat j v u at there all apart role =
     omega (arith, weight-set views seat v spent at)
 
 -- a pass in place of itself, which took in no fewer
-pub accounted_set : (views : List View) (n seat : ℕ) (v w : View) → get_elem? views seat ≡ some v → w.role ≡ Holder → (Contains (numbers v.back) n → Contains (numbers w.back) n) → IsAccounted views n → IsAccounted (set views seat w) n
-accounted_set views n seat v w at role keeps h =
+pub accounted_set : (views : List View) (n seat : ℕ) (v w : View) → get_elem? views seat ≡ some v → w.role ≡ Holder → (Contains (numbers (v.account ∷ v.back)) n → Contains (numbers (w.account ∷ w.back)) n) → IsAccounted views n → IsAccounted (set views seat w) n
+accounted_set views n seat v w at role keeps (j, u, there, holder, has) =
     let less : seat < length views = below views seat v at in
-    ⊎_elim
-    (λ out. dite (ℕ_discrete (n + 2) seat)
-    (λ (here : n + 2 ≡ seat). inl (w, ap (λ j. get_elem? (set views seat w) j) here ∙ set_here views seat w less, role))
-    (λ (apart : n + 2 ≢ seat). inl (out.0, set_else views seat (n + 2) w apart ∙ out.1, out.2)))
-    (λ back. dite (ℕ_discrete back.0 seat)
-    (λ (here : back.0 ≡ seat).
-    let same : back.1 ≡ v = some-injective back.1 v (sym back.2 ∙ ap (λ j. get_elem? views j) here ∙ at) in
-    inr (seat, w, set_here views seat w less, role, keeps (subst (λ (u : View). Contains (numbers u.back) n) same back.4)))
-    (λ (apart : back.0 ≢ seat). inr (back.0, back.1, set_else views seat back.0 w apart ∙ back.2, back.3, back.4))) h
+    dite (ℕ_discrete j seat)
+    (λ (here : j ≡ seat).
+    let same : u ≡ v = some-injective u v (sym there ∙ ap (λ i. get_elem? views i) here ∙ at) in
+    (seat, w, set_here views seat w less, role, keeps (subst (λ (x : View). Contains (numbers (x.account ∷ x.back)) n) same has)))
+    (λ (apart : j ≢ seat). (j, u, set_else views seat j w apart ∙ there, holder, has))
 
--- a pass that is back stays so where the seat of one that is out changes
-pub back_set : (views : List View) (n seat : ℕ) (v w : View) → get_elem? views seat ≡ some v → v.role ≡ Holder → IsBack views n → (n + 2 ≢ seat) × IsBack (set views seat w) n
-back_set views n seat v w at role back = let apart : n + 2 ≢ seat = λ here. let gone : v.role ≡ Spent = back v (ap (λ j. get_elem? views j) here ∙ at) in let clash : Holder ≡ Spent = sym role ∙ gone in (cc) in
-    (apart, λ u e. back u (sym (set_else views seat (n + 2) w apart) ∙ e))
+-- a seat that is no pass's, in place of another
+pub accounted_else : (views : List View) (n seat : ℕ) (v w : View) → get_elem? views seat ≡ some v → v.role ≢ Holder → IsAccounted views n → IsAccounted (set views seat w) n
+accounted_else views n seat v w at role (j, u, there, holder, has) =
+    let apart : j ≢ seat = λ same. role (ap (λ (x : View). x.role) (some-injective v u (sym at ∙ ap (λ i. get_elem? views i) (sym same) ∙ there)) ∙ holder) in
+    (j, u, set_else views seat j w apart ∙ there, holder, has)
 
--- the seat that makes the passes is no pass's
-elsewhere : (views : List View) (seat j : ℕ) (v u : View) → get_elem? views seat ≡ some v → v.role ≡ Keeper → get_elem? views j ≡ some u → u.role ≡ Holder → j ≢ seat
-elsewhere views seat j v u at keeper there holder same =
-    let it : u ≡ v = some-injective u v (sym there ∙ ap (λ i. get_elem? views i) same ∙ at) in
-    let clash : Holder ≡ Keeper = sym holder ∙ ap (λ (w : View). w.role) it ∙ keeper in
-    (cc)
+pub accounted_longer : (views more : List View) (n : ℕ) → IsAccounted views n → IsAccounted (views ++ more) n
+accounted_longer views more n (j, u, there, holder, has) = (j, u, at_longer views more j u there, holder, has)
 
--- one more pass is made, and the seat that makes them changes
-pub accounted_make : (views : List View) (n seat : ℕ) (v k new : View) → get_elem? views seat ≡ some v → v.role ≡ Keeper → seat ≡ 0 → IsAccounted views n → IsAccounted (set views seat k ++ new ∷ []) n
-accounted_make views n seat v k new at role first h =
-    let old : List View = set views seat k in
-    ⊎_elim
-    (λ out.
-    let there : get_elem? old (n + 2) ≡ some out.0 = set_else views seat (n + 2) k (λ same. omega arith) ∙ out.1 in
-    inl (out.0, at_longer old (new ∷ []) (n + 2) out.0 there, out.2))
-    (λ back.
-    let there : get_elem? old back.0 ≡ some back.1 = set_else views seat back.0 k (elsewhere views seat back.0 v back.1 at role back.2 back.3) ∙ back.2 in
-    inr (back.0, back.1, at_longer old (new ∷ []) back.0 back.1 there, back.3, back.4)) h
+pub unspent : (v : View) → v.role ≡ Holder → v.role ≢ Spent
+unspent v role gone = let clash : Holder ≡ Spent = sym role ∙ gone in (cc)
+
+-- a seat that is used up is no pass's, and stays used up where a pass's seat changes, or one is used up, or there are more
+pub back_set : (views : List View) (place seat : ℕ) (v w : View) → get_elem? views seat ≡ some v → v.role ≢ Spent → IsBack views place → (place ≢ seat) × IsBack (set views seat w) place
+back_set views place seat v w at role (u, there, spent_is) =
+    let apart : place ≢ seat = λ here. role (ap (λ (x : View). x.role) (some-injective v u (sym at ∙ ap (λ j. get_elem? views j) (sym here) ∙ there)) ∙ spent_is) in
+    (apart, (u, set_else views seat place w apart ∙ there, spent_is))
+
+pub back_spent : (views : List View) (place other : ℕ) → IsBack views place → IsBack (set views other spent) place
+back_spent views place other (u, there, spent_is) = dite (ℕ_discrete place other)
+    (λ (here : place ≡ other). (spent, ap (λ j. get_elem? (set views other spent) j) here ∙ set_here views other spent (subst (λ j. j < length views) here (below views place u there)), refl))
+    (λ (apart : place ≢ other). (u, set_else views other place spent apart ∙ there, spent_is))
+
+pub back_longer : (views more : List View) (place : ℕ) → IsBack views place → IsBack (views ++ more) place
+back_longer views more place (u, there, spent_is) = (u, at_longer views more place u there, spent_is)

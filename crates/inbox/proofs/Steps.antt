@@ -11,11 +11,11 @@ use Rattle.inbox.specs.declared.account.Shape.{Shape}
 use Rattle.inbox.specs.declared.account.Account.{Account}
 use Rattle.inbox.specs.declared.account.View.{View}
 use Rattle.inbox.specs.declared.account.Role.{Role}
-use Rattle.inbox.specs.declared.account.Role.TheVariants.{Opening, Keeper, Holder, Spent}
+use Rattle.inbox.specs.declared.account.Role.TheVariants.{Opening, Keeper, Holder, Teller, Spent}
 use Rattle.inbox.specs.InboxLists.{InboxLists, AreLists, Agrees, Puts, Takes, entry, completions}
 use Rattle.inbox.specs.Seats.{Whole, Kept, Knows, Fits, FitsAs, IsReturned, lists_of, holding, weight, numbers}
-use Rattle.inbox.proofs.Entries.{three, by_pass-own, completions-push, agrees_after_put, agrees_after_take, starts_itself}
-use Rattle.inbox.proofs.Seating.{below, each_set, weight-set, accounted_set, back_set}
+use Rattle.inbox.proofs.Entries.{three, by_pass-own, completions-push, agrees_after_put, agrees_after_take, told_after_put, told_after_take, starts_itself}
+use Rattle.inbox.proofs.Seating.{below, each_set, weight-set, accounted_set, back_set, unspent}
 
 -- what a pass knows
 abbrev pub Held : List View → Whole → InboxLists → ℕ → View → Type 0
@@ -38,35 +38,37 @@ abbrev pub after_take : Account → Whole → Outcome → Account
 after_take a whole c = record a { taken = a.taken ++ c ∷ []; seen_put = whole.put; seen_taken = whole.taken ++ entry a.number c ∷ [] }
 
 -- what another seat knows stays so at a put by the pass m, and at its take
-others_put : (r : Role) (views views' : List View) (whole : Whole) (left left' : List Outcome) (m seat : ℕ) (u : View) (c : Outcome) → length views' ≡ length views → m + 2 < length views → seat ≢ m + 2
+others_put : (r : Role) (views views' : List View) (whole : Whole) (left left' : List Outcome) (m seat : ℕ) (u : View) (c : Outcome) → whole.place m < length views → seat ≢ whole.place m
     → ((b : Account) → IsReturned views whole (three whole.put whole.taken left) b → IsReturned views' (with_put whole m c) (three (with_put whole m c).put (with_put whole m c).taken left') b)
     → FitsAs views whole (three whole.put whole.taken left) seat u r → FitsAs views' (with_put whole m c) (three (with_put whole m c).put (with_put whole m c).taken left') seat u r
-others_put Opening views views' whole left left' m seat u c long less apart moves fits = absurd (omega arith)
-others_put Keeper views views' whole left left' m seat u c long less apart moves fits = (fits.0, long ∙ fits.1, fits.2, fits.3, fits.4)
-others_put Holder views views' whole left left' m seat u c long less apart moves fits = (
+others_put Opening views views' whole left left' m seat u c less apart moves fits = absurd (omega (arith, fits.0, fits.1, less, apart))
+others_put Keeper views views' whole left left' m seat u c less apart moves fits = fits
+others_put Holder views views' whole left left' m seat u c less apart moves fits = (
   fits.0,
   fits.1,
   fits.2,
   fits.3,
-  agrees_after_put whole.put whole.taken left left' m c u.account (λ same. apart (fits.0 ∙ ap (λ n. n + 2) (sym same))) fits.4,
+  agrees_after_put whole.put whole.taken left left' m c u.account (λ same. apart (fits.0 ∙ ap whole.place (sym same))) fits.4,
   All-weaker (IsReturned views whole (three whole.put whole.taken left)) (IsReturned views' (with_put whole m c) (three (with_put whole m c).put (with_put whole m c).taken left')) moves u.back fits.5,
 )
-others_put Spent views views' whole left left' m seat u c long less apart moves fits = tt
+others_put Teller views views' whole left left' m seat u c less apart moves fits = told_after_put whole.put whole.taken left left' (entry m c) u.account.told fits
+others_put Spent views views' whole left left' m seat u c less apart moves fits = tt
 
-others_take : (r : Role) (views views' : List View) (whole : Whole) (left left' : List Outcome) (m seat : ℕ) (u : View) (c : Outcome) → length views' ≡ length views → m + 2 < length views → seat ≢ m + 2
+others_take : (r : Role) (views views' : List View) (whole : Whole) (left left' : List Outcome) (m seat : ℕ) (u : View) (c : Outcome) → whole.place m < length views → seat ≢ whole.place m
     → ((b : Account) → IsReturned views whole (three whole.put whole.taken left) b → IsReturned views' (with_take whole m c) (three (with_take whole m c).put (with_take whole m c).taken left') b)
     → FitsAs views whole (three whole.put whole.taken left) seat u r → FitsAs views' (with_take whole m c) (three (with_take whole m c).put (with_take whole m c).taken left') seat u r
-others_take Opening views views' whole left left' m seat u c long less apart moves fits = absurd (omega arith)
-others_take Keeper views views' whole left left' m seat u c long less apart moves fits = (fits.0, long ∙ fits.1, fits.2, fits.3, fits.4)
-others_take Holder views views' whole left left' m seat u c long less apart moves fits = (
+others_take Opening views views' whole left left' m seat u c less apart moves fits = absurd (omega (arith, fits.0, fits.1, less, apart))
+others_take Keeper views views' whole left left' m seat u c less apart moves fits = fits
+others_take Holder views views' whole left left' m seat u c less apart moves fits = (
   fits.0,
   fits.1,
   fits.2,
   fits.3,
-  agrees_after_take whole.put whole.taken left left' m c u.account (λ same. apart (fits.0 ∙ ap (λ n. n + 2) (sym same))) fits.4,
+  agrees_after_take whole.put whole.taken left left' m c u.account (λ same. apart (fits.0 ∙ ap whole.place (sym same))) fits.4,
   All-weaker (IsReturned views whole (three whole.put whole.taken left)) (IsReturned views' (with_take whole m c) (three (with_take whole m c).put (with_take whole m c).taken left')) moves u.back fits.5,
 )
-others_take Spent views views' whole left left' m seat u c long less apart moves fits = tt
+others_take Teller views views' whole left left' m seat u c less apart moves fits = told_after_take whole.put whole.taken left left' (entry m c) u.account.told fits
+others_take Spent views views' whole left left' m seat u c less apart moves fits = tt
 
 lists_after_put : (shape : Shape) (whole : Whole) (items : List Outcome) (m : ℕ) (c : Outcome) → whole.rest ≡ [] → length items < shape.capacity → m < shape.puts → AreLists shape (lists_of whole items) → AreLists shape (lists_of (with_put whole m c) (items ++ c ∷ []))
 lists_after_put shape whole items m c none room putter h = record {
@@ -99,13 +101,12 @@ module _ (seat : ℕ) (v : View) (plain : v ≡ holding v.account [] []) where
       let w : View = holding a' [] [] in
       let views' : List View = set views seat w in
       let less : seat < length views = below views seat v at in
-      let long : length views' ≡ length views = length-set views seat w in
       let same_shape : a.shape ≡ h.whole.shape = mine.2 in
       let none : h.whole.rest ≡ [] = sym mine.3 ∙ ap (λ (u : View). u.rest) plain in
-      let agrees' : Agrees after a' = record { own_put = by_pass-own m h.whole.put a.put x mine.4.own_put; own_taken = mine.4.own_taken; seen_put = starts_itself whole'.put; seen_taken = starts_itself h.whole.taken } in
+      let agrees' : Agrees after a' = record { own_put = by_pass-own m h.whole.put a.put x mine.4.own_put; own_taken = mine.4.own_taken; seen_put = starts_itself whole'.put; seen_taken = starts_itself h.whole.taken; told = told_after_put h.whole.put h.whole.taken (h.whole.rest ++ items) (h.whole.rest ++ (items ++ x ∷ [])) (entry m x) a.told mine.4.told } in
       let moves : (b : Account) → IsReturned views h.whole lists b → IsReturned views' whole' after b = λ b was.
-      let back = back_set views b.number seat v w at role was.2 in
-      (was.0, agrees_after_put h.whole.put h.whole.taken (h.whole.rest ++ (items)) (h.whole.rest ++ (items ++ x ∷ [])) m x b (λ same. back.0 (ap (λ k. k + 2) (sym same) ∙ sym mine.0)) was.1, back.1) in
+      let back = back_set views (h.whole.place b.number) seat v w at (unspent v role) was.2 in
+      (was.0, agrees_after_put h.whole.put h.whole.taken (h.whole.rest ++ (items)) (h.whole.rest ++ (items ++ x ∷ [])) m x b (λ same. back.0 (ap h.whole.place (sym same) ∙ sym mine.0)) was.1, back.1) in
       let F : ℕ → View → Type 0 = λ j u. Fits views' whole' after j u in (
         w,
         record {
@@ -115,9 +116,9 @@ module _ (seat : ℕ) (v : View) (plain : v ≡ holding v.account [] []) where
           put_by = All-push (λ (e : Entry). e.pass < h.whole.made) h.whole.put (entry m x) h.put_by mine.1;
           taken_by = h.taken_by;
           counted = (let one : weight v ≡ 1 = ap weight plain in omega (arith, weight-set views seat v w at, h.counted));
-          accounted = λ k made. accounted_set views k seat v w at refl (λ c. subst (λ (u : View). Contains (numbers u.back) k) plain c) (h.accounted k made);
+          accounted = λ k made. accounted_set views k seat v w at refl (λ c. subst (λ (u : View). Contains (numbers (u.account ∷ u.back)) k) plain c) (h.accounted k made);
           each = each_set F views seat w (mine.0, mine.1, mine.2, sym none, agrees', All-nil (IsReturned views' whole' after))
-              (λ j u apart there. others_put u.role views views' h.whole (h.whole.rest ++ (items)) (h.whole.rest ++ (items ++ x ∷ [])) m j u x long (subst (λ (k : ℕ). k < length views) mine.0 less) (λ same. apart (same ∙ sym mine.0)) moves (h.each j u there));
+              (λ j u apart there. others_put u.role views views' h.whole (h.whole.rest ++ (items)) (h.whole.rest ++ (items ++ x ∷ [])) m j u x (subst (λ (k : ℕ). k < length views) mine.0 less) (λ same. apart (same ∙ sym mine.0)) moves (h.each j u there));
         },
         (refl, record { lists = lists; are_lists = subst (λ (s : Shape). AreLists s lists) (sym same_shape) h.are_lists; agrees = mine.4; after_is = refl }),
       )
@@ -135,13 +136,12 @@ module _ (seat : ℕ) (v : View) (plain : v ≡ holding v.account [] []) where
       let w : View = holding a' [] [] in
       let views' : List View = set views seat w in
       let less : seat < length views = below views seat v at in
-      let long : length views' ≡ length views = length-set views seat w in
       let same_shape : a.shape ≡ h.whole.shape = mine.2 in
       let none : h.whole.rest ≡ [] = sym mine.3 ∙ ap (λ (u : View). u.rest) plain in
-      let agrees' : Agrees after a' = record { own_put = mine.4.own_put; own_taken = by_pass-own m h.whole.taken a.taken x mine.4.own_taken; seen_put = starts_itself h.whole.put; seen_taken = starts_itself whole'.taken } in
+      let agrees' : Agrees after a' = record { own_put = mine.4.own_put; own_taken = by_pass-own m h.whole.taken a.taken x mine.4.own_taken; seen_put = starts_itself h.whole.put; seen_taken = starts_itself whole'.taken; told = told_after_take h.whole.put h.whole.taken (h.whole.rest ++ x ∷ items) (h.whole.rest ++ items) (entry m x) a.told mine.4.told } in
       let moves : (b : Account) → IsReturned views h.whole lists b → IsReturned views' whole' after b = λ b was.
-      let back = back_set views b.number seat v w at role was.2 in
-      (was.0, agrees_after_take h.whole.put h.whole.taken (h.whole.rest ++ (x ∷ items)) (h.whole.rest ++ (items)) m x b (λ same. back.0 (ap (λ k. k + 2) (sym same) ∙ sym mine.0)) was.1, back.1) in
+      let back = back_set views (h.whole.place b.number) seat v w at (unspent v role) was.2 in
+      (was.0, agrees_after_take h.whole.put h.whole.taken (h.whole.rest ++ (x ∷ items)) (h.whole.rest ++ (items)) m x b (λ same. back.0 (ap h.whole.place (sym same) ∙ sym mine.0)) was.1, back.1) in
       let F : ℕ → View → Type 0 = λ j u. Fits views' whole' after j u in (
         w,
         record {
@@ -151,9 +151,9 @@ module _ (seat : ℕ) (v : View) (plain : v ≡ holding v.account [] []) where
           taken_by = All-push (λ (e : Entry). e.pass < h.whole.made) h.whole.taken (entry m x) h.taken_by mine.1;
           put_by = h.put_by;
           counted = (let one : weight v ≡ 1 = ap weight plain in omega (arith, weight-set views seat v w at, h.counted));
-          accounted = λ k made. accounted_set views k seat v w at refl (λ c. subst (λ (u : View). Contains (numbers u.back) k) plain c) (h.accounted k made);
+          accounted = λ k made. accounted_set views k seat v w at refl (λ c. subst (λ (u : View). Contains (numbers (u.account ∷ u.back)) k) plain c) (h.accounted k made);
           each = each_set F views seat w (mine.0, mine.1, mine.2, sym none, agrees', All-nil (IsReturned views' whole' after))
-              (λ j u apart there. others_take u.role views views' h.whole (h.whole.rest ++ (x ∷ items)) (h.whole.rest ++ (items)) m j u x long (subst (λ (k : ℕ). k < length views) mine.0 less) (λ same. apart (same ∙ sym mine.0)) moves (h.each j u there));
+              (λ j u apart there. others_take u.role views views' h.whole (h.whole.rest ++ (x ∷ items)) (h.whole.rest ++ (items)) m j u x (subst (λ (k : ℕ). k < length views) mine.0 less) (λ same. apart (same ∙ sym mine.0)) moves (h.each j u there));
         },
         (refl, record { lists = lists; rest = items; are_lists = subst (λ (s : Shape). AreLists s lists) (sym same_shape) h.are_lists; agrees = mine.4; oldest = ap (λ l. l ++ x ∷ items) none; after_is = refl }),
       )

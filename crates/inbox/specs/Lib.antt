@@ -1,3 +1,4 @@
 pub mod InboxLists
+pub mod Refusals
 pub mod Seats
 pub mod Views

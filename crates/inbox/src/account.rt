@@ -16,7 +16,13 @@ pub struct Shape {
     pub takes: u64,
 }
 
-/// What one pass has done and seen: what it put and what it took, each in its order, and what had been put and taken in all when it last did so.
+/// What was seen of an inbox's lists: what had been put and taken in all at some moment.
+pub struct Seen {
+    pub put: LinkedList<Entry>,
+    pub taken: LinkedList<Entry>,
+}
+
+/// What one pass has done, seen and been told: what it put and what it took, each in its order, what had been put and taken in all when it last did so, and what the receipts that it learned had seen.
 pub struct Account {
     pub shape: Shape,
     pub number: u64,
@@ -24,17 +30,19 @@ pub struct Account {
     pub taken: LinkedList<Completion>,
     pub seen_put: LinkedList<Entry>,
     pub seen_taken: LinkedList<Entry>,
+    pub told: LinkedList<Seen>,
 }
 
-/// Whose knowledge it is: of the seat that the queue is made with, of that seat while it makes the passes, of a pass, or of a seat that is used up.
+/// Whose knowledge it is: of the seat that the queue is made with, of that seat while it makes the passes, of a pass, of a receipt, or of a seat that is used up.
 pub enum Role {
     Opening,
     Keeper,
     Holder,
+    Teller,
     Spent,
 }
 
-/// What a seat at the queue knows. While the passes are made: how many were. A pass: its account; and once the inbox is closed, the accounts of the passes that it took in, and what it took out.
+/// What a seat at the queue knows. While the passes are made: how many were. A pass: its account; and once the inbox is closed, the accounts of the passes that it took in, and what it took out. A receipt: what stands in its account as told.
 pub struct View {
     pub role: Role,
     pub made: u64,

@@ -5,9 +5,12 @@
 mod account;
 mod closing;
 mod inbox;
+pub mod laws;
 mod passes;
+mod receipts;
 mod rule;
 
 pub use closing::{CloseFault, Unclosed};
 pub use inbox::{Inbox, MAX_CAPACITY, MAX_PASSES};
 pub use passes::{PutPass, TakePass};
+pub use receipts::Receipt;

@@ -69,6 +69,27 @@ impl Join<View> for Returns {
     ghost spent = { spent };
 }
 
+/// A pass tells what it saw and what it was told, and another pass learns it.
+pub struct Tells;
+
+impl Split<View> for Tells {
+    ghost use Rattle.inbox.specs.InboxLists.{known_by};
+    ghost use Rattle.inbox.specs.Seats.{telling};
+
+    ghost left = { λ v. v };
+
+    ghost right = { λ v. telling (known_by v.account) };
+}
+
+impl Join<View> for Tells {
+    ghost use Rattle.inbox.specs.InboxLists.{learned};
+    ghost use Rattle.inbox.specs.Seats.{holding, spent};
+
+    ghost both = { λ v w. holding (learned v.account w.account.told) v.back v.rest };
+
+    ghost spent = { spent };
+}
+
 /// A pass puts a completion.
 pub struct Putting;
 

@@ -7,8 +7,9 @@ ghost use Rattle.inbox.specs.Seats.{known, HoldsAll};
 ghost use Rattle.inbox.specs.Views.{IsOf, AreAll};
 
 use crate::inbox::Inbox;
-use crate::passes::{PutPass, TakePass};
+use crate::put_pass::PutPass;
 use crate::rule::{Emptying, Queue, Returns, Seat};
+use crate::take_pass::TakePass;
 use ccb::Completion;
 use std::error::Error;
 use std::fmt;

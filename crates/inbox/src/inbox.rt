@@ -6,8 +6,9 @@ ghost use Rattle.inbox.specs.InboxLists.{Puts, Takes, Held};
 ghost use Rattle.inbox.specs.Seats.{known, opening};
 ghost use Rattle.inbox.specs.Views.{InboxView, IsOf, new_passes};
 
-use crate::passes::{PutPass, TakePass};
+use crate::put_pass::PutPass;
 use crate::rule::{Makes, Opens, Putting, Queue, Seat, Shaped, Taking};
+use crate::take_pass::TakePass;
 use ccb::Completion;
 use std::alloc::{AllocError, Global};
 use std::marker::{Brand, Model};
@@ -70,7 +71,9 @@ impl Inbox {
         Ok(deal::<Brand>(queue, seat, put_passes, puts, take_passes, takes))
     }
 
-    /// Puts a completion behind all that were put before. It comes back, and the pass stays as it was, only where the inbox was full at some moment, not before all that the pass had seen. With one pass of its kind that binds the refusal; with several it binds it up to what the others may have done.
+    /// Puts a completion behind all that were put before. It comes back, and the pass stays as it was, only where the inbox was full at some moment: as many had been put then as there is room for, and one more for each take that the pass knows of. A pass knows what it saw when it last put, and what it was told (`PutPass::learn`); a new one knows of no take.
+    ///
+    /// So the only put pass is refused only once it has put that many itself. Of several each is bound by what it knows, but the others may have put the rest (`laws::refusals`).
     ///
     /// Takes no memory. It may wait for other threads that are inside `put` or `take`.
     pub fn put<R: Wait>(
@@ -88,7 +91,9 @@ impl Inbox {
             .push_as::<Putting, R>(rt, &mut pass.seat, completion)
     }
 
-    /// Takes the oldest completion. There is none, and the pass stays as it was, only where the inbox was empty at some moment, not before all that the pass had seen. With one pass of its kind that binds the answer; with several it binds it up to what the others may have done.
+    /// Takes the oldest completion. There is none, and the pass stays as it was, only where the inbox was empty at some moment: all puts had been taken then that the pass knows of. A pass knows what it saw when it last took, and what it was told (`TakePass::learn`); a new one knows of no put.
+    ///
+    /// So the only take pass that gets none has taken all that it knows of itself. Of several each is bound by what it knows, but the others may have taken it (`laws::refusals`).
     ///
     /// Takes no memory. It may wait for other threads that are inside `put` or `take`.
     pub fn take<R: Wait>(&self, rt: &R, pass: &mut TakePass) -> Option<Completion>

@@ -6,11 +6,13 @@ mod account;
 mod closing;
 mod inbox;
 pub mod laws;
-mod passes;
-mod receipts;
+mod put_pass;
+mod receipt;
 mod rule;
+mod take_pass;
 
 pub use closing::{CloseFault, Unclosed};
 pub use inbox::{Inbox, MAX_CAPACITY, MAX_PASSES};
-pub use passes::{PutPass, TakePass};
-pub use receipts::Receipt;
+pub use put_pass::PutPass;
+pub use receipt::Receipt;
+pub use take_pass::TakePass;

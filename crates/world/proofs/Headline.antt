@@ -6,7 +6,7 @@ use Rattle.ccb.specs.Completion.{Outcome}
 use Rattle.bpf_machine.specs.Reached.{Reached}
 use Rattle.world.specs.World.{Setup, queue_setup, LiveRun, World}
 use Rattle.world.specs.Lawful.{IsLawful}
-use Rattle.world.specs.Lookups.{ccb_of, run_of}
+use Rattle.world.specs.Lookups.{run_of}
 use Rattle.world.specs.Event.{complete, Event, Reply, run_started}
 use Rattle.world.specs.WorldRun.{Leads}
 use Rattle.world.specs.Headline.{is_own_of, steps_of, disposals_of, exits_of, StartedRun, KeepsWithin, WithinBudget, InRecoveryBy, DisposedOnce, OthersLeaveIt, GoneRunStaysGone, times_in, ExactFreezes}
@@ -19,6 +19,7 @@ use Rattle.world.proofs.Leads.{leads_keeps, lists_are_kept}
 use Rattle.world.proofs.Held.{live_given, others_entries}
 use Rattle.world.proofs.Steps.Beginnings.{no_some, started_begins, begins_at_entry}
 use Rattle.world.proofs.Reaching.{same_found}
+use Rattle.world.proofs.Disposals.{in_recovery_by, disposal_of}
 use Rattle.world.proofs.Sound.{IsSound, step_sound, run_sound, leads_sound}
 use Rattle.world.specs.FreezeLaws.{held_by}
 use Rattle.world.specs.TookGave.{taken_by, took}
@@ -78,37 +79,46 @@ record Disposes (run ccb j e : ℕ) (world : World) : Type 0 where
   most : j ≤ 1
   at_exit : 0 < e → j ≡ 1
   until_then : j ≡ 0 → InRecoveryBy run ccb world
+  its_ccb : (now : LiveRun) → run_of run world.runs ≡ Some now → now.ccb ≡ ccb
+
+-- a live run is of the CCB of its start
+stays_its_own : (world : World) (run : ℕ) (start now : LiveRun) → run_of run world.runs ≡ Some now → now.ccb ≡ start.ccb → (it : LiveRun) → run_of run world.runs ≡ Some it → it.ccb ≡ start.ccb
+stays_its_own world run start now found ccb it found_too = subst (λ (r : LiveRun). r.ccb ≡ start.ccb) (same_found world run now it found found_too) ccb
 
 disposes : (setup : Setup) (start : LiveRun) (run k j e : ℕ) (world : World) → IsSound setup world → Life setup start run k j e world → Disposes run start.ccb j e world
 disposes setup start run k j e world sound (alive now found queue ccb reached (inl fresh) none_yet) =
-    let recovery = sound.recovering.ccbs run now found fresh.0 in
     record {
       most = omega (arith, fresh.1);
       at_exit = λ some. absurd (omega (arith, some, none_yet));
-      until_then = λ none. record {
-        live = recovery.live;
-        found = subst (λ (n : ℕ). ccb_of n world.live ≡ Some recovery.live) ccb recovery.found;
-        state = recovery.state;
-        now = now;
-        is_live = found;
-        fresh = fresh.0;
-        alone = λ other its there same unspent_too. sound.recovering.alone other run its now there found (same ∙ sym ccb) unspent_too fresh.0;
-      };
+      until_then = λ none. subst (λ (n : ℕ). InRecoveryBy run n world) ccb (in_recovery_by run now world sound.recovering found fresh.0);
+      its_ccb = stays_its_own world run start now found ccb;
     }
 disposes setup start run k j e world sound (alive now found queue ccb reached (inr spent) none_yet) =
     record {
       most = omega (arith, spent.1);
       at_exit = λ some. absurd (omega (arith, some, none_yet));
       until_then = λ none. absurd (omega (arith, none, spent.1));
+      its_ccb = stays_its_own world run start now found ccb;
     }
 disposes setup start run k j e world sound (over none given most used gone) =
-    record { most = omega (arith, used); at_exit = λ some. used; until_then = λ zero_yet. absurd (omega (arith, zero_yet, used)) }
+    record {
+      most = omega (arith, used);
+      at_exit = λ some. used;
+      until_then = λ zero_yet. absurd (omega (arith, zero_yet, used));
+      its_ccb = λ it found_too. absurd (no_some (run_of run world.runs) it none found_too);
+    }
 
 pub disposed_once : DisposedOnce
 disposed_once setup lawful outcome run ys world it =
     let s = story setup lawful outcome run ys world it in
     let d = disposes setup s.start run (steps_of run ys) (disposals_of run ys) (exits_of run ys) world s.sound s.life in
-    (d.most, d.at_exit, λ none. subst (λ (n : ℕ). InRecoveryBy run n world) s.ccb_is (d.until_then none))
+    let its_ccb : (now : LiveRun) → run_of run world.runs ≡ Some now → now.ccb ≡ outcome.ccb.0 = λ now found. d.its_ccb now found ∙ s.ccb_is in (
+      d.most,
+      d.at_exit,
+      λ none. subst (λ (n : ℕ). InRecoveryBy run n world) s.ccb_is (d.until_then none),
+      its_ccb,
+      λ event reply after step disposal. disposal_of setup world event reply after run outcome.ccb.0 s.sound.recovering its_ccb step disposal,
+    )
 
 -- what a run holds at its start is what it got
 start_balance : (setup : Setup) (before : World) (event : Event) (reply : Reply) (after : World) (run : ℕ) (start : LiveRun) (n : ℕ) → before.greatest_run + 1 ≡ run → Begins setup before event reply after start → (times_in n (taken_by run event reply) ≡ times_in n start.machine.held) × (times_in n (taken_by run event reply) ≤ 1)

@@ -11,6 +11,7 @@ pub mod Gone
 pub mod Reaching
 pub mod Held
 pub mod Recovering
+pub mod Disposals
 pub mod Sound
 pub mod NeverStuck
 pub mod Lives

@@ -7,6 +7,7 @@ pub mod Runs
 pub mod Lawful
 pub mod Telling
 pub mod Calls
+pub mod Disposals
 pub mod Handing
 pub mod Tables
 pub mod Parks

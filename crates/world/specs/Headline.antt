@@ -1,10 +1,12 @@
 -- The headline of runs: what holds of every run of a recovery program, in every run of the world of every lawful setup.
-use Rattle.std.specs.Prelude.{◌≡◌, ℕ, ◌+◌, ◌<◌, ◌≤◌, ◌==◌, ◌||◌, Bool, true, false, List, ◌∷◌, Option, Some, None, is_some, count_by}
+use Rattle.std.specs.Prelude.{◌≡◌, ℕ, ◌+◌, ◌-◌, ◌<◌, ◌≤◌, ◌==◌, ◌||◌, Bool, true, false, List, [], ◌∷◌, ◌++◌, Option, Some, None, is_some, count_by}
+use Rattle.ccb.specs.declared.cam_status.CamStatus.TheVariants.{RequestInProgress}
 use Rattle.ccb.specs.Completion.{Outcome}
 use Rattle.helpers.specs.declared.helper.Helper.TheVariants as helpers
+use Rattle.helpers.specs.declared.request.Request.TheVariants.{Requeue}
 use Rattle.bpf_machine.specs.Stuck.{is_stuck}
 use Rattle.bpf_machine.specs.Reached.{Reached}
-use Rattle.world.specs.declared.ccb_state.CcbState.TheVariants.{InRecovery}
+use Rattle.world.specs.declared.ccb_state.CcbState.TheVariants.{Waiting, InRecovery}
 use Rattle.world.specs.World.{Setup, queue_setup, LiveCcb, LiveRun, World}
 use Rattle.world.specs.Lawful.{IsLawful}
 use Rattle.world.specs.Lookups.{ccb_of, run_of}
@@ -13,7 +15,7 @@ use Rattle.world.specs.Event.{Instruction, private, call, exit, Event, complete,
 use Rattle.world.specs.Step.{WorldStep}
 use Rattle.world.specs.WorldRun.{Leads, WorldRun}
 use Rattle.world.specs.TookGave.{took, gave}
-use Rattle.world.specs.FreezeLaws.{entries_of}
+use Rattle.world.specs.FreezeLaws.{Calls, entries_of}
 
 -- the event is a step of this run
 abbrev pub is_step_of : ℕ → Event → Bool
@@ -125,14 +127,53 @@ pub record InRecoveryBy (run ccb : ℕ) (world : World) : Type 0 where
   pub fresh : now.machine.disposed ≡ false
   pub alone : (other : ℕ) (its : LiveRun) → run_of other world.runs ≡ Some its → its.ccb ≡ ccb → its.machine.disposed ≡ false → other ≡ run
 
--- From its start on a run disposes of its CCB at most once, and exactly once if it exited; until then the CCB is in
--- recovery by this run alone.
+-- The CCB is requeued: it waits again with so many retries fewer, not below 0, in its queue, with its priority and its
+-- count of starts. What its completion brought is gone, and no CCB ended.
+pub record IsRequeued (ccb used : ℕ) (was : LiveCcb) (before after : World) : Type 0 where
+  pub now : LiveCcb
+  pub found : ccb_of ccb after.live ≡ Some now
+  pub state : now.state ≡ Waiting
+  pub queue : now.ccb.queue ≡ was.ccb.queue
+  pub priority : now.ccb.priority ≡ was.ccb.priority
+  pub retries : now.ccb.retries ≡ was.ccb.retries - used
+  pub attempts : now.ccb.attempts ≡ was.ccb.attempts
+  pub status : now.ccb.status ≡ RequestInProgress
+  pub scsi : now.ccb.scsi ≡ 0
+  pub sense : now.ccb.sense ≡ []
+  pub freeze_taken : now.ccb.freeze_taken ≡ false
+  pub ended : after.ended ≡ before.ended
+
+-- The CCB is finished: it is gone, and it alone ended, with this code.
+pub record IsFinished (ccb code : ℕ) (before after : World) : Type 0 where
+  pub gone : ccb_of ccb after.live ≡ None
+  pub ended : after.ended ≡ before.ended ++ record { number = ccb; code = code } ∷ []
+
+-- what the instruction makes of the run's CCB: a call of helper 4 requeues it with the retries that the run asks for, one
+-- of helper 5 finishes it with the code that is told, and no other disposes of it
+abbrev pub DisposesBy : Option Instruction → ℕ → ℕ → LiveCcb → World → World → Type 0
+DisposesBy (Some (call (plain helpers.Requeue))) run ccb was before after = (used : ℕ) × Calls before run (Requeue used) × IsRequeued ccb used was before after
+DisposesBy (Some (call (finishes code))) run ccb was before after = IsFinished ccb code before after
+DisposesBy instruction run ccb was before after = ⊥
+
+-- By this step the run disposes of the CCB: that was in recovery by this run alone, and is requeued or finished. All other
+-- CCBs are as they were.
+pub record DisposesOfIt (run ccb : ℕ) (before : World) (event : Event) (after : World) : Type 0 where
+  pub recovery : InRecoveryBy run ccb before
+  pub disposes : DisposesBy (instruction_of run event) run ccb recovery.live before after
+  pub others : (other : ℕ) → (other ≡ ccb → ⊥) → ccb_of other after.live ≡ ccb_of other before.live
+
+-- From its start on, as long as it is live, a run is that of the CCB which the completion named. It disposes of that CCB at
+-- most once, and exactly once if it exited; until then the CCB is in recovery by this run alone. The step by which it
+-- disposes of the CCB requeues or finishes it, and changes no other.
 abbrev pub DisposedOnce : Type 0
 DisposedOnce =
     (setup : Setup) → IsLawful setup → (outcome : Outcome) (run : ℕ) (ys : List (Event × Reply)) (world : World) →
     StartedRun setup outcome run ys world →
     (disposals_of run ys ≤ 1) × (0 < exits_of run ys → disposals_of run ys ≡ 1)
     × (disposals_of run ys ≡ 0 → InRecoveryBy run outcome.ccb.0 world)
+    × ((now : LiveRun) → run_of run world.runs ≡ Some now → now.ccb ≡ outcome.ccb.0)
+    × ((event : Event) (reply : Reply) (after : World) → WorldStep setup world event reply after →
+    is_disposal_of run event ≡ true → DisposesOfIt run outcome.ccb.0 world event after)
 
 -- how often a number is in a list
 abbrev pub times_in : ℕ → List ℕ → ℕ

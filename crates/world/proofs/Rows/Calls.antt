@@ -20,14 +20,14 @@ use Rattle.world.specs.Step.{step}
 use Rattle.world.specs.Flat.{flat}
 use Rattle.world.proofs.Rows.Worked.{two_queues, with_freezes, ccb_in, next, answer}
 
-abbrev limits : HelperLimits
+abbrev pub limits : HelperLimits
 limits = record { queues = 2; table_lengths = [] }
 
-abbrev setup : Setup
+abbrev pub setup : Setup
 setup = two_queues limits
 
 -- run 1 of queue 0 stands at a call of this helper with these arguments, and holds these freezes
-abbrev run_at : ℕ → ℕ → ℕ → List ℕ → Bool → LiveRun
+abbrev pub run_at : ℕ → ℕ → ℕ → List ℕ → Bool → LiveRun
 run_at helper first second held disposed = record {
   number = 1;
   ccb = 1;
@@ -159,7 +159,7 @@ too_long = refl
 abbrev at_finish : World
 at_finish = with_run (run_at 5 11 0 (3 ∷ []) false) one_held 9
 
-abbrev ends : ℕ → Event
+abbrev pub ends : ℕ → Event
 ends code = executes 1 (call (finishes code))
 
 finished : answer setup at_finish (ends 11) ≡ Some (result 0)

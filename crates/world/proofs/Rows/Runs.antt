@@ -156,6 +156,10 @@ it_gave l = refl
 its_freeze : (l : HelperLimits) → (failed l).freezes ≡ record { number = 1; queue = record { 0 = 0 }; holder = Run 1 } ∷ []
 its_freeze l = refl
 
+-- the run is that of the CCB that failed, at its start and at its exit
+its_ccb : (l : HelperLimits) → (map (λ run. run.ccb) (failed l).runs ≡ 1 ∷ []) × (map (λ run. run.ccb) (at_exit l).runs ≡ 1 ∷ [])
+its_ccb l = (refl, refl)
+
 -- the run's seven steps are its budget; it made its CCB wait again once, and exited
 its_steps : (steps_of 1 events ≡ 7) × (disposals_of 1 events ≡ 1) × (exits_of 1 events ≡ 1)
 its_steps = (refl, refl, refl)

@@ -1,7 +1,8 @@
 // A program to its one text without labels.
 
 ghost use Rattle.std.specs.Prelude.{◌≡◌, ◌<◌, ◌++◌, OnOk, IfOk, string_bytes, codes};
-ghost use Rattle.bpf_asm.specs.Canon.{register_text, operand_text, signed_text, digit_text, comma_text, word_text, address_text, operands_text, mnemonic_for, insn_text, canon};
+ghost use Rattle.bpf_asm.specs.Assembly.{Says};
+ghost use Rattle.bpf_asm.specs.Canon.{register_text, operand_text, signed_text, digit_text, comma_text, word_text, address_text, operands_text, mnemonic_for, insn_text, canon, HasOperand, HasNumbers};
 
 use crate::mnemonic::Mnemonic;
 use bpf_insn::{Callee, Distance, Insn, Operand, Program, Reg};
@@ -18,7 +19,8 @@ fn put_register(text: &mut String, reg: Reg) -> Result<(), AllocError>
 
 // A register or a constant.
 fn put_operand(text: &mut String, operand: Operand) -> Result<(), AllocError>
-    ensures { OnOk result (string_bytes text.new ≡ string_bytes text.old ++ operand_text operand) }
+    ensures printed { OnOk result (string_bytes text.new ≡ string_bytes text.old ++ operand_text operand) }
+    ensures numbers { HasOperand operand }
 {
     match operand {
         Operand::Immediate(value) => write!(text, "{value}"),
@@ -91,7 +93,8 @@ fn put_dst_comma(text: &mut String, dst: Reg) -> Result<(), AllocError>
 
 // What stands behind the name.
 fn put_operands(text: &mut String, insn: Insn) -> Result<(), AllocError>
-    ensures { OnOk result (string_bytes text.new ≡ string_bytes text.old ++ operands_text insn) }
+    ensures printed { OnOk result (string_bytes text.new ≡ string_bytes text.old ++ operands_text insn) }
+    ensures numbers { HasNumbers insn }
 {
     match insn {
         Insn::Alu { dst, src, .. } => {
@@ -186,17 +189,19 @@ fn mnemonic_for(insn: Insn) -> Mnemonic
 // The line of an instruction.
 #[tactic(auto, unfolding(crate::specs::Canon::insn_text))]
 fn put_insn(text: &mut String, insn: Insn) -> Result<(), AllocError>
-    ensures { OnOk result (string_bytes text.new ≡ string_bytes text.old ++ insn_text insn) }
+    ensures printed { OnOk result (string_bytes text.new ≡ string_bytes text.old ++ insn_text insn) }
+    ensures numbers { HasNumbers insn }
 {
     text.push_str(mnemonic_for(insn).name())?;
     put_operands(text, insn)?;
     text.push_str("\n")
 }
 
-/// The text of a program: a line for each instruction, without labels.
+/// The text of a program: a line for each instruction, without labels. It says this program, so that it is assembled again to it.
 #[tactic(auto, unfolding(crate::specs::Canon::canon))]
 pub fn disassemble(alloc: Global, program: &Program) -> Result<String, AllocError>
-    ensures { IfOk result (λ text. string_bytes text ≡ canon program.now) }
+    ensures printed { IfOk result (λ text. string_bytes text ≡ canon program.now) }
+    ensures says { IfOk result (λ text. Says (string_bytes text) program.now) }
 {
     let mut text = String::new(alloc);
     for place in 0..program.len() {

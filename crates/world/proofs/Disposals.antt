@@ -112,7 +112,10 @@ call_disposes setup before event reply after recovering it disposing (ends_one d
     let instruction_is = its_instruction before event (call (told_of it.request)) it.it ∙ ap (λ (r : Request). Some (call (told_of r))) deed.request_is in
     record {
       recovery = recovery;
-      disposes = subst (λ (o : Option Instruction). DisposesBy o number ccb recovery.live before after) (sym instruction_is) (finished_now ccb deed.code recovery.live before after recovery.found live_is ended_is);
+      disposes = subst (λ (o : Option Instruction). DisposesBy o number ccb recovery.live before after) (sym instruction_is) (
+        (it.it.run, it.it.found, it.call_is ∙ ap Some deed.request_is),
+        finished_now ccb deed.code recovery.live before after recovery.found live_is ended_is,
+      );
       others = finished_alone ccb deed.code recovery.live before after recovery.found live_is;
     }
 

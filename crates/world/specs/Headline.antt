@@ -3,7 +3,7 @@ use Rattle.std.specs.Prelude.{◌≡◌, ℕ, ◌+◌, ◌-◌, ◌<◌, ◌≤�
 use Rattle.ccb.specs.declared.cam_status.CamStatus.TheVariants.{RequestInProgress}
 use Rattle.ccb.specs.Completion.{Outcome}
 use Rattle.helpers.specs.declared.helper.Helper.TheVariants as helpers
-use Rattle.helpers.specs.declared.request.Request.TheVariants.{Requeue}
+use Rattle.helpers.specs.declared.request.Request.TheVariants.{Requeue, Finish}
 use Rattle.bpf_machine.specs.Stuck.{is_stuck}
 use Rattle.bpf_machine.specs.Reached.{Reached}
 use Rattle.world.specs.declared.ccb_state.CcbState.TheVariants.{Waiting, InRecovery}
@@ -149,10 +149,10 @@ pub record IsFinished (ccb code : ℕ) (before after : World) : Type 0 where
   pub ended : after.ended ≡ before.ended ++ record { number = ccb; code = code } ∷ []
 
 -- what the instruction makes of the run's CCB: a call of helper 4 requeues it with the retries that the run asks for, one
--- of helper 5 finishes it with the code that is told, and no other disposes of it
+-- of helper 5 finishes it with the code that it asks for and that is told, and no other disposes of it
 abbrev pub DisposesBy : Option Instruction → ℕ → ℕ → LiveCcb → World → World → Type 0
 DisposesBy (Some (call (plain helpers.Requeue))) run ccb was before after = (used : ℕ) × Calls before run (Requeue used) × IsRequeued ccb used was before after
-DisposesBy (Some (call (finishes code))) run ccb was before after = IsFinished ccb code before after
+DisposesBy (Some (call (finishes code))) run ccb was before after = Calls before run (Finish code) × IsFinished ccb code before after
 DisposesBy instruction run ccb was before after = ⊥
 
 -- By this step the run disposes of the CCB: that was in recovery by this run alone, and is requeued or finished. All other

@@ -110,7 +110,7 @@ ends_last : (next setup (at_call 5 11 3) (ends 11)).ended ≡ record { number = 
 ends_last = refl
 
 is_finished : DisposesBy (instruction_of 1 (ends 11)) 1 1 (failed 3) (at_call 5 11 3) (next setup (at_call 5 11 3) (ends 11))
-is_finished = record { gone = refl; ended = refl }
+is_finished = ((run_at 5 11 0 [] false, refl, refl), record { gone = refl; ended = refl })
 
 -- it was in recovery until then
 found_failed : ccb_of 1 (at_call 4 1 3).live ≡ Some (failed 3)

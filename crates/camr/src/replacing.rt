@@ -6,12 +6,13 @@ use std::rt::Files;
 use std::{fs, io};
 
 /// Writes a file anew. The bytes go into a file beside it first, whose name has `.camr-new` behind, and that takes its place
-/// then: so a file that was there keeps what it held where anything fails. What is no regular file, as a terminal, is
-/// written in its place.
+/// then: so a file that was there keeps what it held where anything fails. A link to a file stays one, and that file is
+/// written. What is no regular file, as a terminal, is written in its place.
 pub fn replace<R: Files + AllocGlobal>(rt: &R, path: &str, bytes: &[u8]) -> io::Result<()> {
     match fs::metadata(rt, path) {
         Ok(found) if !found.is_file() => fs::write(rt, path, bytes),
-        _ => write_beside(rt, path, bytes),
+        Ok(_) => write_beside(rt, fs::canonicalize(rt, path)?.as_str(), bytes),
+        Err(_) => write_beside(rt, path, bytes),
     }
 }
 

@@ -32,6 +32,7 @@ kept limits queues some few agreed each =
         queues = All-map (IsLawfulQueue limits) queue_of given (All-weaker (λ given. IsGivenUnder limits given × IsKnown given) (λ given. IsLawfulQueue limits (queue_of given)) (lawful_queue limits) given all);
       };
       queues = All-weaker (λ given. IsGivenUnder limits given × IsKnown given) (IsGivenUnder limits) (λ _ h. h.0) given all;
+      known = All-weaker (λ given. IsGivenUnder limits given × IsKnown given) IsKnown (λ _ h. h.1) given all;
     }
 
 pub configured : (limits : HelperLimits) (queues : List Shared) → (1 ≤ length queues) × (length queues ≤ 64) → limits.queues ≡ length queues
@@ -88,14 +89,5 @@ module _ (limits : HelperLimits) (queues : List Shared) (k : ℕ) (x : Shared) (
     pub same_limits : (given_of x).1.limits ≡ now.limits
     same_limits = given_under.1 ∙ ap (λ (s : Setup). s.limits) view
 
-    lawful : IsLawfulQueue limits (queue_of (given_of x))
-    lawful = let within : k < length (map queue_of (map given_of queues)) = rw length-map given_there in
-        subst (IsLawfulQueue limits) (get_or-map queue_of (map given_of queues) k (given_of x) no_queue given_there ∙ ap queue_of given_is)
-        (All-get_or (IsLawfulQueue limits) (map queue_of (map given_of queues)) k no_queue within h.lawful.queues)
-
     pub accepted : IsAccepted (given_of x).1
-    accepted = record {
-      is_program = lawful.program;
-      safe = subst (λ (l : HelperLimits). Safe (given_of x).1.program l) (sym given_under.1) lawful.safe;
-      within = lawful.within;
-    }
+    accepted = (subst IsKnown given_is (All-get_or IsKnown (map given_of queues) k (given_of x) given_there h.known)).1

@@ -47,3 +47,4 @@ pub record IsConfigured (limits : HelperLimits) (given : List Given) : Type 0 wh
 pub record KeepsConfig (limits : HelperLimits) (given : List Given) : Type 0 where
   pub lawful : IsLawful (setup_of limits given)
   pub queues : All (IsGivenUnder limits) given
+  pub known : All IsKnown given

@@ -1,7 +1,9 @@
 -- Worked values of the definitions.
-use Rattle.std.proofs.Common.{◌≡◌, List, [], ◌∷◌, refl}
+use Rattle.std.proofs.Common.{◌≡◌, [], ◌∷◌, refl}
 use Rattle.ccb.specs.Completion.{Outcome}
-use Rattle.inbox.specs.InboxLists.{entry, by_pass, completions}
+use Rattle.inbox.specs.declared.account.Seen.{Seen}
+use Rattle.inbox.specs.declared.account.Shape.{Shape}
+use Rattle.inbox.specs.InboxLists.{entry, by_pass, completions, known_by, learned}
 use Rattle.inbox.specs.Seats.{new_account}
 use Rattle.inbox.specs.Views.{InboxView, new_passes}
 
@@ -16,3 +18,6 @@ of_all a b = refl
 
 two_take_passes : (inbox : InboxView) → new_passes inbox 3 2 ≡ record { queue = inbox.queue; account = new_account inbox.shape 3 } ∷ record { queue = inbox.queue; account = new_account inbox.shape 4 } ∷ []
 two_take_passes inbox = refl
+
+told_of : (shape : Shape) (seen : Seen) → known_by (learned (new_account shape 1) (seen ∷ [])) ≡ record { put = []; taken = [] } ∷ seen ∷ []
+told_of shape seen = refl

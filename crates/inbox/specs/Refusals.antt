@@ -1,5 +1,5 @@
 -- What it says of an inbox that a pass was refused.
-use Rattle.std.specs.Prelude.{◌≡◌, ℕ, ◌+◌, ◌<◌, ◌≤◌, length, All}
+use Rattle.std.specs.Prelude.{◌≡◌, ◌+◌, ◌<◌, ◌≤◌, length, All}
 use Rattle.ccb.specs.Completion.{Outcome}
 use Rattle.inbox.specs.declared.account.Account.{Account}
 use Rattle.inbox.specs.declared.account.Shape.{Shape}

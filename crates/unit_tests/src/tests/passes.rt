@@ -1,4 +1,4 @@
-// One thread and many: what is put comes out once, in order, and the inbox refuses and is closed as it says.
+// One thread and many: what is put comes out once, in order, and the inbox refuses and is closed as it says. That bodies which never give, or never take in, are found out stands here too: with several passes of a kind no contract refuses them.
 ghost use Rattle.std.specs.Prelude.{◌≡◌, ◌≤◌, ◌<◌, All, vec_len};
 ghost use Rattle.inbox.specs.Views.{IsOf};
 
@@ -108,6 +108,146 @@ fn take_below<R: Abort + Wait>(rt: &R, inbox: &Inbox, takes: &mut Vec<TakePass>,
         let taken = take(rt, inbox, takes);
         assert_eq!(rt; taken, Some(completion(rt, number)), "{number} of {end}");
     }
+}
+
+// The first take pass learns what the first put pass knows.
+fn tell_of_puts(inbox: &Inbox, puts: &mut Vec<PutPass>, takes: &mut Vec<TakePass>)
+    requires puts { (0 < vec_len puts.old) × All (IsOf inbox.now) puts.old.items }
+    requires takes { (0 < vec_len takes.old) × All (IsOf inbox.now) takes.old.items }
+    ensures puts { (vec_len puts.new ≡ vec_len puts.old) × All (IsOf inbox.now) puts.new.items }
+    ensures takes { (vec_len takes.new ≡ vec_len takes.old) × All (IsOf inbox.now) takes.new.items }
+{
+    let receipt = puts[0].receipt(inbox);
+    takes[0].learn(inbox, receipt);
+}
+
+// The first put pass learns what the first take pass knows.
+fn tell_of_takes(inbox: &Inbox, puts: &mut Vec<PutPass>, takes: &mut Vec<TakePass>)
+    requires puts { (0 < vec_len puts.old) × All (IsOf inbox.now) puts.old.items }
+    requires takes { (0 < vec_len takes.old) × All (IsOf inbox.now) takes.old.items }
+    ensures puts { (vec_len puts.new ≡ vec_len puts.old) × All (IsOf inbox.now) puts.new.items }
+    ensures takes { (vec_len takes.new ≡ vec_len takes.old) × All (IsOf inbox.now) takes.new.items }
+{
+    let receipt = takes[0].receipt(inbox);
+    puts[0].learn(inbox, receipt);
+}
+
+// How a pass puts and takes: as the inbox does, or by a wrong body.
+trait Body {
+    fn put<R: Wait>(
+        rt: &R,
+        inbox: &Inbox,
+        pass: &mut PutPass,
+        completion: Completion,
+    ) -> Result<(), Completion>
+        requires { IsOf inbox.now pass.old }
+        ensures { IsOf inbox.now pass.new };
+
+    fn take<R: Wait>(rt: &R, inbox: &Inbox, pass: &mut TakePass) -> Option<Completion>
+        requires { IsOf inbox.now pass.old }
+        ensures { IsOf inbox.now pass.new };
+}
+
+struct Inboxes;
+
+impl Body for Inboxes {
+    fn put<R: Wait>(
+        rt: &R,
+        inbox: &Inbox,
+        pass: &mut PutPass,
+        completion: Completion,
+    ) -> Result<(), Completion> {
+        inbox.put(rt, pass, completion)
+    }
+
+    fn take<R: Wait>(rt: &R, inbox: &Inbox, pass: &mut TakePass) -> Option<Completion> {
+        inbox.take(rt, pass)
+    }
+}
+
+struct NeverGives;
+
+impl Body for NeverGives {
+    fn put<R: Wait>(
+        rt: &R,
+        inbox: &Inbox,
+        pass: &mut PutPass,
+        completion: Completion,
+    ) -> Result<(), Completion> {
+        inbox.put(rt, pass, completion)
+    }
+
+    fn take<R: Wait>(_rt: &R, _inbox: &Inbox, _pass: &mut TakePass) -> Option<Completion> {
+        None
+    }
+}
+
+struct AlwaysRefuses;
+
+impl Body for AlwaysRefuses {
+    fn put<R: Wait>(
+        _rt: &R,
+        _inbox: &Inbox,
+        _pass: &mut PutPass,
+        completion: Completion,
+    ) -> Result<(), Completion> {
+        Err(completion)
+    }
+
+    fn take<R: Wait>(rt: &R, inbox: &Inbox, pass: &mut TakePass) -> Option<Completion> {
+        inbox.take(rt, pass)
+    }
+}
+
+// Whether a completion goes in and comes out, where each pass is told what the other did.
+fn goes_through<B: Body, R: Abort + Wait>(
+    rt: &R,
+    inbox: &Inbox,
+    puts: &mut Vec<PutPass>,
+    takes: &mut Vec<TakePass>,
+    number: u32,
+) -> bool
+    requires puts { (0 < vec_len puts.old) × All (IsOf inbox.now) puts.old.items }
+    requires takes { (0 < vec_len takes.old) × All (IsOf inbox.now) takes.old.items }
+    ensures puts { (vec_len puts.new ≡ vec_len puts.old) × All (IsOf inbox.now) puts.new.items }
+    ensures takes { (vec_len takes.new ≡ vec_len takes.old) × All (IsOf inbox.now) takes.new.items }
+{
+    let put = B::put(rt, inbox, &mut puts[0], completion(rt, number));
+    tell_of_puts(inbox, puts, takes);
+    let taken = B::take(rt, inbox, &mut takes[0]);
+    tell_of_takes(inbox, puts, takes);
+    put == Ok(()) && taken == Some(completion(rt, number))
+}
+
+// Whether two completions go through an inbox that has room for one, with so many passes of each kind.
+fn serves<B: Body, R: Abort + Wait>(rt: &R, alloc: Global, passes: usize) -> bool
+    requires { (1 ≤ passes) × (passes ≤ 64) }
+{
+    let (inbox, mut puts, mut takes) = open(rt, alloc, 1, passes, passes);
+    let first = goes_through::<B, R>(rt, &inbox, &mut puts, &mut takes, 0);
+    let second = goes_through::<B, R>(rt, &inbox, &mut puts, &mut takes, 1);
+    close(rt, inbox, puts, takes);
+    first && second
+}
+
+#[test]
+fn finds_out_bodies_that_never_give_or_never_take_in(rt: HostRuntime) -> Result<(), Fail> {
+    for passes in [1usize, 4] {
+        assert!(rt; 1 <= passes && passes <= 64);
+        assert!(rt;
+            serves::<Inboxes, _>(&rt, rt.alloc(), passes),
+            "the inbox, {passes}"
+        );
+        assert!(rt;
+            !serves::<NeverGives, _>(&rt, rt.alloc(), passes),
+            "never gives, {passes}"
+        );
+        assert!(rt;
+            !serves::<AlwaysRefuses, _>(&rt, rt.alloc(), passes),
+            "always refuses, {passes}"
+        );
+    }
+    Ok(())
 }
 
 #[test]

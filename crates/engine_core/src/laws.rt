@@ -14,7 +14,10 @@ ghost use Rattle.world.specs.Moved.{Moved};
 /// submissions, dispatches, completions, timers, guests, parks and runs: no run is ever stuck, and each that is
 /// out has exactly one next step; each executes at most its budget; if it ends it has released or handed over
 /// exactly the freezes that it took, and it disposed of its CCB once; and every queue's frozen count is at every
-/// moment the number of entries that name it. And: each live run's machine is one that its program reaches; what
+/// moment the number of entries that name it. A run's CCB is that of the completion which started it; it is in
+/// recovery by this run alone until the run disposes of it, and then it waits again in its queue, with the retries
+/// that the run asked for fewer and its priority and attempts as they were, or it is gone and ended with the run's
+/// code, while all other CCBs stay as they are. And: each live run's machine is one that its program reaches; what
 /// a machine holds is what the entries say of its run; no limit is passed; no event lets more CCBs of a queue be
 /// active than it has openings, though openings may be set below those that are; each CCB number is of a live CCB or
 /// of one that ended, once, with its code; an event that is none of a run's own, its steps, its parks and its

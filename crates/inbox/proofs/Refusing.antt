@@ -1,16 +1,17 @@
 -- What it says that a pass was refused.
-use Rattle.std.proofs.Common.{◌≡◌, ℕ, ◌+◌, ◌<◌, ◌≤◌, Bool, if◌then◌else◌, List, [], ◌∷◌, ◌++◌, length, sym, refl, ap, ◌∙◌, subst, eq-eqb, append-nil, length-append, arith}
+use Rattle.std.proofs.Common.{◌≡◌, ℕ, ◌+◌, ◌<◌, ◌≤◌, Bool, if◌then◌else◌, List, [], ◌∷◌, ◌++◌, length, sym, refl, ap, ◌∙◌, subst, eq-eqb, append-nil, length-append, arith, Option, None, Some, MatchOption, IfNone, Result, Ok, Err, MatchResult, OnErr}
 use Rattle.std.specs.List.{All}
 use Rattle.std.proofs.lemmas.List.{length-map, map-append, nil_from_length}
 use Rattle.std.proofs.lemmas.List.Elements.{All-head, All-tail, All-cons, All-weaker}
+use Rattle.crossbeam_queue.specs.Fifo.{Held as QueueHeld}
 use Rattle.ccb.specs.Completion.{Outcome}
 use Rattle.inbox.specs.declared.account.Account.{Account}
 use Rattle.inbox.specs.declared.account.Entry.{Entry}
 use Rattle.inbox.specs.declared.account.Seen.{Seen}
 use Rattle.inbox.specs.declared.account.Shape.{Shape}
 use Rattle.inbox.specs.InboxLists.{InboxLists, AreLists, Agrees, BeginWith, Held, Puts, Takes, StartsWith, by_pass, completions, entry, known_by, learned}
-use Rattle.inbox.specs.Refusals.{NoneMeansTaken, RefusedMeansUsed, LoneTakeTook, LonePutUsed, ComesOut}
-use Rattle.inbox.specs.Seats.{new_account}
+use Rattle.inbox.specs.Refusals.{NoneMeansTaken, RefusedMeansUsed, TookAllKnown, UsedAllKnown, ComesOut}
+use Rattle.inbox.specs.Seats.{Knows, new_account}
 
 -- where all are by one pass, those of that pass are all
 all_by_one : (n : ℕ) (es : List Entry) → All (λ e. e.pass ≡ n) es → by_pass n es ≡ completions es
@@ -56,12 +57,12 @@ lone_put : (lists : InboxLists) (a : Account) → a.shape.puts ≡ 1 → a.numbe
 lone_put lists a one to h agrees = sym agrees.own_put ∙ all_by_one a.number lists.put
     (All-weaker (λ (e : Entry). e.pass < a.shape.puts) (λ (e : Entry). e.pass ≡ a.number) (λ e less. omega (arith, less)) lists.put h.putters)
 
-pub lone_take_took : LoneTakeTook
+pub lone_take_took : (a : Account) → a.shape.takes ≡ 1 → a.shape.puts ≤ a.number → a.number < a.shape.puts + a.shape.takes → Held a 0 → TookAllKnown a
 lone_take_took a one from to h = All-weaker (λ (seen : Seen). StartsWith (completions h.lists.taken) (completions seen.put)) (λ (seen : Seen). StartsWith a.taken (completions seen.put))
     (λ seen begun. subst (λ l. StartsWith l (completions seen.put)) (sym (lone_taken h.lists a one from to h.are_lists h.agrees)) begun)
     (known_by a) (none_means_taken a h)
 
-pub lone_put_used : LonePutUsed
+pub lone_put_used : (a : Account) → a.shape.puts ≡ 1 → a.number < a.shape.puts → Held a a.shape.capacity → UsedAllKnown a
 lone_put_used a one to h = All-weaker (λ (seen : Seen). length seen.taken + a.shape.capacity ≤ length h.lists.put) (λ (seen : Seen). length seen.taken + a.shape.capacity ≤ length a.put)
     (λ seen less. omega (arith, ap length (lone_put h.lists a one to h.are_lists h.agrees), length-completions h.lists.put, less))
     (known_by a) (refused_means_used a h)
@@ -103,3 +104,15 @@ module _ (shape : Shape) (puts : shape.puts ≡ 1) (takes : shape.takes ≡ 1) w
 
 pub comes_out : ComesOut
 comes_out shape puts takes some = (first_goes shape puts takes some, λ p c put_is. (it_is_there shape puts takes p c put_is, it_is_taken shape puts takes p c put_is))
+
+-- what a queue tells at a refusal, where the pass is the only one of its kind
+held_of : (a : Account) (n : ℕ) → QueueHeld n (λ items. Knows a items) → Held a n
+held_of a n (items, long, knows) = record { lists = knows.lists; are_lists = knows.are_lists; agrees = knows.agrees; held = ap length knows.left_is ∙ long }
+
+pub took_all : (a : Account) (o : Option Outcome) (S : Type 0) (Q : Outcome → Type 0) → a.shape.takes ≡ 1 → a.shape.puts ≤ a.number → a.number < a.shape.puts + a.shape.takes → MatchOption o (S × QueueHeld 0 (λ items. Knows a items)) Q → IfNone o (TookAllKnown a)
+took_all a None S Q one from to h = lone_take_took a one from to (held_of a 0 h.1)
+took_all a (Some x) S Q one from to h = tt
+
+pub used_all : (a : Account) (r : Result (Unit {0}) Outcome) (P : Unit {0} → Type 0) (S T : Outcome → Type 0) (n : ℕ) → n ≡ a.shape.capacity → a.shape.puts ≡ 1 → a.number < a.shape.puts → MatchResult r P (λ x. S x × T x × QueueHeld n (λ items. Knows a items)) → OnErr r (UsedAllKnown a)
+used_all a (Ok u) P S T n same one to h = tt
+used_all a (Err x) P S T n same one to h = lone_put_used a one to (subst (Held a) same (held_of a n h.2))

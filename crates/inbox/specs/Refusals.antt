@@ -14,15 +14,13 @@ NoneMeansTaken = (a : Account) (h : Held a 0) → All (λ seen. StartsWith (comp
 abbrev pub RefusedMeansUsed : Type 0
 RefusedMeansUsed = (a : Account) (h : Held a a.shape.capacity) → All (λ seen. length seen.taken + a.shape.capacity ≤ length h.lists.put) (known_by a)
 
--- the same of the only take pass: it took them itself, in their order
-abbrev pub LoneTakeTook : Type 0
-LoneTakeTook = (a : Account) → a.shape.takes ≡ 1 → a.shape.puts ≤ a.number → a.number < a.shape.puts + a.shape.takes → Held a 0
-    → All (λ seen. StartsWith a.taken (completions seen.put)) (known_by a)
+-- the pass took itself all that it knows to be put, in that order
+abbrev pub TookAllKnown : Account → Type 0
+TookAllKnown a = All (λ seen. StartsWith a.taken (completions seen.put)) (known_by a)
 
--- the same of the only put pass: it put them itself
-abbrev pub LonePutUsed : Type 0
-LonePutUsed = (a : Account) → a.shape.puts ≡ 1 → a.number < a.shape.puts → Held a a.shape.capacity
-    → All (λ seen. length seen.taken + a.shape.capacity ≤ length a.put) (known_by a)
+-- the pass put itself as many as there is room for, and one more for each take that it knows of
+abbrev pub UsedAllKnown : Account → Type 0
+UsedAllKnown a = All (λ seen. length seen.taken + a.shape.capacity ≤ length a.put) (known_by a)
 
 -- With one pass of each kind, both new: the put is not refused, and once the take pass has learned of it, it takes this very completion
 abbrev pub ComesOut : Type 0

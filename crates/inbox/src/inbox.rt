@@ -1,8 +1,9 @@
 // The inbox itself: how it is made with its passes, and what they do.
 // It relies on the rule of its queue, which each put and take keeps.
-ghost use Rattle.std.specs.Prelude.{◌≡◌, ◌≤◌, ◌<◌, ◌+◌, [], ◌∷◌, ◌++◌, All, OnOk, IfOk, IfErr, MatchOption, vec_len, vec_capacity};
+ghost use Rattle.std.specs.Prelude.{◌≡◌, ◌≤◌, ◌<◌, ◌+◌, [], ◌∷◌, ◌++◌, All, OnOk, IfOk, IfErr, OnErr, IfNone, MatchOption, vec_len, vec_capacity};
 ghost use Rattle.crossbeam_queue.specs.Passes.{IsPassOf, ruled_capacity};
 ghost use Rattle.inbox.specs.InboxLists.{Puts, Takes, Held};
+ghost use Rattle.inbox.specs.Refusals.{TookAllKnown, UsedAllKnown};
 ghost use Rattle.inbox.specs.Seats.{known, opening};
 ghost use Rattle.inbox.specs.Views.{InboxView, IsOf, new_passes};
 
@@ -86,6 +87,7 @@ impl Inbox {
         ensures same { IsOf self.now pass.new }
         ensures put { OnOk result (Puts pass.old.account pass.new.account completion) }
         ensures refused { IfErr result (λ back. (back ≡ completion) × (pass.new ≡ pass.old) × Held pass.old.account self.now.shape.capacity) }
+        ensures lone { self.now.shape.puts ≡ 1 → OnErr result (UsedAllKnown pass.old.account) }
     {
         self.queue
             .push_as::<Putting, R>(rt, &mut pass.seat, completion)
@@ -100,6 +102,7 @@ impl Inbox {
         requires { IsOf self.now pass.old }
         ensures same { IsOf self.now pass.new }
         ensures taken { MatchOption result ((pass.new ≡ pass.old) × Held pass.old.account 0) (λ completion. Takes pass.old.account pass.new.account completion) }
+        ensures lone { self.now.shape.takes ≡ 1 → IfNone result (TookAllKnown pass.old.account) }
     {
         self.queue.pop_as::<Taking, R>(rt, &mut pass.seat)
     }

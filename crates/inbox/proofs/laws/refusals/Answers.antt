@@ -1,5 +1,5 @@
 -- The laws of refusals.
-use Rattle.inbox.proofs.Refusing.{none_means_taken, refused_means_used, lone_take_took, lone_put_used, comes_out}
+use Rattle.inbox.proofs.Refusing.{none_means_taken, refused_means_used, comes_out}
 use Rattle.inbox.proofs.laws.refusals.Goals as goal
 
 pub returns-clause-none : goal.returns-clause-none
@@ -7,12 +7,6 @@ returns-clause-none c = none_means_taken
 
 pub returns-clause-refused : goal.returns-clause-refused
 returns-clause-refused c = refused_means_used
-
-pub returns-clause-lone_take : goal.returns-clause-lone_take
-returns-clause-lone_take c = lone_take_took
-
-pub returns-clause-lone_put : goal.returns-clause-lone_put
-returns-clause-lone_put c = lone_put_used
 
 pub returns-clause-comes_out : goal.returns-clause-comes_out
 returns-clause-comes_out c = comes_out

@@ -4,13 +4,13 @@
 
 ghost use Rattle.std.specs.Prelude.{◌≡◌, ◌+◌, ◌<◌, ◌↔◌, [], true, false, Some, None, IsTrue, if◌then◌else◌, length};
 ghost use Rattle.bpf_insn.specs.declared.program.TheConstants.{MAX_SLOTS};
-ghost use Rattle.bpf_machine.specs.declared.held_freezes.TheConstants.{MAX_HELD};
-ghost use Rattle.bpf_machine.specs.MachineState.{entry, register};
-ghost use Rattle.bpf_machine.specs.Calls.{argument, request_by, request_with, traced};
+ghost use Rattle.bpf_semantics.specs.declared.bounds.TheConstants.{MAX_HELD};
+ghost use Rattle.bpf_semantics.specs.MachineState.{entry, register};
+ghost use Rattle.bpf_semantics.specs.Calls.{argument, request_by, request_with, traced};
 ghost use Rattle.helpers.specs.declared.helper.Helper.TheVariants as helpers;
-ghost use Rattle.bpf_machine.specs.Step.{private_step, request_at, exit_at, exit_value, entered, returned, after_call, answered, frames_after, held_with, held_without, HasRoomFor, IsAnswer, IsNewFreeze};
-ghost use Rattle.bpf_machine.specs.Stops.{stop_at};
-ghost use Rattle.bpf_machine.specs.Reached.{IsEntry, PrivateSteps};
+ghost use Rattle.bpf_semantics.specs.Step.{private_step, request_at, exit_at, exit_value, entered, returned, after_call, answered, frames_after, held_with, held_without, HasRoomFor, IsAnswer, IsNewFreeze};
+ghost use Rattle.bpf_semantics.specs.Stops.{stop_at};
+ghost use Rattle.bpf_semantics.specs.Reached.{IsEntry, PrivateSteps};
 ghost use Rattle.bpf_machine.specs.Able.{CanGoOn, GoesOnWithin};
 ghost use Rattle.bpf_machine.specs.Unchecked.{StandsApart};
 ghost use Rattle.stack_frame.specs.declared.frames.TheConstants.{MAX_FRAMES};
@@ -20,8 +20,8 @@ use crate::memory::{CONTEXT_ADDRESS, FRAME_ADDRESS, FRAME_BYTES, FRAME_DISTANCE,
 use crate::open_calls::{OpenCall, OpenCalls};
 use crate::registers::Registers;
 use crate::stepping::advance;
-use crate::stop::Stop;
 use bpf_insn::{Callee, Insn, Program, Reg, jump_target};
+use bpf_semantics::Stop;
 use helpers::{Answer, Arguments, Asked, Helper, Request, Written};
 use short_bytes::ShortBytes;
 use stack_frame::Frames;
@@ -43,7 +43,7 @@ pub struct Machine {
 }
 
 impl Model for Machine {
-    ghost use Rattle.bpf_machine.specs.MachineState.{MachineState};
+    ghost use Rattle.bpf_semantics.specs.MachineState.{MachineState};
 
     ghost Value = { MachineState };
 

@@ -4,11 +4,11 @@
 
 ghost use Rattle.std.specs.Prelude.{◌≡◌, ◌+◌, ◌<◌, ◌≤◌, IfSome, length};
 ghost use Rattle.std.specs.Int.{w8, w16, w32, w64};
-ghost use Rattle.bpf_machine.specs.Memory.{address_at, load_width, loaded, store_width};
+ghost use Rattle.bpf_semantics.specs.Memory.{address_at, load_width, loaded, store_width};
 ghost use Rattle.bpf_machine.specs.Unchecked.{context_offset, frame_place, word_in, with_word_in};
 
-use crate::extensions::extend;
 use bpf_insn::{LoadForm, SignExtension, StoreSize};
+use bpf_words::extend;
 use byteorder::{ByteOrder, LittleEndian};
 use stack_frame::Frames;
 

@@ -17,7 +17,7 @@ pub struct OpenCall {
 }
 
 impl Model for OpenCall {
-    ghost use Rattle.bpf_machine.specs.MachineState.{OpenCall};
+    ghost use Rattle.bpf_semantics.specs.MachineState.{OpenCall};
 
     ghost Value = { OpenCall };
 
@@ -69,7 +69,7 @@ pub struct OpenCalls {
 
 impl Model for OpenCalls {
     ghost use Rattle.std.specs.Prelude.{List, reverse, take, length};
-    ghost use Rattle.bpf_machine.specs.MachineState.{OpenCall};
+    ghost use Rattle.bpf_semantics.specs.MachineState.{OpenCall};
     ghost use Rattle.bpf_machine.specs.OpenPlaces.{padded, AreOpen, length-open, places-kept};
 
     ghost Value = { List OpenCall };

@@ -4,8 +4,8 @@ use Rattle.std.specs.Prelude.{All, slice_index_or}
 use Rattle.std.proofs.lemmas.List.{get_or-map, length-map}
 use Rattle.std.proofs.lemmas.List.Elements.{All-get_or, All-map, All-weaker}
 use Rattle.helpers.specs.declared.limits.HelperLimits.{HelperLimits}
-use Rattle.verifier.specs.Reached.{Safe}
-use Rattle.verifier.specs.Verdict.{IsAccepted}
+use Rattle.bpf_semantics.specs.Reached.{Safe}
+use Rattle.accepted.specs.Verdict.{IsAccepted}
 use Rattle.world.specs.World.{Setup, no_queue, queue_count, queue_setup}
 use Rattle.world.specs.Lawful.{IsLawfulQueue}
 use Rattle.engine_config.specs.Configured.{Given, Shared, IsConfigured, IsGivenUnder, KeepsConfig, IsKnown, given_of, queue_of, setup_of}

@@ -1,18 +1,18 @@
-// What an engine is opened with. It relies on `verifier` for accepted programs and on `helpers` for their limits.
+// What an engine is opened with. It relies on `accepted` for accepted programs and on `helpers` for their limits.
 
 ghost use Rattle.std.specs.Prelude.{◌≡◌, ◌<◌, ◌≤◌, ◌↔◌, length, map, All, IsSome, IsTrue, IfSome};
 ghost use Rattle.std.specs.Arc.{arc_value};
-ghost use Rattle.verifier.specs.Verdict.{IsAccepted};
+ghost use Rattle.accepted.specs.Verdict.{IsAccepted};
 ghost use Rattle.world.specs.World.{queue_count, queue_setup};
 ghost use Rattle.world.specs.Capacities.{most_queues};
 ghost use Rattle.world.specs.Lawful.{IsLawful};
 ghost use Rattle.engine_config.specs.Configured.{IsConfigured, IsGivenUnder, IsKnown, given_of, setup_of};
 
+use accepted::Accepted;
 use ccb::QueueId;
 use helpers::HelperLimits;
 use std::marker::Model;
 use std::sync::Arc;
-use verifier::Accepted;
 
 /// How many device queues there may be.
 pub const MAX_QUEUES: usize = 64;

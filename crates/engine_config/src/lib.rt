@@ -1,5 +1,5 @@
 // What an engine is opened with: the limits of the helper calls, and the device queues with their openings and their
-// accepted programs. It relies on `verifier` for these and on `world` for what a setup is.
+// accepted programs. It relies on `accepted` for these and on `world` for what a setup is.
 #![tactic(auto)]
 
 mod config;

@@ -11,9 +11,9 @@ use Rattle.freeze_ledger.specs.declared.freeze.Freeze.{Freeze}
 use Rattle.freeze_ledger.specs.Freezes.{entry_of, without, handed_over, meets_limit}
 use Rattle.helpers.specs.declared.request.Request.TheVariants.{Freeze as FreezeQueue, Release, ReleaseAfter, Requeue, Finish, TableGet, TablePut, TableAdd, QueueInfo, Trace, Now, SetOpenings}
 use Rattle.helpers.specs.Table.{answer_number}
-use Rattle.bpf_machine.specs.Calls.{is_held}
-use Rattle.bpf_machine.specs.Step.{IsNewFreeze, Wrote}
-use Rattle.bpf_machine.specs.declared.stop.Stop.TheVariants.{Helper}
+use Rattle.bpf_semantics.specs.Calls.{is_held}
+use Rattle.bpf_semantics.specs.Step.{IsNewFreeze, Wrote}
+use Rattle.bpf_semantics.specs.declared.stop.Stop.TheVariants.{Helper}
 use Rattle.interpreter.specs.Segments.{SegmentState, IsSegment}
 use Rattle.ccb_table.specs.CcbsState.{CcbsState, with_ccbs}
 use Rattle.recoveries.specs.RecoveryState.{RecoveryState, with_recoveries, taken_for}
@@ -36,12 +36,12 @@ use Rattle.world.proofs.Lists.Found.{leave, found_key}
 use Rattle.world.proofs.Lists.Each.{all_found}
 use Rattle.world.proofs.Lists.HeldBy.{none_above}
 use Rattle.world.proofs.Steps.Moves.{ccb_key, run_key}
-use Rattle.world.proofs.Steps.Fates.{count_after}
+use Rattle.world_laws.proofs.Steps.Fates.{count_after}
 use Rattle.world.proofs.Steps.Answering.{word_below}
-use Rattle.world.proofs.Steps.Rules.{word_to_get, word_to_put, word_to_add, openings_to_set}
-use Rattle.world.proofs.Kept.{room_from}
-use Rattle.world.proofs.Clocks.{clock_goes_on}
-use Rattle.world.proofs.Telling.{info_wrote}
+use Rattle.world_laws.proofs.Steps.Rules.{word_to_get, word_to_put, word_to_add, openings_to_set}
+use Rattle.world_laws.proofs.Kept.{room_from}
+use Rattle.world_laws.proofs.Clocks.{clock_goes_on}
+use Rattle.world_laws.proofs.Telling.{info_wrote}
 use Rattle.engine_core.specs.EngineState.{world_of}
 use Rattle.engine_core.specs.Invariant.{KeepsEngine}
 use Rattle.engine_core.specs.TakingOver.{IsAdmitted, IsCarriedOut, at_stop, Does}

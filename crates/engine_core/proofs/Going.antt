@@ -1,8 +1,8 @@
 -- A segment that was taken over, and a run that goes on behind its stop.
 use Rattle.std.proofs.Common.{◌≡◌, ℕ, List, [], ◌∷◌, ◌++◌, true, Some, refl, ap, sym, subst, ◌∙◌}
 use Rattle.bpf_insn.specs.declared.program.Slot.{Slot}
-use Rattle.bpf_machine.specs.MachineState.{MachineState}
-use Rattle.bpf_machine.specs.Reached.{Reached}
+use Rattle.bpf_semantics.specs.MachineState.{MachineState}
+use Rattle.bpf_semantics.specs.Reached.{Reached}
 use Rattle.interpreter.specs.Segments.{SegmentState}
 use Rattle.ccb_table.specs.CcbsState.{CcbsState}
 use Rattle.recoveries.specs.RecoveryState.{RecoveryState}
@@ -12,8 +12,8 @@ use Rattle.world.specs.declared.record.Record.{Record}
 use Rattle.world.specs.declared.record.Record.TheVariants.{Advance}
 use Rattle.world.specs.declared.record.StoppedAt.{StoppedAt}
 use Rattle.helpers.specs.declared.request.Request.{Request}
-use Rattle.bpf_machine.specs.declared.stop.Stop.{Stop}
-use Rattle.bpf_machine.specs.declared.stop.Stop.TheVariants.{Helper}
+use Rattle.bpf_semantics.specs.declared.stop.Stop.{Stop}
+use Rattle.bpf_semantics.specs.declared.stop.Stop.TheVariants.{Helper}
 use Rattle.world.specs.World.{Setup, LiveRun, World, queue_setup}
 use Rattle.world.specs.Lookups.{run_of}
 use Rattle.engine_core.specs.RunState.{RunState, IsOut, IsOutUnder, IsReached}

@@ -7,7 +7,7 @@ use Rattle.recoveries.specs.RecoveryState.{RecoveryState, with_recoveries}
 use Rattle.world.specs.declared.record.Record.{Record}
 use Rattle.world.specs.declared.record.Record.TheVariants.{Park, Resume}
 use Rattle.world.specs.declared.call_refusal.CallRefusal.TheVariants.{Unknown}
-use Rattle.bpf_machine.specs.Reached.{Reached}
+use Rattle.bpf_semantics.specs.Reached.{Reached}
 use Rattle.world.specs.World.{LiveRun, Setup, World, queue_count, queue_setup}
 use Rattle.world.specs.Lookups.{run_of, with_run}
 use Rattle.world.specs.Event.{parks, resumes, ok, refused}

@@ -2,8 +2,8 @@
 use Rattle.std.proofs.Common.{◌≡◌, ℕ, zero, suc, ◌+◌, List, [], ◌∷◌, map, replicate, true, Some, None, refl, ap, sym, subst, ◌∙◌, arith}
 use Rattle.std.specs.Option.{option_map}
 use Rattle.std.proofs.lemmas.Bool.{cond-true}
-use Rattle.bpf_machine.specs.MachineState.{MachineState}
-use Rattle.bpf_machine.specs.Reached.{PrivateSteps}
+use Rattle.bpf_semantics.specs.MachineState.{MachineState}
+use Rattle.bpf_semantics.specs.Reached.{PrivateSteps}
 use Rattle.world.specs.declared.record.StoppedAt.{StoppedAt}
 use Rattle.world.specs.declared.record.Record.TheVariants.{Advance}
 use Rattle.world.specs.World.{Setup, LiveRun, World}
@@ -17,7 +17,7 @@ use Rattle.ccb.specs.Rising.{AreRising}
 use Rattle.world.proofs.Lists.Found.{put, put_same, put_keys, put_put}
 use Rattle.world.proofs.Lists.Rising.{put_self}
 use Rattle.world.proofs.Steps.Moves.{run_key}
-use Rattle.world.proofs.Leads.{leads_append}
+use Rattle.world_laws.proofs.Leads.{leads_append}
 
 abbrev pub with_machine : LiveRun → MachineState → LiveRun
 with_machine run machine = record run { machine = machine }

@@ -10,8 +10,8 @@ use Rattle.world.specs.Event.{Event, Reply}
 use Rattle.world.specs.Step.{WorldStep}
 use Rattle.world.specs.WorldRun.{Leads, WorldRun}
 use Rattle.world.specs.Flat.{events_of, flat}
-use Rattle.world.proofs.Leads.{leads_append, world_after_leads}
-use Rattle.world.proofs.Sound.{IsSound, run_sound}
+use Rattle.world_laws.proofs.Leads.{leads_append, world_after_leads}
+use Rattle.world_laws.proofs.Sound.{IsSound, run_sound}
 use Rattle.engine_core.specs.EngineState.{world_of, IsWorldOf}
 use Rattle.engine_core.specs.Invariant.{KeepsEngine}
 

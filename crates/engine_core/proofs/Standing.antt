@@ -6,12 +6,12 @@ use Rattle.freeze_ledger.specs.declared.freeze.Freeze.{Freeze}
 use Rattle.freeze_ledger.specs.Freezes.{entry_of}
 use Rattle.helpers.specs.declared.limits.HelperLimits.{HelperLimits}
 use Rattle.helpers.specs.declared.request.Request.{Request}
-use Rattle.bpf_machine.specs.Calls.{is_held, meets_rule}
-use Rattle.bpf_machine.specs.declared.stop.Stop.{Stop}
-use Rattle.bpf_machine.specs.declared.stop.Stop.TheVariants.{Helper, Exit}
-use Rattle.bpf_machine.specs.Step.{request_at, exit_at}
-use Rattle.bpf_machine.specs.Stops.{stop_of, stop_at}
-use Rattle.bpf_machine.proofs.Progress.{progress_lem}
+use Rattle.bpf_semantics.specs.Calls.{is_held, meets_rule}
+use Rattle.bpf_semantics.specs.declared.stop.Stop.{Stop}
+use Rattle.bpf_semantics.specs.declared.stop.Stop.TheVariants.{Helper, Exit}
+use Rattle.bpf_semantics.specs.Step.{request_at, exit_at}
+use Rattle.bpf_semantics.specs.Stops.{stop_of, stop_at}
+use Rattle.bpf_semantics.proofs.Progress.{progress_lem}
 use Rattle.world.specs.World.{Setup, LiveRun, World}
 use Rattle.world.specs.Lawful.{IsLawful}
 use Rattle.world.specs.Lookups.{run_of}
@@ -22,9 +22,9 @@ use Rattle.world.specs.Step.{WorldStep}
 use Rattle.world.specs.FreezeLaws.{entries_of}
 use Rattle.world.proofs.Lists.Entries.{entry_bounds}
 use Rattle.world.proofs.Lists.HeldBy.{among_is}
-use Rattle.world.proofs.Reaching.{reached_goes}
-use Rattle.world.proofs.Telling.{told_itself}
-use Rattle.world.proofs.Sound.{IsSound}
+use Rattle.world_laws.proofs.Reaching.{reached_goes}
+use Rattle.world_laws.proofs.Telling.{told_itself}
+use Rattle.world_laws.proofs.Sound.{IsSound}
 
 -- the machine stands at this stop, and may go on there
 pub data StandsLawfully (run : LiveRun) (limits : HelperLimits) (stop : Stop) : Type 0 where

@@ -3,13 +3,13 @@ use Rattle.std.proofs.Common.{◌≡◌, ℕ, List, [], true, Some, refl, ap, sy
 use Rattle.helpers.specs.declared.limits.HelperLimits.{HelperLimits}
 use Rattle.helpers.specs.declared.request.Request.{Request}
 use Rattle.helpers.specs.declared.request.Answer.{Answer}
-use Rattle.bpf_machine.specs.Calls.{meets_rule}
-use Rattle.bpf_machine.specs.declared.stop.Stop.{Stop}
-use Rattle.bpf_machine.specs.declared.stop.Stop.TheVariants.{Helper, Exit}
-use Rattle.bpf_machine.specs.MachineState.{MachineState}
-use Rattle.bpf_machine.specs.Step.{request_at, exit_at, answered}
-use Rattle.bpf_machine.specs.Stops.{stop_at}
-use Rattle.bpf_machine.specs.Reached.{PrivateSteps}
+use Rattle.bpf_semantics.specs.Calls.{meets_rule}
+use Rattle.bpf_semantics.specs.declared.stop.Stop.{Stop}
+use Rattle.bpf_semantics.specs.declared.stop.Stop.TheVariants.{Helper, Exit}
+use Rattle.bpf_semantics.specs.MachineState.{MachineState}
+use Rattle.bpf_semantics.specs.Step.{request_at, exit_at, answered}
+use Rattle.bpf_semantics.specs.Stops.{stop_at}
+use Rattle.bpf_semantics.specs.Reached.{PrivateSteps}
 use Rattle.interpreter.specs.Segments.{SegmentState, IsSegment}
 use Rattle.ccb_table.specs.CcbsState.{CcbsState, with_ccbs}
 use Rattle.recoveries.specs.RecoveryState.{RecoveryState, with_recoveries}
@@ -30,7 +30,7 @@ use Rattle.world.specs.Step.{WorldStep}
 use Rattle.world.specs.FreezeLaws.{entries_of}
 use Rattle.world.proofs.Lists.Found.{leave, put_same, put_put, leave_put, found_key}
 use Rattle.world.proofs.Steps.Moves.{run_key}
-use Rattle.world.proofs.Sound.{IsSound, leads_sound}
+use Rattle.world_laws.proofs.Sound.{IsSound, leads_sound}
 use Rattle.engine_core.specs.Answers.{recorded}
 use Rattle.engine_core.specs.TakingOver.{LeadsTo, IsCarriedOut, at_stop}
 use Rattle.engine_core.proofs.PrivateWays.{with_machine, private_leads, advance_leads}

@@ -2,8 +2,8 @@
 use Rattle.std.specs.Prelude.{◌≡◌, ℕ, ◌≤◌}
 use Rattle.helpers.specs.declared.request.Request.{Request}
 use Rattle.helpers.specs.declared.request.Request.TheVariants.{Finish as FinishCcb}
-use Rattle.bpf_machine.specs.declared.stop.Stop.{Stop}
-use Rattle.bpf_machine.specs.declared.stop.Stop.TheVariants.{Helper as at_helper, Exit as at_exit}
+use Rattle.bpf_semantics.specs.declared.stop.Stop.{Stop}
+use Rattle.bpf_semantics.specs.declared.stop.Stop.TheVariants.{Helper as at_helper, Exit as at_exit}
 use Rattle.interpreter.specs.Segments.{SegmentState}
 use Rattle.world.specs.declared.record.Completed.{Completed}
 use Rattle.world.specs.declared.record.Completed.TheVariants.{Done as is_done, Started as is_started}

@@ -1,8 +1,8 @@
 -- What contracts see of a run that is out, and how the world has it.
 use Rattle.std.specs.Prelude.{◌≡◌, ℕ, true, Some}
-use Rattle.bpf_machine.specs.MachineState.{MachineState}
-use Rattle.bpf_machine.specs.Reached.{Reached}
-use Rattle.verifier.specs.Verdict.{Verdict}
+use Rattle.bpf_semantics.specs.MachineState.{MachineState}
+use Rattle.bpf_semantics.specs.Reached.{Reached}
+use Rattle.accepted.specs.Verdict.{Verdict}
 use Rattle.world.specs.World.{Setup, queue_setup, LiveRun, World}
 use Rattle.world.specs.Lookups.{run_of}
 

@@ -3,10 +3,10 @@ use Rattle.std.specs.Prelude.{◌≡◌, ℕ, List, Some}
 use Rattle.helpers.specs.declared.request.Request.{Request}
 use Rattle.helpers.specs.declared.request.Answer.{Answer}
 use Rattle.bpf_insn.specs.declared.program.Slot.{Slot}
-use Rattle.bpf_machine.specs.MachineState.{MachineState}
-use Rattle.bpf_machine.specs.Step.{IsAnswer}
-use Rattle.bpf_machine.specs.declared.stop.Stop.{Stop}
-use Rattle.bpf_machine.specs.declared.stop.Stop.TheVariants.{Helper as at_helper, Exit as at_exit}
+use Rattle.bpf_semantics.specs.MachineState.{MachineState}
+use Rattle.bpf_semantics.specs.Step.{IsAnswer}
+use Rattle.bpf_semantics.specs.declared.stop.Stop.{Stop}
+use Rattle.bpf_semantics.specs.declared.stop.Stop.TheVariants.{Helper as at_helper, Exit as at_exit}
 use Rattle.interpreter.specs.Segments.{SegmentState}
 use Rattle.ccb_table.specs.CcbsState.{CcbsState}
 use Rattle.recoveries.specs.RecoveryState.{RecoveryState}

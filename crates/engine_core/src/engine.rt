@@ -21,7 +21,7 @@ use crate::answers::{AdvanceAnswer, AdvanceFault, CallFault, CompleteAnswer, Rel
 use crate::course::{Course, decide, recover};
 use crate::run::Run;
 use crate::taking_over::{recorded, take_over};
-use bpf_machine::Stop;
+use bpf_semantics::Stop;
 use ccb::{CcbId, Completion, QueueId};
 use ccb_table::CcbTable;
 use engine_config::Config;

@@ -1,17 +1,17 @@
-// A run that is out: the right to take it further. It relies on `verifier` for its program and on `bpf_machine` for
+// A run that is out: the right to take it further. It relies on `accepted` for its program and on `bpf_machine` for
 // its machine.
 
 ghost use Rattle.std.specs.Prelude.{◌≡◌, ℕ, IfOk};
 ghost use Rattle.std.specs.Arc.{arc_value};
-ghost use Rattle.bpf_machine.specs.Reached.{Reached};
+ghost use Rattle.bpf_semantics.specs.Reached.{Reached};
 ghost use Rattle.engine_core.specs.RunState.{IsReached};
 
+use accepted::Accepted;
 use bpf_machine::Machine;
 use ccb::CONTEXT_BYTES;
 use std::alloc::{AllocError, Global};
 use std::marker::Model;
 use std::sync::Arc;
-use verifier::Accepted;
 
 /// Stands for one run of a recovery program that was started and has not ended. It is neither copied nor dropped:
 /// each advance takes it and gives it back, its exit spends it, or it is forfeited. The freezes that the run holds

@@ -2,12 +2,12 @@
 // the tables and the clock, and on `ccb_table` for its CCB and its queue.
 
 ghost use Rattle.std.specs.Prelude.{◌≡◌, ℕ, IfOk};
-ghost use Rattle.bpf_machine.specs.declared.stop.Stop.TheVariants.{Helper};
+ghost use Rattle.bpf_semantics.specs.declared.stop.Stop.TheVariants.{Helper};
 ghost use Rattle.interpreter.specs.Segments.{IsSegment};
 ghost use Rattle.engine_core.specs.Answers.{stopped_at, NamesCode, StopsByCode};
 ghost use Rattle.engine_core.specs.TakingOver.{IsAdmitted, LeadsBy, Does, GoesOn, GoesBy};
 
-use bpf_machine::Stop;
+use bpf_semantics::Stop;
 use ccb::QueueId;
 use ccb_table::CcbTable;
 use helpers::{Answer, Request, Written};

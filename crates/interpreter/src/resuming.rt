@@ -2,8 +2,8 @@
 
 ghost use Rattle.std.specs.Prelude.{◌≡◌, ◌+◌, ℕ, List, Some};
 ghost use Rattle.bpf_insn.specs.declared.program.Slot.{Slot};
-ghost use Rattle.bpf_machine.specs.Step.{request_at, answered, HasRoomFor, IsAnswer};
-ghost use Rattle.bpf_machine.specs.Reached.{Reached};
+ghost use Rattle.bpf_semantics.specs.Step.{request_at, answered, HasRoomFor, IsAnswer};
+ghost use Rattle.bpf_semantics.specs.Reached.{Reached};
 ghost use Rattle.interpreter.specs.Segments.{StandsAt};
 
 use bpf_machine::Machine;

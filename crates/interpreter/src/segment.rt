@@ -5,10 +5,11 @@ ghost use Rattle.std.specs.Prelude.{◌≡◌};
 ghost use Rattle.std.specs.Arc.{arc_value};
 ghost use Rattle.interpreter.specs.Segments.{IsSegment, IsWithinBudget};
 
-use bpf_machine::{Machine, Stop};
+use accepted::Accepted;
+use bpf_machine::Machine;
+use bpf_semantics::Stop;
 use std::marker::Model;
 use std::sync::Arc;
-use verifier::Accepted;
 
 /// What was executed of an accepted program: the private instructions from one machine to the helper call or
 /// outermost exit at which the other stands.

@@ -7,19 +7,20 @@ use Rattle.toml.specs.Data.{Data, table, Members}
 use Rattle.toml.specs.Parse.{parse_document}
 use Rattle.helpers.specs.declared.limits.HelperLimits.{HelperLimits}
 use Rattle.engine_config.specs.Configured.{Given, IsConfigured, IsGivenUnder, queue_of as queue_given}
-use Rattle.verifier.specs.Verdict.{Verdict}
+use Rattle.accepted.specs.Verdict.{Verdict}
 use Rattle.world.specs.World.{QueueSetup}
-use Rattle.manifest.specs.Document.{elements_at, integer_at, text_at, is_among}
-use Rattle.manifest.specs.Entries.{QueueLine, ProgramLine, Plan, up_to, openings_at, queue_by, queue_of, length_of, plan_of}
-use Rattle.manifest.specs.Faults.{has_lawful_keys, has_lawful_form, has_lawful_ranges}
-use Rattle.manifest.specs.Names.{has_lawful_numbers, has_lawful_names, names_of, is_name, is_alone, is_between}
+use Rattle.manifest_form.specs.Document.{elements_at, integer_at, text_at, is_among}
+use Rattle.manifest_form.specs.Entries.{QueueLine, ProgramLine, Plan, up_to, openings_at, queue_by, queue_of, length_of, plan_of}
+use Rattle.manifest_form.specs.Faults.{has_lawful_keys, has_lawful_form, has_lawful_ranges}
+use Rattle.manifest_form.specs.Names.{has_lawful_numbers, has_lawful_names, names_of, is_name, is_alone, is_between}
 use Rattle.manifest.specs.Meaning.{lowest, lowest_fault, limits_of, Named, is_named, setup_of, setup_with, IsAccepted, IsUnread, IsUnaccepted, HasProgramFault, Writes}
 use Rattle.manifest.specs.declared.programs.NamedProgram.{NamedProgram}
-use Rattle.manifest.specs.declared.form.Plan.{Plan as Entries}
-use Rattle.manifest.specs.declared.entries.QueueEntry.{QueueEntry}
+use Rattle.manifest_form.specs.declared.form.Plan.{Plan as Entries}
+use Rattle.manifest_form.specs.declared.entries.QueueEntry.{QueueEntry}
 use Rattle.manifest.specs.declared.ManifestFault.{ManifestFault}
 use Rattle.std.proofs.lemmas.List.{length-map}
-use Rattle.manifest.specs.Seen.{IsGivenFor, IsReady, IsLawfulPlan, named_seen, queue_seen, plan_seen}
+use Rattle.manifest_form.specs.Seen.{queue_seen, plan_seen}
+use Rattle.manifest.specs.Seen.{IsGivenFor, IsReady, IsLawfulPlan, named_seen}
 
 pub all_at : {E X : Type 0} (P : X → Type 0) (f : E → X) (entries : List E) (i : ℕ) (entry : E) → i < length entries → entry ≡ get_or entries i entry → AllByRecursion P (map f entries) → P (f entry)
 all_at P f [] i entry within is all = absurd (omega arith)

@@ -1,6 +1,2 @@
-pub mod Lists
-pub mod Codes
-pub mod Lowest
-pub mod Naming
 pub mod OneByOne
 pub mod Configured

@@ -3,16 +3,18 @@ use Rattle.std.proofs.Common.{arith, Result, Ok, Err, IfOk, IfErr, ◌≡◌, in
 use Rattle.std.specs.List.{AllZip, AllByRecursion}
 use Rattle.std.proofs.lemmas.List.{take_more, take_all, map-append}
 use Rattle.bpf_insn.specs.declared.program.Slot.{Slot}
-use Rattle.verifier.specs.Verdict.{Verdict, IsVerdictOn}
+use Rattle.accepted.specs.Verdict.{Verdict}
+use Rattle.verifier.specs.Verdict.{IsVerdictOn}
 use Rattle.verifier.specs.declared.refusal.Refusal.{Refusal}
 use Rattle.or_memory.specs.declared.OrMemory.{OrMemory}
 use Rattle.or_memory.specs.declared.OrMemory.TheVariants.{OutOfMemory, Fault}
 use Rattle.helpers.specs.declared.limits.HelperLimits.{HelperLimits}
 use Rattle.manifest.specs.declared.ManifestFault.{ManifestFault}
 use Rattle.manifest.specs.declared.ManifestFault.TheVariants.{Text, Key, Form, Range, Number, Name, Undecoded, Unassembled, Unaccepted}
-use Rattle.manifest.specs.Entries.{ProgramLine}
+use Rattle.manifest_form.specs.Entries.{ProgramLine}
 use Rattle.manifest.specs.Meaning.{FirstIs, IsReadable, IsUnread, IsUnaccepted, IsAccepted, IsAcceptable, Named, IsRefused, IsReadAs}
-use Rattle.manifest.specs.Seen.{ReadLine, IsReadLine, IsUnreadLine, IsAcceptedLine, IsUnacceptedAmong, IsRefusedLine, IfFault}
+use Rattle.manifest_form.specs.Seen.{IfFault}
+use Rattle.manifest.specs.Seen.{ReadLine, IsReadLine, IsUnreadLine, IsAcceptedLine, IsUnacceptedAmong, IsRefusedLine}
 
 zip_push : {X Y : Type 0} (R : X → Y → Type 0) (xs : List X) (ys : List Y) (x : X) (y : Y) → AllZip R xs ys → R x y → AllZip R (xs ++ x ∷ []) (ys ++ y ∷ [])
 zip_push R [] [] x y h here = (here, h)

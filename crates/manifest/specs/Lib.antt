@@ -1,7 +1,2 @@
-pub mod Code
-pub mod Document
-pub mod Entries
-pub mod Faults
-pub mod Names
 pub mod Meaning
 pub mod Seen

@@ -11,15 +11,16 @@ use Rattle.bpf_asm.specs.Assembly.{Says, HasFault as HasAsmFault}
 use Rattle.bpf_asm.specs.declared.fault.AsmFault.{AsmFault}
 use Rattle.helpers.specs.declared.limits.HelperLimits.{HelperLimits}
 use Rattle.or_memory.specs.declared.OrMemory.TheVariants.{Fault}
-use Rattle.verifier.specs.Verdict.{Verdict, IsVerdictOn, ToldOfShape}
+use Rattle.accepted.specs.Verdict.{Verdict}
+use Rattle.verifier.specs.Verdict.{IsVerdictOn, ToldOfShape}
 use Rattle.verifier.specs.Plain.{IsPlain}
 use Rattle.verifier.specs.declared.refusal.Refusal.{Refusal}
 use Rattle.world.specs.World.{Setup, QueueSetup}
 use Rattle.manifest.specs.declared.ManifestFault.{ManifestFault}
 use Rattle.manifest.specs.declared.ManifestFault.TheVariants.{Text, Key, Form, Range, Number, Name, Undecoded, Unassembled, Unaccepted}
-use Rattle.manifest.specs.Entries.{Source, code, asm, QueueLine, ProgramLine, Plan, plan_of}
-use Rattle.manifest.specs.Faults.{has_lawful_keys, has_lawful_form, has_lawful_ranges}
-use Rattle.manifest.specs.Names.{has_lawful_numbers, has_lawful_names}
+use Rattle.manifest_form.specs.Entries.{Source, code, asm, QueueLine, ProgramLine, Plan, plan_of}
+use Rattle.manifest_form.specs.Faults.{has_lawful_keys, has_lawful_form, has_lawful_ranges}
+use Rattle.manifest_form.specs.Names.{has_lawful_numbers, has_lawful_names}
 
 -- the lowest of M2 to M6, by whether keys, form, ranges, numbers and names are lawful
 abbrev pub lowest : Bool → Bool → Bool → Bool → Bool → Option ManifestFault

@@ -1,4 +1,4 @@
--- The code's entries, seen as what they say, and how what a call gives meets what the definitions give.
+-- How what a call gives meets what the definitions give.
 use Rattle.std.specs.Arc.{arc_value}
 use Rattle.bpf_insn.specs.declared.program.Slot.{Slot}
 use Rattle.helpers.specs.declared.limits.HelperLimits.{HelperLimits}
@@ -7,55 +7,17 @@ use Rattle.verifier.specs.Plain.{IsPlain}
 use Rattle.verifier.specs.declared.refusal.Refusal.{Refusal}
 use Rattle.manifest.specs.declared.ManifestFault.{ManifestFault}
 use Rattle.manifest.specs.declared.ManifestFault.TheVariants.{Key, Form, Range, Undecoded, Unassembled, Unaccepted}
-use Rattle.manifest.specs.declared.form_fault.FormFault.{FormFault}
-use Rattle.manifest.specs.declared.form_fault.FormFault.TheVariants as form
+use Rattle.manifest_form.specs.declared.form_fault.FormFault.{FormFault}
+use Rattle.manifest_form.specs.declared.form_fault.FormFault.TheVariants as form
 use Rattle.manifest.specs.declared.programs.ReadProgram.{ReadProgram}
 use Rattle.manifest.specs.declared.programs.NamedProgram.{NamedProgram}
 use Rattle.manifest.specs.Meaning.{Named, is_named, lowest_fault, IsReadAs, IsFaultyCode, IsFaultyText, FirstIs}
-use Rattle.std.specs.Prelude.{◌≡◌, ◌≤◌, ℕ, Some, None, IsSome, length, find, string_bytes, Bool, ◌&&◌, ◌==◌, List, map, count_by, bytes_eq}
-use Rattle.std.specs.List.{list_all, list_any, AllByRecursion}
+use Rattle.std.specs.Prelude.{◌≡◌, ◌≤◌, ℕ, Some, None, IsSome, length, find, string_bytes, List}
+use Rattle.std.specs.List.{AllByRecursion}
 use Rattle.engine_config.specs.Configured.{Given}
-use Rattle.manifest.specs.Names.{is_name}
-use Rattle.or_memory.specs.declared.OrMemory.{OrMemory}
-use Rattle.or_memory.specs.declared.OrMemory.TheVariants.{OutOfMemory, Fault}
-use Rattle.manifest.specs.declared.entries.QueueEntry.{QueueEntry}
-use Rattle.manifest.specs.declared.entries.ProgramEntry.{ProgramEntry}
-use Rattle.manifest.specs.declared.entries.Source.{Source as Written}
-use Rattle.manifest.specs.declared.entries.Source.TheVariants.{Code, Asm}
-use Rattle.manifest.specs.Entries.{Source, code, asm, QueueLine, ProgramLine, Plan, plan_of}
+use Rattle.or_memory.specs.declared.OrMemory.TheVariants.{Fault}
+use Rattle.manifest_form.specs.Entries.{QueueLine, ProgramLine, Plan, plan_of}
 use Rattle.toml.specs.Data.{Data}
-use Rattle.manifest.specs.declared.form.Plan.{Plan as Entries}
-
-abbrev pub queue_seen : QueueEntry → QueueLine
-queue_seen queue = record { openings = queue.openings; program = queue.program.now }
-
-abbrev pub source_seen : Written → Source
-source_seen (Code bytes) = code bytes.items
-source_seen (Asm text) = asm text.now
-
-abbrev pub program_seen : ProgramEntry → ProgramLine
-program_seen program = record { name = program.name.now; source = source_seen program.source }
-
-abbrev pub plan_seen : Entries → Plan
-plan_seen entries = record {
-  queues = map queue_seen entries.queues.items;
-  tables = entries.tables.items;
-  programs = map program_seen entries.programs.items;
-}
-
--- the tests of names, over the code's entries
-abbrev pub are_lawful : List ProgramEntry → Bool
-are_lawful programs =
-    list_all (λ program. is_name program.name.now) programs
-    && list_all (λ program. count_by (λ other. bytes_eq other.name.now program.name.now) programs == 1) programs
-
-abbrev pub are_known : List QueueEntry → List ProgramEntry → Bool
-are_known queues programs = list_all (λ queue. list_any (λ other. bytes_eq other.name.now queue.program.now) programs) queues
-
--- P of the fault, if the error is one
-abbrev pub IfFault : {F : Type 0} → (F → Type 0) → OrMemory F → Type 0
-IfFault P OutOfMemory = Unit {0}
-IfFault P (Fault fault) = P fault
 
 -- a program that was read, and one that was accepted, with its name
 pub record ReadLine : Type 0 where

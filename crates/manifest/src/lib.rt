@@ -1,31 +1,24 @@
-// The manifest, version 1: TOML that is parsed untyped with `toml`, and read once into what it says. It relies on `form`
-// and `names` for what a manifest has to be, and on `programs` for what its programs are.
+// The manifest, version 1: TOML that is parsed untyped with `toml`, and read once into what it says. It relies on
+// `manifest_form` for what a manifest has to be, on `programs` for what its programs are, and on `setup` for its queues.
 #![tactic(auto)]
 
 ghost use Rattle.std.specs.Prelude.{◌≡◌, ◌≤◌, Some, None, map, length, IfOk, IfErr};
 ghost use Rattle.toml.specs.Parse.{parse_document};
 ghost use Rattle.toml.specs.View.{view, table_view};
-ghost use Rattle.manifest.specs.Entries.{plan_of};
+ghost use Rattle.manifest_form.specs.Entries.{plan_of};
 ghost use Rattle.manifest.specs.Meaning.{Means, HasFault, HasProgramFault, IsSetUp, lowest_fault};
 ghost use Rattle.manifest.specs.declared.ManifestFault.TheVariants as ManifestFault;
-ghost use Rattle.manifest.specs.Seen.{plan_seen, queue_seen, named_seen, named, IfFault, IsLawfulPlan};
+ghost use Rattle.manifest_form.specs.Seen.{plan_seen, queue_seen, IfFault};
+ghost use Rattle.manifest.specs.Seen.{named_seen, named, IsLawfulPlan};
 
-mod code;
-mod document;
-mod entries;
-mod form;
-mod form_fault;
-mod names;
 mod programs;
 mod setup;
 
 use bpf_asm::AsmFault;
 use bpf_decode::DecodeFault;
 use engine_config::Config;
-use entries::QueueEntry;
-use form::Plan;
-use form_fault::FormFault;
 use helpers::{HelperLimits, TableLengths};
+use manifest_form::{FormFault, Plan, QueueEntry, has_lawful_names, has_lawful_numbers};
 use or_memory::OrMemory;
 pub use programs::NamedProgram;
 use std::alloc::Global;
@@ -128,11 +121,9 @@ fn plan(alloc: Global, document: &Value) -> Result<Plan<'_>, ManifestError>
     ensures lawful { IfOk result (λ _. lowest_fault (view document.now) ≡ None) }
     ensures fault { IfErr result (IfFault (λ fault. lowest_fault (view document.now) ≡ Some fault)) }
 {
-    match form::read(alloc, document) {
-        Ok(plan) if !names::has_lawful_numbers(&plan) => Err(OrMemory::Fault(
-            ManifestFault::Number,
-        )),
-        Ok(plan) if !names::has_lawful_names(&plan) => Err(OrMemory::Fault(ManifestFault::Name)),
+    match manifest_form::read(alloc, document) {
+        Ok(plan) if !has_lawful_numbers(&plan) => Err(OrMemory::Fault(ManifestFault::Number)),
+        Ok(plan) if !has_lawful_names(&plan) => Err(OrMemory::Fault(ManifestFault::Name)),
         Ok(plan) => Ok(plan),
         Err(OrMemory::OutOfMemory) => Err(OrMemory::OutOfMemory),
         Err(OrMemory::Fault(fault)) => Err(OrMemory::Fault(named(fault))),

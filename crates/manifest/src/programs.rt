@@ -5,20 +5,22 @@ ghost use Rattle.std.specs.Prelude.{◌≡◌, ◌⊎◌, [], ◌∷◌, ◌++�
 ghost use Rattle.std.specs.List.{AllZip};
 ghost use Rattle.bpf_decode.specs.Spells.{Spells};
 ghost use Rattle.bpf_asm.specs.Assembly.{Says};
-ghost use Rattle.manifest.specs.Entries.{code, asm};
+ghost use Rattle.manifest_form.specs.Entries.{code, asm};
 ghost use Rattle.manifest.specs.Meaning.{IsAccepted, IsUnread, IsUnaccepted};
-ghost use Rattle.manifest.specs.Seen.{program_seen, read_seen, named_seen, IsReadLine, IsAcceptedLine, IsUnreadLine, IsUnacceptedLine, IsUnacceptedAmong, IfFault};
+ghost use Rattle.manifest_form.specs.Seen.{program_seen, IfFault};
+ghost use Rattle.manifest.specs.Seen.{read_seen, named_seen, IsReadLine, IsAcceptedLine, IsUnreadLine, IsUnacceptedLine, IsUnacceptedAmong};
 
-use crate::entries::{ProgramEntry, Source};
 use crate::{ManifestError, ManifestFault};
+use accepted::Accepted;
 use bpf_asm::assemble;
 use bpf_decode::decode;
 use bpf_insn::Program;
 use helpers::HelperLimits;
+use manifest_form::{ProgramEntry, Source};
 use or_memory::OrMemory;
 use std::alloc::{AllocError, Global};
 use std::sync::Arc;
-use verifier::{Accepted, verify};
+use verifier::verify;
 
 /// A program that was accepted, with its name.
 #[derive(Drop)]

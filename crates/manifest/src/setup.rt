@@ -4,15 +4,16 @@ ghost use Rattle.std.specs.Prelude.{◌≡◌, [], ◌∷◌, ◌++◌, Some, ma
 ghost use Rattle.std.specs.List.{AllByRecursion, AllZip};
 ghost use Rattle.engine_config.specs.Configured.{given_of};
 ghost use Rattle.manifest.specs.Meaning.{setup_of, is_named};
-ghost use Rattle.manifest.specs.Seen.{queue_seen, named_seen, IsGivenFor, IsReady};
+ghost use Rattle.manifest_form.specs.Seen.{queue_seen};
+ghost use Rattle.manifest.specs.Seen.{named_seen, IsGivenFor, IsReady};
 
-use crate::entries::QueueEntry;
 use crate::programs::NamedProgram;
+use accepted::Accepted;
 use engine_config::Config;
 use helpers::HelperLimits;
+use manifest_form::QueueEntry;
 use std::alloc::{AllocError, Global};
 use std::sync::Arc;
-use verifier::Accepted;
 
 /// The configuration of these queues, whose programs are among those that were accepted under the limits.
 pub fn config(

@@ -1,7 +1,7 @@
 -- Which segment of a run may be taken over, and which run may be parked.
 use Rattle.std.specs.Prelude.{◌≡◌, ℕ, true, List, Some}
 use Rattle.bpf_insn.specs.declared.program.Slot.{Slot}
-use Rattle.bpf_machine.specs.MachineState.{MachineState}
+use Rattle.bpf_semantics.specs.MachineState.{MachineState}
 use Rattle.interpreter.specs.Segments.{SegmentState}
 use Rattle.world.specs.World.{LiveRun}
 use Rattle.world.specs.Lookups.{run_of}

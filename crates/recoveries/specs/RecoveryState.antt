@@ -8,7 +8,7 @@ use Rattle.freeze_ledger.specs.declared.freeze.Freeze.{Freeze}
 use Rattle.freeze_ledger.specs.Freezes.{meets_limit}
 use Rattle.freeze_ledger.specs.State.{LedgerState}
 use Rattle.bpf_insn.specs.declared.program.Slot.{Slot}
-use Rattle.bpf_machine.specs.MachineState.{MachineState}
+use Rattle.bpf_semantics.specs.MachineState.{MachineState}
 use Rattle.table_store.specs.Tables.{zero_table}
 use Rattle.world.specs.declared.call_refusal.CallRefusal.{CallRefusal}
 use Rattle.world.specs.World.{LiveRun, World}

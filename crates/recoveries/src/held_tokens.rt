@@ -1,5 +1,5 @@
 // The rights of one run to give its freezes back: a list of at most eight, which takes no memory. It relies on
-// `freeze_ledger` for tokens, on `bpf_machine` for how many there may be, and on `arrayvec` for the list.
+// `freeze_ledger` for tokens, on `bpf_semantics` for how many there may be, and on `arrayvec` for the list.
 
 ghost use Rattle.std.specs.Prelude.{◌≡◌, ℕ, ◌<◌, ◌≢◌, ◌++◌, [], ◌∷◌, List, length, Some, None, IfSome, IfNone, slice_index_or};
 ghost use Rattle.std.specs.Option.{option_to_list};
@@ -9,7 +9,7 @@ ghost use Rattle.recoveries.specs.RecoveryState.{told, tokens_of};
 ghost use Rattle.recoveries.specs.Tokens.{AreTokensWith};
 
 use arrayvec::ArrayVec;
-use bpf_machine::MAX_HELD;
+use bpf_semantics::MAX_HELD;
 use freeze_ledger::FreezeToken;
 use std::marker::Model;
 

@@ -8,9 +8,9 @@ ghost use Rattle.ccb.specs.Ccb.{completed};
 ghost use Rattle.freeze_ledger.specs.declared.freeze.Freeze.{Freeze};
 ghost use Rattle.freeze_ledger.specs.declared.freeze.Holder.TheVariants.{Guest};
 ghost use Rattle.freeze_ledger.specs.Freezes.{entry_of, without, handed_over};
-ghost use Rattle.bpf_machine.specs.declared.held_freezes.TheConstants.{MAX_HELD};
-ghost use Rattle.bpf_machine.specs.Reached.{IsEntry};
-ghost use Rattle.bpf_machine.specs.Step.{IsAnswer, HasRoomFor, answered};
+ghost use Rattle.bpf_semantics.specs.declared.bounds.TheConstants.{MAX_HELD};
+ghost use Rattle.bpf_semantics.specs.Reached.{IsEntry};
+ghost use Rattle.bpf_semantics.specs.Step.{IsAnswer, HasRoomFor, answered};
 ghost use Rattle.interpreter.specs.Segments.{StandsAt};
 ghost use Rattle.world.specs.declared.ccb_state.CcbState.TheVariants.{InRecovery};
 ghost use Rattle.world.specs.World.{Setup, queue_count, queue_setup, LiveRun, World};
@@ -31,6 +31,7 @@ use crate::held_tokens::{hold, let_go, taken_at_start};
 use crate::places::place_of;
 use crate::run_record::RunRecord;
 use crate::started::Started;
+use accepted::Accepted;
 use bpf_machine::Machine;
 use ccb::{CONTEXT_BYTES, Ccb, CcbId, Completion, QueueId, context};
 use freeze_ledger::{FreezeToken, Holder, Ledger};
@@ -41,7 +42,6 @@ use std::marker::Model;
 use std::sync::Arc;
 use table_store::TableStore;
 use timer_events::expire_due;
-use verifier::Accepted;
 use world::CallRefusal;
 
 /// How many runs can be live at a time.

@@ -1,11 +1,11 @@
 // What is recorded of a run that has not exited. It relies on `held_tokens` for the rights to give freezes back, and on
-// `verifier` and `bpf_machine` for what the run executes.
+// `accepted` and `bpf_machine` for what the run executes.
 
 use crate::held_tokens::HeldTokens;
+use accepted::Accepted;
 use bpf_machine::Machine;
 use ccb::{CcbId, QueueId};
 use std::sync::Arc;
-use verifier::Accepted;
 
 /// A run that has not exited: its number, for which CCB of which queue it is, its program, the machine in which it goes
 /// on, whether it is out, and the rights to give back the freezes that it holds, in the order of their numbers.

@@ -4,11 +4,11 @@ use Rattle.std.specs.Prelude.{◌||◌, is_some, take, drop}
 use Rattle.std.specs.Option.{option_map, option_and_then}
 use Rattle.std.specs.Int.{Width, byte_len}
 use Rattle.std.proofs.lemmas.Bool.{cases_Bool, cond-true, cond-false}
-use Rattle.bpf_machine.specs.MachineState.{MachineState, context_address}
+use Rattle.bpf_semantics.specs.MachineState.{MachineState, context_address}
 use Rattle.stack_frame.specs.Frame.{all_written}
-use Rattle.bpf_machine.specs.Frames.{frame_bytes, frame_start, frames_with, has_room, has_written, is_inside}
-use Rattle.bpf_machine.specs.Memory.{can_read, in_context, read, with_memory, with_word_at, word_from}
-use Rattle.bpf_machine.proofs.MemoryFound.{bytes_length}
+use Rattle.bpf_semantics.specs.Frames.{frame_bytes, frame_start, frames_with, has_room, has_written, is_inside}
+use Rattle.bpf_semantics.specs.Memory.{can_read, in_context, read, with_memory, with_word_at, word_from}
+use Rattle.bpf_semantics.proofs.MemoryFound.{bytes_length}
 
 there_of : {X Y : Type 0} (f : X → Y) (o : Option X) (y : Y) → option_map f o ≡ Some y → is_some o ≡ true
 there_of f None y is = absurd cc

@@ -3,19 +3,19 @@ use Rattle.std.proofs.Common.{◌≡◌, ℕ, zero, suc, ◌<◌, List, [], ◌�
 use Rattle.std.specs.Prelude.{false, replicate}
 use Rattle.std.proofs.lemmas.List.{length-replicate}
 use Rattle.bpf_insn.specs.declared.reg.Reg.TheVariants.{R0, R1, R2, R3, R4, R5, R6, R7, R8, R9, R10}
-use Rattle.bpf_machine.specs.MachineState.{MachineState, context_address, entry, frame_pointer, unwritten_frame}
-use Rattle.bpf_machine.specs.Reached.{IsEntry}
+use Rattle.bpf_semantics.specs.MachineState.{MachineState, context_address, entry, frame_pointer, unwritten_frame}
+use Rattle.bpf_semantics.specs.Reached.{IsEntry}
 use Rattle.stack_domain.specs.Stack.{Covers as CoversFrames}
 use Rattle.reg_domain.specs.declared.description.Description.{Description}
-use Rattle.reg_domain.specs.declared.freeze_name.FreezeName.TheVariants as names
-use Rattle.reg_domain.specs.declared.held.HeldFreeze.{HeldFreeze}
-use Rattle.reg_domain.specs.declared.kind.Kind.{Kind}
-use Rattle.reg_domain.specs.declared.kind.Kind.TheVariants.{Unwritten, Address, Freeze}
-use Rattle.reg_domain.specs.declared.region.Region.TheVariants.{Context, Frame}
+use Rattle.register_kinds.specs.declared.freeze_name.FreezeName.TheVariants as names
+use Rattle.register_kinds.specs.declared.held.HeldFreeze.{HeldFreeze}
+use Rattle.register_kinds.specs.declared.kind.Kind.{Kind}
+use Rattle.register_kinds.specs.declared.kind.Kind.TheVariants.{Unwritten, Address, Freeze}
+use Rattle.register_kinds.specs.declared.region.Region.TheVariants.{Context, Frame}
 use Rattle.reg_domain.specs.Changes.{HoldAtEntry}
 use Rattle.reg_domain.specs.Description.{Describes}
-use Rattle.reg_domain.specs.Freezes.{AreHeld, numbers_at_start, open_freeze}
-use Rattle.reg_domain.proofs.Freezes.{held_at_start}
+use Rattle.register_kinds.specs.Freezes.{AreHeld, numbers_at_start, open_freeze}
+use Rattle.register_kinds.proofs.Freezes.{held_at_start}
 
 abbrev entry_kinds : List Kind
 entry_kinds = Unwritten ∷ Address Context (record { least = 0; most = 0 }) ∷ Freeze names.Start ∷ Unwritten ∷ Unwritten ∷ Unwritten ∷ Unwritten ∷ Unwritten ∷ Unwritten ∷ Unwritten ∷ Address (Frame 0) (record { least = 512; most = 512 }) ∷ []

@@ -18,27 +18,27 @@ use Rattle.helpers.specs.declared.request.Request.{Request}
 use Rattle.helpers.specs.declared.request.Request.TheVariants as requests
 use Rattle.helpers.specs.Table.{asks, helper_of, request_of}
 use Rattle.helpers.specs.declared.request.Written.{Written}
-use Rattle.bpf_machine.specs.Calls.{all_written, argument, meets, obeys as obeys_rule, request_by, request_with, run_may, traced}
-use Rattle.bpf_machine.specs.Frames.{frames_with}
-use Rattle.bpf_machine.specs.MachineState.{MachineState}
-use Rattle.bpf_machine.specs.Memory.{with_memory}
-use Rattle.bpf_machine.specs.Step.{Allowed, WroteAt, after_call, frames_after}
-use Rattle.bpf_machine.specs.Stuck.{call_is_stuck}
+use Rattle.bpf_semantics.specs.Calls.{all_written, argument, meets, obeys as obeys_rule, request_by, request_with, run_may, traced}
+use Rattle.bpf_semantics.specs.Frames.{frames_with}
+use Rattle.bpf_semantics.specs.MachineState.{MachineState}
+use Rattle.bpf_semantics.specs.Memory.{with_memory}
+use Rattle.bpf_semantics.specs.Step.{Allowed, WroteAt, after_call, frames_after}
+use Rattle.bpf_semantics.specs.Stuck.{call_is_stuck}
 use Rattle.reg_domain.specs.declared.arguments.Known.{Known}
-use Rattle.reg_domain.specs.declared.cause.Cause.{Cause}
+use Rattle.register_kinds.specs.declared.cause.Cause.{Cause}
 use Rattle.reg_domain.specs.declared.description.Description.{Description}
-use Rattle.reg_domain.specs.declared.freeze_name.FreezeName.{FreezeName}
-use Rattle.reg_domain.specs.declared.kind.Kind.{Kind}
-use Rattle.reg_domain.specs.declared.kind.Kind.TheVariants.{Unwritten, Number, Address, Freeze}
+use Rattle.register_kinds.specs.declared.freeze_name.FreezeName.{FreezeName}
+use Rattle.register_kinds.specs.declared.kind.Kind.{Kind}
+use Rattle.register_kinds.specs.declared.kind.Kind.TheVariants.{Unwritten, Number, Address, Freeze}
 use Rattle.reg_domain.specs.declared.saved.SavedRegisters.{SavedRegisters}
 use Rattle.reg_domain.specs.Arguments.{AllFit, AreArguments, FitsAny}
 use Rattle.reg_domain.specs.Calls.{CallIsNeverStuck, IsLawfulCall, Obeys, Passes, RunMay, after_call_kinds}
 use Rattle.reg_domain.specs.Description.{Describes, DescribesWith}
-use Rattle.reg_domain.specs.Freezes.{FreezeNumbers}
-use Rattle.reg_domain.specs.Kinds.{HoldsKind, IsWritten}
+use Rattle.register_kinds.specs.Freezes.{FreezeNumbers}
+use Rattle.register_kinds.specs.Kinds.{HoldsKind, IsWritten}
 use Rattle.reg_domain.specs.Memory.{AreWritten}
 use Rattle.reg_domain.specs.OpenCalls.{IsFresh}
-use Rattle.reg_domain.proofs.Freezes.{few_held}
+use Rattle.register_kinds.proofs.Freezes.{few_held}
 use Rattle.reg_domain.proofs.Tracing.{some_same, traced_unstuck}
 
 -- what lists of kinds say of lists of registers

@@ -5,17 +5,17 @@ use Rattle.std.proofs.lemmas.Bool.{cases_eq}
 use Rattle.std.proofs.lemmas.Grind.{get_or-set_at}
 use Rattle.bpf_insn.specs.declared.reg.Reg.{Reg}
 use Rattle.bpf_insn.specs.Reg.{number_of}
-use Rattle.bpf_machine.specs.MachineState.{MachineState, moved_to, register, with_register}
+use Rattle.bpf_semantics.specs.MachineState.{MachineState, moved_to, register, with_register}
 use Rattle.stack_domain.specs.Stack.{Covers as CoversFrames}
 use Rattle.reg_domain.specs.declared.description.Description.{Description}
-use Rattle.reg_domain.specs.declared.held.HeldFreeze.{HeldFreeze}
-use Rattle.reg_domain.specs.declared.kind.Kind.{Kind}
-use Rattle.reg_domain.specs.declared.kind.Kind.TheVariants.{Unwritten}
+use Rattle.register_kinds.specs.declared.held.HeldFreeze.{HeldFreeze}
+use Rattle.register_kinds.specs.declared.kind.Kind.{Kind}
+use Rattle.register_kinds.specs.declared.kind.Kind.TheVariants.{Unwritten}
 use Rattle.reg_domain.specs.declared.saved.SavedRegisters.{SavedRegisters}
 use Rattle.reg_domain.specs.Description.{DescribesWith, kind_at}
 use Rattle.reg_domain.specs.Enough.{ChangesOnly}
-use Rattle.reg_domain.specs.Freezes.{AreHeld, FreezeNumbers}
-use Rattle.reg_domain.specs.Kinds.{HoldsKind}
+use Rattle.register_kinds.specs.Freezes.{AreHeld, FreezeNumbers}
+use Rattle.register_kinds.specs.Kinds.{HoldsKind}
 use Rattle.reg_domain.proofs.RegisterPlaces.{number_below}
 
 holds_as : (numbers : FreezeNumbers) (a b : Kind) (o p : Option ℕ) → a ≡ b → o ≡ p → HoldsKind numbers b p → HoldsKind numbers a o

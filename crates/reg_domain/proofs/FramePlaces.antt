@@ -5,9 +5,9 @@ use Rattle.std.specs.Option.{option_map}
 use Rattle.std.proofs.lemmas.Bool.{and_from, cond-true, cond-false, le-leb, lt-leb}
 use Rattle.stack_frame.specs.Frame.{written_at}
 use Rattle.stack_domain.specs.Stores.{stored}
-use Rattle.bpf_machine.specs.MachineState.{context_address}
-use Rattle.bpf_machine.specs.Frames.{frame_start, is_inside, frame_bytes, frames_with}
-use Rattle.bpf_machine.specs.Memory.{in_context}
+use Rattle.bpf_semantics.specs.MachineState.{context_address}
+use Rattle.bpf_semantics.specs.Frames.{frame_start, is_inside, frame_bytes, frames_with}
+use Rattle.bpf_semantics.specs.Memory.{in_context}
 
 -- such bytes lie in frame k
 inside_there : (k address offset bytes : ℕ) → address ≡ frame_start k + offset → offset + bytes ≤ 512 → is_inside (frame_start k) address bytes ≡ true

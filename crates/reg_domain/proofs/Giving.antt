@@ -2,25 +2,25 @@
 use Rattle.std.proofs.Common.{◌≡◌, ℕ, ◌<◌, ◌^◌, true, List, [], ◌∷◌, ◌++◌, Option, Some, None, refl, ap, sym, subst, ◌∙◌, arith}
 use Rattle.bpf_insn.specs.declared.reg.Reg.TheVariants.{R1}
 use Rattle.bpf_insn.specs.Reg.{number_of}
-use Rattle.bpf_machine.specs.Calls.{is_held}
-use Rattle.bpf_machine.specs.MachineState.{MachineState, register}
-use Rattle.bpf_machine.specs.Step.{IsNewFreeze, held_with, held_without}
+use Rattle.bpf_semantics.specs.Calls.{is_held}
+use Rattle.bpf_semantics.specs.MachineState.{MachineState, register}
+use Rattle.bpf_semantics.specs.Step.{IsNewFreeze, held_with, held_without}
 use Rattle.scalar_domain.specs.declared.scalars.Scalar.{Scalar}
 use Rattle.scalar_domain.specs.Scalar.{Has}
 use Rattle.reg_domain.specs.declared.description.Description.{Description}
-use Rattle.reg_domain.specs.declared.freeze_name.FreezeName.{FreezeName}
-use Rattle.reg_domain.specs.declared.held.Certainty.TheVariants.{Sure}
-use Rattle.reg_domain.specs.declared.kind.Kind.{Kind}
-use Rattle.reg_domain.specs.declared.kind.Kind.TheVariants.{Unwritten, Number, Address, Freeze}
+use Rattle.register_kinds.specs.declared.freeze_name.FreezeName.{FreezeName}
+use Rattle.register_kinds.specs.declared.held.Certainty.TheVariants.{Sure}
+use Rattle.register_kinds.specs.declared.kind.Kind.{Kind}
+use Rattle.register_kinds.specs.declared.kind.Kind.TheVariants.{Unwritten, Number, Address, Freeze}
 use Rattle.reg_domain.specs.declared.saved.SavedRegisters.{SavedRegisters}
 use Rattle.reg_domain.specs.Calls.{IsSureFreeze}
-use Rattle.reg_domain.specs.Changes.{EachBecomes, GivesUpKind}
+use Rattle.reg_domain.specs.Changes.{EachBecomes}
 use Rattle.reg_domain.specs.Description.{Describes, DescribesWith, kind_at}
 use Rattle.reg_domain.specs.Enough.{LeavesGivenUp}
-use Rattle.reg_domain.specs.Freezes.{FreezeNumbers, certainty_of, open_freeze, renumbered, with_sure, without}
-use Rattle.reg_domain.specs.Kinds.{HoldsKind}
+use Rattle.register_kinds.specs.Freezes.{FreezeNumbers, certainty_of, open_freeze, renumbered, with_sure, without}
+use Rattle.register_kinds.specs.Kinds.{HoldsKind, GivesUpKind}
 use Rattle.reg_domain.specs.OpenCalls.{IsFresh}
-use Rattle.reg_domain.proofs.Freezes.{held_given_up, held_sure, held_taken, name_other, no_number, number_is_held, renumbered_other, sure_number, without_zero}
+use Rattle.register_kinds.proofs.Freezes.{held_given_up, held_sure, held_taken, name_other, no_number, number_is_held, renumbered_other, sure_number, without_zero}
 use Rattle.reg_domain.proofs.OpenCalls.{open_given_up, open_taken}
 use Rattle.reg_domain.proofs.RegisterPlaces.{number_below}
 

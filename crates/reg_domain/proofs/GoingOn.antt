@@ -12,24 +12,24 @@ use Rattle.bpf_insn.specs.declared.insn.SignExtension.{SignExtension}
 use Rattle.bpf_insn.specs.declared.insn.StoreSize.{StoreSize}
 use Rattle.bpf_insn.specs.declared.insn.Width.{Width}
 use Rattle.bpf_insn.specs.declared.reg.Reg.{Reg}
-use Rattle.bpf_machine.specs.MachineState.{MachineState, moved_to, register, with_register}
-use Rattle.bpf_machine.specs.Memory.{address_of, load_width, loaded, store_width}
-use Rattle.bpf_machine.specs.Step.{compute, compute_one, does, load, operand, request_in, store}
-use Rattle.bpf_machine.specs.Stuck.{load_is_stuck, store_is_stuck}
-use Rattle.bpf_machine.specs.Words.{in_place, sign_extended}
-use Rattle.reg_domain.specs.declared.cause.Cause.{Cause}
+use Rattle.bpf_semantics.specs.MachineState.{MachineState, moved_to, register, with_register}
+use Rattle.bpf_semantics.specs.Memory.{address_of, load_width, loaded, store_width}
+use Rattle.bpf_semantics.specs.Step.{compute, compute_one, does, load, operand, request_in, store}
+use Rattle.bpf_semantics.specs.Stuck.{load_is_stuck, store_is_stuck}
+use Rattle.bpf_words.specs.Words.{in_place, sign_extended}
+use Rattle.register_kinds.specs.declared.cause.Cause.{Cause}
 use Rattle.reg_domain.specs.declared.description.Description.{Description}
 use Rattle.reg_domain.specs.declared.following.Way.{Way}
 use Rattle.reg_domain.specs.declared.following.Way.TheVariants.{FallThrough}
-use Rattle.reg_domain.specs.declared.kind.Kind.{Kind}
+use Rattle.register_kinds.specs.declared.kind.Kind.{Kind}
 use Rattle.reg_domain.specs.declared.saved.SavedRegisters.{SavedRegisters}
-use Rattle.reg_domain.specs.Computes.{ChangesKind, ComputesKind}
+use Rattle.register_kinds.specs.Computes.{ChangesKind, ComputesKind}
 use Rattle.reg_domain.specs.Description.{DescribesWith, kind_at}
 use Rattle.reg_domain.specs.Enough.{ChangesOnly}
 use Rattle.reg_domain.specs.Follows.{Follows}
-use Rattle.reg_domain.specs.Freezes.{FreezeNumbers}
+use Rattle.register_kinds.specs.Freezes.{FreezeNumbers}
 use Rattle.reg_domain.specs.GoesOn.{GoesOn}
-use Rattle.reg_domain.specs.Kinds.{HoldsKind}
+use Rattle.register_kinds.specs.Kinds.{HoldsKind}
 use Rattle.reg_domain.specs.Memory.{Loads, Stores}
 use Rattle.reg_domain.proofs.Accessible.{word_read, word_stored}
 use Rattle.reg_domain.proofs.Described.{moved_described, set_described}

@@ -6,21 +6,21 @@ use Rattle.bpf_insn.specs.declared.insn.Insn.TheVariants.{JumpIf}
 use Rattle.bpf_insn.specs.declared.insn.Operand.{Operand}
 use Rattle.bpf_insn.specs.declared.insn.Width.{Width}
 use Rattle.bpf_insn.specs.declared.reg.Reg.{Reg}
-use Rattle.bpf_machine.specs.MachineState.{MachineState, register}
-use Rattle.bpf_machine.specs.Step.{jump_if, operand}
-use Rattle.bpf_machine.specs.Words.{holds_of}
-use Rattle.reg_domain.specs.declared.comparison.Finding.{Finding}
+use Rattle.bpf_semantics.specs.MachineState.{MachineState, register}
+use Rattle.bpf_semantics.specs.Step.{jump_if, operand}
+use Rattle.bpf_words.specs.Words.{holds_of}
+use Rattle.register_kinds.specs.declared.comparison.Finding.{Finding}
 use Rattle.reg_domain.specs.declared.description.Description.{Description}
 use Rattle.reg_domain.specs.declared.following.Way.{Way}
 use Rattle.reg_domain.specs.declared.following.Way.TheVariants.{FallThrough, Taken}
-use Rattle.reg_domain.specs.declared.kind.Kind.{Kind}
+use Rattle.register_kinds.specs.declared.kind.Kind.{Kind}
 use Rattle.reg_domain.specs.declared.saved.SavedRegisters.{SavedRegisters}
 use Rattle.reg_domain.specs.Description.{Describes, DescribesWith, kind_at}
-use Rattle.reg_domain.specs.Finds.{FindsWay, Found}
+use Rattle.register_kinds.specs.Finds.{FindsWay, Found}
 use Rattle.reg_domain.specs.Follows.{Follows, GoesBy, jumps, jumps_if}
-use Rattle.reg_domain.specs.Freezes.{FreezeNumbers}
+use Rattle.register_kinds.specs.Freezes.{FreezeNumbers}
 use Rattle.reg_domain.specs.GoesOn.{is_taken}
-use Rattle.reg_domain.specs.Kinds.{HoldsKind}
+use Rattle.register_kinds.specs.Kinds.{HoldsKind}
 use Rattle.reg_domain.proofs.Described.{moved_described}
 use Rattle.reg_domain.proofs.GoingOn.{some_same}
 

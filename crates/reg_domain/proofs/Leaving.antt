@@ -16,16 +16,16 @@ use Rattle.helpers.specs.Table.{asks, helper_of}
 use Rattle.stack_domain.specs.Stack.{Knows}
 use Rattle.reg_domain.specs.declared.arguments.Known.{Known}
 use Rattle.reg_domain.specs.declared.description.Description.{Description}
-use Rattle.reg_domain.specs.declared.freeze_name.FreezeName.{FreezeName}
-use Rattle.reg_domain.specs.declared.freeze_name.FreezeName.TheVariants as names
-use Rattle.reg_domain.specs.declared.kind.Kind.{Kind}
-use Rattle.reg_domain.specs.declared.kind.Kind.TheVariants.{Unwritten, Number, Address, Freeze}
+use Rattle.register_kinds.specs.declared.freeze_name.FreezeName.{FreezeName}
+use Rattle.register_kinds.specs.declared.freeze_name.FreezeName.TheVariants as names
+use Rattle.register_kinds.specs.declared.kind.Kind.{Kind}
+use Rattle.register_kinds.specs.declared.kind.Kind.TheVariants.{Unwritten, Number, Address, Freeze}
 use Rattle.reg_domain.specs.declared.saved.SavedRegisters.{SavedRegisters}
 use Rattle.reg_domain.specs.Arguments.{AreKnownOf, RegistersSuit, ShowsAny, Suits}
 use Rattle.reg_domain.specs.Calls.{IsSureFreeze, KeepsOver, LeavesAnswer, MayPass, RunMay, after_call_kinds}
 use Rattle.reg_domain.specs.Description.{kind_at}
 use Rattle.reg_domain.specs.Enough.{AreToldBytes, EnoughFor, IsPlace, LeavesCalled, LeavesFirstGivenUp, LeavesInformation, LeavesOver, LeavesWithin, LeavesZero, NamesWord, Takes, UsesWord}
-use Rattle.reg_domain.specs.Kinds.{IsAtMost, IsBelow, IsBetween, IsKnown, IsNumber, IsNumberWithin}
+use Rattle.register_kinds.specs.Kinds.{IsAtMost, IsBelow, IsBetween, IsKnown, IsNumber, IsNumberWithin}
 use Rattle.reg_domain.specs.Memory.{ChangesStack}
 use Rattle.reg_domain.proofs.Tracing.{some_same}
 

@@ -1,10 +1,3 @@
-pub mod HeldPlaces
-pub mod SameHeld
-pub mod Freezes
-pub mod Shifts
-pub mod Sums
-pub mod Moves
-pub mod Accesses
 pub mod FramePlaces
 pub mod ByteNumbers
 pub mod Reading

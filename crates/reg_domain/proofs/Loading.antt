@@ -5,12 +5,12 @@ use Rattle.std.specs.Int.{byte_len}
 use Rattle.byteorder.specs.Endian.{little_number}
 use Rattle.bpf_insn.specs.declared.insn.LoadForm.{LoadForm}
 use Rattle.bpf_insn.specs.declared.reg.Reg.{Reg}
-use Rattle.bpf_machine.specs.MachineState.{MachineState, register}
-use Rattle.bpf_machine.specs.Memory.{address_at, load_width, loaded}
+use Rattle.bpf_semantics.specs.MachineState.{MachineState, register}
+use Rattle.bpf_semantics.specs.Memory.{address_at, load_width, loaded}
 use Rattle.scalar_domain.specs.declared.scalars.Scalar.{Scalar}
 use Rattle.scalar_domain.specs.Scalar.{Has}
-use Rattle.reg_domain.specs.declared.kind.Kind.TheVariants.{Number}
-use Rattle.reg_domain.specs.Freezes.{FreezeNumbers}
+use Rattle.register_kinds.specs.declared.kind.Kind.TheVariants.{Number}
+use Rattle.register_kinds.specs.Freezes.{FreezeNumbers}
 use Rattle.reg_domain.specs.Memory.{AreThere, IsLoaded}
 use Rattle.reg_domain.proofs.ByteNumbers.{number_below}
 

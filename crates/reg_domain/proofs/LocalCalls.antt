@@ -10,24 +10,24 @@ use Rattle.bpf_insn.specs.declared.insn.Insn.TheVariants.{Call, Exit}
 use Rattle.bpf_insn.specs.declared.reg.Reg.{Reg}
 use Rattle.bpf_insn.specs.declared.reg.Reg.TheVariants.{R0, R1, R2, R3, R4, R5, R6, R7, R8, R9, R10}
 use Rattle.bpf_insn.specs.Reg.{number_of}
-use Rattle.bpf_machine.specs.Frames.{frame_start}
-use Rattle.bpf_machine.specs.MachineState.{MachineState, OpenCall, frame_pointer, register, unwritten_frame}
-use Rattle.bpf_machine.specs.Step.{does, entered, has_frame_left, returned}
-use Rattle.bpf_machine.specs.Stuck.{exit_is_stuck}
+use Rattle.bpf_semantics.specs.Frames.{frame_start}
+use Rattle.bpf_semantics.specs.MachineState.{MachineState, OpenCall, frame_pointer, register, unwritten_frame}
+use Rattle.bpf_semantics.specs.Step.{does, entered, has_frame_left, returned}
+use Rattle.bpf_semantics.specs.Stuck.{exit_is_stuck}
 use Rattle.helpers.specs.declared.limits.HelperLimits.{HelperLimits}
 use Rattle.stack_domain.specs.Stack.{Covers as CoversFrames, IsWritten, Knows}
 use Rattle.reg_domain.specs.declared.description.Description.{Description}
-use Rattle.reg_domain.specs.declared.kind.Kind.{Kind}
-use Rattle.reg_domain.specs.declared.kind.Kind.TheVariants.{Address}
-use Rattle.reg_domain.specs.declared.region.Region.TheVariants.{Frame}
+use Rattle.register_kinds.specs.declared.kind.Kind.{Kind}
+use Rattle.register_kinds.specs.declared.kind.Kind.TheVariants.{Address}
+use Rattle.register_kinds.specs.declared.region.Region.TheVariants.{Frame}
 use Rattle.reg_domain.specs.declared.saved.SavedRegister.{SavedRegister}
 use Rattle.reg_domain.specs.declared.saved.SavedRegisters.{SavedRegisters}
 use Rattle.reg_domain.specs.Changes.{at, entered_kinds, left_kinds}
 use Rattle.reg_domain.specs.Description.{Describes, DescribesWith, kind_at}
 use Rattle.reg_domain.specs.Entering.{IsSureCopy, LeavesEntered, LeavesReturned, kind_back, outlived_kind}
 use Rattle.reg_domain.specs.Follows.{NeverStuck}
-use Rattle.reg_domain.specs.Freezes.{AreHeld, FreezeNumbers}
-use Rattle.reg_domain.specs.Kinds.{HoldsKind}
+use Rattle.register_kinds.specs.Freezes.{AreHeld, FreezeNumbers}
+use Rattle.register_kinds.specs.Kinds.{HoldsKind}
 use Rattle.reg_domain.specs.OpenCalls.{AreOpen, AreSaved, HoldBack, HoldsSaved, IsSaved, words_saved}
 use Rattle.reg_domain.proofs.AtEntry.{no_byte}
 

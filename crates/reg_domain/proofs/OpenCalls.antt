@@ -2,18 +2,18 @@
 use Rattle.std.proofs.Common.{◌≡◌, ℕ, false, List, [], ◌∷◌, ◌++◌, Option, Some, None, refl, sym, subst, ◌∙◌, inl, inr}
 use Rattle.std.specs.List.{list_any}
 use Rattle.std.proofs.lemmas.Bool.{cases_Bool, or_from, or_parts}
-use Rattle.bpf_machine.specs.MachineState.{OpenCall}
+use Rattle.bpf_semantics.specs.MachineState.{OpenCall}
 use Rattle.scalar_domain.specs.declared.scalars.Scalar.{Scalar}
 use Rattle.scalar_domain.specs.Scalar.{Has}
-use Rattle.reg_domain.specs.declared.freeze_name.FreezeName.{FreezeName}
-use Rattle.reg_domain.specs.declared.kind.Kind.{Kind}
-use Rattle.reg_domain.specs.declared.kind.Kind.TheVariants.{Unwritten, Number, Address, Freeze}
+use Rattle.register_kinds.specs.declared.freeze_name.FreezeName.{FreezeName}
+use Rattle.register_kinds.specs.declared.kind.Kind.{Kind}
+use Rattle.register_kinds.specs.declared.kind.Kind.TheVariants.{Unwritten, Number, Address, Freeze}
 use Rattle.reg_domain.specs.declared.saved.SavedRegister.{SavedRegister}
 use Rattle.reg_domain.specs.declared.saved.SavedRegisters.{SavedRegisters}
-use Rattle.reg_domain.specs.Freezes.{FreezeNumbers, is_name, renumbered}
-use Rattle.reg_domain.specs.Kinds.{HoldsKind}
+use Rattle.register_kinds.specs.Freezes.{FreezeNumbers, is_name, renumbered}
+use Rattle.register_kinds.specs.Kinds.{HoldsKind}
 use Rattle.reg_domain.specs.OpenCalls.{AreOpen, AreSaved, HoldsAs, HoldsSaved, IsFresh, is_copy, is_copy_of, saves}
-use Rattle.reg_domain.proofs.Freezes.{renumbered_here, renumbered_other}
+use Rattle.register_kinds.proofs.Freezes.{renumbered_here, renumbered_other}
 
 -- no function waits
 pub none_open : (numbers : FreezeNumbers) (calls : List OpenCall) → AreOpen numbers [] calls → calls ≡ []

@@ -6,17 +6,17 @@ use Rattle.std.proofs.lemmas.Bool.{and_from, cond-true, cond-false, le-leb}
 use Rattle.std.proofs.lemmas.List.{get_or-take, get_or-drop, length-take}
 use Rattle.stack_domain.specs.Stack.{Covers as CoversFrames, AreWritten}
 use Rattle.stack_domain.proofs.Loads as loads
-use Rattle.bpf_machine.specs.MachineState.{MachineState, context_address}
+use Rattle.bpf_semantics.specs.MachineState.{MachineState, context_address}
 use Rattle.stack_frame.specs.Frame.{all_written}
-use Rattle.bpf_machine.specs.Frames.{frame_bytes, has_room}
-use Rattle.bpf_machine.specs.Memory.{in_context}
+use Rattle.bpf_semantics.specs.Frames.{frame_bytes, has_room}
+use Rattle.bpf_semantics.specs.Memory.{in_context}
 use Rattle.reg_domain.specs.declared.description.Description.{Description}
-use Rattle.reg_domain.specs.declared.region.Offsets.{Offsets}
-use Rattle.reg_domain.specs.declared.region.Region.TheVariants.{Context, Frame}
+use Rattle.register_kinds.specs.declared.region.Offsets.{Offsets}
+use Rattle.register_kinds.specs.declared.region.Region.TheVariants.{Context, Frame}
 use Rattle.reg_domain.specs.declared.saved.SavedRegisters.{SavedRegisters}
 use Rattle.reg_domain.specs.Description.{DescribesWith}
-use Rattle.reg_domain.specs.Freezes.{FreezeNumbers}
-use Rattle.reg_domain.specs.Kinds.{LiesAt}
+use Rattle.register_kinds.specs.Freezes.{FreezeNumbers}
+use Rattle.register_kinds.specs.Kinds.{LiesAt}
 use Rattle.reg_domain.specs.Memory.{AreThere}
 use Rattle.reg_domain.proofs.ByteNumbers.{bytes_found}
 use Rattle.reg_domain.proofs.FramePlaces.{frame_found, not_in_context}

@@ -5,21 +5,21 @@ use Rattle.std.specs.Int.{byte_len}
 use Rattle.byteorder.specs.Endian.{little_bytes}
 use Rattle.bpf_insn.specs.declared.insn.StoreSize.{StoreSize}
 use Rattle.bpf_insn.specs.declared.reg.Reg.{Reg}
-use Rattle.bpf_machine.specs.MachineState.{register}
-use Rattle.bpf_machine.specs.Memory.{address_at, store_width}
-use Rattle.reg_domain.specs.declared.access.Access.{Access}
-use Rattle.reg_domain.specs.declared.cause.Cause.{Cause}
+use Rattle.bpf_semantics.specs.MachineState.{register}
+use Rattle.bpf_semantics.specs.Memory.{address_at, store_width}
+use Rattle.register_kinds.specs.declared.access.Access.{Access}
+use Rattle.register_kinds.specs.declared.cause.Cause.{Cause}
 use Rattle.reg_domain.specs.declared.description.Description.{Description}
-use Rattle.reg_domain.specs.declared.kind.Kind.{Kind}
-use Rattle.reg_domain.specs.declared.kind.Kind.TheVariants.{Unwritten, Number, Address, Freeze}
-use Rattle.reg_domain.specs.declared.region.Offsets.{Offsets}
-use Rattle.reg_domain.specs.declared.region.Region.{Region}
-use Rattle.reg_domain.specs.declared.region.Region.TheVariants.{Frame}
-use Rattle.reg_domain.specs.Accesses.{BeginsAt}
+use Rattle.register_kinds.specs.declared.kind.Kind.{Kind}
+use Rattle.register_kinds.specs.declared.kind.Kind.TheVariants.{Unwritten, Number, Address, Freeze}
+use Rattle.register_kinds.specs.declared.region.Offsets.{Offsets}
+use Rattle.register_kinds.specs.declared.region.Region.{Region}
+use Rattle.register_kinds.specs.declared.region.Region.TheVariants.{Frame}
+use Rattle.register_kinds.specs.Accesses.{BeginsAt}
 use Rattle.reg_domain.specs.Description.{kind_at}
-use Rattle.reg_domain.specs.Enough.{AreKnown, IsAt, LeavesStored, LiesInFrame}
-use Rattle.reg_domain.specs.Freezes.{FreezeNumbers}
-use Rattle.reg_domain.specs.Kinds.{HoldsKind, IsNumber, LiesAt, size_of}
+use Rattle.register_kinds.specs.Kinds.{IsAt, HoldsKind, IsNumber, LiesAt, size_of}
+use Rattle.reg_domain.specs.Enough.{AreKnown, LeavesStored, LiesInFrame}
+use Rattle.register_kinds.specs.Freezes.{FreezeNumbers}
 use Rattle.reg_domain.specs.Memory.{LeavesMarked, Stores, Writes, WritesFrom}
 use Rattle.reg_domain.proofs.ByteNumbers.{bytes_below, length-low_bytes}
 

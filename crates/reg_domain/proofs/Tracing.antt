@@ -9,11 +9,11 @@ use Rattle.helpers.specs.declared.helper.Helper.TheVariants as helpers
 use Rattle.helpers.specs.declared.limits.HelperLimits.{HelperLimits}
 use Rattle.helpers.specs.declared.request.Arguments.{Arguments}
 use Rattle.helpers.specs.declared.request.Request.TheVariants.{Trace}
-use Rattle.bpf_machine.specs.Calls.{obeys, request_with, traced}
-use Rattle.bpf_machine.specs.Frames.{frame_start, is_inside, frame_bytes, has_written}
-use Rattle.bpf_machine.specs.MachineState.{MachineState}
-use Rattle.bpf_machine.specs.Stuck.{call_is_stuck}
-use Rattle.bpf_machine.proofs.Unchecked.{written_bytes}
+use Rattle.bpf_semantics.specs.Calls.{obeys, request_with, traced}
+use Rattle.bpf_semantics.specs.Frames.{frame_start, is_inside, frame_bytes, has_written}
+use Rattle.bpf_semantics.specs.MachineState.{MachineState}
+use Rattle.bpf_semantics.specs.Stuck.{call_is_stuck}
+use Rattle.bpf_semantics.proofs.WrittenBytes.{written_bytes}
 
 pub some_same : {X : Type 0} (x y : X) → Some x ≡ Some y → x ≡ y
 some_same x y e = cc

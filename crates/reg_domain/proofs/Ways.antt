@@ -10,21 +10,21 @@ use Rattle.bpf_insn.specs.declared.insn.Width.{Width}
 use Rattle.bpf_insn.specs.declared.reg.Reg.{Reg}
 use Rattle.bpf_insn.specs.declared.reg.Reg.TheVariants.{R0}
 use Rattle.helpers.specs.declared.limits.HelperLimits.{HelperLimits}
-use Rattle.bpf_machine.specs.MachineState.{MachineState, register}
-use Rattle.bpf_machine.specs.Stuck.{exit_is_stuck, holds_none}
-use Rattle.reg_domain.specs.declared.cause.Cause.{Cause}
+use Rattle.bpf_semantics.specs.MachineState.{MachineState, register}
+use Rattle.bpf_semantics.specs.Stuck.{exit_is_stuck, holds_none}
+use Rattle.register_kinds.specs.declared.cause.Cause.{Cause}
 use Rattle.reg_domain.specs.declared.description.Description.{Description}
 use Rattle.reg_domain.specs.declared.following.Way.{Way}
 use Rattle.reg_domain.specs.declared.following.Way.TheVariants.{FallThrough, Taken}
-use Rattle.reg_domain.specs.declared.kind.Kind.{Kind}
-use Rattle.reg_domain.specs.declared.kind.Kind.TheVariants.{Unwritten, Number, Address, Freeze}
+use Rattle.register_kinds.specs.declared.kind.Kind.{Kind}
+use Rattle.register_kinds.specs.declared.kind.Kind.TheVariants.{Unwritten, Number, Address, Freeze}
 use Rattle.reg_domain.specs.declared.saved.SavedRegisters.{SavedRegisters}
 use Rattle.reg_domain.specs.Calls.{CallFollows, CallIsNeverStuck}
 use Rattle.reg_domain.specs.Description.{kind_at}
 use Rattle.reg_domain.specs.Follows.{Follows, NeverStuck, jumps}
-use Rattle.reg_domain.specs.Freezes.{FreezeNumbers, numbers_held}
+use Rattle.register_kinds.specs.Freezes.{FreezeNumbers, numbers_held}
 use Rattle.reg_domain.specs.GoesOn.{GoesOn, is_taken}
-use Rattle.reg_domain.specs.Kinds.{HoldsKind, IsNumber}
+use Rattle.register_kinds.specs.Kinds.{HoldsKind, IsNumber}
 use Rattle.reg_domain.proofs.OpenCalls.{none_open}
 
 -- what is no jump goes on at the next instruction alone

@@ -9,12 +9,12 @@ use Rattle.stack_frame.specs.Frame.{written_at}
 use Rattle.stack_domain.specs.Stack.{Covers as CoversFrames}
 use Rattle.stack_domain.specs.Stores.{stored}
 use Rattle.stack_domain.proofs.Stores.{written_at_outside}
-use Rattle.bpf_machine.specs.MachineState.{MachineState}
-use Rattle.bpf_machine.specs.Frames.{frame_start}
+use Rattle.bpf_semantics.specs.MachineState.{MachineState}
+use Rattle.bpf_semantics.specs.Frames.{frame_start}
 use Rattle.reg_domain.specs.declared.description.Description.{Description}
 use Rattle.reg_domain.specs.declared.saved.SavedRegisters.{SavedRegisters}
 use Rattle.reg_domain.specs.Description.{DescribesWith}
-use Rattle.reg_domain.specs.Freezes.{FreezeNumbers}
+use Rattle.register_kinds.specs.Freezes.{FreezeNumbers}
 use Rattle.reg_domain.specs.Memory.{AreWritten}
 use Rattle.reg_domain.proofs.FramePlaces.{frame_stored}
 

@@ -6,22 +6,18 @@ use Rattle.helpers.specs.declared.helper.Asked.TheVariants.{Queue, HeldFreeze, W
 use Rattle.helpers.specs.declared.helper.Asks.{Asks}
 use Rattle.helpers.specs.declared.limits.HelperLimits.{HelperLimits}
 use Rattle.helpers.specs.declared.request.Arguments.{Arguments}
-use Rattle.bpf_machine.specs.Calls.{is_as_asked}
-use Rattle.bpf_machine.specs.Frames.{has_room, has_written}
-use Rattle.bpf_machine.specs.MachineState.{MachineState}
+use Rattle.bpf_semantics.specs.Calls.{is_as_asked}
+use Rattle.bpf_semantics.specs.Frames.{has_room, has_written}
+use Rattle.bpf_semantics.specs.MachineState.{MachineState}
 use Rattle.reg_domain.specs.declared.arguments.Known.{Known}
 use Rattle.reg_domain.specs.declared.description.Description.{Description}
-use Rattle.reg_domain.specs.declared.kind.Kind.{Kind}
+use Rattle.register_kinds.specs.declared.kind.Kind.{Kind}
 use Rattle.reg_domain.specs.declared.saved.SavedRegisters.{SavedRegisters}
 use Rattle.reg_domain.specs.Calls.{IsSureFreeze}
 use Rattle.reg_domain.specs.Description.{DescribesWith, kind_at}
 use Rattle.reg_domain.specs.Enough.{AreToldBytes, IsPlace}
-use Rattle.reg_domain.specs.Freezes.{FreezeNumbers}
-use Rattle.reg_domain.specs.Kinds.{HoldsKind, IsBelow, IsBetween, IsKnown, IsNumber, IsWritten}
-
--- a number below a bound
-abbrev pub LiesBelow : ℕ → Kind → Type 0
-LiesBelow bound kind = (numbers : FreezeNumbers) (value : ℕ) → HoldsKind numbers kind (Some value) → value < bound
+use Rattle.register_kinds.specs.Freezes.{FreezeNumbers}
+use Rattle.register_kinds.specs.Kinds.{HoldsKind, IsBelow, IsBetween, IsKnown, IsNumber, IsWritten}
 
 -- the table of that number has so many words at least
 abbrev pub HasWords : List ℕ → Kind → ℕ → Type 0

@@ -12,22 +12,22 @@ use Rattle.helpers.specs.declared.request.Answer.{Answer}
 use Rattle.helpers.specs.declared.request.Arguments.{Arguments}
 use Rattle.helpers.specs.declared.request.Request.{Request}
 use Rattle.helpers.specs.declared.request.Request.TheVariants as requests
-use Rattle.bpf_machine.specs.declared.held_freezes.TheConstants.{MAX_HELD}
-use Rattle.bpf_machine.specs.Calls.{arguments_at, obeys}
-use Rattle.bpf_machine.specs.MachineState.{MachineState, register}
-use Rattle.bpf_machine.specs.Step.{Allowed, IsAnswer, IsNewFreeze, after_call, answered, request_in}
-use Rattle.bpf_machine.specs.Stuck.{call_is_stuck}
+use Rattle.bpf_semantics.specs.declared.bounds.TheConstants.{MAX_HELD}
+use Rattle.bpf_semantics.specs.Calls.{arguments_at, obeys}
+use Rattle.bpf_semantics.specs.MachineState.{MachineState, register}
+use Rattle.bpf_semantics.specs.Step.{Allowed, IsAnswer, IsNewFreeze, after_call, answered, request_in}
+use Rattle.bpf_semantics.specs.Stuck.{call_is_stuck}
 use Rattle.stack_domain.specs.Stack.{Knows}
 use Rattle.reg_domain.specs.declared.calls.TheConstants.{GREATEST_WORD, LAST_READING, MOST_OPENINGS}
 use Rattle.reg_domain.specs.declared.description.Description.{Description}
-use Rattle.reg_domain.specs.declared.freeze_name.FreezeName.{FreezeName}
-use Rattle.reg_domain.specs.declared.held.Certainty.TheVariants.{Sure}
-use Rattle.reg_domain.specs.declared.kind.Kind.{Kind}
-use Rattle.reg_domain.specs.declared.kind.Kind.TheVariants.{Unwritten, Freeze}
+use Rattle.register_kinds.specs.declared.freeze_name.FreezeName.{FreezeName}
+use Rattle.register_kinds.specs.declared.held.Certainty.TheVariants.{Sure}
+use Rattle.register_kinds.specs.declared.kind.Kind.{Kind}
+use Rattle.register_kinds.specs.declared.kind.Kind.TheVariants.{Unwritten, Freeze}
 use Rattle.reg_domain.specs.declared.saved.SavedRegisters.{SavedRegisters}
 use Rattle.reg_domain.specs.Description.{Describes, kind_at}
 use Rattle.reg_domain.specs.Enough.{IsFreeze, IsPlace}
-use Rattle.reg_domain.specs.Freezes.{certainty_of}
+use Rattle.register_kinds.specs.Freezes.{certainty_of}
 use Rattle.reg_domain.specs.OpenCalls.{IsFresh}
 
 abbrev pub CallIsNeverStuck : HelperLimits → ℤ → Description → Type 0

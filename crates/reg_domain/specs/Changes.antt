@@ -2,14 +2,14 @@
 use Rattle.std.specs.Prelude.{◌≡◌, ℕ, ◌<◌, List, [], ◌∷◌, Option, Some, None, slice_index_or}
 use Rattle.bpf_insn.specs.declared.reg.Reg.{Reg}
 use Rattle.bpf_insn.specs.Reg.{number_of}
-use Rattle.bpf_machine.specs.MachineState.{entry, register}
+use Rattle.bpf_semantics.specs.MachineState.{entry, register}
 use Rattle.scalar_domain.specs.declared.scalars.Scalar.{Scalar}
 use Rattle.scalar_domain.specs.Scalar.{Has}
-use Rattle.reg_domain.specs.declared.freeze_name.FreezeName.{FreezeName}
-use Rattle.reg_domain.specs.declared.kind.Kind.{Kind}
-use Rattle.reg_domain.specs.declared.kind.Kind.TheVariants.{Unwritten, Number, Freeze}
-use Rattle.reg_domain.specs.Freezes.{FreezeNumbers, numbers_at_start, renumbered}
-use Rattle.reg_domain.specs.Kinds.{HoldsKind, IsAtMost, IsNumber}
+use Rattle.register_kinds.specs.declared.freeze_name.FreezeName.{FreezeName}
+use Rattle.register_kinds.specs.declared.kind.Kind.{Kind}
+use Rattle.register_kinds.specs.declared.kind.Kind.TheVariants.{Unwritten, Number, Freeze}
+use Rattle.register_kinds.specs.Freezes.{FreezeNumbers, numbers_at_start, renumbered}
+use Rattle.register_kinds.specs.Kinds.{HoldsKind, IsAtMost, IsNumber}
 
 abbrev pub at : List Kind → ℕ → Kind
 at kinds i = slice_index_or kinds i Unwritten
@@ -21,13 +21,6 @@ pub record Joins (a b joined : Kind) : Type 0 where
   pub equal : a ≡ b → joined ≡ a
   pub numbers : IsNumber a → IsNumber b → IsNumber joined
   pub bounds : (most : ℕ) → IsAtMost most a → IsAtMost most b → IsAtMost most joined
-
--- where that freeze is held no more, and was one of these numbers
-pub record GivesUpKind (name : FreezeName) (scalar : Scalar) (before after : Kind) : Type 0 where
-  pub kept : (numbers : FreezeNumbers) (number : ℕ) (o : Option ℕ) → numbers name ≡ Some number → Has scalar number →
-      HoldsKind numbers before o → HoldsKind (renumbered numbers name None) after o
-  pub copies : before ≡ Freeze name → after ≡ Number scalar
-  pub others : (before ≡ Freeze name → ⊥) → after ≡ before
 
 -- that holds of each of the registers before and after
 abbrev pub EachBecomes : (Kind → Kind → Type 0) → List Kind → List Kind → Type 0

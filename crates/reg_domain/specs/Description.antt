@@ -4,15 +4,15 @@
 use Rattle.std.specs.Prelude.{◌≡◌, ℕ, ◌+◌, ◌<◌, List, [], length, Some, None, All, slice_index_or}
 use Rattle.bpf_insn.specs.declared.reg.Reg.{Reg}
 use Rattle.bpf_insn.specs.Reg.{number_of}
-use Rattle.bpf_machine.specs.MachineState.{MachineState, register}
-use Rattle.bpf_machine.specs.Reached.{IsEntry}
+use Rattle.bpf_semantics.specs.MachineState.{MachineState, register}
+use Rattle.bpf_semantics.specs.Reached.{IsEntry}
 use Rattle.stack_domain.specs.Stack.{Covers as CoversFrames}
 use Rattle.reg_domain.specs.declared.description.Description.{Description}
-use Rattle.reg_domain.specs.declared.kind.Kind.{Kind}
-use Rattle.reg_domain.specs.declared.kind.Kind.TheVariants.{Unwritten}
+use Rattle.register_kinds.specs.declared.kind.Kind.{Kind}
+use Rattle.register_kinds.specs.declared.kind.Kind.TheVariants.{Unwritten}
 use Rattle.reg_domain.specs.declared.saved.SavedRegisters.{SavedRegisters}
-use Rattle.reg_domain.specs.Freezes.{AreHeld, FreezeNumbers}
-use Rattle.reg_domain.specs.Kinds.{HoldsKind}
+use Rattle.register_kinds.specs.Freezes.{AreHeld, FreezeNumbers}
+use Rattle.register_kinds.specs.Kinds.{HoldsKind}
 use Rattle.reg_domain.specs.OpenCalls.{AreOpen}
 
 -- what a description says of a register

@@ -20,29 +20,24 @@ use Rattle.helpers.specs.declared.helper.Helper.{Helper}
 use Rattle.helpers.specs.declared.helper.Helper.TheVariants as helpers
 use Rattle.helpers.specs.declared.limits.HelperLimits.{HelperLimits}
 use Rattle.helpers.specs.Table.{helper_of}
-use Rattle.bpf_machine.specs.declared.held_freezes.TheConstants.{MAX_HELD}
-use Rattle.bpf_machine.specs.Memory.{address_at, load_width, store_width}
-use Rattle.bpf_machine.specs.Words.{reads_dst}
+use Rattle.bpf_semantics.specs.declared.bounds.TheConstants.{MAX_HELD}
+use Rattle.bpf_semantics.specs.Memory.{address_at, load_width, store_width}
+use Rattle.bpf_words.specs.Words.{reads_dst}
 use Rattle.stack_domain.specs.Stack.{Knows}
 use Rattle.reg_domain.specs.declared.description.Description.{Description}
 use Rattle.reg_domain.specs.declared.following.Way.{Way}
 use Rattle.reg_domain.specs.declared.following.Way.TheVariants.{FallThrough, Taken}
-use Rattle.reg_domain.specs.declared.freeze_name.FreezeName.{FreezeName}
-use Rattle.reg_domain.specs.declared.freeze_name.FreezeName.TheVariants as names
-use Rattle.reg_domain.specs.declared.held.Certainty.TheVariants.{Sure}
-use Rattle.reg_domain.specs.declared.kind.Kind.{Kind}
-use Rattle.reg_domain.specs.declared.kind.Kind.TheVariants.{Unwritten, Number, Address, Freeze}
-use Rattle.reg_domain.specs.declared.region.Region.{Region}
+use Rattle.register_kinds.specs.declared.freeze_name.FreezeName.{FreezeName}
+use Rattle.register_kinds.specs.declared.freeze_name.FreezeName.TheVariants as names
+use Rattle.register_kinds.specs.declared.held.Certainty.TheVariants.{Sure}
+use Rattle.register_kinds.specs.declared.kind.Kind.{Kind}
+use Rattle.register_kinds.specs.declared.kind.Kind.TheVariants.{Unwritten, Number, Address, Freeze}
 use Rattle.reg_domain.specs.declared.saved.SavedRegisters.{SavedRegisters}
-use Rattle.reg_domain.specs.declared.region.Region.TheVariants.{Context, Frame}
+use Rattle.register_kinds.specs.declared.region.Region.TheVariants.{Context, Frame}
 use Rattle.reg_domain.specs.Description.{kind_at}
-use Rattle.reg_domain.specs.Freezes.{certainty_of, open_freeze, with_sure, without}
-use Rattle.reg_domain.specs.Kinds.{IsAtMost, IsBelow, IsBetween, IsKnown, IsNumber, IsNumberWithin}
+use Rattle.register_kinds.specs.Freezes.{certainty_of, open_freeze, with_sure, without}
+use Rattle.register_kinds.specs.Kinds.{IsAt, IsAtMost, IsBelow, IsBetween, IsKnown, IsNumber, IsNumberWithin}
 use Rattle.reg_domain.specs.OpenCalls.{IsFresh}
-
--- the address of one byte of a region
-abbrev pub IsAt : Region → ℕ → Kind → Type 0
-IsAt region at kind = kind ≡ Address region (record { least = at; most = at })
 
 abbrev pub IsNumberOperand : Description → Operand → Type 0
 IsNumberOperand d (Immediate value) = Unit {0}

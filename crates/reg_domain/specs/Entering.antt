@@ -7,19 +7,19 @@ use Rattle.scalar_domain.specs.declared.scalars.Scalar.{Scalar}
 use Rattle.scalar_domain.specs.Scalar.{Has}
 use Rattle.stack_domain.specs.Stack.{Knows}
 use Rattle.reg_domain.specs.declared.description.Description.{Description}
-use Rattle.reg_domain.specs.declared.freeze_name.FreezeName.{FreezeName}
-use Rattle.reg_domain.specs.declared.held.Certainty.{Certainty}
-use Rattle.reg_domain.specs.declared.held.Certainty.TheVariants.{Sure}
-use Rattle.reg_domain.specs.declared.held.HeldFreeze.{HeldFreeze}
-use Rattle.reg_domain.specs.declared.kind.Kind.{Kind}
-use Rattle.reg_domain.specs.declared.kind.Kind.TheVariants.{Unwritten, Number, Address, Freeze}
-use Rattle.reg_domain.specs.declared.region.Region.TheVariants.{Context, Frame}
+use Rattle.register_kinds.specs.declared.freeze_name.FreezeName.{FreezeName}
+use Rattle.register_kinds.specs.declared.held.Certainty.{Certainty}
+use Rattle.register_kinds.specs.declared.held.Certainty.TheVariants.{Sure}
+use Rattle.register_kinds.specs.declared.held.HeldFreeze.{HeldFreeze}
+use Rattle.register_kinds.specs.declared.kind.Kind.{Kind}
+use Rattle.register_kinds.specs.declared.kind.Kind.TheVariants.{Unwritten, Number, Address, Freeze}
+use Rattle.register_kinds.specs.declared.region.Region.TheVariants.{Context, Frame}
 use Rattle.reg_domain.specs.declared.saved.SavedRegister.{SavedRegister}
 use Rattle.reg_domain.specs.declared.saved.SavedRegisters.{SavedRegisters}
 use Rattle.reg_domain.specs.Changes.{at}
 use Rattle.reg_domain.specs.Description.{kind_at}
-use Rattle.reg_domain.specs.Enough.{IsAt}
-use Rattle.reg_domain.specs.Freezes.{certainty_of}
+use Rattle.register_kinds.specs.Kinds.{IsAt}
+use Rattle.register_kinds.specs.Freezes.{certainty_of}
 
 -- a saved copy of a freeze is one as long as that is held, and then one of these numbers
 abbrev pub copy_back : FreezeName → Scalar → Option Certainty → Kind

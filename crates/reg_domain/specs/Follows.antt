@@ -9,10 +9,10 @@ use Rattle.bpf_insn.specs.declared.insn.Width.{Width}
 use Rattle.helpers.specs.declared.limits.HelperLimits.{HelperLimits}
 use Rattle.helpers.specs.declared.request.Answer.{Answer}
 use Rattle.helpers.specs.declared.request.Request.{Request}
-use Rattle.bpf_machine.specs.MachineState.{MachineState, register}
-use Rattle.bpf_machine.specs.Step.{Allowed, does, operand, request_in}
-use Rattle.bpf_machine.specs.Stuck.{insn_is_stuck}
-use Rattle.bpf_machine.specs.Words.{holds_of}
+use Rattle.bpf_semantics.specs.MachineState.{MachineState, register}
+use Rattle.bpf_semantics.specs.Step.{Allowed, does, operand, request_in}
+use Rattle.bpf_semantics.specs.Stuck.{insn_is_stuck}
+use Rattle.bpf_words.specs.Words.{holds_of}
 use Rattle.reg_domain.specs.declared.description.Description.{Description}
 use Rattle.reg_domain.specs.declared.following.Way.{Way}
 use Rattle.reg_domain.specs.declared.following.Way.TheVariants.{FallThrough, Taken}

@@ -1,16 +1,9 @@
-pub mod CauseText
-pub mod HeldPlaces
-pub mod Freezes
-pub mod Kinds
-pub mod Computes
-pub mod Finds
 pub mod OpenCalls
 pub mod Description
 pub mod Follows
 pub mod Enough
 pub mod Memory
 pub mod Calls
-pub mod Accesses
 pub mod Arguments
 pub mod Changes
 pub mod Entering

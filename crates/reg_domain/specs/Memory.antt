@@ -3,19 +3,19 @@ use Rattle.std.specs.Prelude.{◌≡◌, ℕ, ℤ, ◌<◌, List, length, Option
 use Rattle.bpf_insn.specs.declared.insn.LoadForm.{LoadForm}
 use Rattle.bpf_insn.specs.declared.insn.StoreSize.{StoreSize}
 use Rattle.bpf_insn.specs.declared.reg.Reg.{Reg}
-use Rattle.bpf_machine.specs.MachineState.{MachineState, register}
-use Rattle.bpf_machine.specs.Memory.{address_of, load_width, loaded, read, store_width, with_memory, with_word_at, word_from}
+use Rattle.bpf_semantics.specs.MachineState.{MachineState, register}
+use Rattle.bpf_semantics.specs.Memory.{address_of, load_width, loaded, read, store_width, with_memory, with_word_at, word_from}
 use Rattle.stack_domain.specs.Stack.{Knows}
-use Rattle.reg_domain.specs.declared.access.Access.{Access}
+use Rattle.register_kinds.specs.declared.access.Access.{Access}
 use Rattle.reg_domain.specs.declared.description.Description.{Description}
-use Rattle.reg_domain.specs.declared.kind.Kind.{Kind}
-use Rattle.reg_domain.specs.declared.region.Offsets.{Offsets}
-use Rattle.reg_domain.specs.declared.region.Region.TheVariants.{Frame}
+use Rattle.register_kinds.specs.declared.kind.Kind.{Kind}
+use Rattle.register_kinds.specs.declared.region.Offsets.{Offsets}
+use Rattle.register_kinds.specs.declared.region.Region.TheVariants.{Frame}
 use Rattle.reg_domain.specs.declared.saved.SavedRegisters.{SavedRegisters}
 use Rattle.reg_domain.specs.Description.{DescribesWith}
 use Rattle.reg_domain.specs.Enough.{AreKnown}
-use Rattle.reg_domain.specs.Freezes.{FreezeNumbers}
-use Rattle.reg_domain.specs.Kinds.{HoldsKind, LiesAt}
+use Rattle.register_kinds.specs.Freezes.{FreezeNumbers}
+use Rattle.register_kinds.specs.Kinds.{HoldsKind, LiesAt}
 
 -- the bytes from an address on can be read
 pub record AreThere (m : MachineState) (address bytes : ℕ) : Type 0 where

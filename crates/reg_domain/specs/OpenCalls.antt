@@ -2,16 +2,16 @@
 -- was a copy of a freeze is one as long as that is held, and one number whether it is held or not.
 use Rattle.std.specs.Prelude.{◌≡◌, ℕ, ◌<◌, Bool, false, List, [], ◌∷◌, ◌++◌, length, take, drop, Option, Some, None, slice_index_or}
 use Rattle.std.specs.List.{list_any}
-use Rattle.bpf_machine.specs.MachineState.{OpenCall}
+use Rattle.bpf_semantics.specs.MachineState.{OpenCall}
 use Rattle.scalar_domain.specs.declared.scalars.Scalar.{Scalar}
 use Rattle.scalar_domain.specs.Scalar.{Has}
-use Rattle.reg_domain.specs.declared.freeze_name.FreezeName.{FreezeName}
-use Rattle.reg_domain.specs.declared.kind.Kind.{Kind}
-use Rattle.reg_domain.specs.declared.kind.Kind.TheVariants.{Unwritten, Number, Address, Freeze}
+use Rattle.register_kinds.specs.declared.freeze_name.FreezeName.{FreezeName}
+use Rattle.register_kinds.specs.declared.kind.Kind.{Kind}
+use Rattle.register_kinds.specs.declared.kind.Kind.TheVariants.{Unwritten, Number, Address, Freeze}
 use Rattle.reg_domain.specs.declared.saved.SavedRegister.{SavedRegister}
 use Rattle.reg_domain.specs.declared.saved.SavedRegisters.{SavedRegisters}
-use Rattle.reg_domain.specs.Freezes.{FreezeNumbers, is_name}
-use Rattle.reg_domain.specs.Kinds.{HoldsKind}
+use Rattle.register_kinds.specs.Freezes.{FreezeNumbers, is_name}
+use Rattle.register_kinds.specs.Kinds.{HoldsKind}
 
 -- a number that is one of these, and the one that the name stands for where it stands for any
 abbrev pub IsCopied : FreezeNumbers → FreezeName → Scalar → Option ℕ → Type 0

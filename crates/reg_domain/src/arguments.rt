@@ -1,26 +1,23 @@
 // What is known of the arguments of a helper call, and whether each is as the helper asks. It relies on `description` and
-// `kind`, and on `helpers` for what is asked.
+// `register_kinds`, and on `helpers` for what is asked.
 
 ghost use Rattle.std.specs.Prelude.{◌≡◌, ◌↔◌, ℕ, ◌+◌, ◌<◌, ◌≤◌, List, length, slice_index_or, Some, None, IfOk, IsOk, IsTrue};
 ghost use Rattle.bpf_insn.specs.declared.reg.Reg.TheVariants.{R1, R2, R3};
-ghost use Rattle.bpf_machine.specs.Calls.{argument};
-ghost use Rattle.bpf_machine.specs.MachineState.{MachineState};
-ghost use Rattle.reg_domain.specs.Arguments.{AllFit, AllSuit, AreKnownOf, Fits, FitsAny, HasBytes, HasRoom, HasWords, IsKnownOf, LiesBelow, Shows, ShowsAny, Suits, SuitsAny};
+ghost use Rattle.bpf_semantics.specs.Calls.{argument};
+ghost use Rattle.bpf_semantics.specs.MachineState.{MachineState};
+ghost use Rattle.reg_domain.specs.Arguments.{AllFit, AllSuit, AreKnownOf, Fits, FitsAny, HasBytes, HasRoom, HasWords, IsKnownOf, Shows, ShowsAny, Suits, SuitsAny};
 ghost use Rattle.reg_domain.specs.Calls.{IsSureFreeze};
 ghost use Rattle.reg_domain.specs.Description.{DescribesWith, kind_at};
-ghost use Rattle.reg_domain.specs.declared.region.Region.TheVariants.{Frame};
+ghost use Rattle.register_kinds.specs.declared.region.Region.TheVariants.{Frame};
 ghost use Rattle.reg_domain.specs.declared.saved.SavedRegisters.{SavedRegisters};
 ghost use Rattle.reg_domain.specs.Enough.{AreToldBytes, IsPlace, IsWrittenPlace};
-ghost use Rattle.reg_domain.specs.Freezes.{FreezeNumbers};
-ghost use Rattle.reg_domain.specs.Kinds.{HoldsKind, IsBelow, IsBetween, IsKnown, LiesWithin};
+ghost use Rattle.register_kinds.specs.Freezes.{FreezeNumbers};
+ghost use Rattle.register_kinds.specs.Kinds.{HoldsKind, IsBelow, IsBetween, IsKnown, LiesWithin, LiesBelow};
 
-use crate::cause::Cause;
 use crate::description::Description;
-use crate::held::Certainty;
-use crate::kind::Kind;
-use crate::region::{Offsets, Region};
 use bpf_insn::Reg;
 use helpers::{Asked, Asks, HelperLimits};
+use register_kinds::{Cause, Certainty, Kind, Offsets, Region};
 use scalar_domain::Scalar;
 
 /// How many bytes a frame has.
@@ -234,30 +231,6 @@ impl Description {
             Ok(())
         } else {
             Err(Cause::UnwrittenByte)
-        }
-    }
-}
-
-impl Kind {
-    // Whether it is a number in this range, both ends included.
-    fn lies_within(self, least: u64, most: u64) -> bool
-        ensures means { IsTrue result → LiesWithin least most self }
-        ensures between { IsBetween least most self → IsTrue result }
-    {
-        match self {
-            Kind::Number(scalar) => least <= scalar.least() && scalar.most() <= most,
-            _ => false,
-        }
-    }
-
-    // Whether it is a number below this one.
-    fn lies_below(self, bound: u64) -> bool
-        ensures means { IsTrue result → LiesBelow bound self }
-        ensures below { IsBelow bound self → IsTrue result }
-    {
-        match self {
-            Kind::Number(scalar) => scalar.most() < bound,
-            _ => false,
         }
     }
 }

@@ -5,30 +5,26 @@ ghost use Rattle.std.specs.Prelude.{◌≡◌, ◌↔◌, ◌<◌, ◌≤◌, �
 ghost use Rattle.bpf_insn.specs.declared.insn.Callee.TheVariants.{Helper as helper_call};
 ghost use Rattle.bpf_insn.specs.declared.insn.Insn.TheVariants.{Call};
 ghost use Rattle.bpf_insn.specs.declared.reg.Reg.TheVariants.{R1};
-ghost use Rattle.bpf_machine.specs.MachineState.{MachineState, register};
-ghost use Rattle.bpf_machine.specs.Step.{after_call as called, held_without};
+ghost use Rattle.bpf_semantics.specs.MachineState.{MachineState, register};
+ghost use Rattle.bpf_semantics.specs.Step.{after_call as called, held_without};
 ghost use Rattle.helpers.specs.declared.helper.Helper.TheVariants as helpers;
 ghost use Rattle.helpers.specs.Table.{asks, helper_of};
-ghost use Rattle.reg_domain.specs.declared.freeze_name.FreezeName.TheVariants as names;
+ghost use Rattle.register_kinds.specs.declared.freeze_name.FreezeName.TheVariants as names;
 ghost use Rattle.reg_domain.specs.Arguments.{RegistersSuit};
 ghost use Rattle.reg_domain.specs.Calls.{AnswersWithin, CallFollows, CallIsNeverStuck, IsSureFreeze, KeepsOver, LeavesAnswer, MayPass, Obeys, Passes, RunMay, after_call_kinds};
 ghost use Rattle.reg_domain.specs.Description.{Describes, DescribesWith, kind_at};
 ghost use Rattle.reg_domain.specs.Enough.{EnoughToCall, IsPlace, LeavesCalled, LeavesFirstGivenUp, LeavesInformation, LeavesOver, LeavesTaken, LeavesWithin, LeavesZero, Takes, UsesTable};
-ghost use Rattle.reg_domain.specs.Freezes.{FreezeNumbers, certainty_of};
-ghost use Rattle.reg_domain.specs.Kinds.{HoldsKind};
+ghost use Rattle.register_kinds.specs.Freezes.{FreezeNumbers, certainty_of};
+ghost use Rattle.register_kinds.specs.Kinds.{HoldsKind};
 ghost use Rattle.reg_domain.specs.Memory.{ChangesStack, WritesFrom};
 ghost use Rattle.reg_domain.specs.OpenCalls.{IsFresh};
 
-use crate::cause::Cause;
 use crate::description::Description;
-use crate::freeze_name::FreezeName;
-use crate::held::GREATEST_FREEZE;
-use crate::kind::Kind;
-use crate::region::Region;
 use crate::saved::{SavedRegisters, is_saved};
 use bpf_insn::Reg;
-use bpf_machine::MAX_HELD;
+use bpf_semantics::MAX_HELD;
 use helpers::{Helper, HelperLimits};
+use register_kinds::{Cause, FreezeName, GREATEST_FREEZE, Kind, Region};
 use scalar_domain::Scalar;
 
 /// The most freezes that a queue can have once one is given back.

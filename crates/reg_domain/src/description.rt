@@ -1,21 +1,20 @@
 // What holds of every machine that comes to a place: each register's kind, the written stack bytes, the freezes and the
-// CCB's disposal. It relies on `kind` for registers, on `registers` for all of them, on `held` for freezes, and on
+// CCB's disposal. It relies on `register_kinds` for a register and for freezes, on `registers` for all registers, and on
 // `stack_domain` for the stack.
 
 ghost use Rattle.std.specs.Prelude.{◌≡◌, ℕ, ◌<◌, ◌↔◌, List, length, IfSome, IsSomeAnd, IsTrue};
-ghost use Rattle.bpf_machine.specs.MachineState.{MachineState};
-ghost use Rattle.bpf_machine.specs.Step.{operand as operand_of};
+ghost use Rattle.bpf_semantics.specs.MachineState.{MachineState};
+ghost use Rattle.bpf_semantics.specs.Step.{operand as operand_of};
 ghost use Rattle.reg_domain.specs.declared.saved.SavedRegisters.{SavedRegisters};
 ghost use Rattle.reg_domain.specs.Description.{Covers, DescribesEntries, DescribesWith, kind_at};
 ghost use Rattle.reg_domain.specs.Enough.{Agree, ChangesOnly, IsEntryKnown, IsMoved, IsNumberOperand, JoinsTo};
-ghost use Rattle.reg_domain.specs.Freezes.{FreezeNumbers};
+ghost use Rattle.register_kinds.specs.Freezes.{FreezeNumbers};
 ghost use Rattle.reg_domain.specs.GoesOn.{ReadsUnwritten};
-ghost use Rattle.reg_domain.specs.Kinds.{HoldsKind, IsNumber};
+ghost use Rattle.register_kinds.specs.Kinds.{HoldsKind, IsNumber};
 
-use crate::held::Held;
-use crate::kind::Kind;
 use crate::registers::{entry_registers, join_registers};
 use bpf_insn::{Operand, Reg};
+use register_kinds::{Held, Kind};
 use stack_domain::Stack;
 
 /// What is known of a machine where it comes to a place, but for the registers of functions that wait for one that they

@@ -1,24 +1,24 @@
 // What becomes of the machines at a place by its instruction, and whether one of them may be stuck there. It relies on
-// `description` for what is known of them, on `arithmetic` and `comparison` for numbers and addresses, on `memory` for
-// loads and stores, and on `calls` for helper calls.
+// `description` for what is known of them, on `straight`, `memory`, `jumping` and `calls` for their instructions, and on
+// `local_calls` for calls of functions.
 
 ghost use Rattle.std.specs.Prelude.{◌≡◌, ℤ, [], true, false, length, IfOk, IsOk, IsOkAnd, IsTrue};
 ghost use Rattle.bpf_insn.specs.declared.insn.Callee.TheVariants.{Helper as helper_call};
 ghost use Rattle.bpf_insn.specs.declared.insn.Insn.TheVariants.{Call, Exit};
 ghost use Rattle.bpf_insn.specs.declared.reg.Reg.TheVariants.{R0};
 ghost use Rattle.reg_domain.specs.declared.following.Way.TheVariants.{FallThrough};
-ghost use Rattle.reg_domain.specs.declared.freeze_name.FreezeName.TheVariants as names;
+ghost use Rattle.register_kinds.specs.declared.freeze_name.FreezeName.TheVariants as names;
 ghost use Rattle.reg_domain.specs.Description.{kind_at};
 ghost use Rattle.reg_domain.specs.Enough.{Enough, Leaves, LeavesCalled, LeavesTaken, Takes, UsesTable};
 ghost use Rattle.reg_domain.specs.Follows.{Follows, NeverStuck, Stays};
 ghost use Rattle.reg_domain.specs.GoesOn.{HasWay, is_taken};
-ghost use Rattle.reg_domain.specs.Kinds.{IsNumber};
+ghost use Rattle.register_kinds.specs.Kinds.{IsNumber};
 
-use crate::cause::Cause;
 use crate::description::Description;
 use crate::saved::SavedRegisters;
 use bpf_insn::{Callee, Insn, Reg};
 use helpers::HelperLimits;
+use register_kinds::Cause;
 
 /// Where an instruction leads.
 #[derive(Clone, Copy, Debug, PartialEq, Eq)]

@@ -1,38 +1,23 @@
-// What becomes of what is known where a freeze is taken, is found to be 0 or not, or is held no more. It relies on `held`
-// for what is held, and on `registers` for copies of a freeze.
+// What becomes of what is known where a freeze is taken, is found to be 0 or not, or is held no more. It relies on
+// `register_kinds` for what is held, and on `registers` for copies of a freeze.
 
 ghost use Rattle.std.specs.Prelude.{◌≡◌, ◌<◌, ◌++◌, ◌∷◌, [], ℕ, true, false, List, length, IsTrue, None, Option, Some};
-ghost use Rattle.bpf_machine.specs.MachineState.{MachineState};
-ghost use Rattle.bpf_machine.specs.Step.{IsNewFreeze, held_with, held_without};
+ghost use Rattle.bpf_semantics.specs.MachineState.{MachineState};
+ghost use Rattle.bpf_semantics.specs.Step.{IsNewFreeze, held_with, held_without};
 ghost use Rattle.scalar_domain.specs.Scalar.{Has};
 ghost use Rattle.reg_domain.specs.declared.following.Way.TheVariants.{FallThrough, Taken};
 ghost use Rattle.reg_domain.specs.declared.saved.SavedRegisters.{SavedRegisters};
-ghost use Rattle.reg_domain.specs.Changes.{GivesUpKind};
+ghost use Rattle.register_kinds.specs.Kinds.{GivesUpKind};
 ghost use Rattle.reg_domain.specs.Description.{Describes, DescribesWith};
 ghost use Rattle.reg_domain.specs.Enough.{LeavesGivenUp, LeavesTested};
-ghost use Rattle.reg_domain.specs.Freezes.{FreezeNumbers, certainty_of, open_freeze, renumbered};
+ghost use Rattle.register_kinds.specs.Freezes.{FreezeNumbers, certainty_of, open_freeze, renumbered};
 ghost use Rattle.reg_domain.specs.OpenCalls.{IsFresh};
 
 use crate::description::Description;
-use crate::freeze_name::FreezeName;
-use crate::held::{Certainty, HeldFreeze};
-use crate::kind::Kind;
 use crate::registers::give_up_copies;
-use bpf_machine::MAX_HELD;
+use bpf_semantics::MAX_HELD;
+use register_kinds::{Certainty, FreezeName, HeldFreeze, Kind};
 use scalar_domain::Scalar;
-
-impl Kind {
-    /// What it says where the freeze of that name is held no more and was one of these numbers: a copy of it is such a
-    /// number then, and no freeze.
-    pub fn given_up(self, name: FreezeName, copies: Scalar) -> Self
-        ensures { GivesUpKind name copies self result }
-    {
-        match self {
-            Kind::Freeze(other) if other.is_same(name) => Kind::Number(copies),
-            kind => kind,
-        }
-    }
-}
 
 impl Description {
     // A freeze was taken, or none was got: it is held by this name.

@@ -1,28 +1,25 @@
-// Conditional jumps: what one way tells of the registers that are compared, or of a freeze. It relies on `comparison`
-// for what is found, and on `freeze` for what a freeze that was tested is then.
+// Conditional jumps: what one way tells of the registers that are compared, or of a freeze. It relies on
+// `register_kinds` for what is found, and on `freeze` for what a freeze that was tested is then.
 
 ghost use Rattle.std.specs.Prelude.{◌≡◌, ℕ, ℤ, ◌==◌, true, false, ◌⊎◌, List, IfOk, IsOkAnd, IsTrue, Some, length};
 ghost use Rattle.bpf_insn.specs.declared.insn.Insn.TheVariants.{JumpIf};
 ghost use Rattle.bpf_insn.specs.Reg.{number_of};
-ghost use Rattle.bpf_machine.specs.MachineState.{MachineState, register};
-ghost use Rattle.bpf_machine.specs.Step.{operand as operand_of};
+ghost use Rattle.bpf_semantics.specs.MachineState.{MachineState, register};
+ghost use Rattle.bpf_semantics.specs.Step.{operand as operand_of};
 ghost use Rattle.helpers.specs.declared.limits.HelperLimits.{HelperLimits};
 ghost use Rattle.scalar_domain.specs.Scalar.{Has};
 ghost use Rattle.reg_domain.specs.declared.saved.SavedRegisters.{SavedRegisters};
 ghost use Rattle.reg_domain.specs.Description.{Describes, DescribesWith, kind_at};
 ghost use Rattle.reg_domain.specs.Enough.{ComparesNumbers, LeavesCompared, LeavesKnown, LeavesTested, TestsFreeze};
-ghost use Rattle.reg_domain.specs.Finds.{Found, IsOfNumbers, found_of};
+ghost use Rattle.register_kinds.specs.Finds.{Found, IsOfNumbers, found_of};
 ghost use Rattle.reg_domain.specs.Follows.{Follows, NeverStuck};
-ghost use Rattle.reg_domain.specs.Freezes.{FreezeNumbers};
+ghost use Rattle.register_kinds.specs.Freezes.{FreezeNumbers};
 ghost use Rattle.reg_domain.specs.GoesOn.{ReadsUnwritten, is_taken};
 
-use crate::cause::Cause;
-use crate::comparison::{Finding, compared};
 use crate::description::Description;
 use crate::following::Way;
-use crate::freeze_name::FreezeName;
-use crate::kind::Kind;
 use bpf_insn::{Condition, Operand, Reg, Width};
+use register_kinds::{Cause, Finding, FreezeName, Kind, compared};
 use scalar_domain::Scalar;
 
 impl Description {

@@ -4,22 +4,21 @@
 ghost use Rattle.std.specs.Prelude.{◌≡◌, ◌<◌, ◌+◌, ◌++◌, ◌∷◌, [], ℕ, ℤ, List, Option, Some, length, slice_index_or};
 ghost use Rattle.bpf_insn.specs.declared.insn.Callee.TheVariants.{Local};
 ghost use Rattle.bpf_insn.specs.declared.insn.Insn.TheVariants.{Call, Exit};
-ghost use Rattle.bpf_machine.specs.MachineState.{MachineState};
-ghost use Rattle.bpf_machine.specs.Step.{does};
+ghost use Rattle.bpf_semantics.specs.MachineState.{MachineState};
+ghost use Rattle.bpf_semantics.specs.Step.{does};
 ghost use Rattle.helpers.specs.declared.limits.HelperLimits.{HelperLimits};
 ghost use Rattle.reg_domain.specs.Changes.{at, entered_kinds, left_kinds};
 ghost use Rattle.reg_domain.specs.Description.{Describes, DescribesWith};
 ghost use Rattle.reg_domain.specs.Entering.{IsSureCopy, LeavesEntered, LeavesReturned, outlived_kind};
 ghost use Rattle.reg_domain.specs.Follows.{NeverStuck};
-ghost use Rattle.reg_domain.specs.Freezes.{FreezeNumbers};
-ghost use Rattle.reg_domain.specs.Kinds.{HoldsKind};
+ghost use Rattle.register_kinds.specs.Freezes.{FreezeNumbers};
+ghost use Rattle.register_kinds.specs.Kinds.{HoldsKind};
 ghost use Rattle.reg_domain.specs.OpenCalls.{AreSaved, words_saved};
 
 use crate::description::Description;
-use crate::kind::Kind;
-use crate::region::{Offsets, Region};
 use crate::saved::{SavedRegister, SavedRegisters};
 use bpf_insn::Reg;
+use register_kinds::{Kind, Offsets, Region};
 use stack_domain::MAX_FRAMES;
 
 impl Description {

@@ -1,21 +1,18 @@
-// Loads and stores where a machine is described. It relies on `access` for where they lie, and on `stack_domain` for
-// which stack bytes are written.
+// Loads and stores where a machine is described. It relies on `register_kinds` for where they lie, and on
+// `stack_domain` for which stack bytes are written.
 
 ghost use Rattle.std.specs.Prelude.{◌≡◌, ◌<◌, ◌≤◌, ◌+◌, ◌^◌, ℕ, length, IfOk, IsOk, IsOkAnd};
 ghost use Rattle.std.specs.Int.{byte_len};
-ghost use Rattle.bpf_machine.specs.Memory.{load_width, loaded, store_width};
+ghost use Rattle.bpf_semantics.specs.Memory.{load_width, loaded, store_width};
 ghost use Rattle.scalar_domain.specs.Scalar.{Has};
-ghost use Rattle.reg_domain.specs.declared.region.Region.TheVariants.{Context, Frame};
+ghost use Rattle.register_kinds.specs.declared.region.Region.TheVariants.{Context, Frame};
 ghost use Rattle.reg_domain.specs.Enough.{AreKnown, LeavesStored, LiesInContext, LiesInFrame, LiesWritten};
-ghost use Rattle.reg_domain.specs.Kinds.{IsNumber, size_of};
+ghost use Rattle.register_kinds.specs.Kinds.{IsNumber, size_of};
 ghost use Rattle.reg_domain.specs.Memory.{ChangesStack, Loads, Reads, ReadsFrame, LeavesMarked, Stores, Writes};
 
-use crate::access::{Access, accessed};
-use crate::cause::Cause;
 use crate::description::Description;
-use crate::kind::Kind;
-use crate::region::{Offsets, Region};
 use bpf_insn::{LoadForm, Reg, SignExtension, StoreSize};
+use register_kinds::{Access, Cause, Kind, Offsets, Region, accessed};
 use scalar_domain::{Scalar, extend};
 
 impl Description {

@@ -1,13 +1,11 @@
-// The kinds of all registers at once. It relies on `kind` and `freeze` for each of them.
+// The kinds of all registers at once. It relies on `register_kinds` for each of them.
 
 ghost use Rattle.std.specs.Prelude.{◌≡◌, ℕ};
-ghost use Rattle.reg_domain.specs.declared.freeze_name.FreezeName.TheVariants as names;
-ghost use Rattle.reg_domain.specs.Changes.{EachBecomes, EachJoins, GivesUpKind, HoldAtEntry, at};
-ghost use Rattle.reg_domain.specs.Enough.{IsAt};
+ghost use Rattle.register_kinds.specs.declared.freeze_name.FreezeName.TheVariants as names;
+ghost use Rattle.reg_domain.specs.Changes.{EachBecomes, EachJoins, HoldAtEntry, at};
+ghost use Rattle.register_kinds.specs.Kinds.{IsAt, GivesUpKind};
 
-use crate::freeze_name::FreezeName;
-use crate::kind::Kind;
-use crate::region::{Offsets, Region};
+use register_kinds::{FreezeName, Kind, Offsets, Region};
 use scalar_domain::Scalar;
 
 // At the entry of a program: R1 is the context's address, R2 the freeze, and R10 the frame pointer.

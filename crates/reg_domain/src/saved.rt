@@ -1,18 +1,16 @@
-// What is known of R6 to R9 of a function that waits for one that it called. It relies on `kind`, and on `held` for
-// freezes of which they are copies.
+// What is known of R6 to R9 of a function that waits for one that it called. It relies on `register_kinds`, also for
+// the freezes of which they are copies.
 
 ghost use Rattle.std.specs.Prelude.{◌≡◌, ◌+◌, ◌<◌, ◌≤◌, ℕ, List, Option, Some, slice_index_or};
 ghost use Rattle.std.specs.List.{list_any};
 ghost use Rattle.scalar_domain.specs.Scalar.{Has};
 ghost use Rattle.reg_domain.specs.Changes.{at};
 ghost use Rattle.reg_domain.specs.Entering.{copy_back, kind_back};
-ghost use Rattle.reg_domain.specs.Freezes.{AreHeld, FreezeNumbers, IsNumbered, certainty_of};
-ghost use Rattle.reg_domain.specs.Kinds.{HoldsKind};
+ghost use Rattle.register_kinds.specs.Freezes.{AreHeld, FreezeNumbers, IsNumbered, certainty_of};
+ghost use Rattle.register_kinds.specs.Kinds.{HoldsKind};
 ghost use Rattle.reg_domain.specs.OpenCalls.{AreSaved, HoldBack, HoldsSaved, is_copy, saves};
 
-use crate::freeze_name::FreezeName;
-use crate::held::{Certainty, GREATEST_FREEZE, Held};
-use crate::kind::Kind;
+use register_kinds::{Certainty, FreezeName, GREATEST_FREEZE, Held, Kind};
 use scalar_domain::Scalar;
 
 /// What is known of one register of a function that waits for one that it called.

@@ -1,21 +1,19 @@
-// The instructions behind which a machine goes on at the next one, but for helper calls. It relies on `arithmetic` for
-// what is computed, and on `memory` for loads and stores.
+// The instructions behind which a machine goes on at the next one, but for helper calls. It relies on
+// `register_kinds` for what is computed, and on `memory` for loads and stores.
 
 ghost use Rattle.std.specs.Prelude.{◌≡◌, true, ◌⊎◌, IfOk, IsOkAnd, length};
 ghost use Rattle.std.specs.Int.{byte_len};
 ghost use Rattle.bpf_insn.specs.declared.insn.Insn.TheVariants.{Alu, InPlace, SignExtend, LoadImmediate, Load, Store};
-ghost use Rattle.bpf_machine.specs.Memory.{load_width, store_width};
-ghost use Rattle.bpf_machine.specs.Words.{reads_dst};
+ghost use Rattle.bpf_semantics.specs.Memory.{load_width, store_width};
+ghost use Rattle.bpf_words.specs.Words.{reads_dst};
 ghost use Rattle.reg_domain.specs.Description.{kind_at};
 ghost use Rattle.reg_domain.specs.Enough.{EnoughToCompute, IsNumberOperand, LeavesComputed, LeavesNumber, LeavesStored, LiesInContext, LiesInFrame, LiesWritten};
 ghost use Rattle.reg_domain.specs.GoesOn.{GoesOn, ReadsUnwritten};
-ghost use Rattle.reg_domain.specs.Kinds.{IsNumber};
+ghost use Rattle.register_kinds.specs.Kinds.{IsNumber};
 
-use crate::arithmetic::{changed, computed, extended};
-use crate::cause::Cause;
 use crate::description::Description;
-use crate::kind::Kind;
 use bpf_insn::{AluOp, InPlaceOp, LoadForm, Operand, Reg, SignExtension, StoreSize, Width};
+use register_kinds::{Cause, Kind, changed, computed, extended};
 
 impl Description {
     // Arithmetic on a register and an operand.

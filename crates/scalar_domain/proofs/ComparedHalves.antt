@@ -4,7 +4,7 @@ use Rattle.std.specs.Prelude.{Option, None, Some, IfSome, int_lt, int_le}
 use Rattle.std.specs.Int.{w32, w64, cast_signed}
 use Rattle.bpf_insn.specs.declared.insn.Condition.{Condition}
 use Rattle.bpf_insn.specs.declared.insn.Condition.TheVariants.{Equal, NotEqual, Greater, GreaterOrEqual, Less, LessOrEqual, AnyBit, SignedGreater, SignedGreaterOrEqual, SignedLess, SignedLessOrEqual}
-use Rattle.bpf_machine.specs.Words.{low, holds}
+use Rattle.bpf_words.specs.Words.{low, holds}
 use Rattle.scalar_domain.specs.declared.scalars.Scalar.{Scalar}
 use Rattle.scalar_domain.specs.declared.narrowing.Sides.{Sides}
 use Rattle.scalar_domain.specs.Scalar.{Has}

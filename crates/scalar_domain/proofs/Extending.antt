@@ -14,7 +14,7 @@ use Rattle.bpf_insn.specs.declared.insn.ByteOrder.{ByteOrder}
 use Rattle.bpf_insn.specs.declared.insn.ByteOrder.TheVariants.{Little}
 use Rattle.bpf_insn.specs.declared.insn.WordSize.{WordSize}
 use Rattle.bpf_insn.specs.declared.insn.WordSize.TheVariants.{Word16, Word32, Word64}
-use Rattle.bpf_machine.specs.Words.{low, alu_of, in_place, swap, size_of, extended}
+use Rattle.bpf_words.specs.Words.{low, alu_of, in_place, swap, size_of, extended}
 use Rattle.scalar_domain.proofs.Places.{signed_below, signed_above}
 
 pub is_negative : (width : Width) (w : ℕ) → 2 ^ hbits width ≤ w → cast_signed width w ≡ negsuc (2 ^ bits width - suc w)

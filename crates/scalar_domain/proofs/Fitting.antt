@@ -10,7 +10,7 @@ use Rattle.bpf_insn.specs.declared.insn.SignExtension.TheVariants.{From8To32, Fr
 use Rattle.bpf_insn.specs.declared.insn.WordSize.TheVariants.{Word16, Word32, Word64}
 use Rattle.bpf_insn.specs.declared.insn.Width.{Width}
 use Rattle.bpf_insn.specs.declared.insn.Width.TheVariants.{Bits32, Bits64}
-use Rattle.bpf_machine.specs.Words.{alu, alu_of, reads_dst, low, computed, in_place, sign_extended}
+use Rattle.bpf_words.specs.Words.{alu, alu_of, reads_dst, low, computed, in_place, sign_extended}
 
 pub alu_of_fits : (width : Width) (op : AluOp) (a b : ℕ) → b < 2 ^ 64 → alu_of width op a b < 2 ^ 64
 alu_of_fits Bits64 op a b fits = elim (reads_dst op) as (λ r. (if r then low w64 (computed w64 op a b) else b) < 2 ^ 64) [ true ↦ omega arith | false ↦ fits ]

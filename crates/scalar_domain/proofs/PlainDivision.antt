@@ -4,7 +4,7 @@ use Rattle.std.specs.Prelude.{if◌then◌else◌, int_div, int_rem}
 use Rattle.std.specs.Int.{w32, w64, cast_unsigned}
 use Rattle.std.proofs.lemmas.Int.{to_z_pos}
 use Rattle.bpf_insn.specs.declared.insn.AluOp.TheVariants.{Div, SignedDiv, Mod, SignedMod}
-use Rattle.bpf_machine.specs.Words.{low, alu}
+use Rattle.bpf_words.specs.Words.{low, alu}
 use Rattle.scalar_domain.proofs.Extending.{cut_once}
 
 pub plain_div64 : (a b : ℕ) → a < 2 ^ 63 → b < 2 ^ 63 → alu w64 SignedDiv a b ≡ alu w64 Div a b

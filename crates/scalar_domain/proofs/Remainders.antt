@@ -4,7 +4,7 @@ use Rattle.std.proofs.lemmas.Bool.{ne_eqb}
 use Rattle.std.proofs.Math.Nat.{mod-le}
 use Rattle.std.specs.Prelude.{if◌then◌else◌}
 use Rattle.std.specs.Int.{w64}
-use Rattle.bpf_machine.specs.Words.{low, quotient, remainder}
+use Rattle.bpf_words.specs.Words.{low, quotient, remainder}
 
 pub left_by_greater : (a b : ℕ) → a < b → remainder a b ≡ a
 left_by_greater a b less = rw (ne_eqb b 0 (λ e. omega arith)) (mod-eq_of_lt less)

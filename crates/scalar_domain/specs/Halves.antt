@@ -3,7 +3,7 @@ use Rattle.std.specs.Prelude.{ℕ}
 use Rattle.std.specs.Int.{w32, w64, cast_signed, cast_unsigned}
 use Rattle.bpf_insn.specs.declared.insn.Condition.{Condition}
 use Rattle.bpf_insn.specs.declared.insn.Condition.TheVariants.{SignedGreater, SignedGreaterOrEqual, SignedLess, SignedLessOrEqual}
-use Rattle.bpf_machine.specs.Words.{low}
+use Rattle.bpf_words.specs.Words.{low}
 
 -- the low half of a word, extended by its sign to 64 bits
 abbrev pub extended_half : ℕ → ℕ

@@ -1,3 +1,3 @@
-pub use Rattle.bpf_machine.specs.Words
+pub use Rattle.bpf_words.specs.Words
 pub mod Scalar
 pub mod Halves

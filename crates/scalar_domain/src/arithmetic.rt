@@ -1,9 +1,9 @@
 // What arithmetic makes of scalars. It relies on `wide`, `signed_division`, `moves` and `halves`, and for
-// known words on `bpf_machine`.
+// known words on `bpf_words`.
 
 ghost use Rattle.std.specs.Prelude.{◌≡◌, ℕ};
 ghost use Rattle.std.specs.Int.{w32, w64};
-ghost use Rattle.bpf_machine.specs.Words.{alu, alu_of, low};
+ghost use Rattle.bpf_words.specs.Words.{alu, alu_of, low};
 ghost use Rattle.scalar_domain.specs.Scalar.{Has};
 
 use crate::halves::low_half;
@@ -18,7 +18,7 @@ pub fn alu(width: Width, op: AluOp, left: Scalar, right: Scalar) -> Scalar
     ensures { (a b : ℕ) → Has left a → Has right b → Has result (alu_of width op a b) }
 {
     match (left.known(), right.known()) {
-        (Some(a), Some(b)) => Scalar::exactly(bpf_machine::alu(width, op, a, b)),
+        (Some(a), Some(b)) => Scalar::exactly(bpf_words::alu(width, op, a, b)),
         _ => match width {
             Width::Bits64 => alu64(op, left, right),
             Width::Bits32 => alu32(op, low_half(left), low_half(right)),

@@ -2,7 +2,7 @@
 
 ghost use Rattle.std.specs.Prelude.{◌≡◌, ◌≢◌, ℕ, nat_lt, not, bit_and, ◌==◌};
 ghost use Rattle.std.specs.Int.{w64};
-ghost use Rattle.bpf_machine.specs.Words.{holds};
+ghost use Rattle.bpf_words.specs.Words.{holds};
 ghost use Rattle.scalar_domain.specs.Scalar.{Has, place};
 
 use crate::narrowing::Sides;

@@ -2,7 +2,7 @@
 
 ghost use Rattle.std.specs.Prelude.{◌≡◌, ℕ, ◌<◌, ◌%◌, ◌^◌};
 ghost use Rattle.std.specs.Int.{w32};
-ghost use Rattle.bpf_machine.specs.Words.{low};
+ghost use Rattle.bpf_words.specs.Words.{low};
 ghost use Rattle.scalar_domain.specs.Scalar.{Agrees, Has, Within};
 
 use crate::bits::KnownBits;

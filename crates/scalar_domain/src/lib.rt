@@ -1,6 +1,6 @@
 // What is known of a word that a program computes: its unsigned and its signed range and some of its bits, through each
 // operation, on both ways of a comparison, and where ways join. `Has` (specs/Scalar.antt) says which words a scalar
-// stands for. It relies on `bpf_machine` for what operations compute and on `bpf_insn` for their names.
+// stands for. It relies on `bpf_words` for what operations compute and on `bpf_insn` for their names.
 #![tactic(auto)]
 
 mod arithmetic;

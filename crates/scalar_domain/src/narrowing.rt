@@ -2,7 +2,7 @@
 
 ghost use Rattle.std.specs.Prelude.{◌≡◌, ℕ, IfSome};
 ghost use Rattle.std.specs.Int.{w64};
-ghost use Rattle.bpf_machine.specs.Words.{holds, holds_of};
+ghost use Rattle.bpf_words.specs.Words.{holds, holds_of};
 ghost use Rattle.bpf_insn.specs.declared.insn.Width.TheVariants.{Bits32};
 ghost use Rattle.scalar_domain.specs.Scalar.{Has, SidesHave};
 ghost use Rattle.scalar_domain.specs.Halves.{compared_half};

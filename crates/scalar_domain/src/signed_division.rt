@@ -4,7 +4,7 @@
 ghost use Rattle.std.specs.Prelude.{◌≡◌, ℕ, ◌<◌, true};
 ghost use Rattle.std.specs.Int.{w32, w64};
 ghost use Rattle.bpf_insn.specs.declared.insn.AluOp.TheVariants.{SignedDiv, SignedMod};
-ghost use Rattle.bpf_machine.specs.Words.{alu, low};
+ghost use Rattle.bpf_words.specs.Words.{alu, low};
 ghost use Rattle.scalar_domain.specs.Scalar.{Has};
 
 use crate::halves::low_half;

@@ -1,8 +1,8 @@
 // What an operation on one word makes of a scalar. It relies on `arithmetic`, `moves` and `halves`, and for known words on
-// `bpf_machine`.
+// `bpf_words`.
 
 ghost use Rattle.std.specs.Prelude.{◌≡◌, ℕ, ◌-◌, ◌^◌};
-ghost use Rattle.bpf_machine.specs.Words.{in_place, sign_extended, size_of, swap};
+ghost use Rattle.bpf_words.specs.Words.{in_place, sign_extended, size_of, swap};
 ghost use mir.Val.{bits};
 ghost use Rattle.scalar_domain.specs.Scalar.{Has};
 
@@ -18,7 +18,7 @@ pub fn in_place(op: InPlaceOp, scalar: Scalar) -> Scalar
     ensures { (w : ℕ) → Has scalar w → Has result (in_place op w) }
 {
     match scalar.known() {
-        Some(word) => Scalar::exactly(bpf_machine::in_place(op, word)),
+        Some(word) => Scalar::exactly(bpf_words::in_place(op, word)),
         None => changed(op, scalar),
     }
 }

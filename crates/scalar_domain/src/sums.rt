@@ -1,7 +1,7 @@
 // Where sums, products, quotients and remainders of words lie, modulo 2^64. It relies on `spans`.
 
 ghost use Rattle.std.specs.Prelude.{◌≡◌, ℕ, ◌+◌, ◌-◌, ◌*◌, ◌/◌, ◌%◌, ◌^◌, ◌<◌, ◌≤◌};
-ghost use Rattle.bpf_machine.specs.Words.{quotient, remainder};
+ghost use Rattle.bpf_words.specs.Words.{quotient, remainder};
 ghost use Rattle.scalar_domain.specs.Scalar.{Within};
 
 use crate::spans::Span;

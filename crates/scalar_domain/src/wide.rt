@@ -3,7 +3,7 @@
 ghost use Rattle.std.specs.Prelude.{◌≡◌, ℕ, ◌<◌, ◌^◌};
 ghost use Rattle.std.specs.Int.{w64};
 ghost use Rattle.bpf_insn.specs.declared.insn.AluOp.TheVariants.{Add, Sub, Mul, Div, Mod, Or, And, Xor};
-ghost use Rattle.bpf_machine.specs.Words.{alu};
+ghost use Rattle.bpf_words.specs.Words.{alu};
 ghost use Rattle.scalar_domain.specs.Scalar.{Has, Within};
 
 use crate::bits::KnownBits;

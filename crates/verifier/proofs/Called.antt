@@ -11,9 +11,9 @@ use Rattle.bpf_insn.specs.declared.insn.Callee.TheVariants.{Local}
 use Rattle.bpf_insn.specs.declared.program.Slot.{Slot}
 use Rattle.bpf_insn.specs.Program.{insn_at}
 use Rattle.bpf_insn.specs.Target.{target}
-use Rattle.bpf_machine.specs.MachineState.{MachineState, OpenCall}
-use Rattle.bpf_machine.specs.Step.{does}
-use Rattle.bpf_machine.specs.Stuck.{insn_is_stuck}
+use Rattle.bpf_semantics.specs.MachineState.{MachineState, OpenCall}
+use Rattle.bpf_semantics.specs.Step.{does}
+use Rattle.bpf_semantics.specs.Stuck.{insn_is_stuck}
 use Rattle.call_shape.specs.Calls.{begins, callee_at, callee_in, function_of}
 use Rattle.call_shape.specs.StaticPath.{Standing, outermost}
 use Rattle.call_shape.proofs.Places.{begins_there}

@@ -6,7 +6,7 @@ use Rattle.bpf_insn.specs.declared.insn.Insn.TheVariants.{Alu, InPlace, SignExte
 use Rattle.bpf_insn.specs.declared.insn.Callee.TheVariants.{Helper, Local}
 use Rattle.bpf_insn.specs.declared.program.Slot.{Slot}
 use Rattle.bpf_insn.specs.Program.{insn_at, slots_of}
-use Rattle.bpf_machine.specs.MachineState.{MachineState, OpenCall}
+use Rattle.bpf_semantics.specs.MachineState.{MachineState, OpenCall}
 use Rattle.call_shape.specs.Calls.{callee_in}
 use Rattle.call_shape.specs.Shape.{behind, goes_on_behind, target_in}
 use Rattle.call_shape.proofs.Lawful.{jumps_lawfully}
@@ -14,7 +14,7 @@ use Rattle.helpers.specs.declared.limits.HelperLimits.{HelperLimits}
 use Rattle.reg_domain.specs.declared.following.Way.TheVariants.{FallThrough, Taken}
 use Rattle.reg_domain.specs.declared.saved.SavedRegisters.{SavedRegisters}
 use Rattle.reg_domain.specs.Follows.{GoesBy, Stays, StepsBy}
-use Rattle.reg_domain.specs.Freezes.{FreezeNumbers}
+use Rattle.register_kinds.specs.Freezes.{FreezeNumbers}
 use Rattle.reg_domain.specs.GoesOn.{falls_through}
 use Rattle.reg_domain.specs.OpenCalls.{AreOpen}
 use Rattle.verifier.specs.Function.{HasChecked, IsEnd, IsLawfulProgram, Stands}

@@ -3,7 +3,7 @@ use Rattle.std.proofs.Common.{◌≡◌, ℕ, zero, suc, ◌+◌, ◌≤◌, Lis
 use Rattle.std.specs.List.{Contains}
 use Rattle.std.proofs.lemmas.List.{append_cancel_right, length-append}
 use Rattle.std.proofs.lemmas.List.Elements.{Contains-append_cases, Contains-append_left, Contains-append_right}
-use Rattle.bpf_machine.specs.MachineState.{OpenCall}
+use Rattle.bpf_semantics.specs.MachineState.{OpenCall}
 use Rattle.call_shape.specs.StaticPath.{Standing, outermost}
 use Rattle.verifier.specs.Checks.{AreOnce, IsBefore, returns_of}
 

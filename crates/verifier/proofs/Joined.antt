@@ -7,8 +7,8 @@ use Rattle.bpf_insn.specs.declared.program.Slot.{Slot}
 use Rattle.reg_domain.specs.declared.description.Description.{Description}
 use Rattle.reg_domain.specs.declared.saved.SavedRegisters.{SavedRegisters}
 use Rattle.bpf_insn.specs.declared.insn.Insn.TheVariants.{Exit}
-use Rattle.bpf_machine.specs.MachineState.{MachineState}
-use Rattle.bpf_machine.specs.Step.{does}
+use Rattle.bpf_semantics.specs.MachineState.{MachineState}
+use Rattle.bpf_semantics.specs.Step.{does}
 use Rattle.reg_domain.specs.Description.{Covers, Describes}
 use Rattle.verifier.specs.Table.{Table, described, HasComeBack, HasJoined, HasLeft, IsFirstTable, IsKnown, IsMerged}
 use Rattle.verifier.specs.Arrives.{Arrives, AllArrive}

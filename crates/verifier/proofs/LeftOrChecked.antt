@@ -5,8 +5,8 @@ use Rattle.bpf_insn.specs.declared.insn.Insn.{Insn}
 use Rattle.bpf_insn.specs.declared.insn.Insn.TheVariants.{Exit}
 use Rattle.bpf_insn.specs.declared.program.Slot.{Slot}
 use Rattle.bpf_insn.specs.Program.{insn_at}
-use Rattle.bpf_machine.specs.MachineState.{MachineState}
-use Rattle.bpf_machine.specs.Stuck.{insn_is_stuck}
+use Rattle.bpf_semantics.specs.MachineState.{MachineState}
+use Rattle.bpf_semantics.specs.Stuck.{insn_is_stuck}
 use Rattle.call_shape.specs.Shape.{behind, goes_on_behind, target_in}
 use Rattle.call_shape.proofs.Ways.{IsFurther, further_behind}
 use Rattle.call_shape.specs.Shape.{AreContained}

@@ -23,15 +23,15 @@ use Rattle.helpers.specs.declared.helper.Helper.TheVariants as helpers
 use Rattle.reg_domain.specs.declared.description.Description.{Description}
 use Rattle.reg_domain.specs.declared.following.Way.{Way}
 use Rattle.reg_domain.specs.declared.following.Way.TheVariants.{FallThrough, Taken}
-use Rattle.reg_domain.specs.declared.freeze_name.FreezeName.TheVariants.{Start}
-use Rattle.reg_domain.specs.declared.held.HeldFreeze.{HeldFreeze}
-use Rattle.reg_domain.specs.declared.kind.Kind.{Kind}
-use Rattle.reg_domain.specs.declared.kind.Kind.TheVariants.{Unwritten, Number, Address, Freeze}
-use Rattle.reg_domain.specs.declared.region.Region.TheVariants.{Context}
+use Rattle.register_kinds.specs.declared.freeze_name.FreezeName.TheVariants.{Start}
+use Rattle.register_kinds.specs.declared.held.HeldFreeze.{HeldFreeze}
+use Rattle.register_kinds.specs.declared.kind.Kind.{Kind}
+use Rattle.register_kinds.specs.declared.kind.Kind.TheVariants.{Unwritten, Number, Address, Freeze}
+use Rattle.register_kinds.specs.declared.region.Region.TheVariants.{Context}
 use Rattle.reg_domain.specs.Description.{kind_at}
-use Rattle.reg_domain.specs.Freezes.{certainty_of, with_sure, without}
-use Rattle.reg_domain.specs.Kinds.{IsAtMost, IsKnown}
-use Rattle.reg_domain.specs.Enough.{Enough, Leaves, IsAt, IsEntryKnown, TestsFreeze, GivesBack, Requeues}
+use Rattle.register_kinds.specs.Freezes.{certainty_of, with_sure, without}
+use Rattle.register_kinds.specs.Kinds.{IsAtMost, IsKnown, IsAt}
+use Rattle.reg_domain.specs.Enough.{Enough, Leaves, IsEntryKnown, TestsFreeze, GivesBack, Requeues}
 use Rattle.verifier.specs.Arrives.{Arrives, enters, follows, joins, NeverLacks, goes_to}
 use Rattle.verifier.specs.Plain.{IsContextLoad, IsListed, IsPlain, is_free, is_kept, writes_register}
 use Rattle.verifier.proofs.PlainInsns.{length_plain, test, copy, release, Stands, loads_there, tests, copies, gives_back, lists, sets_retries, requeues_there, sets_answer, exits, stands}

@@ -13,14 +13,14 @@ use Rattle.bpf_insn.specs.Program.{insn_at}
 use Rattle.bpf_insn.specs.Reg.{number_of}
 use Rattle.call_shape.specs.StaticPath.{outermost, LeadsTo}
 use Rattle.reg_domain.specs.declared.description.Description.{Description}
-use Rattle.reg_domain.specs.declared.freeze_name.FreezeName.{FreezeName}
-use Rattle.reg_domain.specs.declared.kind.Kind.{Kind}
-use Rattle.reg_domain.specs.declared.kind.Kind.TheVariants.{Unwritten, Number, Address, Freeze}
-use Rattle.reg_domain.specs.declared.region.Region.{Region}
-use Rattle.reg_domain.specs.declared.region.Region.TheVariants.{Frame}
+use Rattle.register_kinds.specs.declared.freeze_name.FreezeName.{FreezeName}
+use Rattle.register_kinds.specs.declared.kind.Kind.{Kind}
+use Rattle.register_kinds.specs.declared.kind.Kind.TheVariants.{Unwritten, Number, Address, Freeze}
+use Rattle.register_kinds.specs.declared.region.Region.{Region}
+use Rattle.register_kinds.specs.declared.region.Region.TheVariants.{Frame}
 use Rattle.reg_domain.specs.Description.{kind_at}
-use Rattle.reg_domain.specs.Kinds.{IsNumber}
-use Rattle.reg_domain.specs.Enough.{IsAt, AreKnown, StaysKnown, ChangesOnly, IsFreeze, LeavesGivenUp, LeavesKnown, LeavesStored, LeavesSure, LeavesCalled, JoinsTo}
+use Rattle.register_kinds.specs.Kinds.{IsNumber, IsAt}
+use Rattle.reg_domain.specs.Enough.{AreKnown, StaysKnown, ChangesOnly, IsFreeze, LeavesGivenUp, LeavesKnown, LeavesStored, LeavesSure, LeavesCalled, JoinsTo}
 use Rattle.verifier.specs.Plain.{ComesUnwritten, is_free, byte_of, writes_register, writes_byte}
 
 -- some path comes to a place without writing something

@@ -10,15 +10,15 @@ use Rattle.bpf_insn.specs.declared.reg.Reg.{Reg}
 use Rattle.bpf_insn.specs.declared.reg.Reg.TheVariants.{R10}
 use Rattle.bpf_insn.specs.declared.program.Slot.{Slot}
 use Rattle.bpf_insn.specs.Target.{target}
-use Rattle.bpf_machine.specs.Memory.{load_width, store_width}
+use Rattle.bpf_semantics.specs.Memory.{load_width, store_width}
 use Rattle.call_shape.specs.StaticPath.{outermost, LeadsTo}
 use Rattle.reg_domain.specs.declared.description.Description.{Description}
 use Rattle.reg_domain.specs.declared.following.Way.{Way}
 use Rattle.reg_domain.specs.declared.following.Way.TheVariants.{FallThrough, Taken}
-use Rattle.reg_domain.specs.declared.region.Region.TheVariants.{Frame}
+use Rattle.register_kinds.specs.declared.region.Region.TheVariants.{Frame}
 use Rattle.reg_domain.specs.Description.{kind_at}
-use Rattle.reg_domain.specs.Kinds.{IsNumber}
-use Rattle.reg_domain.specs.Enough.{Enough, Leaves, IsAt, IsNumberOperand, ComparesNumbers, LiesInFrame, LeavesStored}
+use Rattle.register_kinds.specs.Kinds.{IsNumber, IsAt}
+use Rattle.reg_domain.specs.Enough.{Enough, Leaves, IsNumberOperand, ComparesNumbers, LiesInFrame, LeavesStored}
 use Rattle.verifier.specs.Arrives.{goes_to}
 use Rattle.verifier.specs.Plain.{IsListed, IsFreeOperand, ReadsRegister, ReadsByte, ComesUnwritten, is_free, byte_of, writes_register, writes_byte}
 use Rattle.verifier.proofs.PlainKnown.{IsCommon, IsStep, compared_keeps, number_on, known_on, stored_on}

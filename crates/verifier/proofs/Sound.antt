@@ -7,10 +7,10 @@ use Rattle.std.proofs.lemmas.List.{append-nil, get_or_past, length-append}
 use Rattle.bpf_insn.specs.declared.insn.Insn.{Insn}
 use Rattle.bpf_insn.specs.declared.program.Slot.{Slot}
 use Rattle.bpf_insn.specs.Program.{insn_at}
-use Rattle.bpf_machine.specs.MachineState.{MachineState, OpenCall}
-use Rattle.bpf_machine.specs.Reached.{Steps, Reached, Safe}
-use Rattle.bpf_machine.specs.Step.{does, request_in}
-use Rattle.bpf_machine.specs.Stuck.{is_stuck, is_stuck_at}
+use Rattle.bpf_semantics.specs.MachineState.{MachineState, OpenCall}
+use Rattle.bpf_semantics.specs.Reached.{Steps, Reached, Safe}
+use Rattle.bpf_semantics.specs.Step.{does, request_in}
+use Rattle.bpf_semantics.specs.Stuck.{is_stuck, is_stuck_at}
 use Rattle.call_shape.specs.StaticPath.{Standing, outermost}
 use Rattle.call_shape.proofs.Places.{begins_there}
 use Rattle.helpers.specs.declared.limits.HelperLimits.{HelperLimits}

@@ -16,10 +16,10 @@ use Rattle.bpf_insn.specs.Target.{target, distance_of}
 use Rattle.helpers.specs.declared.request.Request.{Request}
 use Rattle.helpers.specs.declared.request.Request.TheVariants.{Freeze, Release, ReleaseAfter, Requeue, Finish, TableGet, TablePut, TableAdd, QueueInfo, Trace, Now, SetOpenings}
 use Rattle.helpers.specs.declared.request.Answer.{Answer}
-use Rattle.bpf_machine.specs.MachineState.{OpenCall, MachineState, register, with_register, moved_to}
-use Rattle.bpf_machine.specs.Memory.{address_of, load_width, loaded, word_from}
-use Rattle.bpf_machine.specs.Step.{Allowed, answered, calls as local_call, compute, compute_one, does, entered, first_operand, has_frame_left, jump_if, operand, request_in, returned, store}
-use Rattle.bpf_machine.specs.Words.{holds_of, in_place, sign_extended}
+use Rattle.bpf_semantics.specs.MachineState.{OpenCall, MachineState, register, with_register, moved_to}
+use Rattle.bpf_semantics.specs.Memory.{address_of, load_width, loaded, word_from}
+use Rattle.bpf_semantics.specs.Step.{Allowed, answered, calls as local_call, compute, compute_one, does, entered, first_operand, has_frame_left, jump_if, operand, request_in, returned, store}
+use Rattle.bpf_words.specs.Words.{holds_of, in_place, sign_extended}
 use Rattle.call_shape.specs.Shape.{behind, goes_on_behind, target_in}
 use Rattle.call_shape.specs.StaticPath.{Standing, moved, LeadsTo, ReturnsTo}
 use Rattle.reg_domain.specs.declared.following.Way.TheVariants.{FallThrough, Taken}

@@ -8,7 +8,7 @@ use Rattle.std.proofs.lemmas.List.Elements.{Contains-append_left, Contains-appen
 use Rattle.bpf_insn.specs.declared.insn.Insn.{Insn}
 use Rattle.bpf_insn.specs.declared.program.Slot.{Slot}
 use Rattle.bpf_insn.specs.Program.{insn_at}
-use Rattle.bpf_machine.specs.MachineState.{MachineState, OpenCall}
+use Rattle.bpf_semantics.specs.MachineState.{MachineState, OpenCall}
 use Rattle.call_shape.specs.StaticPath.{Standing, outermost}
 use Rattle.call_shape.proofs.Places.{begins_there}
 use Rattle.helpers.specs.declared.limits.HelperLimits.{HelperLimits}

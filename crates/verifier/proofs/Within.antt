@@ -5,9 +5,9 @@ use Rattle.bpf_insn.specs.declared.insn.Insn.TheVariants.{Alu, InPlace, SignExte
 use Rattle.bpf_insn.specs.declared.insn.Callee.TheVariants.{Helper, Local}
 use Rattle.bpf_insn.specs.declared.program.Slot.{Slot}
 use Rattle.bpf_insn.specs.Program.{IsProgram, insn_at}
-use Rattle.bpf_machine.specs.MachineState.{OpenCall, MachineState}
-use Rattle.bpf_machine.specs.Reached.{Reached, Safe, Within}
-use Rattle.bpf_machine.specs.Stuck.{is_stuck_at}
+use Rattle.bpf_semantics.specs.MachineState.{OpenCall, MachineState}
+use Rattle.bpf_semantics.specs.Reached.{Reached, Safe, Within}
+use Rattle.bpf_semantics.specs.Stuck.{is_stuck_at}
 use Rattle.call_shape.specs.OnTheWay.{AreBegun}
 use Rattle.call_shape.specs.Shape.{IsLawful}
 use Rattle.call_shape.specs.StaticPath.{Standing, outermost, StaticPath}

@@ -2,8 +2,8 @@
 use Rattle.std.specs.Prelude.{◌≡◌, ℕ, ◌<◌, ◌≤◌, List, [], ◌∷◌, ◌++◌, map, length}
 use Rattle.std.specs.List.{Contains}
 use Rattle.bpf_insn.specs.declared.program.Slot.{Slot}
-use Rattle.bpf_machine.specs.MachineState.{MachineState, OpenCall}
-use Rattle.bpf_machine.specs.Reached.{Reached}
+use Rattle.bpf_semantics.specs.MachineState.{MachineState, OpenCall}
+use Rattle.bpf_semantics.specs.Reached.{Reached}
 use Rattle.call_shape.specs.StaticPath.{Standing}
 
 -- where open calls go on, the innermost first

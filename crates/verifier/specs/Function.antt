@@ -4,8 +4,8 @@ use Rattle.std.specs.List.{Contains}
 use Rattle.bpf_insn.specs.declared.insn.Insn.{Insn}
 use Rattle.bpf_insn.specs.declared.program.Slot.{Slot}
 use Rattle.bpf_insn.specs.Program.{IsProgram, insn_at}
-use Rattle.bpf_machine.specs.MachineState.{MachineState, OpenCall}
-use Rattle.bpf_machine.specs.Stuck.{insn_is_stuck}
+use Rattle.bpf_semantics.specs.MachineState.{MachineState, OpenCall}
+use Rattle.bpf_semantics.specs.Stuck.{insn_is_stuck}
 use Rattle.call_shape.specs.Calls.{begins, function_of}
 use Rattle.call_shape.specs.Shape.{IsLawful, behind, goes_on_behind, target_in}
 use Rattle.call_shape.specs.StaticPath.{Standing, outermost}

@@ -7,9 +7,9 @@ use Rattle.bpf_insn.specs.declared.insn.Callee.TheVariants.{Local}
 use Rattle.bpf_insn.specs.declared.insn.Insn.TheVariants.{Call}
 use Rattle.bpf_insn.specs.declared.program.Slot.{Slot}
 use Rattle.bpf_insn.specs.Target.{target}
-use Rattle.bpf_machine.specs.MachineState.{MachineState, OpenCall}
-use Rattle.bpf_machine.specs.Reached.{Steps}
-use Rattle.bpf_machine.specs.Stuck.{is_stuck}
+use Rattle.bpf_semantics.specs.MachineState.{MachineState, OpenCall}
+use Rattle.bpf_semantics.specs.Reached.{Steps}
+use Rattle.bpf_semantics.specs.Stuck.{is_stuck}
 use Rattle.call_shape.specs.StaticPath.{Standing}
 use Rattle.helpers.specs.declared.limits.HelperLimits.{HelperLimits}
 use Rattle.reg_domain.specs.declared.description.Description.{Description}

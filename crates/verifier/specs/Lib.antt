@@ -1,4 +1,4 @@
-pub use Rattle.bpf_machine.specs.Reached
+pub use Rattle.bpf_semantics.specs.Reached
 pub use Rattle.call_shape.specs.StaticPath
 pub mod RefusalText
 pub mod Table

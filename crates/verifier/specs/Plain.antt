@@ -18,8 +18,8 @@ use Rattle.bpf_insn.specs.declared.program.TheConstants.{MAX_SLOTS}
 use Rattle.bpf_insn.specs.Reg.{number_of}
 use Rattle.bpf_insn.specs.Program.{insn_at, layout}
 use Rattle.bpf_insn.specs.Target.{target}
-use Rattle.bpf_machine.specs.Memory.{address_at, load_width, store_width}
-use Rattle.bpf_machine.specs.Words.{reads_dst}
+use Rattle.bpf_semantics.specs.Memory.{address_at, load_width, store_width}
+use Rattle.bpf_words.specs.Words.{reads_dst}
 use Rattle.call_shape.specs.StaticPath.{outermost, LeadsTo}
 
 -- jeq r2, 0, +2; mov64 r1, r2; call 2

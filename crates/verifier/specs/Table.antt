@@ -3,9 +3,9 @@
 use Rattle.std.specs.Prelude.{◌≡◌, ℕ, ◌+◌, ◌<◌, ◌≤◌, false, List, [], ◌∷◌, ◌++◌, length, Option, Some, None, slice_index_or}
 use Rattle.bpf_insn.specs.declared.insn.Insn.{Insn}
 use Rattle.bpf_insn.specs.declared.insn.Insn.TheVariants.{Exit}
-use Rattle.bpf_machine.specs.MachineState.{MachineState}
-use Rattle.bpf_machine.specs.Step.{does}
-use Rattle.bpf_machine.specs.Stuck.{insn_is_stuck}
+use Rattle.bpf_semantics.specs.MachineState.{MachineState}
+use Rattle.bpf_semantics.specs.Step.{does}
+use Rattle.bpf_semantics.specs.Stuck.{insn_is_stuck}
 use Rattle.helpers.specs.declared.limits.HelperLimits.{HelperLimits}
 use Rattle.reg_domain.specs.declared.description.Description.{Description}
 use Rattle.reg_domain.specs.declared.following.Way.{Way}

@@ -1,9 +1,8 @@
--- What it is for a program to be accepted.
+-- What the verifier answers.
 use Rattle.std.specs.Prelude.{◌≡◌, ℕ, ◌≤◌, List}
 use Rattle.bpf_insn.specs.declared.program.Slot.{Slot}
-use Rattle.bpf_insn.specs.Program.{IsProgram}
 use Rattle.helpers.specs.declared.limits.HelperLimits.{HelperLimits}
-use Rattle.bpf_machine.specs.Reached.{Safe, Within}
+use Rattle.accepted.specs.Verdict.{Verdict, IsAccepted}
 use Rattle.call_shape.specs.Shape.{IsLawful, FaultIs}
 use Rattle.call_shape.specs.StaticPath.{outermost, Standing, StaticPath, IsFrames}
 use Rattle.call_shape.specs.WrittenOut.{IsWrittenOut}
@@ -12,25 +11,6 @@ use Rattle.verifier.specs.declared.refusal.Refusal.TheVariants.{Shape, Check}
 use Rattle.or_memory.specs.declared.OrMemory.{OrMemory}
 use Rattle.verifier.specs.declared.refusal.Refusal.{Refusal}
 use Rattle.or_memory.specs.declared.OrMemory.TheVariants.{OutOfMemory, Fault as refused}
-
--- a program, the limits under which it was verified, its budget in instructions, its greatest number of frames, and how many
--- checks were made of it
-pub record Verdict : Type 0 where
-  pub program : List Slot
-  pub limits : HelperLimits
-  pub budget : ℕ
-  pub frames : ℕ
-  pub visits : ℕ
-
--- no run of it is ever stuck, and none executes more instructions than its budget; it has frames, and checks were made
-pub record IsAccepted (v : Verdict) : Type 0 where
-  pub is_program : IsProgram v.program
-  pub safe : Safe v.program v.limits
-  pub within : Within v.program v.budget
-  pub some_frames : 1 ≤ v.frames
-  pub few_frames : v.frames ≤ 8
-  pub some_visits : 1 ≤ v.visits
-  pub few_visits : v.visits ≤ 65536
 
 -- the budget is the length of a static path, and none is longer
 pub record IsBudget (program : List Slot) (budget : ℕ) : Type 0 where

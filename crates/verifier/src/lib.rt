@@ -2,17 +2,15 @@
 // describes what holds at each place before it is executed, in one pass from a function's first slot to its last, since
 // every jump leads forward, and once for each chain of local calls by which control comes there. It relies on `call_shape`
 // for that, on `reg_domain` for what is known of a machine and what an instruction makes of it, on `budget_path` for the
-// budget, and on `bpf_machine` for what it proves.
+// budget, on `bpf_semantics` for what it proves, and on `accepted` for the answer.
 #![tactic(auto)]
 
-mod accepted;
 mod pass;
 mod refusal;
 mod table;
 mod verification;
 mod ways;
 
-pub use accepted::Accepted;
 pub use refusal::{Refusal, VerifyError};
-pub use reg_domain::Cause;
+pub use register_kinds::Cause;
 pub use verification::verify;

@@ -7,7 +7,7 @@ ghost use Rattle.std.specs.Prelude.{◌≡◌, ◌<◌, ◌≤◌, ◌+◌, ◌-
 ghost use Rattle.bpf_insn.specs.declared.insn.Callee.TheVariants.{Local};
 ghost use Rattle.bpf_insn.specs.declared.insn.Insn.TheVariants.{Call};
 ghost use Rattle.bpf_insn.specs.Program.{insn_at};
-ghost use Rattle.bpf_machine.specs.Reached.{Safe};
+ghost use Rattle.bpf_semantics.specs.Reached.{Safe};
 ghost use Rattle.call_shape.specs.Calls.{callee_at, function_of};
 ghost use Rattle.call_shape.specs.WrittenOut.{written_out};
 ghost use Rattle.call_shape.specs.declared.lawful_shape.TheConstants.{MAX_WRITTEN_OUT};

@@ -2,7 +2,7 @@
 
 use call_shape::ShapeFault;
 use or_memory::OrMemory;
-use reg_domain::Cause;
+use register_kinds::Cause;
 use std::fmt;
 
 /// Why a program is refused. The text is the fault's code and its slot.

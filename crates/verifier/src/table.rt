@@ -17,7 +17,8 @@ use crate::refusal::{Refusal, VerifyError};
 use bpf_insn::Insn;
 use helpers::HelperLimits;
 use or_memory::OrMemory;
-use reg_domain::{Cause, Description, SavedRegisters, Way};
+use reg_domain::{Description, SavedRegisters, Way};
+use register_kinds::Cause;
 use std::alloc::{AllocError, Global};
 
 /// One check of an instruction.

@@ -5,9 +5,9 @@ ghost use Rattle.or_memory.specs.declared.OrMemory.TheVariants.{OutOfMemory};
 ghost use Rattle.verifier.specs.Verdict.{IsVerdictOn, ToldOfShape};
 ghost use Rattle.verifier.specs.Plain.{IsPlain};
 
-use crate::accepted::Accepted;
 use crate::pass::pass;
 use crate::refusal::{Refusal, VerifyError};
+use accepted::Accepted;
 use bpf_insn::Program;
 use budget_path::budget;
 use call_shape::shape;

@@ -1,6 +1,5 @@
 -- Lists whose elements bear numbers: what is found in them, counted, and left by a change.
 pub mod Found
-pub mod Apart
 pub mod Rising
 pub mod Placed
 pub mod Each

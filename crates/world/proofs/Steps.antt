@@ -1,12 +1,5 @@
--- One step of the world: its cases, what the calls of helpers do, what it does to each list, and what it makes of one run.
-pub mod Running
+-- One step of the world, as far as the crates that carry out its parts need it: what it moves, what it answers and which
+-- CCB waits.
 pub mod Answering
-pub mod Rules
-pub mod Calls
-pub mod Cases
 pub mod Moves
 pub mod Waiting
-pub mod Effects
-pub mod Private
-pub mod Fates
-pub mod Beginnings

@@ -11,7 +11,7 @@ use Rattle.ccb.specs.Ccb.{submitted, started, completed}
 use Rattle.ccb.specs.Context.{context_of}
 use Rattle.freeze_ledger.specs.declared.freeze.Holder.TheVariants.{Run}
 use Rattle.freeze_ledger.specs.Freezes.{frozen, meets_limit}
-use Rattle.bpf_machine.specs.MachineState.{entry}
+use Rattle.bpf_semantics.specs.MachineState.{entry}
 use Rattle.world.specs.declared.call_refusal.CallRefusal.TheVariants.{Unknown, Limit, NotActive, Frozen, NoOpening, NothingWaits}
 use Rattle.world.specs.declared.ccb_state.CcbState.TheVariants.{Waiting, Active, InRecovery}
 use Rattle.world.specs.Capacities.{most_ccbs, most_ccbs_of_queue, most_runs, last_number}

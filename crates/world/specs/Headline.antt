@@ -4,8 +4,8 @@ use Rattle.ccb.specs.declared.cam_status.CamStatus.TheVariants.{RequestInProgres
 use Rattle.ccb.specs.Completion.{Outcome}
 use Rattle.helpers.specs.declared.helper.Helper.TheVariants as helpers
 use Rattle.helpers.specs.declared.request.Request.TheVariants.{Requeue, Finish}
-use Rattle.bpf_machine.specs.Stuck.{is_stuck}
-use Rattle.bpf_machine.specs.Reached.{Reached}
+use Rattle.bpf_semantics.specs.Stuck.{is_stuck}
+use Rattle.bpf_semantics.specs.Reached.{Reached}
 use Rattle.world.specs.declared.ccb_state.CcbState.TheVariants.{Waiting, InRecovery}
 use Rattle.world.specs.World.{Setup, queue_setup, LiveCcb, LiveRun, World}
 use Rattle.world.specs.Lawful.{IsLawful}

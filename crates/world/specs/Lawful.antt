@@ -2,7 +2,7 @@
 use Rattle.std.specs.Prelude.{◌≡◌, ◌≤◌, All}
 use Rattle.helpers.specs.declared.limits.HelperLimits.{HelperLimits}
 use Rattle.bpf_insn.specs.Program.{IsProgram}
-use Rattle.bpf_machine.specs.Reached.{Safe, Within}
+use Rattle.bpf_semantics.specs.Reached.{Safe, Within}
 use Rattle.world.specs.Capacities.{most_queues, most_openings}
 use Rattle.world.specs.World.{QueueSetup, Setup, queue_count}
 

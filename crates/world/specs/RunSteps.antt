@@ -11,9 +11,9 @@ use Rattle.helpers.specs.declared.request.Request.{Request}
 use Rattle.helpers.specs.declared.request.Request.TheVariants.{Freeze as FreezeQueue, Release, ReleaseAfter, Requeue, Finish, TableGet, TablePut, TableAdd, QueueInfo, Trace, Now, SetOpenings}
 use Rattle.helpers.specs.declared.request.Answer.{Answer}
 use Rattle.helpers.specs.Table.{answer_number}
-use Rattle.bpf_machine.specs.MachineState.{MachineState}
-use Rattle.bpf_machine.specs.Calls.{meets_rule}
-use Rattle.bpf_machine.specs.Step.{private_step, request_at, exit_at, answered}
+use Rattle.bpf_semantics.specs.MachineState.{MachineState}
+use Rattle.bpf_semantics.specs.Calls.{meets_rule}
+use Rattle.bpf_semantics.specs.Step.{private_step, request_at, exit_at, answered}
 use Rattle.table_store.specs.Tables.{word_at, with_word}
 use Rattle.world.specs.declared.ccb_state.CcbState.TheVariants.{Waiting}
 use Rattle.world.specs.World.{LiveCcb, LiveRun, World}

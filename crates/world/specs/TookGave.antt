@@ -3,7 +3,7 @@ use Rattle.std.specs.Prelude.{ℕ, ◌==◌, ◌&&◌, not, if◌then◌else◌,
 use Rattle.helpers.specs.declared.helper.Helper.TheVariants as helpers
 use Rattle.helpers.specs.declared.request.Request.{Request}
 use Rattle.helpers.specs.declared.request.Request.TheVariants.{Freeze, Release, ReleaseAfter, Requeue, Finish, TableGet, TablePut, TableAdd, QueueInfo, Trace, Now, SetOpenings}
-use Rattle.bpf_machine.specs.Step.{request_at}
+use Rattle.bpf_semantics.specs.Step.{request_at}
 use Rattle.world.specs.World.{Setup, LiveRun, World}
 use Rattle.world.specs.Lookups.{run_of}
 use Rattle.world.specs.Told.{plain}

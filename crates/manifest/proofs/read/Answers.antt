@@ -4,7 +4,8 @@ use Rattle.toml.specs.declared.value.Value.{Table as TableCase}
 use Rattle.toml.proofs.Views.{view-Table}
 use Rattle.manifest.specs.declared.Manifest.{Manifest}
 use Rattle.manifest.specs.Meaning.{Means, HasFault, HasProgramFault, IsSetUp, Writes}
-use Rattle.manifest.specs.Seen.{plan_seen, named_seen, IfFault}
+use Rattle.manifest_form.specs.Seen.{plan_seen, IfFault}
+use Rattle.manifest.specs.Seen.{named_seen}
 use Rattle.manifest.proofs.OneByOne.{if_ok, if_err, if_fault}
 use Rattle.manifest.proofs.Configured.{writes_by}
 use Rattle.manifest.proofs.read.Goals as goal

@@ -3,7 +3,8 @@ use Rattle.std.proofs.lemmas.Result.{err_from_is_err_and}
 use Rattle.helpers.specs.declared.limits.HelperLimits.{HelperLimits}
 use Rattle.manifest.specs.declared.ManifestFault.{ManifestFault}
 use Rattle.manifest.specs.Meaning.{limits_of, HasProgramFault, IsUnread, IsUnaccepted}
-use Rattle.manifest.specs.Seen.{plan_seen, queue_seen, program_seen, named_seen}
+use Rattle.manifest_form.specs.Seen.{plan_seen, queue_seen, program_seen}
+use Rattle.manifest.specs.Seen.{named_seen}
 use Rattle.manifest.proofs.OneByOne.{if_fault}
 use Rattle.manifest.proofs.Configured.{limits_by, few_queues, fault_by, accepted_by, ready_by, queues_by}
 use Rattle.manifest.proofs.set_up.Goals as goal

@@ -2,6 +2,7 @@
 // answers is worked out by hand.
 
 use super::policies::{limits_of, policy};
+use accepted::Accepted;
 use bpf_insn::{Insn, Program};
 use ccb::QueueId;
 use engine_core::{CallFault, Config, Engine, Record, ReleaseFault, Totals, Trace};
@@ -11,7 +12,7 @@ use std::alloc::{AllocError, Global};
 use std::process::Abort;
 use std::sync::Arc;
 use std::test::Fail;
-use verifier::{Accepted, verify};
+use verifier::verify;
 
 pub const QUEUE: QueueId = QueueId(0);
 

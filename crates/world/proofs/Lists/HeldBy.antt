@@ -5,7 +5,7 @@ use Rattle.std.specs.Prelude.{◌||◌}
 use Rattle.std.proofs.lemmas.Bool.{or_left, cases_Bool, cases_eq, cond-true, cond-false, eq-eqb, ne_eqb, not_from_true, not_from_false}
 use Rattle.freeze_ledger.specs.declared.freeze.Freeze.{Freeze}
 use Rattle.freeze_ledger.specs.Freezes.{entry_of, without}
-use Rattle.bpf_machine.specs.Calls.{is_held}
+use Rattle.bpf_semantics.specs.Calls.{is_held}
 use Rattle.world.specs.RunSteps.{is_run}
 use Rattle.world.specs.FreezeLaws.{entries_of, held_by}
 use Rattle.world.proofs.Lists.Found.{put, at_head, at_tail, put_head, put_tail, leave_head, leave_tail, found_key, filter_yes, filter_no, filter_swap}

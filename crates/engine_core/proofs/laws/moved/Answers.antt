@@ -1,4 +1,4 @@
-use Rattle.world.proofs.Moved.{moved}
+use Rattle.world_laws.proofs.Moved.{moved}
 use Rattle.engine_core.proofs.laws.moved.Goals as goal
 
 pub returns : goal.returns

@@ -1,6 +1,6 @@
 use Rattle.std.proofs.Common.{rules, sym, subst}
-use Rattle.bpf_machine.specs.MachineState.{MachineState}
-use Rattle.bpf_machine.specs.Step.{HasRoomFor}
+use Rattle.bpf_semantics.specs.MachineState.{MachineState}
+use Rattle.bpf_semantics.specs.Step.{HasRoomFor}
 use Rattle.interpreter.specs.Segments.{StandsAt}
 use Rattle.engine_core.proofs.StopEnds.{stands_of, room_of, call_ends, goes_on_there}
 use Rattle.engine_core.proofs.taking_over.answer.Goals as goal

@@ -1,5 +1,5 @@
 use Rattle.std.proofs.Common.{ℕ, ap, sym, ◌∙◌, arith, rules}
-use Rattle.bpf_machine.specs.declared.stop.Stop.TheVariants.{Helper}
+use Rattle.bpf_semantics.specs.declared.stop.Stop.TheVariants.{Helper}
 use Rattle.freeze_ledger.specs.State.{LedgerState}
 use Rattle.world.specs.Lookups.{is_waiting, ccb_of}
 use Rattle.engine_core.proofs.Calls.{freezing, froze_one, releasing, released, handing_over, handed_one_over, requeuing, requeued_one, finishing, finished_one, queue_there, queues_there, told_queue, told_bytes, getting, got_word, putting, put_word, adding, added_word, told_clock, opening, opened}

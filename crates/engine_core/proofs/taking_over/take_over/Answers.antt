@@ -1,5 +1,5 @@
 use Rattle.std.proofs.Common.{◌≡◌, ap, rules}
-use Rattle.bpf_machine.specs.declared.stop.Stop.TheVariants.{Exit}
+use Rattle.bpf_semantics.specs.declared.stop.Stop.TheVariants.{Exit}
 use Rattle.recoveries.specs.RecoveryState.{RecoveryState}
 use Rattle.engine_core.proofs.StopEnds.{exiting, exit_ends}
 use Rattle.engine_core.proofs.taking_over.take_over.Goals as goal

@@ -1,5 +1,5 @@
 use Rattle.std.proofs.Common.{◌≡◌, ◌+◌, ℕ, suc, subst, arith, inr}
-use Rattle.bpf_machine.specs.Reached.{Reached}
+use Rattle.bpf_semantics.specs.Reached.{Reached}
 use Rattle.interpreter.proofs.resuming.pass.Goals as goal
 
 pub returns-clause-reached : goal.returns-clause-reached

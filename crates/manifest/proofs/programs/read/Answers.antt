@@ -3,7 +3,8 @@ use Rattle.std.specs.List.{AllZip}
 use Rattle.manifest.specs.declared.ManifestFault.{ManifestFault}
 use Rattle.manifest.specs.declared.programs.NamedProgram.{NamedProgram}
 use Rattle.manifest.specs.Meaning.{IsAccepted, IsUnread, IsUnaccepted}
-use Rattle.manifest.specs.Seen.{program_seen, read_seen, named_seen, IsReadLine, IsAcceptedLine, IsUnacceptedAmong, IfFault}
+use Rattle.manifest_form.specs.Seen.{program_seen, IfFault}
+use Rattle.manifest.specs.Seen.{read_seen, named_seen, IsReadLine, IsAcceptedLine, IsUnacceptedAmong}
 use Rattle.manifest.proofs.OneByOne.{accepted_lines, unaccepted_first, if_fault, if_ok, if_err}
 use Rattle.manifest.proofs.programs.read.Goals as goal
 

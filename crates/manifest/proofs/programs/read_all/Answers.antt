@@ -1,7 +1,8 @@
 use Rattle.std.proofs.Common.{arith, map}
 use Rattle.std.proofs.lemmas.Result.{err_from_is_err_and}
 use Rattle.manifest.specs.Meaning.{IsUnread}
-use Rattle.manifest.specs.Seen.{program_seen, read_seen, IsReadLine, IsUnreadLine}
+use Rattle.manifest_form.specs.Seen.{program_seen}
+use Rattle.manifest.specs.Seen.{read_seen, IsReadLine, IsUnreadLine}
 use Rattle.manifest.proofs.OneByOne.{one_more, first_bad, unread_first, if_fault}
 use Rattle.manifest.proofs.programs.read_all.Goals as goal
 

@@ -2,7 +2,8 @@ use Rattle.std.proofs.Common.{Some, map, ap, sym, ◌∙◌}
 use Rattle.std.proofs.lemmas.Bool.{false≢true}
 use Rattle.engine_config.specs.Configured.{given_of}
 use Rattle.world.specs.World.{Setup}
-use Rattle.manifest.specs.Seen.{queue_seen, named_seen}
+use Rattle.manifest_form.specs.Seen.{queue_seen}
+use Rattle.manifest.specs.Seen.{named_seen}
 use Rattle.manifest.proofs.Configured.{configured, setups}
 use Rattle.manifest.proofs.setup.config.Goals as goal
 

@@ -1,10 +1,11 @@
 use Rattle.std.proofs.Common.{arith, [], map, find, get_or, IsSome}
 use Rattle.std.proofs.lemmas.List.{get_or_default}
 use Rattle.engine_config.specs.Configured.{given_of}
-use Rattle.manifest.specs.declared.entries.QueueEntry.{QueueEntry}
-use Rattle.manifest.specs.Entries.{QueueLine}
+use Rattle.manifest_form.specs.declared.entries.QueueEntry.{QueueEntry}
+use Rattle.manifest_form.specs.Entries.{QueueLine}
 use Rattle.manifest.specs.Meaning.{is_named}
-use Rattle.manifest.specs.Seen.{queue_seen, named_seen, IsGivenFor}
+use Rattle.manifest_form.specs.Seen.{queue_seen}
+use Rattle.manifest.specs.Seen.{named_seen, IsGivenFor}
 use Rattle.manifest.proofs.OneByOne.{one_more}
 use Rattle.manifest.proofs.Configured.{all_at}
 use Rattle.manifest.proofs.setup.given_all.Goals as goal

@@ -2,7 +2,8 @@
 use Rattle.std.proofs.Common.{map, take}
 use Rattle.std.specs.List.{AllZip}
 use Rattle.engine_config.specs.Configured.{given_of}
-use Rattle.manifest.specs.Seen.{queue_seen, named_seen, IsGivenFor}
+use Rattle.manifest_form.specs.Seen.{queue_seen}
+use Rattle.manifest.specs.Seen.{named_seen, IsGivenFor}
 use Rattle.manifest.proofs.setup.given_all.Given as goal
 
 abbrev pub invariant-loop-queue : goal.invariant-loop-queue

@@ -1,5 +1,6 @@
 use Rattle.std.proofs.Common.{ℕ, ◌≡◌, ◌<◌, ◌≤◌, length}
-use Rattle.reg_domain.specs.Changes.{GivesUpKind, at}
+use Rattle.register_kinds.specs.Kinds.{GivesUpKind}
+use Rattle.reg_domain.specs.Changes.{at}
 use Rattle.reg_domain.proofs.registers.give_up_copies.Given as goal
 
 -- those before this one are changed, and the others not yet

@@ -1,6 +1,6 @@
 use Rattle.std.proofs.Common.{◌≢◌, ◌<◌, ◌∙◌, length, arith, below_more, subst, get_or-set_same, get_or-set_other}
 use Rattle.std.proofs.Math.ListN.{length-set}
-use Rattle.reg_domain.specs.declared.kind.Kind.{Kind}
+use Rattle.register_kinds.specs.declared.kind.Kind.{Kind}
 use Rattle.reg_domain.specs.Changes.{Joins, at}
 use Rattle.reg_domain.proofs.registers.join_registers.Goals as goal
 

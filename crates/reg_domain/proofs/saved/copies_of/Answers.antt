@@ -1,7 +1,7 @@
 use Rattle.std.proofs.Common.{◌≡◌, arith, ap, sym, ◌∙◌}
 use Rattle.std.specs.Prelude.{Some}
-use Rattle.reg_domain.specs.declared.kind.Kind.TheVariants.{Freeze}
-use Rattle.reg_domain.proofs.Freezes.{number_small}
+use Rattle.register_kinds.specs.declared.kind.Kind.TheVariants.{Freeze}
+use Rattle.register_kinds.proofs.Freezes.{number_small}
 use Rattle.reg_domain.proofs.saved.copies_of.Goals as goal
 
 pub returns-in-Freeze-clause-has : goal.returns-in-Freeze-clause-has

@@ -1,7 +1,7 @@
 -- The low half of what 64 bits compute.
 use Rattle.std.proofs.Common.{ap, ◌∙◌, arith}
 use Rattle.std.specs.Int.{w32}
-use Rattle.bpf_machine.specs.Words.{alu, low}
+use Rattle.bpf_words.specs.Words.{alu, low}
 use Rattle.scalar_domain.proofs.Moved.{moved_has}
 use Rattle.scalar_domain.proofs.Extending.{cut_once, half_sub, arsh_of_half}
 use Rattle.scalar_domain.proofs.arithmetic.alu32.Goals as goal

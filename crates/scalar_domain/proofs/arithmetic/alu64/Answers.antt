@@ -1,7 +1,7 @@
 -- What is computed is a word already.
 use Rattle.std.proofs.Common.{ap, ◌∙◌, ◌^◌, ◌%◌, arith, mod-eq_of_lt, div-le_self}
 use Rattle.std.specs.Int.{w64}
-use Rattle.bpf_machine.specs.Words.{alu}
+use Rattle.bpf_words.specs.Words.{alu}
 use Rattle.scalar_domain.proofs.Moved.{moved_has}
 use Rattle.scalar_domain.proofs.Extending.{shifted_word}
 use Rattle.scalar_domain.proofs.arithmetic.alu64.Goals as goal

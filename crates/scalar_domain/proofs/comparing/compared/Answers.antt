@@ -1,7 +1,7 @@
 -- Each condition as an order, with the sides as they stand or changed for one another.
 use Rattle.std.proofs.Common.{ap, sym, subst, ◌∙◌}
 use Rattle.std.specs.Int.{w64}
-use Rattle.bpf_machine.specs.Words.{holds}
+use Rattle.bpf_words.specs.Words.{holds}
 use Rattle.scalar_domain.specs.declared.scalars.Scalar.{Scalar}
 use Rattle.scalar_domain.specs.Scalar.{Has}
 use Rattle.scalar_domain.proofs.SignedOrder.{not_less, signed_less, signed_no_more}

@@ -2,7 +2,7 @@
 use Rattle.std.proofs.Common.{sym, arith, mod-eq_of_lt}
 use Rattle.std.specs.Int.{w32}
 use Rattle.bpf_insn.specs.declared.insn.AluOp.TheVariants.{SignedMod}
-use Rattle.bpf_machine.specs.Words.{low}
+use Rattle.bpf_words.specs.Words.{low}
 use Rattle.scalar_domain.proofs.Moved.{moved_has}
 use Rattle.scalar_domain.proofs.Fitting.{alu32_fits}
 use Rattle.scalar_domain.proofs.PlainDivision.{plain_mod32}

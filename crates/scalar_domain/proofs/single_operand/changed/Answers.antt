@@ -1,7 +1,7 @@
 -- NEG is the difference from 0.
 use Rattle.std.proofs.Common.{◌≡◌, ap, ◌∙◌}
 use Rattle.bpf_insn.specs.declared.insn.InPlaceOp.TheVariants.{Neg}
-use Rattle.bpf_machine.specs.Words.{in_place}
+use Rattle.bpf_words.specs.Words.{in_place}
 use Rattle.scalar_domain.proofs.Moved.{moved_has}
 use Rattle.scalar_domain.proofs.Extending.{minus}
 use Rattle.scalar_domain.proofs.single_operand.changed.Goals as goal

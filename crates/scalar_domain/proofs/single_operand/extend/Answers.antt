@@ -1,6 +1,6 @@
 -- Two shifts, and for 32 bits the low half.
 use Rattle.std.proofs.Common.{ap, sym, ◌∙◌}
-use Rattle.bpf_machine.specs.Words.{low, sign_extended}
+use Rattle.bpf_words.specs.Words.{low, sign_extended}
 use Rattle.std.specs.Int.{w32}
 use Rattle.scalar_domain.proofs.Moved.{moved_has}
 use Rattle.scalar_domain.proofs.Extending.{extension_of_8, extension_of_16, half_extension_of_8, half_extension_of_16}

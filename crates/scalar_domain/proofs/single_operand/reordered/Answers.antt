@@ -1,7 +1,7 @@
 -- The low bits are an AND, and a reversed word is no greater than its size allows.
 use Rattle.std.proofs.Common.{ap, sym, ◌∙◌, bit_and, arith}
 use Rattle.std.specs.Int.{w64}
-use Rattle.bpf_machine.specs.Words.{low, swap}
+use Rattle.bpf_words.specs.Words.{low, swap}
 use Rattle.scalar_domain.proofs.Moved.{moved_has}
 use Rattle.scalar_domain.proofs.Extending.{little, swap_most}
 use Rattle.scalar_domain.proofs.single_operand.reordered.Goals as goal

@@ -1,5 +1,5 @@
 use Rattle.std.proofs.Common.{◌≡◌, ◌≤◌, ◌<◌, ◌+◌, ◌-◌, ◌*◌, length, Some}
-use Rattle.bpf_machine.specs.MachineState.{MachineState}
+use Rattle.bpf_semantics.specs.MachineState.{MachineState}
 use Rattle.call_shape.specs.WrittenOut.{total}
 use Rattle.reg_domain.specs.Description.{Describes}
 use Rattle.reg_domain.specs.Enough.{IsEntryKnown}

@@ -1,7 +1,7 @@
 use Rattle.std.proofs.Common.{◌≡◌, ℕ, ◌-◌, List, [], Option, length, refl, ap, sym, subst, arith}
 use Rattle.bpf_insn.specs.declared.program.Slot.{Slot}
 use Rattle.bpf_insn.specs.Program.{IsProgram}
-use Rattle.bpf_machine.specs.Reached.{Safe}
+use Rattle.bpf_semantics.specs.Reached.{Safe}
 use Rattle.call_shape.specs.Shape.{IsLawful}
 use Rattle.call_shape.specs.WrittenOut.{written_out}
 use Rattle.call_shape.proofs.Places.{begins_first}

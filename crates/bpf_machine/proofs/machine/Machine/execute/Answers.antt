@@ -1,8 +1,8 @@
 use Rattle.std.proofs.Common.{◌≡◌, ℕ, suc, ◌+◌, List, Some, refl, subst, sym, arith}
 use Rattle.bpf_insn.specs.declared.program.Slot.{Slot}
-use Rattle.bpf_machine.specs.MachineState.{MachineState}
-use Rattle.bpf_machine.specs.Step.{private_step}
-use Rattle.bpf_machine.specs.Reached.{PrivateSteps}
+use Rattle.bpf_semantics.specs.MachineState.{MachineState}
+use Rattle.bpf_semantics.specs.Step.{private_step}
+use Rattle.bpf_semantics.specs.Reached.{PrivateSteps}
 use Rattle.bpf_machine.proofs.Ways.{steps_push, steps_append, goes_further}
 use Rattle.bpf_machine.proofs.machine.Machine.execute.Goals as goal
 

@@ -1,5 +1,5 @@
 use Rattle.std.proofs.Common.{◌-◌, ◌<◌}
-use Rattle.bpf_machine.specs.Reached.{PrivateSteps}
+use Rattle.bpf_semantics.specs.Reached.{PrivateSteps}
 use Rattle.bpf_machine.proofs.machine.Machine.execute.Given as goal
 
 -- so many private instructions lead here, and there is room for one more

@@ -1,7 +1,7 @@
 use Rattle.std.proofs.Common.{◌≡◌, ℕ, suc, ◌+◌, List, Option, Some, length, ap, sym, subst, ◌∙◌, arith}
 use Rattle.bpf_insn.specs.Program.{insn_at}
-use Rattle.bpf_machine.specs.Step.{private_step}
-use Rattle.bpf_machine.specs.Reached.{PrivateSteps}
+use Rattle.bpf_semantics.specs.Step.{private_step}
+use Rattle.bpf_semantics.specs.Reached.{PrivateSteps}
 use Rattle.bpf_machine.specs.Unchecked.{registers_behind, standing}
 use Rattle.bpf_machine.proofs.Unchecked.{length-behind, step_moves}
 use Rattle.bpf_machine.proofs.Ways.{steps_push}

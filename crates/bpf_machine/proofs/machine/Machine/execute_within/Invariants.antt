@@ -1,5 +1,5 @@
 use Rattle.std.proofs.Common.{◌≡◌, ◌+◌, ◌-◌, length}
-use Rattle.bpf_machine.specs.Reached.{PrivateSteps}
+use Rattle.bpf_semantics.specs.Reached.{PrivateSteps}
 use Rattle.bpf_machine.specs.Unchecked.{standing}
 use Rattle.bpf_machine.proofs.machine.Machine.execute_within.Given as goal
 

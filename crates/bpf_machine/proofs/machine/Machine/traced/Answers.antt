@@ -1,10 +1,10 @@
 use Rattle.std.proofs.Common.{◌≡◌, ◌≤◌, ℕ, List, Option, Some, None, true, false, is_some, length, map, take, drop, arith, ap, sym, ◌∙◌}
 use Rattle.std.proofs.lemmas.List.{length-map, length-take}
 use Rattle.stack_frame.specs.Frame.{all_written, byte_of}
-use Rattle.bpf_machine.specs.Calls.{traced}
+use Rattle.bpf_semantics.specs.Calls.{traced}
 use Rattle.bpf_machine.specs.Unchecked.{frame_at}
 use Rattle.bpf_machine.specs.Inside.{view_of}
-use Rattle.bpf_machine.specs.MachineState.{MachineState}
+use Rattle.bpf_semantics.specs.MachineState.{MachineState}
 use Rattle.bpf_machine.proofs.FrameCalls.{some_is, traced_nowhere, traced_there, traced_unwritten}
 use Rattle.bpf_machine.proofs.FramePlaces.{bytes_at}
 use Rattle.bpf_machine.proofs.machine.Machine.traced.Goals as goal

@@ -1,7 +1,7 @@
 use Rattle.std.proofs.Common.{◌≡◌, List, Option, ℕ, ap, sym, subst, ◌∙◌}
 use Rattle.bpf_machine.specs.Inside.{view_of}
-use Rattle.bpf_machine.specs.MachineState.{MachineState}
-use Rattle.bpf_machine.specs.Step.{frames_after}
+use Rattle.bpf_semantics.specs.MachineState.{MachineState}
+use Rattle.bpf_semantics.specs.Step.{frames_after}
 use Rattle.bpf_machine.specs.Unchecked.{with_bytes_there}
 use Rattle.bpf_machine.proofs.FrameCalls.{written_is}
 use Rattle.bpf_machine.proofs.machine.Machine.write.Goals as goal

@@ -1,5 +1,5 @@
 use Rattle.std.proofs.Common.{sym, ap, ◌∙◌}
-use Rattle.bpf_machine.specs.MachineState.{OpenCall}
+use Rattle.bpf_semantics.specs.MachineState.{OpenCall}
 use Rattle.bpf_machine.proofs.Same.{saved_decide}
 use Rattle.bpf_machine.proofs.open_calls.OpenCall.is_same.Goals as goal
 

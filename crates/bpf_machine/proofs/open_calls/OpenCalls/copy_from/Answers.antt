@@ -1,6 +1,6 @@
 use Rattle.std.proofs.Common.{reverse, ◌≢◌, ◌<◌, List, sym, subst, ap, take, ◌∙◌, arith}
 use Rattle.std.proofs.lemmas.List.{get_or_default, get_or-set_other, length-set}
-use Rattle.bpf_machine.specs.MachineState.{OpenCall}
+use Rattle.bpf_semantics.specs.MachineState.{OpenCall}
 use Rattle.bpf_machine.specs.OpenPlaces.{empty_call, AreOpen}
 use Rattle.bpf_machine.proofs.OpenPlaces.{copied_is, copied_more}
 use Rattle.bpf_machine.proofs.open_calls.OpenCalls.copy_from.Goals as goal

@@ -5,7 +5,7 @@ use Rattle.world.specs.declared.record.Completed.TheVariants.{Started}
 use Rattle.world.specs.declared.ccb_state.CcbState.TheVariants.{Active}
 use Rattle.world.specs.World.{LiveCcb, World}
 use Rattle.world.specs.Event.{Reply}
-use Rattle.world.proofs.Steps.Effects.{known_queue}
+use Rattle.world_laws.proofs.Steps.Effects.{known_queue}
 use Rattle.world.proofs.Steps.Moves.{ccb_found}
 use Rattle.engine_core.specs.EngineState.{world_of}
 use Rattle.engine_core.specs.Courses.{IsActive}

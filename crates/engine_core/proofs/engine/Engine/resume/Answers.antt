@@ -1,7 +1,7 @@
 use Rattle.std.proofs.Common.{◌≡◌, List, refl, ap, sym, subst, ◌∙◌, rules, arith}
 use Rattle.std.specs.Arc.{arc_value}
 use Rattle.bpf_insn.specs.declared.program.Slot.{Slot}
-use Rattle.bpf_machine.specs.Reached.{Reached}
+use Rattle.bpf_semantics.specs.Reached.{Reached}
 use Rattle.engine_core.specs.RunState.{RunState}
 use Rattle.engine_core.proofs.Parking.{known_run, resumes_none, resumes_run, found_out}
 use Rattle.engine_core.proofs.engine.Engine.resume.Goals as goal

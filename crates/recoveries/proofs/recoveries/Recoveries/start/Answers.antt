@@ -5,7 +5,7 @@ use Rattle.std.proofs.lemmas.List.{map_push, length-map}
 use Rattle.ccb.specs.declared.ccb.Ccb.{Ccb}
 use Rattle.ccb.specs.Ccb.{completed}
 use Rattle.ccb.specs.Context.{context_of}
-use Rattle.bpf_machine.specs.MachineState.{entry}
+use Rattle.bpf_semantics.specs.MachineState.{entry}
 use Rattle.freeze_ledger.specs.State.{LedgerState}
 use Rattle.world.specs.declared.ccb_state.CcbState.TheVariants.{InRecovery}
 use Rattle.world.specs.World.{LiveRun, World}

@@ -1,5 +1,5 @@
 use Rattle.std.proofs.Common.{Option, ℕ, Some, subst, sym, ap}
-use Rattle.reg_domain.specs.Kinds.{HoldsKind}
+use Rattle.register_kinds.specs.Kinds.{HoldsKind}
 use Rattle.reg_domain.proofs.Leaving.{zero_left}
 use Rattle.reg_domain.proofs.description.Description.answer_zero.Goals as goal
 

@@ -3,7 +3,7 @@ use Rattle.std.proofs.Common.{◌≡◌, ℤ, Some, subst, sym, ◌∙◌}
 use Rattle.std.proofs.lemmas.Int.{to_z-of_z}
 use Rattle.helpers.specs.Table.{asks, helper_of}
 use Rattle.helpers.specs.declared.helper.Helper.{Helper}
-use Rattle.reg_domain.specs.declared.freeze_name.FreezeName.TheVariants as names
+use Rattle.register_kinds.specs.declared.freeze_name.FreezeName.TheVariants as names
 use Rattle.reg_domain.proofs.Calling.{follows, unstuck}
 use Rattle.reg_domain.specs.Arguments.{RegistersSuit}
 use Rattle.reg_domain.specs.Calls.{RunMay}

@@ -1,6 +1,6 @@
 use Rattle.std.proofs.Common.{◌≤◌, ◌+◌, subst}
-use Rattle.reg_domain.specs.declared.region.Region.{Region}
-use Rattle.reg_domain.specs.Kinds.{LiesAt, size_of}
+use Rattle.register_kinds.specs.declared.region.Region.{Region}
+use Rattle.register_kinds.specs.Kinds.{LiesAt, size_of}
 use Rattle.reg_domain.proofs.Reading.{context_read}
 use Rattle.reg_domain.proofs.description.Description.check_read.Goals as goal
 

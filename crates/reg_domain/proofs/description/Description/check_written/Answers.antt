@@ -1,7 +1,7 @@
 use Rattle.std.proofs.Common.{◌≡◌, ℕ, ◌+◌, ◌≤◌, true, subst, sym, refl, ap, arith}
 use Rattle.std.specs.Prelude.{is_some}
 use Rattle.stack_domain.specs.Stack.{IsWritten}
-use Rattle.bpf_machine.specs.Frames.{has_written}
+use Rattle.bpf_semantics.specs.Frames.{has_written}
 use Rattle.reg_domain.proofs.Reading.{in_frame, some_same}
 use Rattle.reg_domain.proofs.description.Description.check_written.Goals as goal
 

@@ -1,7 +1,7 @@
 use Rattle.std.proofs.Common.{◌≡◌, true, [], rules}
 use Rattle.bpf_insn.specs.declared.reg.Reg.TheVariants.{R0}
 use Rattle.reg_domain.specs.Description.{kind_at}
-use Rattle.reg_domain.specs.Kinds.{IsNumber}
+use Rattle.register_kinds.specs.Kinds.{IsNumber}
 use Rattle.reg_domain.proofs.Ways.{exit_unstuck}
 use Rattle.reg_domain.proofs.description.Description.exit.Goals as goal
 

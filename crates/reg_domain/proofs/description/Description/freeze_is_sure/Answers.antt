@@ -1,5 +1,5 @@
 use Rattle.std.proofs.Common.{List, subst, sym}
-use Rattle.reg_domain.specs.declared.held.HeldFreeze.{HeldFreeze}
+use Rattle.register_kinds.specs.declared.held.HeldFreeze.{HeldFreeze}
 use Rattle.reg_domain.specs.Description.{DescribesWith}
 use Rattle.reg_domain.proofs.Giving.{sure_described}
 use Rattle.reg_domain.proofs.description.Description.freeze_is_sure.Goals as goal

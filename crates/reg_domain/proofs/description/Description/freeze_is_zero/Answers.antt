@@ -1,5 +1,5 @@
 use Rattle.std.proofs.Common.{◌≡◌, false, true, refl, sym, ◌∙◌}
-use Rattle.reg_domain.specs.declared.kind.Kind.TheVariants.{Number}
+use Rattle.register_kinds.specs.declared.kind.Kind.TheVariants.{Number}
 use Rattle.reg_domain.proofs.Giving.{zero_described}
 use Rattle.reg_domain.proofs.description.Description.freeze_is_zero.Goals as goal
 

@@ -1,8 +1,8 @@
 use Rattle.std.proofs.Common.{List, None, subst, sym}
-use Rattle.bpf_machine.specs.Step.{held_without}
-use Rattle.reg_domain.specs.declared.held.HeldFreeze.{HeldFreeze}
+use Rattle.bpf_semantics.specs.Step.{held_without}
+use Rattle.register_kinds.specs.declared.held.HeldFreeze.{HeldFreeze}
 use Rattle.reg_domain.specs.Description.{DescribesWith}
-use Rattle.reg_domain.specs.Freezes.{renumbered}
+use Rattle.register_kinds.specs.Freezes.{renumbered}
 use Rattle.reg_domain.proofs.Giving.{given_up_described}
 use Rattle.reg_domain.proofs.description.Description.give_up.Goals as goal
 

@@ -1,5 +1,5 @@
 use Rattle.std.proofs.Common.{None, sym, arith, ◌∙◌}
-use Rattle.reg_domain.specs.Freezes.{renumbered}
+use Rattle.register_kinds.specs.Freezes.{renumbered}
 use Rattle.reg_domain.proofs.Giving.{copied_number}
 use Rattle.reg_domain.proofs.description.Description.give_up_first.Goals as goal
 

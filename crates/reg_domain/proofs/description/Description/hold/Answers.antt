@@ -1,9 +1,9 @@
 use Rattle.std.proofs.Common.{List, subst, sym}
-use Rattle.bpf_machine.specs.Step.{held_with}
+use Rattle.bpf_semantics.specs.Step.{held_with}
 use Rattle.std.proofs.Common.{Some}
-use Rattle.reg_domain.specs.declared.held.HeldFreeze.{HeldFreeze}
+use Rattle.register_kinds.specs.declared.held.HeldFreeze.{HeldFreeze}
 use Rattle.reg_domain.specs.Description.{DescribesWith}
-use Rattle.reg_domain.specs.Freezes.{renumbered}
+use Rattle.register_kinds.specs.Freezes.{renumbered}
 use Rattle.reg_domain.proofs.Giving.{taken_described}
 use Rattle.reg_domain.proofs.description.Description.hold.Goals as goal
 

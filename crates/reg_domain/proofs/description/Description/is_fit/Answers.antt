@@ -1,6 +1,6 @@
 use Rattle.std.proofs.Common.{◌≡◌, true, sym, subst}
 use Rattle.helpers.specs.declared.helper.Asked.{Asked}
-use Rattle.bpf_machine.specs.Calls.{is_as_asked}
+use Rattle.bpf_semantics.specs.Calls.{is_as_asked}
 use Rattle.reg_domain.proofs.Giving.{sure_is_held}
 use Rattle.reg_domain.proofs.description.Description.is_fit.Goals as goal
 

@@ -1,9 +1,9 @@
 use Rattle.std.proofs.Common.{◌≡◌, pos, ◌∙◌, inl, inr, subst}
 use Rattle.bpf_insn.specs.declared.insn.Operand.{Operand}
 use Rattle.reg_domain.specs.Enough.{IsMoved}
-use Rattle.reg_domain.specs.Finds.{found_of}
+use Rattle.register_kinds.specs.Finds.{found_of}
 use Rattle.reg_domain.specs.GoesOn.{is_taken}
-use Rattle.reg_domain.specs.Kinds.{IsKnown}
+use Rattle.register_kinds.specs.Kinds.{IsKnown}
 use Rattle.reg_domain.proofs.Jumps.{jump_follows}
 use Rattle.reg_domain.proofs.description.Description.jump_if.Goals as goal
 

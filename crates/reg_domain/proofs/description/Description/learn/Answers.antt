@@ -1,5 +1,5 @@
 use Rattle.std.proofs.Common.{refl, subst}
-use Rattle.reg_domain.specs.Finds.{Found}
+use Rattle.register_kinds.specs.Finds.{Found}
 use Rattle.reg_domain.proofs.description.Description.learn.Goals as goal
 
 pub returns-in-FreezeIsSure-clause-means : goal.returns-in-FreezeIsSure-clause-means

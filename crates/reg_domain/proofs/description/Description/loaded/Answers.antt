@@ -1,10 +1,10 @@
 use Rattle.std.specs.Int.{w16}
 use Rattle.std.proofs.Common.{ℕ, ℤ, subst, sym}
 use Rattle.std.proofs.lemmas.Int.{to_z-of_z}
-use Rattle.bpf_machine.specs.MachineState.{register}
-use Rattle.bpf_machine.specs.Memory.{address_at}
-use Rattle.reg_domain.specs.declared.kind.Kind.{Kind}
-use Rattle.reg_domain.specs.Kinds.{HoldsKind, LiesAt}
+use Rattle.bpf_semantics.specs.MachineState.{register}
+use Rattle.bpf_semantics.specs.Memory.{address_at}
+use Rattle.register_kinds.specs.declared.kind.Kind.{Kind}
+use Rattle.register_kinds.specs.Kinds.{HoldsKind, LiesAt}
 use Rattle.reg_domain.specs.Memory.{AreThere}
 use Rattle.reg_domain.proofs.Loading.{is_loaded}
 use Rattle.reg_domain.proofs.description.Description.loaded.Goals as goal

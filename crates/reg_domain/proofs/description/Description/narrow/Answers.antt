@@ -1,10 +1,10 @@
 use Rattle.std.proofs.Common.{◌≡◌, Some, subst}
 use Rattle.bpf_insn.specs.declared.insn.Operand.{Operand}
-use Rattle.bpf_machine.specs.MachineState.{register}
-use Rattle.bpf_machine.specs.Step.{operand}
+use Rattle.bpf_semantics.specs.MachineState.{register}
+use Rattle.bpf_semantics.specs.Step.{operand}
 use Rattle.reg_domain.specs.Description.{kind_at}
 use Rattle.reg_domain.specs.Enough.{IsNumberOperand}
-use Rattle.reg_domain.specs.Kinds.{IsNumber}
+use Rattle.register_kinds.specs.Kinds.{IsNumber}
 use Rattle.reg_domain.proofs.Described.{narrowed_described}
 use Rattle.reg_domain.proofs.StaysKnown.{known_twice, number_known, still_number}
 use Rattle.reg_domain.proofs.description.Description.narrow.Goals as goal

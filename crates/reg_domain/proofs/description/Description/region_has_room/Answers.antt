@@ -1,7 +1,7 @@
 use Rattle.std.proofs.Common.{◌≡◌, ℕ, true, subst, sym}
-use Rattle.bpf_machine.specs.Frames.{has_room}
-use Rattle.reg_domain.specs.declared.region.Region.{Region}
-use Rattle.reg_domain.specs.Kinds.{LiesAt}
+use Rattle.bpf_semantics.specs.Frames.{has_room}
+use Rattle.register_kinds.specs.declared.region.Region.{Region}
+use Rattle.register_kinds.specs.Kinds.{LiesAt}
 use Rattle.reg_domain.proofs.Reading.{frame_has_room, some_same}
 use Rattle.reg_domain.proofs.description.Description.region_has_room.Goals as goal
 

@@ -1,5 +1,5 @@
 use Rattle.std.proofs.Common.{refl, arith}
-use Rattle.bpf_machine.specs.Step.{held_without}
+use Rattle.bpf_semantics.specs.Step.{held_without}
 use Rattle.reg_domain.proofs.description.Description.release.Goals as goal
 
 pub returns-clause-passes : goal.returns-clause-passes

@@ -1,4 +1,4 @@
-use Rattle.bpf_machine.specs.Step.{held_without}
+use Rattle.bpf_semantics.specs.Step.{held_without}
 use Rattle.reg_domain.proofs.description.Description.release_after.Goals as goal
 
 pub returns-clause-passes : goal.returns-clause-passes

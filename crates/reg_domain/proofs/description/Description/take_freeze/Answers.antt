@@ -1,7 +1,7 @@
 use Rattle.std.proofs.Common.{Some, refl}
-use Rattle.bpf_machine.specs.Step.{held_with}
-use Rattle.reg_domain.specs.Freezes.{renumbered}
-use Rattle.reg_domain.proofs.Freezes.{own_name, renumbered_here}
+use Rattle.bpf_semantics.specs.Step.{held_with}
+use Rattle.register_kinds.specs.Freezes.{renumbered}
+use Rattle.register_kinds.proofs.Freezes.{own_name, renumbered_here}
 use Rattle.reg_domain.proofs.description.Description.take_freeze.Goals as goal
 
 pub returns-clause-passes : goal.returns-clause-passes

@@ -1,8 +1,8 @@
 use Rattle.std.proofs.Common.{◌≡◌, ap, sym, ◌∙◌}
 use Rattle.bpf_insn.specs.declared.reg.Reg.TheVariants.{R1}
-use Rattle.reg_domain.specs.declared.kind.Kind.TheVariants.{Address}
-use Rattle.reg_domain.specs.declared.region.Region.{Region}
-use Rattle.reg_domain.specs.declared.region.Region.TheVariants.{Frame}
+use Rattle.register_kinds.specs.declared.kind.Kind.TheVariants.{Address}
+use Rattle.register_kinds.specs.declared.region.Region.{Region}
+use Rattle.register_kinds.specs.declared.region.Region.TheVariants.{Frame}
 use Rattle.reg_domain.specs.Description.{kind_at}
 use Rattle.reg_domain.proofs.Storing.{known_from, writes_from}
 use Rattle.reg_domain.proofs.description.Description.write_information.Goals as goal

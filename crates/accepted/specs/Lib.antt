@@ -1,0 +1,2 @@
+pub use Rattle.bpf_semantics.specs.Reached
+pub mod Verdict

@@ -1,0 +1,12 @@
+pub use Rattle.helpers.specs.Table
+pub use Rattle.bpf_insn.specs.Program
+pub use Rattle.bpf_words.specs.Words
+pub mod Frames
+pub mod MachineState
+pub mod Calls
+pub mod Memory
+pub mod Step
+pub mod Stops
+pub mod Stuck
+pub mod Reached
+pub mod Progress

@@ -1,0 +1,4 @@
+pub mod Lists
+pub mod Codes
+pub mod Lowest
+pub mod Naming

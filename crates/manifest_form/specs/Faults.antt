@@ -1,0 +1,113 @@
+-- The faults of a manifest's form, and which of them is answered.
+use Rattle.std.specs.Prelude.{ℤ, pos, Bool, true, false, ◌&&◌, ◌||◌, ◌==◌, not, List, [], ◌∷◌, Option, Some, None, is_some, codes}
+use Rattle.std.specs.List.{list_all}
+use Rattle.toml.specs.Data.{Data, get}
+use Rattle.manifest_form.specs.declared.form_fault.FormFault.{FormFault}
+use Rattle.manifest_form.specs.declared.form_fault.FormFault.TheVariants.{Key, Form, Range}
+use Rattle.manifest_form.specs.Document.{array_at, elements_at, integer_at, text_at, has_keys}
+use Rattle.manifest_form.specs.Entries.{openings_at, length_of, source_of}
+
+-- M2: every key that is needed is there, and no other.
+abbrev pub queue_has_keys : Data → Bool
+queue_has_keys = has_keys (codes "openings" ∷ codes "program" ∷ []) []
+
+abbrev pub table_has_keys : Data → Bool
+table_has_keys = has_keys (codes "length" ∷ []) []
+
+-- a name, and either `code` or `asm`
+abbrev pub program_has_keys : Data → Bool
+program_has_keys program =
+    has_keys (codes "name" ∷ codes "code" ∷ []) [] program || has_keys (codes "name" ∷ codes "asm" ∷ []) [] program
+
+abbrev pub document_has_keys : Data → Bool
+document_has_keys = has_keys (codes "version" ∷ codes "queue" ∷ codes "program" ∷ []) (codes "table" ∷ [])
+
+abbrev pub has_lawful_keys : Data → Bool
+has_lawful_keys manifest =
+    document_has_keys manifest
+    && list_all queue_has_keys (elements_at (codes "queue") manifest)
+    && list_all table_has_keys (elements_at (codes "table") manifest)
+    && list_all program_has_keys (elements_at (codes "program") manifest)
+
+-- M3: every value is of its type and form.
+abbrev pub queue_has_form : Data → Bool
+queue_has_form queue = is_some (integer_at (codes "openings") queue) && is_some (text_at (codes "program") queue)
+
+abbrev pub table_has_form : Data → Bool
+table_has_form entry = is_some (integer_at (codes "length") entry)
+
+abbrev pub program_has_form : Data → Bool
+program_has_form program = is_some (text_at (codes "name") program) && is_some (source_of program)
+
+-- `queue` and `program` are arrays, and so is `table` where it stands
+abbrev pub has_arrays : Data → Bool
+has_arrays manifest =
+    is_some (array_at (codes "queue") manifest)
+    && is_some (array_at (codes "program") manifest)
+    && (not (is_some (get (codes "table") manifest)) || is_some (array_at (codes "table") manifest))
+
+abbrev pub document_has_form : Data → Bool
+document_has_form manifest = has_arrays manifest && is_some (integer_at (codes "version") manifest)
+
+abbrev pub has_lawful_form : Data → Bool
+has_lawful_form manifest =
+    document_has_form manifest
+    && list_all queue_has_form (elements_at (codes "queue") manifest)
+    && list_all table_has_form (elements_at (codes "table") manifest)
+    && list_all program_has_form (elements_at (codes "program") manifest)
+
+-- M4: the version is 1, and every number is in its range.
+abbrev pub is_one : Option ℤ → Bool
+is_one (Some (pos number)) = number == 1
+is_one _ = false
+
+abbrev pub document_has_ranges : Data → Bool
+document_has_ranges manifest = is_one (integer_at (codes "version") manifest)
+
+abbrev pub queue_has_ranges : Data → Bool
+queue_has_ranges queue = is_some (openings_at queue)
+
+abbrev pub table_has_ranges : Data → Bool
+table_has_ranges entry = is_some (length_of entry)
+
+abbrev pub has_lawful_ranges : Data → Bool
+has_lawful_ranges manifest =
+    document_has_ranges manifest
+    && list_all queue_has_ranges (elements_at (codes "queue") manifest)
+    && list_all table_has_ranges (elements_at (codes "table") manifest)
+
+-- the lowest of M2 to M4, by whether keys, form and ranges are lawful
+abbrev pub lowest_of : Bool → Bool → Bool → Option FormFault
+lowest_of false form ranges = Some Key
+lowest_of true false ranges = Some Form
+lowest_of true true false = Some Range
+lowest_of true true true = None
+
+-- the lower of two
+abbrev pub lower : Option FormFault → Option FormFault → Option FormFault
+lower None other = other
+lower (Some Key) other = Some Key
+lower (Some Form) (Some Key) = Some Key
+lower (Some Form) _ = Some Form
+lower (Some Range) None = Some Range
+lower (Some Range) other = other
+
+abbrev pub document_fault : Data → Option FormFault
+document_fault manifest = lowest_of (document_has_keys manifest) (document_has_form manifest) (document_has_ranges manifest)
+
+abbrev pub queue_fault : Data → Option FormFault
+queue_fault queue = lowest_of (queue_has_keys queue) (queue_has_form queue) (queue_has_ranges queue)
+
+abbrev pub table_fault : Data → Option FormFault
+table_fault entry = lowest_of (table_has_keys entry) (table_has_form entry) (table_has_ranges entry)
+
+abbrev pub program_fault : Data → Option FormFault
+program_fault program = lowest_of (program_has_keys program) (program_has_form program) true
+
+-- the lowest of all elements
+abbrev pub lowest_among : (Data → Option FormFault) → List Data → Option FormFault
+lowest_among fault [] = None
+lowest_among fault (value ∷ rest) = lower (fault value) (lowest_among fault rest)
+
+abbrev pub form_fault : Data → Option FormFault
+form_fault manifest = lowest_of (has_lawful_keys manifest) (has_lawful_form manifest) (has_lawful_ranges manifest)

@@ -1,0 +1,6 @@
+pub mod Code
+pub mod Document
+pub mod Entries
+pub mod Faults
+pub mod Names
+pub mod Seen

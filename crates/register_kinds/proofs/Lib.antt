@@ -1,0 +1,7 @@
+pub mod HeldPlaces
+pub mod SameHeld
+pub mod Freezes
+pub mod Shifts
+pub mod Sums
+pub mod Moves
+pub mod Accesses

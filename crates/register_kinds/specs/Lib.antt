@@ -1,0 +1,7 @@
+pub mod CauseText
+pub mod HeldPlaces
+pub mod Freezes
+pub mod Kinds
+pub mod Computes
+pub mod Finds
+pub mod Accesses

@@ -1,0 +1,205 @@
+-- A number that was given up, or whose freeze is gone, is never held again, and one that was handed over only by a timer.
+use Rattle.std.proofs.Common.{◌≡◌, ℕ, ◌+◌, ◌≤◌, List, [], ◌∷◌, true, false, not, Option, Some, None, IsSome, inl, inr, refl, ap, sym, subst, ◌∙◌, arith}
+use Rattle.std.proofs.lemmas.Bool.{cases_eq}
+use Rattle.helpers.specs.declared.helper.Helper.TheVariants as helpers
+use Rattle.freeze_ledger.specs.declared.freeze.Holder.TheVariants.{Timer}
+use Rattle.freeze_ledger.specs.declared.freeze.Freeze.{Freeze}
+use Rattle.freeze_ledger.specs.Freezes.{entry_of, without}
+use Rattle.helpers.specs.declared.request.Request.{Request}
+use Rattle.helpers.specs.declared.request.Request.TheVariants.{Freeze as FreezeQueue, Release, ReleaseAfter}
+use Rattle.helpers.specs.declared.request.Answer.{Answer}
+use Rattle.bpf_semantics.specs.Step.{request_at}
+use Rattle.world.specs.World.{Setup, LiveRun, World, opening}
+use Rattle.world.specs.Lookups.{run_of}
+use Rattle.world.specs.Told.{Told, plain, told_of}
+use Rattle.world.specs.Event.{call, Event, Reply, guest_release, executes}
+use Rattle.world.specs.FreezeSteps.{is_timer}
+use Rattle.world.specs.Step.{WorldStep}
+use Rattle.world.specs.WorldRun.{Leads}
+use Rattle.world.specs.FreezeLaws.{IsHeld, Calls, GivenUpStaysGivenUp, GivenUpByRunStaysGivenUp, HandedOverStaysHandedOver, GoneStaysGone}
+use Rattle.world.specs.TookGave.{asked}
+use Rattle.world.proofs.Lists.Found.{put, found_in_push, put_same, put_other, missing_filter}
+use Rattle.world.proofs.Lists.Rising.{found_unfiltered}
+use Rattle.world.proofs.Lists.Entries.{freeze_key, entry_push, entry_removed, entry_bounds, handed_is_put, none_since}
+use Rattle.world_laws.proofs.Steps.Calls.{LeavesFreezes, FreezeDeed, leaves_freezes, takes_one, gives_one_back, hands_one_over, Asks, asks_of}
+use Rattle.world_laws.proofs.Steps.Cases.{case_of, guest_release_parts}
+use Rattle.world.proofs.Steps.Moves.{KeepsLists, FreezeMove, freezes_stay, freeze_enters, freezes_leave, freeze_changes}
+use Rattle.world_laws.proofs.Steps.Effects.{effect_of}
+use Rattle.world_laws.proofs.Kept.{step_keeps}
+use Rattle.world_laws.proofs.Leads.{leads_split, leads_keeps, lists_are_kept}
+
+-- numbers only rise, and one that is not there will not be given again
+pub record IsPast (number : ℕ) (world : World) : Type 0 where
+  pub given : number ≤ world.greatest_freeze
+  pub none : entry_of number world.freezes ≡ None
+
+move_past : (setup : Setup) (before : World) (event : Event) (after : World) (number : ℕ) → FreezeMove setup before event after → IsPast number before → IsPast number after
+move_past setup before event after number (freezes_stay e g) past = record { given = rw g past.given; none = rw e past.none }
+move_past setup before event after number (freeze_enters queue holder known room e g comes) past =
+    record { given = rw g (omega (arith, past.given)); none = rw e (entry_push number before.freezes _ (λ same. omega (arith, same, past.given)) past.none) }
+move_past setup before event after number (freezes_leave gone e g from) past =
+    record { given = rw g past.given; none = rw e (missing_filter freeze_key (λ (f : Freeze). not (gone f)) number before.freezes past.none) }
+move_past setup before event after number (freeze_changes old new found queue_is e g hands) past =
+    let apart : new.number ≡ number → ⊥ = λ same.
+    let bad : None ≡ Some old = sym past.none ∙ (ap (λ (n : ℕ). entry_of n before.freezes) (sym same) ∙ found) in cc in
+    record { given = rw g past.given; none = ap (entry_of number) e ∙ (put_other freeze_key new number before.freezes apart ∙ past.none) }
+
+pub move_rises : (setup : Setup) (before : World) (event : Event) (after : World) → FreezeMove setup before event after → before.greatest_freeze ≤ after.greatest_freeze
+move_rises setup before event after (freezes_stay e g) = omega (arith, g)
+move_rises setup before event after (freeze_enters queue holder known room e g comes) = omega (arith, g)
+move_rises setup before event after (freezes_leave gone e g from) = omega (arith, g)
+move_rises setup before event after (freeze_changes old new found queue_is e g hands) = omega (arith, g)
+
+step_freezes : (setup : Setup) (before : World) (event : Event) (reply : Reply) (after : World) → KeepsLists setup before → WorldStep setup before event reply after → FreezeMove setup before event after
+step_freezes setup before event reply after kept e = (effect_of setup before event reply after kept (case_of setup before event reply after e)).freezes
+
+leads_past : (setup : Setup) (before : World) (xs : List (Event × Reply)) (after : World) (number : ℕ) → KeepsLists setup before → Leads setup before xs after → IsPast number before → IsPast number after
+leads_past setup before [] after number kept run past = subst (IsPast number) run past
+leads_past setup before (x ∷ xs) after number kept run past =
+    leads_past setup run.0 xs after number (step_keeps setup before x.0 x.1 run.0 run.1 kept) run.2
+    (move_past setup before x.0 run.0 number (step_freezes setup before x.0 x.1 run.0 kept run.1) past)
+
+pub leads_rises : (setup : Setup) (before : World) (xs : List (Event × Reply)) (after : World) → KeepsLists setup before → Leads setup before xs after → before.greatest_freeze ≤ after.greatest_freeze
+leads_rises setup before [] after kept run = rw run (omega arith)
+leads_rises setup before (x ∷ xs) after kept run =
+    omega (arith, move_rises setup before x.0 run.0 (step_freezes setup before x.0 x.1 run.0 kept run.1), leads_rises setup run.0 xs after (step_keeps setup before x.0 x.1 run.0 run.1 kept) run.2)
+
+none_held : (number : ℕ) (world : World) → entry_of number world.freezes ≡ None → IsHeld number world → ⊥
+none_held number world none held = let bad : IsSome {T = Freeze} None = subst (λ (o : Option Freeze). IsSome o) none held in cc
+
+-- a number that is held was given
+held_given : (setup : Setup) (world : World) (number : ℕ) (o : Option Freeze) → KeepsLists setup world → entry_of number world.freezes ≡ o → IsSome o → number ≤ world.greatest_freeze
+held_given setup world number None kept is some = absurd (let bad : IsSome {T = Freeze} None = some in cc)
+held_given setup world number (Some f) kept is some = (entry_bounds 0 world.freezes world.greatest_freeze number f kept.freezes.numbered is).2
+
+-- the freeze of a number was taken out, so the number is past
+removed_past : (setup : Setup) (before after : World) (number : ℕ) (freeze : Freeze) → KeepsLists setup before → entry_of number before.freezes ≡ Some freeze → after.freezes ≡ without number before.freezes → after.greatest_freeze ≡ before.greatest_freeze → IsPast number after
+removed_past setup before after number freeze kept entry e g =
+    record {
+      given = rw g (entry_bounds 0 before.freezes before.greatest_freeze number freeze kept.freezes.numbered entry).2;
+      none = rw e (entry_removed number before.freezes);
+    }
+
+pub given_up_stays_given_up : GivenUpStaysGivenUp
+given_up_stays_given_up setup xs ys number reply world run held =
+    let parts = leads_split setup (opening setup) xs ((guest_release number, reply) ∷ ys) world run in
+    let before : World = parts.0 in
+    let after : World = parts.2.0 in
+    let kept = lists_are_kept setup xs before parts.1 in
+    let it = guest_release_parts setup before number reply after parts.2.1 in
+    let same : it.number ≡ number = let e : guest_release number ≡ guest_release it.number = it.event_is in cc in
+    let past = removed_past setup before after number it.freeze kept (subst (λ (n : ℕ). entry_of n before.freezes ≡ Some it.freeze) same it.entry)
+    (ap (λ (w : World). w.freezes) it.after_is ∙ ap (λ (n : ℕ). without n before.freezes) same) (ap (λ (w : World). w.greatest_freeze) it.after_is) in
+    none_held number world (leads_past setup after ys world number (step_keeps setup before (guest_release number) reply after parts.2.1 kept) parts.2.2 past).none held
+
+-- the call that is an event is the one at which the run stands
+the_call : (setup : Setup) (before : World) (run : ℕ) (told : Told) (reply : Reply) (after : World) (request : Request) → Calls before run request → (it : Asks setup before (executes run (call told)) reply after) → it.request ≡ request
+the_call setup before run told reply after request calls it =
+    let e : executes run (call told) ≡ executes it.it.number (call (told_of it.request)) = it.it.event_is in
+    let named : it.it.number ≡ run = cc in
+    let runs : Some it.it.run ≡ Some calls.0 = sym it.it.found ∙ (ap (λ (n : ℕ). run_of n before.runs) named ∙ calls.1) in
+    let same : it.it.run ≡ calls.0 = cc in
+    let requests : Some it.request ≡ Some request = sym it.call_is ∙ (ap (λ (r : LiveRun). request_at r.program r.machine) same ∙ calls.2) in
+    cc
+
+-- a call gives back or hands over the freeze that it asks for
+asked_for_one : (setup : Setup) (before : World) (run : LiveRun) (request : Request) (given : Answer) (between : World) (number : ℕ) → asked (Some request) ≡ number ∷ [] → LeavesFreezes setup before run request given between → ⊥
+asked_for_one setup before run request given between number is deed = let bad : [] ≡ number ∷ [] = sym deed.keeps ∙ is in cc
+
+given_back_past : (setup : Setup) (before after : World) (number : ℕ) (run : LiveRun) (request : Request) (given : Answer) (between : World) → KeepsLists setup before → request ≡ Release number → after.freezes ≡ between.freezes → after.greatest_freeze ≡ between.greatest_freeze → FreezeDeed setup before run request given between → IsPast number after
+given_back_past setup before after number run request given between kept is e g (leaves_freezes deed) = absurd (asked_for_one setup before run request given between number (ap (λ (r : Request). asked (Some r)) is) deed)
+given_back_past setup before after number run request given between kept is e g (takes_one deed) = absurd (let bad : FreezeQueue deed.queue ≡ Release number = sym deed.request_is ∙ is in cc)
+given_back_past setup before after number run request given between kept is e g (gives_one_back deed) =
+    let both : Release deed.number ≡ Release number = sym deed.request_is ∙ is in
+    let same : deed.number ≡ number = cc in
+    removed_past setup before after number deed.freeze kept (subst (λ (n : ℕ). entry_of n before.freezes ≡ Some deed.freeze) same deed.entry)
+    (e ∙ (deed.freezes_is ∙ ap (λ (n : ℕ). without n before.freezes) same)) (g ∙ deed.greatest_is)
+given_back_past setup before after number run request given between kept is e g (hands_one_over deed) = absurd (let bad : ReleaseAfter deed.number deed.milliseconds ≡ Release number = sym deed.request_is ∙ is in cc)
+
+pub given_up_by_run_stays_given_up : GivenUpByRunStaysGivenUp
+given_up_by_run_stays_given_up setup xs ys run number reply before world first asks second held =
+    let after : World = second.0 in
+    let kept = lists_are_kept setup xs before first in
+    let it = asks_of setup before run (plain helpers.Release) reply after second.1 in
+    let past = given_back_past setup before after number it.it.run it.request it.given it.between kept (the_call setup before run (plain helpers.Release) reply after (Release number) asks it)
+    (ap (λ (x : Reply × World). x.1.freezes) it.answer) (ap (λ (x : Reply × World). x.1.greatest_freeze) it.answer) it.freezes in
+    none_held number world (leads_past setup after ys world number (step_keeps setup before (executes run (call (plain helpers.Release))) reply after second.1 kept) second.2 past).none held
+
+-- a number was given, and what bears it, if anything does, is a timer's
+record IsTimed (number : ℕ) (world : World) : Type 0 where
+  given : number ≤ world.greatest_freeze
+  timer : (freeze : Freeze) → entry_of number world.freezes ≡ Some freeze → is_timer freeze.holder ≡ true
+
+move_timed : (setup : Setup) (before : World) (event : Event) (after : World) (number : ℕ) → KeepsLists setup before → FreezeMove setup before event after → IsTimed number before → IsTimed number after
+move_timed setup before event after number kept (freezes_stay e g) timed = record { given = rw g timed.given; timer = λ f found. timed.timer f (sym (ap (entry_of number) e) ∙ found) }
+move_timed setup before event after number kept (freeze_enters queue holder known room e g comes) timed =
+    record {
+      given = rw g (omega (arith, timed.given));
+      timer = λ f found.
+          elim (found_in_push freeze_key number before.freezes _ f (sym (ap (entry_of number) e) ∙ found)) [
+            | inl old ↦ timed.timer f old
+            | inr new ↦ absurd (omega (arith, new.1, timed.given))
+          ];
+    }
+move_timed setup before event after number kept (freezes_leave gone e g from) timed =
+    record {
+      given = rw g timed.given;
+      timer = λ f found. timed.timer f (found_unfiltered freeze_key (λ (x : Freeze). not (gone x)) 0 before.freezes before.greatest_freeze number f kept.freezes.numbered (sym (ap (entry_of number) e) ∙ found));
+    }
+move_timed setup before event after number kept (freeze_changes old new was queue_is e g hands) timed =
+    record {
+      given = rw g timed.given;
+      timer = λ f found.
+          let there : entry_of number (put freeze_key new before.freezes) ≡ Some f = sym (ap (entry_of number) e) ∙ found in
+          elim (cases_eq new.number number) [
+            | inl same ↦
+                let both : Some new ≡ Some f = sym (subst (λ (n : ℕ). entry_of n (put freeze_key new before.freezes) ≡ Some new) same (put_same freeze_key new before.freezes old was)) ∙ there in
+                let is : new ≡ f = cc in
+                subst (λ (x : Freeze). is_timer x.holder ≡ true) is hands.timed
+            | inr apart ↦ timed.timer f (sym (put_other freeze_key new number before.freezes apart) ∙ there)
+          ];
+    }
+
+leads_timed : (setup : Setup) (before : World) (xs : List (Event × Reply)) (after : World) (number : ℕ) → KeepsLists setup before → Leads setup before xs after → IsTimed number before → IsTimed number after
+leads_timed setup before [] after number kept run timed = subst (IsTimed number) run timed
+leads_timed setup before (x ∷ xs) after number kept run timed =
+    leads_timed setup run.0 xs after number (step_keeps setup before x.0 x.1 run.0 run.1 kept) run.2
+    (move_timed setup before x.0 run.0 number kept (step_freezes setup before x.0 x.1 run.0 kept run.1) timed)
+
+handed_over_timed : (setup : Setup) (before after : World) (number milliseconds : ℕ) (run : LiveRun) (request : Request) (given : Answer) (between : World) → KeepsLists setup before → request ≡ ReleaseAfter number milliseconds → after.freezes ≡ between.freezes → after.greatest_freeze ≡ between.greatest_freeze → FreezeDeed setup before run request given between → IsTimed number after
+handed_over_timed setup before after number milliseconds run request given between kept is e g (leaves_freezes deed) = absurd (asked_for_one setup before run request given between number (ap (λ (r : Request). asked (Some r)) is) deed)
+handed_over_timed setup before after number milliseconds run request given between kept is e g (takes_one deed) = absurd (let bad : FreezeQueue deed.queue ≡ ReleaseAfter number milliseconds = sym deed.request_is ∙ is in cc)
+handed_over_timed setup before after number milliseconds run request given between kept is e g (gives_one_back deed) = absurd (let bad : Release deed.number ≡ ReleaseAfter number milliseconds = sym deed.request_is ∙ is in cc)
+handed_over_timed setup before after number milliseconds run request given between kept is e g (hands_one_over deed) =
+    let both : ReleaseAfter deed.number deed.milliseconds ≡ ReleaseAfter number milliseconds = sym deed.request_is ∙ is in
+    let same : deed.number ≡ number = cc in
+    let old : Freeze = deed.freeze in
+    let due : ℕ = before.clock + deed.milliseconds in
+    let new : Freeze = record old { holder = Timer due } in
+    let bounds = entry_bounds 0 before.freezes before.greatest_freeze deed.number old kept.freezes.numbered deed.entry in
+    let freezes_is : after.freezes ≡ put freeze_key new before.freezes = e ∙ (deed.freezes_is ∙ handed_is_put deed.number due 0 before.freezes before.greatest_freeze old kept.freezes.numbered deed.entry) in
+    let there : entry_of old.number after.freezes ≡ Some new = ap (entry_of old.number) freezes_is ∙ put_same freeze_key new before.freezes old (subst (λ (n : ℕ). entry_of n before.freezes ≡ Some old) (sym bounds.0) deed.entry) in
+    record {
+      given = omega (arith, same, bounds.2, g, deed.greatest_is);
+      timer = λ f found.
+          let one : Some new ≡ Some f = sym there ∙ (ap (λ (n : ℕ). entry_of n after.freezes) (bounds.0 ∙ same) ∙ found) in
+          let is_new : new ≡ f = cc in
+          ap (λ (x : Freeze). is_timer x.holder) (sym is_new);
+    }
+
+pub handed_over_stays_handed_over : HandedOverStaysHandedOver
+handed_over_stays_handed_over setup xs ys run number reply before world first hands second owned =
+    let after : World = second.0 in
+    let kept = lists_are_kept setup xs before first in
+    let it = asks_of setup before run (plain helpers.ReleaseAfter) reply after second.1 in
+    let timed = handed_over_timed setup before after number hands.0 it.it.run it.request it.given it.between kept (the_call setup before run (plain helpers.ReleaseAfter) reply after (ReleaseAfter number hands.0) hands.1 it)
+    (ap (λ (x : Reply × World). x.1.freezes) it.answer) (ap (λ (x : Reply × World). x.1.greatest_freeze) it.answer) it.freezes in
+    let later = leads_timed setup after ys world number (step_keeps setup before (executes run (call (plain helpers.ReleaseAfter))) reply after second.1 kept) second.2 timed in
+    let bad : false ≡ true = sym owned.2 ∙ later.timer owned.0 owned.1 in cc
+
+pub gone_stays_gone : GoneStaysGone
+gone_stays_gone setup xs ys zs number held gone later first was second not_there third is_there =
+    let kept = lists_are_kept setup xs held first in
+    let given = held_given setup held number (entry_of number held.freezes) kept refl was in
+    let past : IsPast number gone = record { given = omega (arith, given, leads_rises setup held ys gone kept second); none = none_since (entry_of number gone.freezes) not_there } in
+    none_held number later (leads_past setup gone zs later number (leads_keeps setup held ys gone second kept) third past).none is_there

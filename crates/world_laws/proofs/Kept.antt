@@ -1,0 +1,242 @@
+-- Each step keeps the limits.
+use Rattle.std.proofs.Common.{◌≡◌, ℕ, ◌+◌, ◌<◌, ◌≤◌, List, [], ◌∷◌, ◌++◌, length, length-append, Bool, false, not, cond, eqb, inl, inr, refl, ap, sym, subst, ◌∙◌, arith}
+use Rattle.std.specs.List.{count_by, filter}
+use Rattle.std.proofs.lemmas.Bool.{leb-false, or_parts, cases_eq, eq-eqb, ne_eqb}
+use Rattle.std.proofs.lemmas.List.Elements.{All-push, All-filter}
+use Rattle.std.proofs.lemmas.List.Sums.{sum_by_push, length-filter, count_by-le-length}
+use Rattle.ccb.specs.Ccb.{submitted}
+use Rattle.ccb.specs.declared.QueueId.{QueueId}
+use Rattle.freeze_ledger.specs.declared.freeze.Freeze.{Freeze}
+use Rattle.freeze_ledger.specs.Freezes.{frozen, names, meets_limit}
+use Rattle.world.specs.declared.ccb_state.CcbState.TheVariants.{Waiting}
+use Rattle.world.specs.World.{Setup, queue_count, queue_setup, LiveCcb, LiveRun, World, opening}
+use Rattle.world.specs.Lookups.{is_of, live_count, with_ccb}
+use Rattle.world.specs.Event.{Event, Reply}
+use Rattle.world.specs.CcbSteps.{ccb_meets_limit}
+use Rattle.world.specs.Step.{WorldStep}
+use Rattle.world.specs.Lawful.{IsLawful}
+use Rattle.world.specs.Limits.{FreezeLimits, CcbLimits, RunLimits, KeepsLimits}
+use Rattle.world.proofs.Lists.Found.{put, leave, put_keys}
+use Rattle.world.proofs.Lists.Rising.{rising_push, rising_filter, rising_leave, count_put, count_filter, count_leave}
+use Rattle.world.proofs.Lists.Each.{all_found, all_put, put_length}
+use Rattle.world.proofs.Lists.Entries.{freeze_key, frozen_push}
+use Rattle.world.proofs.Steps.Answering.{answers_kept, opening_answers}
+use Rattle.world_laws.proofs.Steps.Cases.{Case, case_of}
+use Rattle.world.proofs.Steps.Moves.{KeepsLists, lists_of, ccb_key, run_key, CcbMove, ccbs_stay, ccb_enters, ccb_changes, ccb_leaves, FreezeMove, freezes_stay, freeze_enters, freezes_leave, freeze_changes, RunMove, runs_stay, run_enters, run_changes, run_leaves}
+use Rattle.world_laws.proofs.Steps.Effects.{effect_of}
+
+-- below every limit of freezes
+pub record HasRoom (queue : ℕ) (freezes : List Freeze) (greatest : ℕ) : Type 0 where
+  pub a_queue : frozen queue freezes < 255
+  pub ledger : length freezes < 1024
+  pub numbers : greatest < 4294967295
+
+pub room_from : (queue : ℕ) (freezes : List Freeze) (greatest : ℕ) → meets_limit queue freezes greatest ≡ false → HasRoom queue freezes greatest
+room_from queue freezes greatest e =
+    let outer = or_parts _ _ e in
+    let inner = or_parts _ _ outer.0 in
+    record { a_queue = leb-false _ _ inner.0; ledger = leb-false _ _ inner.1; numbers = leb-false _ _ outer.1 }
+
+-- what the limits of freezes speak of
+abbrev FreezesWithin : Setup → List Freeze → ℕ → Type 0
+FreezesWithin setup freezes greatest = FreezeLimits setup (record (opening setup) { freezes = freezes; greatest_freeze = greatest })
+
+freezes_from : (setup : Setup) (world : World) (freezes : List Freeze) (greatest : ℕ) → world.freezes ≡ freezes → world.greatest_freeze ≡ greatest → FreezesWithin setup freezes greatest → FreezeLimits setup world
+freezes_from setup world freezes greatest e g kept =
+    record {
+      queues = λ agreed. rw e (kept.queues agreed);
+      a_queue = λ q. rw e (kept.a_queue q);
+      ledger = rw e kept.ledger;
+      numbered = rw (e, g) kept.numbered;
+      numbers = rw g kept.numbers;
+    }
+
+pub freezes_kept : (setup : Setup) (before : World) (event : Event) (after : World) → FreezeMove setup before event after → FreezeLimits setup before → FreezeLimits setup after
+freezes_kept setup before event after (freezes_stay e g) kept =
+    freezes_from setup after before.freezes before.greatest_freeze e g (record { queues = kept.queues; a_queue = kept.a_queue; ledger = kept.ledger; numbered = kept.numbered; numbers = kept.numbers })
+freezes_kept setup before event after (freeze_enters queue holder known full e g comes) kept =
+    let f : Freeze = record { number = before.greatest_freeze + 1; queue = record { 0 = queue }; holder = holder } in
+    let room = room_from queue before.freezes before.greatest_freeze full in
+    let one_more : (q : ℕ) → frozen q before.freezes + cond {A = ℕ} (eqb queue q) 1 0 ≤ 255 = λ q. elim (cases_eq queue q) [
+      | inl same ↦ let here : frozen q before.freezes < 255 = subst (λ (x : ℕ). frozen x before.freezes < 255) same room.a_queue in rw (eq-eqb queue q same) (omega arith)
+      | inr apart ↦ rw (ne_eqb queue q apart) (omega (arith, kept.a_queue q))
+    ] in
+    freezes_from setup after (before.freezes ++ f ∷ []) (before.greatest_freeze + 1) e g (record {
+      queues = λ agreed. All-push (λ (x : Freeze). x.queue.0 < queue_count setup) before.freezes f (kept.queues agreed) (known agreed);
+      a_queue = λ q. omega (arith, frozen_push q before.freezes f, one_more q);
+      ledger = omega (arith, room.ledger, length-append before.freezes (f ∷ []));
+      numbered = rising_push freeze_key 0 before.freezes before.greatest_freeze f kept.numbered refl;
+      numbers = omega (arith, room.numbers);
+    })
+freezes_kept setup before event after (freezes_leave gone e g from) kept =
+    let stays : Freeze → Bool = λ x. not (gone x) in
+    freezes_from setup after (filter stays before.freezes) before.greatest_freeze e g (record {
+      queues = λ agreed. All-filter stays (λ (x : Freeze). x.queue.0 < queue_count setup) before.freezes (kept.queues agreed);
+      a_queue = λ q. omega (arith, kept.a_queue q, count_filter freeze_key (names q) stays before.freezes);
+      ledger = omega (arith, kept.ledger, length-filter stays before.freezes, count_by-le-length stays before.freezes);
+      numbered = rising_filter freeze_key stays 0 before.freezes before.greatest_freeze kept.numbered;
+      numbers = kept.numbers;
+    })
+freezes_kept setup before event after (freeze_changes old new found queue_is e g hands) kept =
+    let named : (q : ℕ) → names q new ≡ names q old = λ q. ap (λ (x : QueueId). eqb x.0 q) queue_is in
+    freezes_from setup after (put freeze_key new before.freezes) before.greatest_freeze e g (record {
+      queues = λ agreed.
+          let known : new.queue.0 < queue_count setup = rw queue_is (all_found freeze_key (λ (x : Freeze). x.queue.0 < queue_count setup) new.number before.freezes old (kept.queues agreed) found) in
+          all_put freeze_key (λ (x : Freeze). x.queue.0 < queue_count setup) new before.freezes known (kept.queues agreed);
+      a_queue = λ q. omega (arith, kept.a_queue q, count_put freeze_key (names q) 0 before.freezes before.greatest_freeze new old kept.numbered found, ap (λ (b : Bool). cond {A = ℕ} b 1 0) (named q));
+      ledger = omega (arith, kept.ledger, put_length freeze_key new before.freezes);
+      numbered = rw (put_keys freeze_key new before.freezes) kept.numbered;
+      numbers = kept.numbers;
+    })
+
+-- what the limits of CCBs speak of
+abbrev CcbsWithin : Setup → List LiveCcb → ℕ → Type 0
+CcbsWithin setup live greatest = CcbLimits setup (record (opening setup) { live = live; greatest_ccb = greatest })
+
+ccbs_from : (setup : Setup) (world : World) (live : List LiveCcb) (greatest : ℕ) → world.live ≡ live → world.greatest_ccb ≡ greatest → CcbsWithin setup live greatest → CcbLimits setup world
+ccbs_from setup world live greatest e g kept =
+    record {
+      queues = rw e kept.queues;
+      a_queue = λ q. rw e (kept.a_queue q);
+      all = rw e kept.all;
+      rising = rw (e, g) kept.rising;
+      numbers = rw g kept.numbers;
+    }
+
+-- below every limit of CCBs
+record CcbRoom (queue : ℕ) (world : World) : Type 0 where
+  a_queue : live_count queue world.live < 256
+  all : length world.live < 4096
+  numbers : world.greatest_ccb < 4294967295
+
+ccb_room : (queue : ℕ) (world : World) → ccb_meets_limit queue world ≡ false → CcbRoom queue world
+ccb_room queue world e =
+    let outer = or_parts _ _ e in
+    let inner = or_parts _ _ outer.0 in
+    record { a_queue = leb-false _ _ inner.0; all = leb-false _ _ inner.1; numbers = leb-false _ _ outer.1 }
+
+pub ccbs_kept : (setup : Setup) (before : World) (event : Event) (reply : Reply) (after : World) → CcbMove setup before event reply after → CcbLimits setup before → CcbLimits setup after
+ccbs_kept setup before event reply after (ccbs_stay e g unended) kept =
+    ccbs_from setup after before.live before.greatest_ccb e g (record { queues = kept.queues; a_queue = kept.a_queue; all = kept.all; rising = kept.rising; numbers = kept.numbers })
+ccbs_kept setup before event reply after (ccb_enters queue priority retries known full e g unended) kept =
+    let c : LiveCcb = record { ccb = submitted (record { 0 = before.greatest_ccb + 1 }) (record { 0 = queue }) priority retries; state = Waiting } in
+    let room = ccb_room queue before full in
+    let one_more : (q : ℕ) → live_count q before.live + cond {A = ℕ} (eqb queue q) 1 0 ≤ 256 = λ q. elim (cases_eq queue q) [
+      | inl same ↦ let here : live_count q before.live < 256 = subst (λ (x : ℕ). live_count x before.live < 256) same room.a_queue in rw (eq-eqb queue q same) (omega arith)
+      | inr apart ↦ rw (ne_eqb queue q apart) (omega (arith, kept.a_queue q))
+    ] in
+    ccbs_from setup after (before.live ++ c ∷ []) (before.greatest_ccb + 1) e g (record {
+      queues = All-push (λ (x : LiveCcb). x.ccb.queue.0 < queue_count setup) before.live c kept.queues known;
+      a_queue = λ q. omega (arith, sum_by_push (λ (x : LiveCcb). cond (is_of q x) 1 0) before.live c, one_more q);
+      all = omega (arith, room.all, length-append before.live (c ∷ []));
+      rising = rising_push ccb_key 0 before.live before.greatest_ccb c kept.rising refl;
+      numbers = omega (arith, room.numbers);
+    })
+ccbs_kept setup before event reply after (ccb_changes old new found queue_is active_or_not may e g unended) kept =
+    let of_old : (q : ℕ) → is_of q new ≡ is_of q old = λ q. ap (λ (x : ℕ). eqb x q) queue_is in
+    let known : new.ccb.queue.0 < queue_count setup = rw queue_is (all_found ccb_key (λ (x : LiveCcb). x.ccb.queue.0 < queue_count setup) new.ccb.number.0 before.live old kept.queues found) in
+    let moved : (p : LiveCcb → Bool) → count_by p (with_ccb new before.live) + cond (p old) 1 0 ≡ count_by p before.live + cond (p new) 1 0 = λ p.
+    count_put ccb_key p 0 before.live before.greatest_ccb new old kept.rising found in
+    ccbs_from setup after (with_ccb new before.live) before.greatest_ccb e g (record {
+      queues = all_put ccb_key (λ (x : LiveCcb). x.ccb.queue.0 < queue_count setup) new before.live known kept.queues;
+      a_queue = λ q.
+          let same : cond {A = ℕ} (is_of q new) 1 0 ≡ cond (is_of q old) 1 0 = ap (λ (b : Bool). cond {A = ℕ} b 1 0) (of_old q) in
+          omega (arith, moved (is_of q), same, kept.a_queue q);
+      all = omega (arith, put_length ccb_key new before.live, kept.all);
+      rising = rw (put_keys ccb_key new before.live) kept.rising;
+      numbers = kept.numbers;
+    })
+ccbs_kept setup before event reply after (ccb_leaves number code old found may e g one) kept =
+    ccbs_from setup after (leave ccb_key number before.live) before.greatest_ccb e g (record {
+      queues = All-filter (λ (x : LiveCcb). not (eqb x.ccb.number.0 number)) (λ (x : LiveCcb). x.ccb.queue.0 < queue_count setup) before.live kept.queues;
+      a_queue = λ q. omega (arith, kept.a_queue q, count_leave ccb_key (is_of q) before.live number);
+      all = omega (arith, kept.all, length-filter (λ (x : LiveCcb). not (eqb x.ccb.number.0 number)) before.live, count_by-le-length (λ (x : LiveCcb). not (eqb x.ccb.number.0 number)) before.live);
+      rising = rising_leave ccb_key 0 before.live before.greatest_ccb number kept.rising;
+      numbers = kept.numbers;
+    })
+
+-- what the limits of runs speak of
+abbrev RunsWithin : Setup → List LiveRun → ℕ → Type 0
+RunsWithin setup runs greatest = RunLimits setup (record (opening setup) { runs = runs; greatest_run = greatest })
+
+runs_from : (setup : Setup) (world : World) (runs : List LiveRun) (greatest : ℕ) → world.runs ≡ runs → world.greatest_run ≡ greatest → RunsWithin setup runs greatest → RunLimits setup world
+runs_from setup world runs greatest e g kept =
+    record { queues = rw e kept.queues; programs = rw e kept.programs; all = rw e kept.all; rising = rw (e, g) kept.rising; numbers = rw g kept.numbers }
+
+abbrev IsKnown : Setup → LiveRun → Type 0
+IsKnown setup run = run.queue < queue_count setup
+
+abbrev IsOfProgram : Setup → LiveRun → Type 0
+IsOfProgram setup run = run.program ≡ (queue_setup setup run.queue).program
+
+pub runs_kept : (setup : Setup) (before : World) (event : Event) (reply : Reply) (after : World) → RunMove setup before event reply after → RunLimits setup before → RunLimits setup after
+runs_kept setup before event reply after (runs_stay e g quiet) kept =
+    runs_from setup after before.runs before.greatest_run e g (record { queues = kept.queues; programs = kept.programs; all = kept.all; rising = kept.rising; numbers = kept.numbers })
+runs_kept setup before event reply after (run_enters run begins known full g) kept =
+    let number : run.number ≡ before.greatest_run + 1 = ap (λ (r : LiveRun). r.number) begins.run_is in
+    let program : IsOfProgram setup run = ap (λ (r : LiveRun). r.program) begins.run_is ∙ sym (ap (λ (r : LiveRun). (queue_setup setup r.queue).program) begins.run_is) in
+    let parts = or_parts _ _ full in
+    let most : length before.runs < 256 = leb-false _ _ parts.0 in
+    let left : before.greatest_run < 4294967295 = leb-false _ _ parts.1 in
+    runs_from setup after (before.runs ++ run ∷ []) (before.greatest_run + 1) begins.runs_is g (record {
+      queues = All-push (IsKnown setup) before.runs run kept.queues known;
+      programs = All-push (IsOfProgram setup) before.runs run kept.programs program;
+      all = omega (arith, most, length-append before.runs (run ∷ []));
+      rising = rising_push run_key 0 before.runs before.greatest_run run kept.rising number;
+      numbers = omega (arith, left);
+    })
+runs_kept setup before event reply after (run_changes old new found queue_is program_is e g quiet its) kept =
+    let known : IsKnown setup old = all_found run_key (IsKnown setup) new.number before.runs old kept.queues found in
+    let program : IsOfProgram setup old = all_found run_key (IsOfProgram setup) new.number before.runs old kept.programs found in
+    runs_from setup after (put run_key new before.runs) before.greatest_run e g (record {
+      queues = all_put run_key (IsKnown setup) new before.runs (rw queue_is known) kept.queues;
+      programs = all_put run_key (IsOfProgram setup) new before.runs (rw (queue_is, program_is) program) kept.programs;
+      all = omega (arith, put_length run_key new before.runs, kept.all);
+      rising = rw (put_keys run_key new before.runs) kept.rising;
+      numbers = kept.numbers;
+    })
+runs_kept setup before event reply after (run_leaves run found e g quiet its) kept =
+    runs_from setup after (leave run_key run.number before.runs) before.greatest_run e g (record {
+      queues = All-filter (λ (x : LiveRun). not (eqb x.number run.number)) (IsKnown setup) before.runs kept.queues;
+      programs = All-filter (λ (x : LiveRun). not (eqb x.number run.number)) (IsOfProgram setup) before.runs kept.programs;
+      all = omega (arith, kept.all, length-filter (λ (x : LiveRun). not (eqb x.number run.number)) before.runs, count_by-le-length (λ (x : LiveRun). not (eqb x.number run.number)) before.runs);
+      rising = rising_leave run_key 0 before.runs before.greatest_run run.number kept.rising;
+      numbers = kept.numbers;
+    })
+
+-- the limits of the lists
+pub case_keeps : (setup : Setup) (before : World) (event : Event) (reply : Reply) (after : World) → Case setup before event reply after → KeepsLists setup before → KeepsLists setup after
+case_keeps setup before event reply after it kept =
+    let effect = effect_of setup before event reply after kept it in
+    record {
+      freezes = freezes_kept setup before event after effect.freezes kept.freezes;
+      ccbs = ccbs_kept setup before event reply after effect.ccbs kept.ccbs;
+      runs = runs_kept setup before event reply after effect.runs kept.runs;
+    }
+
+pub step_keeps : (setup : Setup) (before : World) (event : Event) (reply : Reply) (after : World) → WorldStep setup before event reply after → KeepsLists setup before → KeepsLists setup after
+step_keeps setup before event reply after e kept = case_keeps setup before event reply after (case_of setup before event reply after e) kept
+
+-- and all limits
+pub case_keeps_limits : (setup : Setup) (before : World) (event : Event) (reply : Reply) (after : World) → Case setup before event reply after → KeepsLimits setup before → KeepsLimits setup after
+case_keeps_limits setup before event reply after it kept =
+    let lists = case_keeps setup before event reply after it (lists_of kept) in
+    record {
+      freezes = lists.freezes;
+      ccbs = lists.ccbs;
+      runs = lists.runs;
+      answers = answers_kept setup before after (effect_of setup before event reply after (lists_of kept) it).answers kept.answers;
+    }
+
+pub opening_keeps : (setup : Setup) → KeepsLists setup (opening setup)
+opening_keeps setup =
+    record {
+      freezes = record { queues = λ agreed k d below. absurd (omega arith); a_queue = λ q. omega arith; ledger = omega arith; numbered = omega arith; numbers = omega arith };
+      ccbs = record { queues = λ k d below. absurd (omega arith); a_queue = λ q. omega arith; all = omega arith; rising = omega arith; numbers = omega arith };
+      runs = record { queues = λ k d below. absurd (omega arith); programs = λ k d below. absurd (omega arith); all = omega arith; rising = omega arith; numbers = omega arith };
+    }
+
+pub opening_keeps_limits : (setup : Setup) → IsLawful setup → KeepsLimits setup (opening setup)
+opening_keeps_limits setup lawful =
+    let lists = opening_keeps setup in
+    record { freezes = lists.freezes; ccbs = lists.ccbs; runs = lists.runs; answers = opening_answers setup lawful }

@@ -1,0 +1,141 @@
+-- Worked rows of helpers 6, 7, 8, 11 and 12: words that runs share, the clock that is told, and openings that a run sets.
+use Rattle.std.proofs.Common.{◌≡◌, ℕ, pos, true, false, List, [], ◌∷◌, Some, None, refl}
+use Rattle.bpf_insn.specs.declared.insn.Insn.TheVariants.{Call}
+use Rattle.bpf_insn.specs.declared.insn.Callee.TheVariants.{Helper}
+use Rattle.bpf_insn.specs.declared.program.Slot.TheVariants.{First}
+use Rattle.bpf_semantics.specs.MachineState.{unwritten_frame}
+use Rattle.helpers.specs.declared.helper.Helper.{Helper as HelperName}
+use Rattle.helpers.specs.declared.helper.Helper.TheVariants as helpers
+use Rattle.world.specs.declared.call_refusal.CallRefusal.TheVariants.{NoOpening, NothingWaits}
+use Rattle.world.specs.declared.ccb_state.CcbState.TheVariants.{Waiting, Active, InRecovery}
+use Rattle.world.specs.World.{Setup, LiveRun, World, opening}
+use Rattle.world.specs.Told.{plain}
+use Rattle.world.specs.Event.{call, Event, dispatch, executes, clock_reads, ccb_given, result, refused}
+use Rattle.world.specs.Step.{step}
+use Rattle.world_laws.proofs.Rows.Worked.{two_queues, with_freezes, ccb_in, next, answer}
+
+-- two queues, a table of two words and one of three
+abbrev setup : Setup
+setup = two_queues (record { queues = 2; table_lengths = 2 ∷ 3 ∷ [] })
+
+-- at the opening all words are 0
+all_zero : (opening setup).tables ≡ (0 ∷ 0 ∷ []) ∷ (0 ∷ 0 ∷ 0 ∷ []) ∷ []
+all_zero = refl
+
+-- the run of queue 0 stands at a call of this helper with these arguments
+abbrev run_at : ℕ → ℕ → ℕ → ℕ → ℕ → LiveRun
+run_at number helper first second third = record {
+  number = number;
+  ccb = 1;
+  queue = 0;
+  program = First (Call (Helper (pos helper))) ∷ [];
+  machine = record {
+    place = 0;
+    registers = None ∷ Some first ∷ Some second ∷ Some third ∷ None ∷ None ∷ None ∷ None ∷ None ∷ None ∷ None ∷ [];
+    frames = unwritten_frame ∷ [];
+    open_calls = [];
+    context = [];
+    held = [];
+    disposed = false;
+  };
+  out = true;
+}
+
+-- these runs are live, with these tables, and the clock is at 1000
+abbrev with_runs : List LiveRun → List (List ℕ) → World
+with_runs runs tables = record (with_freezes [] 0) {
+  live = ccb_in 1 5 InRecovery ∷ [];
+  runs = runs;
+  openings = 2 ∷ 2 ∷ [];
+  tables = tables;
+  greatest_ccb = 1;
+  greatest_run = 2;
+  clock = 1000;
+}
+
+abbrev asks : ℕ → HelperName → Event
+asks run helper = executes run (call (plain helper))
+
+-- A word that one run writes another reads, and the writer is told the old one.
+
+abbrev before_put : World
+before_put = with_runs (run_at 1 7 1 2 77 ∷ run_at 2 6 1 2 0 ∷ []) ((5 ∷ 6 ∷ []) ∷ (7 ∷ 8 ∷ 9 ∷ []) ∷ [])
+
+old_word : answer setup before_put (asks 1 helpers.TablePut) ≡ Some (result 9)
+old_word = refl
+
+one_word : (next setup before_put (asks 1 helpers.TablePut)).tables ≡ (5 ∷ 6 ∷ []) ∷ (7 ∷ 8 ∷ 77 ∷ []) ∷ []
+one_word = refl
+
+read_before : answer setup before_put (asks 2 helpers.TableGet) ≡ Some (result 9)
+read_before = refl
+
+read_after : answer setup (next setup before_put (asks 1 helpers.TablePut)) (asks 2 helpers.TableGet) ≡ Some (result 77)
+read_after = refl
+
+reading_leaves_it : (next setup before_put (asks 2 helpers.TableGet)).tables ≡ before_put.tables
+reading_leaves_it = refl
+
+-- A word that grows is told as it is then, modulo 2^64.
+
+abbrev before_add : World
+before_add = with_runs (run_at 1 8 0 1 2 ∷ []) ((5 ∷ 18446744073709551615 ∷ []) ∷ (7 ∷ 8 ∷ 9 ∷ []) ∷ [])
+
+it_wraps : answer setup before_add (asks 1 helpers.TableAdd) ≡ Some (result 1)
+it_wraps = refl
+
+wrapped : (next setup before_add (asks 1 helpers.TableAdd)).tables ≡ (5 ∷ 1 ∷ []) ∷ (7 ∷ 8 ∷ 9 ∷ []) ∷ []
+wrapped = refl
+
+it_grows : answer setup (with_runs (run_at 1 8 1 0 3 ∷ []) before_add.tables) (asks 1 helpers.TableAdd) ≡ Some (result 10)
+it_grows = refl
+
+-- there is no table 2, and no third word of the first
+no_table : step setup (with_runs (run_at 1 6 2 0 0 ∷ []) before_add.tables) (asks 1 helpers.TableGet) ≡ None
+no_table = refl
+
+no_word : step setup (with_runs (run_at 1 7 0 2 0 ∷ []) before_add.tables) (asks 1 helpers.TablePut) ≡ None
+no_word = refl
+
+-- The clock is told as it read last.
+
+clock_told : answer setup (with_runs (run_at 1 11 0 0 0 ∷ []) []) (asks 1 helpers.Now) ≡ Some (result 1000)
+clock_told = refl
+
+after_a_reading : answer setup (next setup (with_runs (run_at 1 11 0 0 0 ∷ []) []) (clock_reads 1500)) (asks 1 helpers.Now) ≡ Some (result 1500)
+after_a_reading = refl
+
+-- A run sets the openings of its own queue, and is told how many there were.
+
+abbrev two_active : World
+two_active = record (with_runs (run_at 1 12 1 0 0 ∷ []) []) { live = ccb_in 1 5 InRecovery ∷ ccb_in 2 5 Active ∷ ccb_in 3 5 Active ∷ ccb_in 4 5 Waiting ∷ []; openings = 3 ∷ 2 ∷ []; greatest_ccb = 4 }
+
+old_openings : answer setup two_active (asks 1 helpers.SetOpenings) ≡ Some (result 3)
+old_openings = refl
+
+its_own_queue : (next setup two_active (asks 1 helpers.SetOpenings)).openings ≡ 1 ∷ 2 ∷ []
+its_own_queue = refl
+
+-- below the active ones they stop the next start, and nothing else: what is active stays so
+one_more_starts : answer setup two_active (dispatch 0) ≡ Some (ccb_given 4)
+one_more_starts = refl
+
+no_start : answer setup (next setup two_active (asks 1 helpers.SetOpenings)) (dispatch 0) ≡ Some (refused NoOpening)
+no_start = refl
+
+all_stay : (next setup two_active (asks 1 helpers.SetOpenings)).live ≡ two_active.live
+all_stay = refl
+
+-- another queue has its own
+other_queue : answer setup (next setup two_active (asks 1 helpers.SetOpenings)) (dispatch 1) ≡ Some (refused NothingWaits)
+other_queue = refl
+
+-- 1 to 255 are openings
+most : (next setup (with_runs (run_at 1 12 255 0 0 ∷ []) []) (asks 1 helpers.SetOpenings)).openings ≡ 255 ∷ 2 ∷ []
+most = refl
+
+too_many : step setup (with_runs (run_at 1 12 256 0 0 ∷ []) []) (asks 1 helpers.SetOpenings) ≡ None
+too_many = refl
+
+not_none : step setup (with_runs (run_at 1 12 0 0 0 ∷ []) []) (asks 1 helpers.SetOpenings) ≡ None
+not_none = refl

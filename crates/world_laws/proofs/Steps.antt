@@ -1,0 +1,9 @@
+-- One step of the world: its cases, what the calls of helpers do, what it does to each list, and what it makes of one run.
+pub mod Running
+pub mod Rules
+pub mod Calls
+pub mod Cases
+pub mod Effects
+pub mod Private
+pub mod Fates
+pub mod Beginnings

@@ -1,0 +1,240 @@
+-- What a step makes of one run: it stands, and may be parked or out again, goes on by an instruction of its own, or is
+-- gone; and which run is new.
+use Rattle.std.proofs.Common.{◌≡◌, ℕ, ◌+◌, ◌<◌, ◌≤◌, List, [], ◌∷◌, ◌++◌, Bool, true, false, not, cond, eqb, Some, None, inl, inr, refl, ap, sym, subst, ◌∙◌, arith}
+use Rattle.std.specs.Prelude.{◌&&◌}
+use Rattle.std.proofs.lemmas.Bool.{cases_eq, cond-true, cond-false, eq-eqb, ne_eqb, and_from, not_from_false}
+use Rattle.freeze_ledger.specs.declared.freeze.Holder.TheVariants.{Run, Timer}
+use Rattle.freeze_ledger.specs.declared.freeze.Freeze.{Freeze}
+use Rattle.freeze_ledger.specs.Freezes.{entry_of, without}
+use Rattle.helpers.specs.declared.request.Request.{Request}
+use Rattle.helpers.specs.declared.request.Request.TheVariants.{Freeze as FreezeQueue, Release, ReleaseAfter}
+use Rattle.helpers.specs.declared.request.Answer.{Answer}
+use Rattle.helpers.specs.Table.{answer_number}
+use Rattle.bpf_semantics.specs.MachineState.{MachineState}
+use Rattle.bpf_semantics.specs.Calls.{is_held}
+use Rattle.bpf_semantics.specs.Step.{request_at, exit_at, IsAnswer, held_without, answered}
+use Rattle.bpf_semantics.specs.Reached.{Steps}
+use Rattle.world.specs.FreezeSteps.{frozen_with}
+use Rattle.world.specs.World.{Setup, queue_count, LiveRun, World}
+use Rattle.world.specs.Lookups.{run_of, with_run}
+use Rattle.world.specs.Told.{told_of}
+use Rattle.world.specs.Event.{Instruction, private, call, exit, Event, executes, instruction_of, Reply, result}
+use Rattle.world.specs.RunSteps.{is_run}
+use Rattle.world.specs.FreezeLaws.{entries_of, held_by, HoldsWhatEntriesSay}
+use Rattle.world.specs.TookGave.{taken_by, asked, given_up}
+use Rattle.world.specs.Headline.{is_disposing, is_disposal, is_exit}
+use Rattle.world.specs.Limits.{FreezeLimits, AnswerLimits, KeepsLimits}
+use Rattle.world.proofs.Lists.Found.{leave, found_key, found_push, put_same, put_other, leave_same, leave_other}
+use Rattle.world.proofs.Lists.Each.{all_found}
+use Rattle.world.proofs.Lists.Entries.{freeze_key, frozen_without, entry_bounds, handed_is_put}
+use Rattle.world.proofs.Lists.HeldBy.{entries_put, none_above}
+use Rattle.world_laws.proofs.Kept.{room_from}
+use Rattle.world_laws.proofs.Steps.Running.{Executes}
+use Rattle.world_laws.proofs.Steps.Calls.{FreezeDeed, leaves_freezes, takes_one, gives_one_back, hands_one_over, CcbDeed, leaves_ccbs, requeues_one, ends_one, Asks}
+use Rattle.world_laws.proofs.Steps.Cases.{Case, refuses, submits, dispatches, finishes_one, recovers_one, recovers_unfrozen, freezes_one, releases_one, reads_clock, Turns, turns_one, goes_on_one, asks_one, exits}
+use Rattle.world.proofs.Steps.Moves.{run_key, Begins}
+use Rattle.world_laws.proofs.Steps.Effects.{its_instruction, not_others, call_runs, call_takes}
+use Rattle.world_laws.proofs.Steps.Private.{private_keeps}
+
+-- the run that a run becomes, with this machine
+abbrev pub machine_of : LiveRun → MachineState → LiveRun
+machine_of run machine = record run { machine = machine }
+
+-- and as it is out, or parked
+abbrev pub turned : LiveRun → Bool → LiveRun
+turned run out = record run { out = out }
+
+-- What an instruction by which a run goes on does to the freezes that the run holds: nothing, or the run takes one, or one
+-- of them goes or gets another holder.
+pub data Holding (before : World) (event : Event) (reply : Reply) (after : World) (number : ℕ) (run : LiveRun) (instruction : Instruction) (machine : MachineState) : Type 0 where
+  holds_the_same : machine.held ≡ run.machine.held → after.freezes ≡ before.freezes → given_up (Some instruction) (request_at run.program run.machine) ≡ [] → taken_by number event reply ≡ [] → Holding before event reply after number run instruction machine
+  holds_one_more : (freeze : Freeze) → freeze.number ≡ before.greatest_freeze + 1 → is_run number freeze.holder ≡ true → machine.held ≡ run.machine.held ++ freeze.number ∷ [] → after.freezes ≡ before.freezes ++ freeze ∷ [] → after.greatest_freeze ≡ before.greatest_freeze + 1 → given_up (Some instruction) (request_at run.program run.machine) ≡ [] → taken_by number event reply ≡ freeze.number ∷ [] → Holding before event reply after number run instruction machine
+  holds_one_fewer : (wanted : ℕ) (freeze : Freeze) → entry_of wanted before.freezes ≡ Some freeze → is_run number freeze.holder ≡ true → machine.held ≡ held_without run.machine.held wanted → entries_of number after.freezes ≡ entries_of number (without wanted before.freezes) → given_up (Some instruction) (request_at run.program run.machine) ≡ wanted ∷ [] → taken_by number event reply ≡ [] → Holding before event reply after number run instruction machine
+
+-- And to its CCB: nothing, or the run disposes of it.
+pub data Disposing (before after : World) (run : LiveRun) (instruction : Instruction) (machine : MachineState) : Type 0 where
+  leaves_its_ccb : machine.disposed ≡ run.machine.disposed → after.live ≡ before.live → is_disposal (Some instruction) ≡ false → Disposing before after run instruction machine
+  disposes_of_it : run.machine.disposed ≡ false → machine.disposed ≡ true → is_disposal (Some instruction) ≡ true → Disposing before after run instruction machine
+
+pub data Fate (before : World) (event : Event) (reply : Reply) (after : World) (number : ℕ) (run : LiveRun) : Type 0 where
+  stands : (out : Bool) → instruction_of number event ≡ None → run_of number after.runs ≡ Some (turned run out) → Fate before event reply after number run
+  goes : (instruction : Instruction) (machine : MachineState) → instruction_of number event ≡ Some instruction → is_exit (Some instruction) ≡ false → Steps run.program run.machine machine → run_of number after.runs ≡ Some (machine_of run machine) → Holding before event reply after number run instruction machine → Disposing before after run instruction machine → Fate before event reply after number run
+  leaves_world : (r0 : ℕ) → instruction_of number event ≡ Some exit → exit_at run.program run.machine ≡ Some r0 → run_of number after.runs ≡ None → taken_by number event reply ≡ [] → Fate before event reply after number run
+
+-- two runs of one number are one
+pub same_run : (runs : List LiveRun) (n m : ℕ) (a b : LiveRun) → n ≡ m → run_of n runs ≡ Some a → run_of m runs ≡ Some b → a ≡ b
+same_run runs n m a b e first second =
+    let both : Some a ≡ Some b = sym first ∙ (ap (λ (k : ℕ). run_of k runs) e ∙ second) in cc
+
+-- a run that is changed in its place
+pub changed_same : (runs later : List LiveRun) (number : ℕ) (run new : LiveRun) → new.number ≡ run.number → run_of number runs ≡ Some run → later ≡ with_run new runs → run_of number later ≡ Some new
+changed_same runs later number run new same found e =
+    let named : new.number ≡ number = same ∙ found_key run_key number runs run found in
+    ap (run_of number) e
+    ∙ subst (λ (n : ℕ). run_of n (with_run new runs) ≡ Some new) named
+    (put_same run_key new runs run (subst (λ (n : ℕ). run_of n runs ≡ Some run) (sym named) found))
+
+changed_other : (runs later : List LiveRun) (number : ℕ) (new : LiveRun) → later ≡ with_run new runs → (new.number ≡ number → ⊥) → run_of number later ≡ run_of number runs
+changed_other runs later number new e apart = ap (run_of number) e ∙ put_other run_key new number runs apart
+
+-- the count after a release is at most 254
+pub count_after : (setup : Setup) (before : World) (number : ℕ) (freeze : Freeze) → FreezeLimits setup before → entry_of number before.freezes ≡ Some freeze → frozen_with freeze (without freeze.number before.freezes) ≤ 254
+count_after setup before number freeze kept entry =
+    let is = entry_bounds 0 before.freezes before.greatest_freeze number freeze kept.numbered entry in
+    let fewer = frozen_without freeze.queue.0 0 before.freezes before.greatest_freeze freeze.number freeze kept.numbered (subst (λ (n : ℕ). entry_of n before.freezes ≡ Some freeze) (sym is.0) entry) in
+    let one : cond {A = ℕ} (eqb freeze.queue.0 freeze.queue.0) 1 0 ≡ 1 = ap (λ (b : Bool). cond {A = ℕ} b 1 0) (eq-eqb freeze.queue.0 freeze.queue.0 refl) in
+    omega (arith, fewer, one, kept.a_queue freeze.queue.0)
+
+-- the runs are as they were
+unchanged : (before : World) (event : Event) (reply : Reply) (after : World) (number : ℕ) (run : LiveRun) → run_of number before.runs ≡ Some run → instruction_of number event ≡ None → after.runs ≡ before.runs → Fate before event reply after number run
+unchanged before event reply after number run found idle e = stands run.out idle (ap (run_of number) e ∙ found)
+
+-- a run goes on, and the others stand
+one_goes : (before : World) (event : Event) (reply : Reply) (after : World) (instruction : Instruction) (it : Executes before event instruction) (machine : MachineState) → after.runs ≡ with_run (machine_of it.run machine) before.runs → is_exit (Some instruction) ≡ false → Steps it.run.program it.run.machine machine → Holding before event reply after it.number it.run instruction machine → Disposing before after it.run instruction machine → (number : ℕ) (run : LiveRun) → run_of number before.runs ≡ Some run → Fate before event reply after number run
+one_goes before event reply after instruction it machine runs_is no_exit steps holding disposing number run found =
+    let named : it.run.number ≡ it.number = found_key run_key it.number before.runs it.run it.found in
+    elim (cases_eq it.number number) [
+      | inl its ↦
+          let same : it.run ≡ run = same_run before.runs it.number number it.run run its it.found found in
+          let own : Fate before event reply after it.number it.run =
+          goes instruction machine (its_instruction before event instruction it) no_exit steps (changed_same before.runs after.runs it.number it.run (machine_of it.run machine) refl it.found runs_is) holding disposing in
+          subst (λ (n : ℕ). Fate before event reply after n run) its (subst (λ (r : LiveRun). Fate before event reply after it.number r) same own)
+      | inr apart ↦
+          stands run.out (not_others before event instruction number it apart)
+          (changed_other before.runs after.runs number (machine_of it.run machine) runs_is (λ e. apart (sym named ∙ e)) ∙ found)
+    ]
+
+-- a run is parked, or out again, and the others stand
+one_turns : (before : World) (event : Event) (reply : Reply) (after : World) (it : Turns before event reply after) (number : ℕ) (run : LiveRun) → run_of number before.runs ≡ Some run → Fate before event reply after number run
+one_turns before event reply after it number run found =
+    let named : it.run.number ≡ it.number = found_key run_key it.number before.runs it.run it.found in
+    let runs_is : after.runs ≡ with_run (turned it.run it.out) before.runs = ap (λ (w : World). w.runs) it.after_is in
+    elim (cases_eq it.number number) [
+      | inl its ↦
+          let same : it.run ≡ run = same_run before.runs it.number number it.run run its it.found found in
+          let own : Fate before event reply after it.number it.run =
+          stands it.out (it.idle it.number) (changed_same before.runs after.runs it.number it.run (turned it.run it.out) refl it.found runs_is) in
+          subst (λ (n : ℕ). Fate before event reply after n run) its (subst (λ (r : LiveRun). Fate before event reply after it.number r) same own)
+      | inr apart ↦ stands run.out (it.idle number) (changed_other before.runs after.runs number (turned it.run it.out) runs_is (λ e. apart (sym named ∙ e)) ∙ found)
+    ]
+
+-- Calls of helpers.
+
+-- the answer is one that the run may get
+call_allowed : (setup : Setup) (before : World) (run : LiveRun) (request : Request) (given : Answer) (between : World) → FreezeLimits setup before → AnswerLimits setup before → run.queue < queue_count setup → run.machine.held ≡ held_by run.number before.freezes → FreezeDeed setup before run request given between → IsAnswer run.machine request given
+call_allowed setup before run request given between kept answers known held (leaves_freezes deed) = deed.allowed answers known
+call_allowed setup before run request given between kept answers known held (takes_one deed) =
+    let room = room_from deed.queue before.freezes before.greatest_freeze deed.room in
+    let fresh : is_held run.machine.held (before.greatest_freeze + 1) ≡ false =
+    ap (λ (ns : List ℕ). is_held ns (before.greatest_freeze + 1)) held ∙ none_above run.number (before.greatest_freeze + 1) before.freezes before.greatest_freeze kept.numbered (omega arith) in
+    rw (deed.request_is, deed.given_is) (inr (omega arith, omega (arith, room.numbers), fresh))
+call_allowed setup before run request given between kept answers known held (gives_one_back deed) =
+    let named : deed.freeze.number ≡ deed.number = found_key freeze_key deed.number before.freezes deed.freeze deed.entry in
+    rw (deed.request_is, deed.given_is) (subst (λ (n : ℕ). frozen_with deed.freeze (without n before.freezes) ≤ 254) named (count_after setup before deed.number deed.freeze kept deed.entry))
+call_allowed setup before run request given between kept answers known held (hands_one_over deed) = rw (deed.request_is, deed.given_is) refl
+
+-- what the run holds with the answer
+call_holding : (setup : Setup) (before : World) (event : Event) (reply : Reply) (after : World) → FreezeLimits setup before → (it : Asks setup before event reply after) → FreezeDeed setup before it.it.run it.request it.given it.between → Holding before event reply after it.it.number it.it.run (call (told_of it.request)) (answered it.request it.given it.it.run.machine)
+call_holding setup before event reply after kept it = by_deed
+  where
+    number : ℕ
+    number = it.it.number
+
+    run : LiveRun
+    run = it.it.run
+
+    named : run.number ≡ number
+    named = found_key run_key number before.runs run it.it.found
+
+    freezes_is : after.freezes ≡ it.between.freezes
+    freezes_is = ap (λ (x : Reply × World). x.1.freezes) it.answer
+
+    taken_as : (request : Request) (given : Answer) → it.request ≡ request → it.given ≡ given → taken_by number event reply ≡ taken_by number (executes number (call (told_of request))) (result given.r0)
+    taken_as request given request_is given_is = call_takes setup before event reply after it number request given request_is given_is
+
+    given_as : (request : Request) → it.request ≡ request → given_up (Some (call (told_of it.request))) (request_at run.program run.machine) ≡ asked (Some request)
+    given_as request request_is = ap asked it.call_is ∙ ap (λ (r : Request). asked (Some r)) request_is
+
+    held_as : (request : Request) (given : Answer) → it.request ≡ request → it.given ≡ given → (answered it.request it.given run.machine).held ≡ (answered request given run.machine).held
+    held_as request given request_is given_is = λ i. (answered (request_is i) (given_is i) run.machine).held
+
+    by_deed : FreezeDeed setup before run it.request it.given it.between → Holding before event reply after number run (call (told_of it.request)) (answered it.request it.given run.machine)
+    by_deed (leaves_freezes deed) =
+        holds_the_same deed.held (freezes_is ∙ deed.freezes_is) (given_as it.request refl ∙ deed.keeps) (taken_as it.request it.given refl refl ∙ deed.taken number number)
+    by_deed (takes_one deed) =
+        let next : ℕ = before.greatest_freeze + 1 in
+        let above : eqb next 0 ≡ false = ne_eqb _ _ (λ e. omega (arith, e)) in
+        holds_one_more (record { number = next; queue = record { 0 = deed.queue }; holder = Run run.number }) refl (eq-eqb _ _ named)
+        (held_as (FreezeQueue deed.queue) (answer_number next) deed.request_is deed.given_is ∙ cond-false (eqb next 0) run.machine.held (run.machine.held ++ next ∷ []) above)
+        (freezes_is ∙ deed.freezes_is) (ap (λ (x : Reply × World). x.1.greatest_freeze) it.answer ∙ deed.greatest_is) (given_as (FreezeQueue deed.queue) deed.request_is)
+        (taken_as (FreezeQueue deed.queue) (answer_number next) deed.request_is deed.given_is
+        ∙ cond-true (eqb number number && not (eqb next 0)) (next ∷ []) [] (and_from (eqb number number) (not (eqb next 0)) (eq-eqb number number refl) (not_from_false _ above)))
+    by_deed (gives_one_back deed) =
+        holds_one_fewer deed.number deed.freeze deed.entry (subst (λ (n : ℕ). is_run n deed.freeze.holder ≡ true) named deed.its)
+        (held_as (Release deed.number) _ deed.request_is deed.given_is) (ap (entries_of number) (freezes_is ∙ deed.freezes_is)) (given_as (Release deed.number) deed.request_is)
+        (taken_as (Release deed.number) _ deed.request_is deed.given_is)
+    by_deed (hands_one_over deed) =
+        let due : ℕ = before.clock + deed.milliseconds in
+        let new : Freeze = record deed.freeze { holder = Timer due } in
+        let is_number : deed.freeze.number ≡ deed.number = found_key freeze_key deed.number before.freezes deed.freeze deed.entry in
+        holds_one_fewer deed.number deed.freeze deed.entry (subst (λ (n : ℕ). is_run n deed.freeze.holder ≡ true) named deed.its)
+        (held_as (ReleaseAfter deed.number deed.milliseconds) _ deed.request_is deed.given_is)
+        (ap (entries_of number) (freezes_is ∙ (deed.freezes_is ∙ handed_is_put deed.number due 0 before.freezes before.greatest_freeze deed.freeze kept.numbered deed.entry))
+        ∙ (entries_put number new before.freezes refl ∙ ap (λ (n : ℕ). entries_of number (without n before.freezes)) is_number))
+        (given_as (ReleaseAfter deed.number deed.milliseconds) deed.request_is)
+        (taken_as (ReleaseAfter deed.number deed.milliseconds) _ deed.request_is deed.given_is)
+
+-- and what becomes of its CCB
+call_disposing : (setup : Setup) (before : World) (event : Event) (reply : Reply) (after : World) → (it : Asks setup before event reply after) → CcbDeed before it.it.run it.request it.given it.between → Disposing before after it.it.run (call (told_of it.request)) (answered it.request it.given it.it.run.machine)
+call_disposing setup before event reply after it (leaves_ccbs deed) = leaves_its_ccb deed.disposed (ap (λ (x : Reply × World). x.1.live) it.answer ∙ deed.live_is) deed.calm
+call_disposing setup before event reply after it (requeues_one deed) =
+    disposes_of_it deed.its.fresh (ap (λ (r : Request). (answered r it.given it.it.run.machine).disposed) deed.request_is) (ap (λ (r : Request). is_disposing (told_of r)) deed.request_is)
+call_disposing setup before event reply after it (ends_one deed) =
+    disposes_of_it deed.its.fresh (ap (λ (r : Request). (answered r it.given it.it.run.machine).disposed) deed.request_is) (ap (λ (r : Request). is_disposing (told_of r)) deed.request_is)
+
+pub fate_of : (setup : Setup) (before : World) (event : Event) (reply : Reply) (after : World) (number : ℕ) (run : LiveRun) → KeepsLimits setup before → HoldsWhatEntriesSay before → run_of number before.runs ≡ Some run → Case setup before event reply after → Fate before event reply after number run
+fate_of setup before event reply after number run kept held found (refuses it) = unchanged before event reply after number run found (it.idle number) (ap (λ (w : World). w.runs) it.after_is)
+fate_of setup before event reply after number run kept held found (submits it) = unchanged before event reply after number run found (ap (instruction_of number) it.event_is) (ap (λ (w : World). w.runs) it.after_is)
+fate_of setup before event reply after number run kept held found (dispatches it) = unchanged before event reply after number run found (ap (instruction_of number) it.event_is) (ap (λ (w : World). w.runs) it.after_is)
+fate_of setup before event reply after number run kept held found (finishes_one it) = unchanged before event reply after number run found (ap (instruction_of number) it.event_is) (ap (λ (w : World). w.runs) it.after_is)
+fate_of setup before event reply after number run kept held found (recovers_one it) =
+    stands run.out (ap (instruction_of number) it.fails.event_is) (ap (λ (x : Reply × World). run_of number x.1.runs) it.starts_is ∙ found_push run_key number before.runs _ run found)
+fate_of setup before event reply after number run kept held found (recovers_unfrozen it) =
+    stands run.out (ap (instruction_of number) it.fails.event_is) (ap (λ (x : Reply × World). run_of number x.1.runs) it.starts_is ∙ found_push run_key number before.runs _ run found)
+fate_of setup before event reply after number run kept held found (freezes_one it) = unchanged before event reply after number run found (ap (instruction_of number) it.event_is) (ap (λ (w : World). w.runs) it.after_is)
+fate_of setup before event reply after number run kept held found (releases_one it) = unchanged before event reply after number run found (ap (instruction_of number) it.event_is) (ap (λ (w : World). w.runs) it.after_is)
+fate_of setup before event reply after number run kept held found (reads_clock it) = unchanged before event reply after number run found (ap (instruction_of number) it.event_is) (ap (λ (w : World). w.runs) it.after_is)
+fate_of setup before event reply after number run kept held found (turns_one it) = one_turns before event reply after it number run found
+fate_of setup before event reply after number run kept held found (goes_on_one it) =
+    let same = private_keeps it.it.run.program it.it.run.machine it.machine it.step in
+    one_goes before event reply after private it.it it.machine (ap (λ (w : World). w.runs) it.after_is) refl (inl it.step)
+    (holds_the_same same.held (ap (λ (w : World). w.freezes) it.after_is) refl (λ i. taken_by it.it.number (it.it.event_is i) (it.reply_is i)))
+    (leaves_its_ccb same.disposed (ap (λ (w : World). w.live) it.after_is) refl)
+    number run found
+fate_of setup before event reply after number run kept held found (asks_one it) =
+    let named : it.it.run.number ≡ it.it.number = found_key run_key it.it.number before.runs it.it.run it.it.found in
+    let holds : it.it.run.machine.held ≡ held_by it.it.run.number before.freezes = held.machines it.it.number it.it.run it.it.found ∙ ap (λ (n : ℕ). held_by n before.freezes) (sym named) in
+    let known : it.it.run.queue < queue_count setup = all_found run_key (λ (r : LiveRun). r.queue < queue_count setup) it.it.number before.runs it.it.run kept.runs.queues it.it.found in
+    one_goes before event reply after (call (told_of it.request)) it.it (answered it.request it.given it.it.run.machine) (call_runs setup before event reply after it) refl
+    (inr (it.request, it.given, it.call_is, (call_allowed setup before it.it.run it.request it.given it.between kept.freezes kept.answers known holds it.freezes, refl)))
+    (call_holding setup before event reply after kept.freezes it it.freezes) (call_disposing setup before event reply after it it.ccbs)
+    number run found
+fate_of setup before event reply after number run kept held found (exits it) =
+    let named : it.it.run.number ≡ it.it.number = found_key run_key it.it.number before.runs it.it.run it.it.found in
+    let runs_is : after.runs ≡ leave run_key it.it.run.number before.runs = ap (λ (w : World). w.runs) it.after_is in
+    elim (cases_eq it.it.number number) [
+      | inl its ↦
+          let same : it.it.run ≡ run = same_run before.runs it.it.number number it.it.run run its it.it.found found in
+          leaves_world it.r0 (subst (λ (n : ℕ). instruction_of n event ≡ Some exit) its (its_instruction before event exit it.it))
+          (subst (λ (r : LiveRun). exit_at r.program r.machine ≡ Some it.r0) same it.exit_is)
+          (ap (run_of number) runs_is ∙ subst (λ (n : ℕ). run_of number (leave run_key n before.runs) ≡ None) (sym (named ∙ its)) (leave_same run_key number before.runs))
+          (λ i. taken_by number (it.it.event_is i) (it.reply_is i))
+      | inr apart ↦
+          stands run.out (not_others before event exit number it.it apart)
+          (ap (run_of number) runs_is ∙ (leave_other run_key it.it.run.number number before.runs (λ e. apart (sym named ∙ e)) ∙ found))
+    ]
+
+-- there is no run of the number before, and one after: it begins
+pub record Newly (setup : Setup) (before : World) (event : Event) (reply : Reply) (after : World) (number : ℕ) (run : LiveRun) : Type 0 where
+  pub number_is : number ≡ before.greatest_run + 1
+  pub begins : Begins setup before event reply after run

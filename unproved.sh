@@ -36,13 +36,16 @@ try_program() {
     cd "$top/crates/camr" && rt try --seconds 3600 "$@"
 }
 
-# Succeeds where a word of the line is a path: it is given behind the command, is no option, and not the value of one.
+# Succeeds where a word behind the command is a path: it is no option, nor the value of one.
 is_path() {
-    case $command,$before,$1 in
-    *,--workers,* | *,*,-*) return 1 ;;
-    check,?*,* | dis,?*,* | run,?*,*) return 0 ;;
+    case $command in
+    check | dis | run) ;;
+    *) return 1 ;;
     esac
-    return 1
+    [ "$place" -gt 1 ] && [ "$before" != --workers ] && [ "$1" != -- ] || return 1
+    case $1 in
+    -*) [ "$options" = ended ] ;;
+    esac
 }
 
 # Puts a copy of the file of that path, if it can be read, where the program finds it by a name of its own.
@@ -62,15 +65,17 @@ unproved() {
     echo 'camr: nothing is proved here: the program is compiled from its sources as they stand, which takes a minute or two' >&2
     work=$(mktemp -d) || return 2
     trap 'rm -rf "$work"; exit 2' HUP INT TERM
-    command=${1-} before='' inputs=0
+    command=${1-} before='' options='' place=0 inputs=0
     for word; do
         shift
+        place=$((place + 1))
         if is_path "$word"; then
             take_input "$word" 2>"$work/unread"
             set -- "$@" "$input"
         else
             set -- "$@" "$word"
         fi
+        [ "$word" != -- ] || options=ended
         before=$word
     done
     export inputs
@@ -80,7 +85,7 @@ unproved() {
         with_words <"$work/out"
         without_report <"$work/err" | with_words >&2
     else
-        tail -n 1 "$work/err" | sed 's/^/camr: no answer: /' >&2
+        grep -v '^run=none' "$work/err" | tail -n 1 | sed 's/^/camr: no answer: /' >&2
         status=2
     fi
     rm -rf "$work"

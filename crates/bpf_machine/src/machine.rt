@@ -6,9 +6,9 @@ ghost use Rattle.std.specs.Prelude.{◌≡◌, ◌+◌, ◌<◌, ◌↔◌, [], 
 ghost use Rattle.bpf_insn.specs.declared.program.TheConstants.{MAX_SLOTS};
 ghost use Rattle.bpf_semantics.specs.declared.bounds.TheConstants.{MAX_HELD};
 ghost use Rattle.bpf_semantics.specs.MachineState.{entry, register};
-ghost use Rattle.bpf_semantics.specs.Calls.{argument, request_by, request_with, traced};
-ghost use Rattle.helpers.specs.declared.helper.Helper.TheVariants as helpers;
-ghost use Rattle.bpf_semantics.specs.Step.{private_step, request_at, exit_at, exit_value, entered, returned, after_call, answered, frames_after, held_with, held_without, HasRoomFor, IsAnswer, IsNewFreeze};
+ghost use Rattle.bpf_semantics.specs.Calls.{argument, named_bytes, request_by, traced};
+ghost use Rattle.helpers.specs.declared.columns.Change.TheVariants as changes;
+ghost use Rattle.bpf_semantics.specs.Step.{private_step, request_at, exit_at, exit_value, entered, returned, after_call, answered, changed_by, frames_after, held_with, held_without, HasRoom, HasRoomFor, IsAnswer, IsNewFreeze};
 ghost use Rattle.bpf_semantics.specs.Stops.{stop_at};
 ghost use Rattle.bpf_semantics.specs.Reached.{IsEntry, PrivateSteps};
 ghost use Rattle.bpf_machine.specs.Able.{CanGoOn, GoesOnWithin};
@@ -22,7 +22,7 @@ use crate::registers::Registers;
 use crate::stepping::advance;
 use bpf_insn::{Callee, Insn, Program, Reg, jump_target};
 use bpf_semantics::Stop;
-use helpers::{Answer, Arguments, Asked, Helper, Request, Written};
+use helpers::{Answer, Arguments, Asked, Change, Helper, Request, Tells, Written};
 use short_bytes::ShortBytes;
 use stack_frame::Frames;
 use std::marker::Model;
@@ -271,21 +271,22 @@ impl Machine {
             second: self.argument(asks.second, Reg::R2)?,
             third: self.argument(asks.third, Reg::R3)?,
         };
-        match helper {
-            Helper::Trace => self.trace_call(&arguments),
-            helper => Request::new(helper, &arguments),
-        }
-    }
-
-    // The call that puts the bytes which its arguments name into the history.
-    fn trace_call(&self, arguments: &Arguments) -> Option<Request>
-        ensures { result ≡ request_with self.now helpers.Trace arguments.now }
-    {
-        let bytes = self.traced(arguments.first, arguments.second)?;
-        Some(Request::Trace {
-            address: arguments.first,
+        let bytes = self.named_bytes(helper.row().tells, &arguments)?;
+        Some(Request {
+            helper,
+            arguments,
             bytes,
         })
+    }
+
+    // The bytes that a call names, by what its helper tells.
+    fn named_bytes(&self, tells: Tells, arguments: &Arguments) -> Option<ShortBytes>
+        ensures { result ≡ named_bytes self.now tells arguments.now }
+    {
+        match tells {
+            Tells::Name | Tells::Code => Some(ShortBytes::none()),
+            Tells::Bytes => self.traced(arguments.first, arguments.second),
+        }
     }
 
     // So many bytes from an address on, 1 to 64, where they lie in a live frame and are all written.
@@ -362,24 +363,23 @@ impl Machine {
         requires room { HasRoomFor self.old request.now }
         ensures { self.new ≡ answered request.now answer.now self.old }
     {
-        match *request {
-            Request::Freeze { queue: _ } => self.take(answer.r0),
-            Request::Release { freeze } => self.give_up(freeze),
-            Request::ReleaseAfter {
-                freeze,
-                milliseconds: _,
-            } => self.give_up(freeze),
-            Request::Requeue { retries: _ } => self.disposed = true,
-            Request::Finish { code: _ } => self.disposed = true,
-            Request::QueueInfo { address: _ } => self.write(&answer.written),
-            Request::TableGet { .. }
-            | Request::TablePut { .. }
-            | Request::TableAdd { .. }
-            | Request::Trace { .. }
-            | Request::Now
-            | Request::SetOpenings { .. } => {}
-        }
+        self.change(request.helper.row().machine, &request.arguments, answer);
         self.pass_call(answer.r0);
+    }
+
+    // What a call makes of the machine beside that.
+    fn change(&mut self, change: Change, arguments: &Arguments, answer: &Answer)
+        requires new { change ≡ changes.Holds → IsNewFreeze self.old.held answer.now.r0 }
+        requires room { HasRoom self.old change }
+        ensures { self.new ≡ changed_by change arguments.now answer.now self.old }
+    {
+        match change {
+            Change::Nothing => {}
+            Change::Holds => self.take(answer.r0),
+            Change::GivesUp => self.give_up(arguments.first),
+            Change::Disposes => self.disposed = true,
+            Change::Writes { bytes: _ } => self.write(&answer.written),
+        }
     }
 
     // A freeze that was taken is held; 0 is none.

@@ -17,12 +17,11 @@ use Rattle.bpf_insn.specs.declared.reg.Reg.TheVariants.{R0, R1, R2, R3, R10}
 use Rattle.bpf_insn.specs.declared.program.Slot.{Slot}
 use Rattle.bpf_insn.specs.Program.{layout}
 use Rattle.helpers.specs.declared.limits.HelperLimits.{HelperLimits}
-use Rattle.helpers.specs.declared.helper.Helper.{Helper as TheHelper}
-use Rattle.helpers.specs.declared.helper.Helper.TheVariants as helpers
+use Rattle.helpers.specs.declared.table.Helper.{Helper as TheHelper}
+use Rattle.helpers.specs.declared.table.Helper.TheVariants as helpers
 use Rattle.helpers.specs.declared.request.Answer.{Answer}
 use Rattle.helpers.specs.declared.request.Request.{Request}
-use Rattle.helpers.specs.declared.request.Request.TheVariants.{Freeze, Release, ReleaseAfter, Requeue, Finish, TableGet, TablePut, TableAdd, QueueInfo, Trace, Now, SetOpenings}
-use Rattle.helpers.specs.Table.{answer_number}
+use Rattle.helpers.specs.Table.{answer_number, asking, row_of, telling}
 use Rattle.stack_frame.specs.Frame.{written_at}
 use Rattle.bpf_semantics.specs.declared.stop.Stop.TheVariants.{Helper as AtHelper, Exit as AtExit}
 use Rattle.bpf_semantics.specs.MachineState.{OpenCall, MachineState, entry, register, unwritten_frame, with_register, moved_to}
@@ -112,12 +111,15 @@ add_to_unwritten : private_step (one (Alu Bits64 Add R3 (Immediate (pos 1)))) wi
 add_to_unwritten = refl
 
 add_to_unwritten_stuck : is_stuck (one (Alu Bits64 Add R3 (Immediate (pos 1)))) limits with_freeze ≡ true
+unfolding row_of
 add_to_unwritten_stuck = refl
 
 mov_to_unwritten_goes_on : is_stuck (one (mov R3 (pos 1))) limits with_freeze ≡ false
+unfolding row_of
 mov_to_unwritten_goes_on = refl
 
 mov_of_unwritten_stuck : is_stuck (one (copy R2 R3)) limits with_freeze ≡ true
+unfolding row_of
 mov_of_unwritten_stuck = refl
 
 -- one register in its place
@@ -131,6 +133,7 @@ neg_of_unwritten : private_step (one (InPlace (Neg Bits64) R3)) with_freeze ≡ 
 neg_of_unwritten = refl
 
 neg_of_unwritten_stuck : is_stuck (one (InPlace (Neg Bits64) R3)) limits with_freeze ≡ true
+unfolding row_of
 neg_of_unwritten_stuck = refl
 
 -- a sign extension reads its second register alone
@@ -138,12 +141,14 @@ movsx_to_unwritten : private_step (one (SignExtend From8To64 R3 R2)) (with_regis
 movsx_to_unwritten = refl
 
 movsx_to_unwritten_goes_on : is_stuck (one (SignExtend From8To64 R3 R2)) limits with_freeze ≡ false
+unfolding row_of
 movsx_to_unwritten_goes_on = refl
 
 movsx_of_unwritten : private_step (one (SignExtend From8To64 R2 R3)) with_freeze ≡ None
 movsx_of_unwritten = refl
 
 movsx_of_unwritten_stuck : is_stuck (one (SignExtend From8To64 R2 R3)) limits with_freeze ≡ true
+unfolding row_of
 movsx_of_unwritten_stuck = refl
 
 -- R2 is 0: two slots behind the next instruction
@@ -165,147 +170,183 @@ jump_unwritten : private_step (one (jeq R3 (pos 0) (pos 0))) with_freeze ≡ Non
 jump_unwritten = refl
 
 jump_unwritten_stuck : is_stuck (one (jeq R3 (pos 0) (pos 0))) limits with_freeze ≡ true
+unfolding row_of
 jump_unwritten_stuck = refl
 
 -- a helper call is no private step
-release_request : request_at (one (call (pos 2))) (with_register with_freeze R1 7) ≡ Some (Release 7)
+release_request : request_at (one (call (pos 2))) (with_register with_freeze R1 7) ≡ Some (asking helpers.Release 7 0 0)
+unfolding row_of
 release_request = refl
 
 release_is_no_step : private_step (one (call (pos 2))) (with_register with_freeze R1 7) ≡ None
 release_is_no_step = refl
 
-requeue_request : request_at (one (call (pos 4))) (with_register with_freeze R1 1) ≡ Some (Requeue 1)
+requeue_request : request_at (one (call (pos 4))) (with_register with_freeze R1 1) ≡ Some (asking helpers.Requeue 1 0 0)
+unfolding row_of
 requeue_request = refl
 
 -- there is no helper 13
 no_helper : request_at (one (call (pos 13))) (with_register with_freeze R1 7) ≡ None
+unfolding row_of
 no_helper = refl
 
 no_helper_stuck : is_stuck (one (call (pos 13))) limits (with_register with_freeze R1 7) ≡ true
+unfolding row_of
 no_helper_stuck = refl
 
 -- a word of a table is named by both, a new one comes third, and the clock is asked for with nothing
-table_requests : (request_at (one (call (pos 6))) (with_register with_freeze R1 3) ≡ Some (TableGet 3 7))
-    × (request_at (one (call (pos 7))) (with_register (with_register with_freeze R1 3) R3 9) ≡ Some (TablePut 3 7 9))
-    × (request_at (one (call (pos 8))) (with_register (with_register with_freeze R1 3) R3 9) ≡ Some (TableAdd 3 7 9))
+table_requests : (request_at (one (call (pos 6))) (with_register with_freeze R1 3) ≡ Some (asking helpers.TableGet 3 7 0))
+    × (request_at (one (call (pos 7))) (with_register (with_register with_freeze R1 3) R3 9) ≡ Some (asking helpers.TablePut 3 7 9))
+    × (request_at (one (call (pos 8))) (with_register (with_register with_freeze R1 3) R3 9) ≡ Some (asking helpers.TableAdd 3 7 9))
     × (request_at (one (call (pos 8))) (with_register with_freeze R1 3) ≡ None)
+unfolding row_of
 table_requests = (refl, refl, refl, refl)
 
-now_request : request_at (one (call (pos 11))) with_freeze ≡ Some Now
+now_request : request_at (one (call (pos 11))) with_freeze ≡ Some (asking helpers.Now 0 0 0)
+unfolding row_of
 now_request = refl
 
-openings_request : request_at (one (call (pos 12))) (with_register with_freeze R1 4) ≡ Some (SetOpenings 4)
+openings_request : request_at (one (call (pos 12))) (with_register with_freeze R1 4) ≡ Some (asking helpers.SetOpenings 4 0 0)
+unfolding row_of
 openings_request = refl
 
 -- under no table its words cannot be read
 no_table_stuck : is_stuck (one (call (pos 6))) limits (with_register with_freeze R1 0) ≡ true
+unfolding row_of
 no_table_stuck = refl
 
 -- a queue is frozen by its number, a freeze is handed over with a time, and a CCB finished with a code
-freeze_request : request_at (one (call (pos 1))) (with_register with_freeze R1 3) ≡ Some (Freeze 3)
+freeze_request : request_at (one (call (pos 1))) (with_register with_freeze R1 3) ≡ Some (asking helpers.Freeze 3 0 0)
+unfolding row_of
 freeze_request = refl
 
-release_after_request : request_at (one (call (pos 3))) (with_register (with_register with_freeze R1 7) R2 500) ≡ Some (ReleaseAfter 7 500)
+release_after_request : request_at (one (call (pos 3))) (with_register (with_register with_freeze R1 7) R2 500) ≡ Some (asking helpers.ReleaseAfter 7 500 0)
+unfolding row_of
 release_after_request = refl
 
-finish_request : request_at (one (call (pos 5))) (with_register with_freeze R1 2) ≡ Some (Finish 2)
+finish_request : request_at (one (call (pos 5))) (with_register with_freeze R1 2) ≡ Some (asking helpers.Finish 2 0 0)
+unfolding row_of
 finish_request = refl
 
 -- the freeze that is held can be given back, and no other
 release_held : is_stuck (one (call (pos 2))) limits (with_register with_freeze R1 7) ≡ false
+unfolding row_of
 release_held = refl
 
 release_not_held : is_stuck (one (call (pos 2))) limits (with_register with_freeze R1 8) ≡ true
+unfolding row_of
 release_not_held = refl
 
 -- a requeue takes at most one retry, and comes once
 requeue_once : is_stuck (one (call (pos 4))) limits (with_register without_freeze R1 1) ≡ false
+unfolding row_of
 requeue_once = refl
 
 requeue_of_two : is_stuck (one (call (pos 4))) limits (with_register without_freeze R1 2) ≡ true
+unfolding row_of
 requeue_of_two = refl
 
 requeue_twice : is_stuck (one (call (pos 4))) limits (with_register (done 0) R1 1) ≡ true
+unfolding row_of
 requeue_twice = refl
 
 -- the lawful exit tells R0
 lawful_exit : is_stuck (one Exit) limits (done 3) ≡ false
+unfolding row_of
 lawful_exit = refl
 
 exit_tells : exit_at (one Exit) (done 3) ≡ Some 3
 exit_tells = refl
 
 exit_with_freeze : is_stuck (one Exit) limits (record (with_register with_freeze R0 0) { disposed = true }) ≡ true
+unfolding row_of
 exit_with_freeze = refl
 
 exit_not_disposed : is_stuck (one Exit) limits (with_register without_freeze R0 0) ≡ true
+unfolding row_of
 exit_not_disposed = refl
 
 exit_without_result : is_stuck (one Exit) limits (record without_freeze { disposed = true }) ≡ true
+unfolding row_of
 exit_without_result = refl
 
 -- behind the last instruction there is none
 behind_the_end : is_stuck (one Exit) limits (moved_to (done 0) 1) ≡ true
+unfolding row_of
 behind_the_end = refl
 
 -- where a run comes to the engine, and where it does not
-stops_at_call : stop_at (one (call (pos 2))) (with_register with_freeze R1 7) ≡ Some (AtHelper (Release 7))
+stops_at_call : stop_at (one (call (pos 2))) (with_register with_freeze R1 7) ≡ Some (AtHelper (asking helpers.Release 7 0 0))
+unfolding row_of
 stops_at_call = refl
 
 stops_at_exit : stop_at (one Exit) (done 3) ≡ Some (AtExit 3)
+unfolding row_of
 stops_at_exit = refl
 
 stops_nowhere_else : stop_at two_paths with_freeze ≡ None
+unfolding row_of
 stops_nowhere_else = refl
 
 -- A release with a count of 2 as its answer: R0 is the count, R1 to R5 are unwritten, R6 to R10 are as they were, and
 -- the freeze is held no more.
-answered_release : answered (Release 7) (answer_number 2) (with_register with_freeze R1 7) ≡ record with_freeze { place = 1; registers = Some 2 ∷ None ∷ None ∷ None ∷ None ∷ None ∷ None ∷ None ∷ None ∷ None ∷ Some 0x20000200 ∷ []; held = [] }
+answered_release : answered (asking helpers.Release 7 0 0) (answer_number 2) (with_register with_freeze R1 7) ≡ record with_freeze { place = 1; registers = Some 2 ∷ None ∷ None ∷ None ∷ None ∷ None ∷ None ∷ None ∷ None ∷ None ∷ Some 0x20000200 ∷ []; held = [] }
+unfolding row_of
 answered_release = refl
 
 -- a freeze that is taken comes last among those that are held, and 0 is none
-answered_freeze : (answered (Freeze 0) (answer_number 9) with_freeze).held ≡ 7 ∷ 9 ∷ []
+answered_freeze : (answered (asking helpers.Freeze 0 0 0) (answer_number 9) with_freeze).held ≡ 7 ∷ 9 ∷ []
+unfolding row_of
 answered_freeze = refl
 
-answered_no_freeze : (answered (Freeze 0) (answer_number 0) with_freeze).held ≡ 7 ∷ []
+answered_no_freeze : (answered (asking helpers.Freeze 0 0 0) (answer_number 0) with_freeze).held ≡ 7 ∷ []
+unfolding row_of
 answered_no_freeze = refl
 
 -- one that is handed over is held no more
-answered_release_after : (answered (ReleaseAfter 7 500) (answer_number 0) with_freeze).held ≡ []
+answered_release_after : (answered (asking helpers.ReleaseAfter 7 500 0) (answer_number 0) with_freeze).held ≡ []
+unfolding row_of
 answered_release_after = refl
 
 -- a CCB that is finished is disposed of
-answered_finish : (answered (Finish 2) (answer_number 0) with_freeze).disposed ≡ true
+answered_finish : (answered (asking helpers.Finish 2 0 0) (answer_number 0) with_freeze).disposed ≡ true
+unfolding row_of
 answered_finish = refl
 
 -- a requeue disposes of the CCB and leaves the freezes
-answered_requeue : answered (Requeue 1) (answer_number 0) (with_register with_freeze R1 1) ≡ record with_freeze { place = 1; registers = Some 0 ∷ None ∷ None ∷ None ∷ None ∷ None ∷ None ∷ None ∷ None ∷ None ∷ Some 0x20000200 ∷ []; disposed = true }
+answered_requeue : answered (asking helpers.Requeue 1 0 0) (answer_number 0) (with_register with_freeze R1 1) ≡ record with_freeze { place = 1; registers = Some 0 ∷ None ∷ None ∷ None ∷ None ∷ None ∷ None ∷ None ∷ None ∷ None ∷ Some 0x20000200 ∷ []; disposed = true }
+unfolding row_of
 answered_requeue = refl
 
 -- What a queue has is written where the call asked for it: the frame's last 16 bytes. R0 is 0, and nothing else changes.
 abbrev information : Answer
 information = record { r0 = 0; written = Some (record { address = 0x200001f0; bytes = 2 ∷ replicate 15 0 }) }
 
-answered_information : answered (QueueInfo 0x200001f0) information (with_register with_freeze R1 0x200001f0) ≡ record with_freeze { place = 1; registers = Some 0 ∷ None ∷ None ∷ None ∷ None ∷ None ∷ None ∷ None ∷ None ∷ None ∷ Some 0x20000200 ∷ []; frames = (replicate 496 None ++ Some 2 ∷ replicate 15 (Some 0)) ∷ [] }
-unfolding written_at
+answered_information : answered (asking helpers.QueueInfo 0x200001f0 0 0) information (with_register with_freeze R1 0x200001f0) ≡ record with_freeze { place = 1; registers = Some 0 ∷ None ∷ None ∷ None ∷ None ∷ None ∷ None ∷ None ∷ None ∷ None ∷ Some 0x20000200 ∷ []; frames = (replicate 496 None ++ Some 2 ∷ replicate 15 (Some 0)) ∷ [] }
+unfolding written_at row_of
 answered_information = refl
 
 -- a trace call leaves all but the registers
-answered_trace : answered (Trace 0x200001ff (3 ∷ [])) (answer_number 0) with_freeze ≡ record with_freeze { place = 1; registers = Some 0 ∷ None ∷ None ∷ None ∷ None ∷ None ∷ None ∷ None ∷ None ∷ None ∷ Some 0x20000200 ∷ [] }
+answered_trace : answered (telling helpers.Trace 0x200001ff (3 ∷ [])) (answer_number 0) with_freeze ≡ record with_freeze { place = 1; registers = Some 0 ∷ None ∷ None ∷ None ∷ None ∷ None ∷ None ∷ None ∷ None ∷ None ∷ Some 0x20000200 ∷ [] }
+unfolding row_of
 answered_trace = refl
 
 -- and so does a call of a table
-answered_table_get : answered (TableGet 0 3) (answer_number 12) with_freeze ≡ record with_freeze { place = 1; registers = Some 12 ∷ None ∷ None ∷ None ∷ None ∷ None ∷ None ∷ None ∷ None ∷ None ∷ Some 0x20000200 ∷ [] }
+answered_table_get : answered (asking helpers.TableGet 0 3 0) (answer_number 12) with_freeze ≡ record with_freeze { place = 1; registers = Some 12 ∷ None ∷ None ∷ None ∷ None ∷ None ∷ None ∷ None ∷ None ∷ None ∷ Some 0x20000200 ∷ [] }
+unfolding row_of
 answered_table_get = refl
 
 -- a helper without arguments reads no register, and one with two reads R1 and R2
 nothing_read : arguments_at (record with_freeze { registers = replicate 11 None }) helpers.Now ≡ Some (record { first = 0; second = 0; third = 0 })
+unfolding row_of
 nothing_read = refl
 
 two_read : arguments_at with_freeze helpers.ReleaseAfter ≡ Some (record { first = 0x10000000; second = 7; third = 0 })
+unfolding row_of
 two_read = refl
 
 one_unwritten : arguments_at with_freeze helpers.TablePut ≡ None
+unfolding row_of
 one_unwritten = refl
 
 -- by which rule a helper is called, under the limits of one queue and a table of ten words
@@ -316,25 +357,31 @@ abbrev obeys_with : MachineState → TheHelper → ℕ → ℕ → Bool
 obeys_with m helper first second = obeys ten_words m helper (record { first = first; second = second; third = 5 })
 
 freezes : (obeys_with with_freeze helpers.Freeze 0 0 ≡ true) × (obeys_with with_freeze helpers.Freeze 1 0 ≡ false)
+unfolding row_of
 freezes = (refl, refl)
 
 holds_eight : obeys_with (record with_freeze { held = replicate 8 7 }) helpers.Freeze 0 0 ≡ false
+unfolding row_of
 holds_eight = refl
 
 releases_after : (obeys_with with_freeze helpers.ReleaseAfter 7 600000 ≡ true) × (obeys_with with_freeze helpers.ReleaseAfter 7 600001 ≡ false)
     × (obeys_with with_freeze helpers.ReleaseAfter 7 0 ≡ false) × (obeys_with with_freeze helpers.ReleaseAfter 8 1 ≡ false)
+unfolding row_of
 releases_after = (refl, refl, refl, refl)
 
 finishes : (obeys_with with_freeze helpers.Finish 63 0 ≡ true) × (obeys_with with_freeze helpers.Finish 64 0 ≡ false)
     × (obeys_with (record with_freeze { disposed = true }) helpers.Finish 63 0 ≡ false)
+unfolding row_of
 finishes = (refl, refl, refl)
 
 reads_table : (obeys_with with_freeze helpers.TableGet 0 9 ≡ true) × (obeys_with with_freeze helpers.TableGet 0 10 ≡ false)
     × (obeys_with with_freeze helpers.TablePut 1 0 ≡ false)
+unfolding row_of
 reads_table = (refl, refl, refl)
 
 writes_information : (obeys_with with_freeze helpers.QueueInfo 0x200001f0 0 ≡ true) × (obeys_with with_freeze helpers.QueueInfo 0x200001f1 0 ≡ false)
     × (obeys_with with_freeze helpers.QueueInfo 0x1fffffff 0 ≡ false)
+unfolding row_of
 writes_information = (refl, refl, refl)
 
 -- the last byte of the frame is written
@@ -343,6 +390,7 @@ last_written = record with_freeze { frames = (replicate 511 None ++ Some 3 ∷ [
 
 traces : (obeys_with last_written helpers.Trace 0x200001ff 1 ≡ true) × (obeys_with last_written helpers.Trace 0x200001fe 2 ≡ false)
     × (obeys_with last_written helpers.Trace 0x200001ff 0 ≡ false)
+unfolding row_of
 traces = (refl, refl, refl)
 
 -- a trace call tells the bytes that stand at its address, and is none where one of them is unwritten, where there is none
@@ -353,17 +401,20 @@ traced_from m address bytes = request_at (one (call (pos 10))) (with_register (w
 abbrev all_sevens : MachineState
 all_sevens = record with_freeze { frames = replicate 512 (Some 7) ∷ [] }
 
-traced_bytes : (traced_from last_written 0x200001ff 1 ≡ Some (Trace 0x200001ff (3 ∷ []))) × (traced_from last_written 0x200001fe 2 ≡ None)
-    × (traced_from all_sevens 0x20000000 64 ≡ Some (Trace 0x20000000 (replicate 64 7))) × (traced_from all_sevens 0x20000000 65 ≡ None)
+traced_bytes : (traced_from last_written 0x200001ff 1 ≡ Some (telling helpers.Trace 0x200001ff (3 ∷ []))) × (traced_from last_written 0x200001fe 2 ≡ None)
+    × (traced_from all_sevens 0x20000000 64 ≡ Some (telling helpers.Trace 0x20000000 (replicate 64 7))) × (traced_from all_sevens 0x20000000 65 ≡ None)
     × (traced_from all_sevens 0x20000000 0 ≡ None) × (traced_from all_sevens 0x200001ff 2 ≡ None) × (traced_from all_sevens 0x10000000 8 ≡ None)
+unfolding row_of
 traced_bytes = (refl, refl, refl, refl, refl, refl, refl)
 
 -- the queue's information is asked for by its address alone
-information_request : request_at (one (call (pos 9))) (with_register with_freeze R1 0x200001f0) ≡ Some (QueueInfo 0x200001f0)
+information_request : request_at (one (call (pos 9))) (with_register with_freeze R1 0x200001f0) ≡ Some (asking helpers.QueueInfo 0x200001f0 0 0)
+unfolding row_of
 information_request = refl
 
 sets_openings : (obeys_with with_freeze helpers.SetOpenings 255 0 ≡ true) × (obeys_with with_freeze helpers.SetOpenings 0 0 ≡ false)
     × (obeys_with with_freeze helpers.SetOpenings 256 0 ≡ false)
+unfolding row_of
 sets_openings = (refl, refl, refl)
 
 -- a local call: its arguments stand in R1 to R5, and R6 to R9 are kept. Its exit brings these back, and its frame is gone.
@@ -406,6 +457,7 @@ returns_local = refl
 
 -- the exit of a function that was called is no stop, whatever the run holds
 no_stop_inside : (stop_at local callee_done ≡ None) × (is_stuck local limits callee_done ≡ false)
+unfolding row_of
 no_stop_inside = (refl, refl)
 
 -- with eight frames there is none left for a further call, with seven there is
@@ -413,4 +465,5 @@ abbrev with_frames : ℕ → MachineState
 with_frames count = record caller { frames = replicate count unwritten_frame; open_calls = replicate (count - 1) kept_call }
 
 eight_frames : (is_stuck local limits (with_frames 8) ≡ true) × (private_step local (with_frames 8) ≡ None) × (is_stuck local limits (with_frames 7) ≡ false)
+unfolding row_of
 eight_frames = (refl, refl, refl)

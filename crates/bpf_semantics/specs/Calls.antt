@@ -1,19 +1,21 @@
 -- The call of a helper: with which arguments it is made, and by which rule. The rule is that each argument is as the
 -- helper's row asks, and what the helper asks of the run.
-use Rattle.std.specs.Prelude.{ℕ, Bool, true, not, ◌&&◌, ◌==◌, nat_le, nat_lt, List, length, Option, Some, None, if◌then◌else◌, slice_index_or}
+use Rattle.std.specs.Prelude.{ℕ, Bool, true, not, ◌&&◌, ◌==◌, nat_le, nat_lt, List, [], length, Option, Some, None, if◌then◌else◌, slice_index_or}
 use Rattle.std.specs.Option.{option_map, option_and_then}
 use Rattle.std.specs.List.{list_any}
 use Rattle.bpf_insn.specs.declared.reg.Reg.{Reg}
 use Rattle.bpf_insn.specs.declared.reg.Reg.TheVariants.{R1, R2, R3}
 use Rattle.helpers.specs.declared.limits.HelperLimits.{HelperLimits}
-use Rattle.helpers.specs.declared.helper.Helper.{Helper}
-use Rattle.helpers.specs.declared.helper.Helper.TheVariants as helpers
-use Rattle.helpers.specs.declared.helper.Asked.{Asked}
-use Rattle.helpers.specs.declared.helper.Asked.TheVariants.{Queue, HeldFreeze, Within, Table, Index, Word, Room, Bytes}
+use Rattle.helpers.specs.declared.table.Helper.{Helper}
+use Rattle.helpers.specs.declared.columns.Asked.{Asked}
+use Rattle.helpers.specs.declared.columns.Asked.TheVariants.{Queue, HeldFreeze, Within, Table, Index, Word, Room, Bytes}
+use Rattle.helpers.specs.declared.columns.Needs.{Needs}
+use Rattle.helpers.specs.declared.columns.Needs.TheVariants as needs
+use Rattle.helpers.specs.declared.columns.Tells.{Tells}
+use Rattle.helpers.specs.declared.columns.Tells.TheVariants as tells
 use Rattle.helpers.specs.declared.request.Arguments.{Arguments}
 use Rattle.helpers.specs.declared.request.Request.{Request}
-use Rattle.helpers.specs.declared.request.Request.TheVariants as requests
-use Rattle.helpers.specs.Table.{asks, request_of, helper_in, arguments_in}
+use Rattle.helpers.specs.Table.{asks, row_of}
 use Rattle.bpf_semantics.specs.declared.bounds.TheConstants.{MAX_HELD}
 use Rattle.bpf_semantics.specs.MachineState.{MachineState, register}
 use Rattle.stack_frame.specs.Frame.{all_written as written_bytes}
@@ -34,15 +36,21 @@ all_written None second third = None
 abbrev pub arguments_at : MachineState → Helper → Option Arguments
 arguments_at m helper = all_written (argument m (asks helper).first R1) (argument m (asks helper).second R2) (argument m (asks helper).third R3)
 
--- the bytes that a trace call puts into the history: 1 to 64 that lie in one live frame and are all written
+-- so many bytes from an address on, which the history can be told: 1 to 64 that lie in one live frame and are all written
 abbrev pub traced : MachineState → ℕ → ℕ → Option (List ℕ)
 traced m address bytes =
     if nat_le 1 bytes && nat_le bytes 64 then option_and_then written_bytes (frame_bytes 0 m.frames address bytes) else None
 
+-- the bytes that a call names, by what its helper tells
+abbrev pub named_bytes : MachineState → Tells → Arguments → Option (List ℕ)
+named_bytes m tells.Name arguments = Some []
+named_bytes m tells.Bytes arguments = traced m arguments.first arguments.second
+named_bytes m tells.Code arguments = Some []
+
 -- the machine's call of a helper with these arguments
 abbrev pub request_with : MachineState → Helper → Arguments → Option Request
-request_with m helpers.Trace arguments = option_map (requests.Trace arguments.first) (traced m arguments.first arguments.second)
-request_with m helper arguments = request_of helper arguments
+request_with m helper arguments =
+    option_map (λ bytes. record { helper = helper; arguments = arguments; bytes = bytes }) (named_bytes m (row_of helper).tells arguments)
 
 -- the machine's call of a helper
 abbrev pub request_by : MachineState → Helper → Option Request
@@ -68,20 +76,19 @@ abbrev pub meets : HelperLimits → MachineState → Arguments → Option Asked 
 meets limits m arguments (Some asked) value = is_as_asked limits m arguments asked value
 meets limits m arguments None value = true
 
--- what a helper asks of the run: room for a further freeze, or a CCB that is not disposed of
-abbrev pub run_may : MachineState → Helper → Bool
-run_may m helpers.Freeze = nat_lt (length m.held) MAX_HELD
-run_may m helpers.Requeue = not m.disposed
-run_may m helpers.Finish = not m.disposed
-run_may m helper = true
+-- what a helper needs of the run: room for a further freeze, or a CCB that is not disposed of
+abbrev pub meets_need : MachineState → Needs → Bool
+meets_need m needs.Nothing = true
+meets_need m needs.Room = nat_lt (length m.held) MAX_HELD
+meets_need m needs.Undisposed = not m.disposed
 
 -- the rule of a helper
 abbrev pub obeys : HelperLimits → MachineState → Helper → Arguments → Bool
 obeys limits m helper arguments =
-    run_may m helper
+    meets_need m (row_of helper).needs
     && (meets limits m arguments (asks helper).first arguments.first
     && (meets limits m arguments (asks helper).second arguments.second && meets limits m arguments (asks helper).third arguments.third))
 
 -- the rule of a call
 abbrev pub meets_rule : HelperLimits → MachineState → Request → Bool
-meets_rule limits m request = obeys limits m (helper_in request) (arguments_in request)
+meets_rule limits m request = obeys limits m request.helper request.arguments

@@ -1,14 +1,21 @@
 -- The stops of admitted segments, as the tables of CCBs and of runs carry them out.
-use Rattle.std.proofs.Common.{◌≡◌, ℕ, List, [], true, Some, refl, ap, sym, subst, ◌∙◌, ltb-true}
+use Rattle.std.proofs.Common.{◌≡◌, ℕ, List, [], true, Option, Some, refl, ap, sym, subst, ◌∙◌, ltb-true}
 use Rattle.std.proofs.lemmas.Bool.{and_parts, leb-true}
 use Rattle.helpers.specs.declared.limits.HelperLimits.{HelperLimits}
 use Rattle.helpers.specs.declared.request.Request.{Request}
-use Rattle.helpers.specs.declared.request.Request.TheVariants.{Freeze, Release, ReleaseAfter, Requeue, Finish, TableGet, TablePut, TableAdd, QueueInfo, Trace, Now, SetOpenings}
+use Rattle.helpers.specs.declared.columns.Asked.{Asked}
+use Rattle.helpers.specs.declared.columns.Needs.{Needs}
+use Rattle.helpers.specs.declared.columns.Change.{Change}
+use Rattle.helpers.specs.declared.columns.Change.TheVariants as changes
+use Rattle.helpers.specs.declared.columns.Tells.{Tells}
+use Rattle.helpers.specs.declared.columns.Tells.TheVariants as tells
+use Rattle.helpers.specs.Table.{row_of}
+use Rattle.helpers.proofs.Together.{Wants, wanted, TellsOf, told}
 use Rattle.helpers.specs.declared.request.Answer.{Answer}
 use Rattle.bpf_insn.specs.declared.program.Slot.{Slot}
 use Rattle.bpf_semantics.specs.MachineState.{MachineState}
-use Rattle.bpf_semantics.specs.Calls.{meets_rule}
-use Rattle.bpf_semantics.specs.Step.{request_at, HasRoomFor, answered}
+use Rattle.bpf_semantics.specs.Calls.{meets, meets_need, meets_rule}
+use Rattle.bpf_semantics.specs.Step.{request_at, HasRoom, HasRoomFor, answered}
 use Rattle.bpf_semantics.specs.declared.stop.Stop.{Stop}
 use Rattle.bpf_semantics.specs.declared.stop.Stop.TheVariants.{Helper, Exit}
 use Rattle.interpreter.specs.Segments.{SegmentState, IsSegment, StandsAt}
@@ -25,41 +32,33 @@ use Rattle.world.specs.FreezeLaws.{entries_of}
 use Rattle.world.proofs.Lists.Found.{leave, put_same, found_key}
 use Rattle.world.proofs.Steps.Moves.{run_key}
 use Rattle.engine_core.specs.EngineState.{world_of}
-use Rattle.engine_core.specs.Answers.{stopped_at, NamesCode, StopsByCode}
+use Rattle.engine_core.specs.Answers.{stopped_at, IsCode, NamesCode, StopsByCode}
 use Rattle.engine_core.specs.Invariant.{KeepsEngine}
 use Rattle.engine_core.specs.TakingOver.{IsAdmitted, LeadsTo, LeadsBy, Does, GoesOn}
 use Rattle.engine_core.proofs.PrivateWays.{with_machine}
 use Rattle.engine_core.proofs.Recording.{kept_sound}
 use Rattle.engine_core.proofs.Stops.{Arrives, arrives, called, call_leads, nothing_held, exit_leads}
 
--- what the rule of a call says: there is room for the number of a freeze, and a final code is one
+-- what the rule of a call says: there is room for the number of a freeze, and a status code is one
 rule_room : (limits : HelperLimits) (m : MachineState) (request : Request) → meets_rule limits m request ≡ true → HasRoomFor m request
-rule_room limits m (Freeze queue) rule = ltb-true _ _ (and_parts _ _ rule).0
-rule_room limits m (Release freeze) rule = tt
-rule_room limits m (ReleaseAfter freeze milliseconds) rule = tt
-rule_room limits m (Requeue retries) rule = tt
-rule_room limits m (Finish code) rule = tt
-rule_room limits m (TableGet table index) rule = tt
-rule_room limits m (TablePut table index value) rule = tt
-rule_room limits m (TableAdd table index value) rule = tt
-rule_room limits m (QueueInfo address) rule = tt
-rule_room limits m (Trace address bytes) rule = tt
-rule_room limits m Now rule = tt
-rule_room limits m (SetOpenings openings) rule = tt
+rule_room limits m request rule = by_change (row_of request.helper).machine (wanted request.helper)
+  where
+    by_change : (change : Change) → Wants change (row_of request.helper) → HasRoom m change
+    by_change changes.Nothing wants = tt
+    by_change changes.Holds wants = ltb-true _ _ (subst (λ (need : Needs). meets_need m need ≡ true) wants.1 (and_parts _ _ rule).0)
+    by_change changes.GivesUp wants = tt
+    by_change changes.Disposes wants = tt
+    by_change (changes.Writes bytes) wants = tt
 
 rule_code : (limits : HelperLimits) (m : MachineState) (request : Request) → meets_rule limits m request ≡ true → NamesCode request
-rule_code limits m (Freeze queue) rule = tt
-rule_code limits m (Release freeze) rule = tt
-rule_code limits m (ReleaseAfter freeze milliseconds) rule = tt
-rule_code limits m (Requeue retries) rule = tt
-rule_code limits m (Finish code) rule = leb-true _ _ (and_parts _ _ (and_parts _ _ (and_parts _ _ rule).1).0).1
-rule_code limits m (TableGet table index) rule = tt
-rule_code limits m (TablePut table index value) rule = tt
-rule_code limits m (TableAdd table index value) rule = tt
-rule_code limits m (QueueInfo address) rule = tt
-rule_code limits m (Trace address bytes) rule = tt
-rule_code limits m Now rule = tt
-rule_code limits m (SetOpenings openings) rule = tt
+rule_code limits m request rule = by_tells (row_of request.helper).tells (told request.helper)
+  where
+    by_tells : (tells : Tells) → TellsOf tells (row_of request.helper) → IsCode tells request.arguments
+    by_tells tells.Name says = tt
+    by_tells tells.Bytes says = tt
+    by_tells tells.Code says =
+        let asked = subst (λ (o : Option Asked). meets limits m request.arguments o request.arguments.first ≡ true) says (and_parts _ _ (and_parts _ _ rule).1).0 in
+        leb-true _ _ (and_parts _ _ asked).1
 
 -- a segment that is handed to an engine of these CCBs and runs
 module _ (ccbs : CcbsState) (old : RecoveryState) (place : ℕ) (segment : SegmentState) (is : IsSegment segment) where

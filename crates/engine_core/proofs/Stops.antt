@@ -91,8 +91,8 @@ called setup world number segment run request it stop = call_stop (at_stop run s
 -- what is told of a call is what the record of its advance says
 told_is : (told : Told) → stop_of (recorded told) ≡ call told
 told_is (plain helper) = refl
-told_is (traces bytes) = refl
-told_is (finishes code) = refl
+told_is (traces helper bytes) = refl
+told_is (finishes helper code) = refl
 
 -- a call that is carried out, and the run that goes on behind it
 pub call_leads : (setup : Setup) (world : World) (number : ℕ) (segment : SegmentState) (run : LiveRun) (request : Request) (given : Answer) (ccbs : CcbsState) (recoveries : RecoveryState) → Arrives setup world number segment run → segment.stop ≡ Helper request → IsCarriedOut (goes_on world run segment.to) (at_stop run segment) request given ccbs (record recoveries { runs = with_run (at_stop run segment) recoveries.runs }) → LeadsTo setup world (events_of (Advance number segment.steps (recorded (told_of request)) given.r0)) ccbs (record recoveries { runs = with_run (with_machine run (answered request given segment.to)) recoveries.runs })

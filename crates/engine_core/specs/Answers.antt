@@ -1,7 +1,10 @@
 -- What the answers of a completion and of an advance say.
 use Rattle.std.specs.Prelude.{◌≡◌, ℕ, ◌≤◌}
 use Rattle.helpers.specs.declared.request.Request.{Request}
-use Rattle.helpers.specs.declared.request.Request.TheVariants.{Finish as FinishCcb}
+use Rattle.helpers.specs.declared.request.Arguments.{Arguments}
+use Rattle.helpers.specs.declared.columns.Tells.{Tells}
+use Rattle.helpers.specs.declared.columns.Tells.TheVariants as tells
+use Rattle.helpers.specs.Table.{row_of}
 use Rattle.bpf_semantics.specs.declared.stop.Stop.{Stop}
 use Rattle.bpf_semantics.specs.declared.stop.Stop.TheVariants.{Helper as at_helper, Exit as at_exit}
 use Rattle.interpreter.specs.Segments.{SegmentState}
@@ -30,18 +33,22 @@ StartsOut setup world (Started run freeze) = IsOutUnder setup world run
 -- what is recorded of a call of which this is told
 abbrev pub recorded : Told → StoppedAt
 recorded (plain helper) = Helper helper
-recorded (traces bytes) = Trace bytes
-recorded (finishes code) = Finish code
+recorded (traces helper bytes) = Trace helper bytes
+recorded (finishes helper code) = Finish helper code
 
 -- the helper call or exit at which a run stopped
 abbrev pub stopped_at : Stop → StoppedAt
 stopped_at (at_helper request) = recorded (told_of request)
 stopped_at (at_exit r0) = Exit
 
--- a final code that is recorded is one of the 64 that there are
+-- a status code that is recorded is one of the 64 that there are
+abbrev pub IsCode : Tells → Arguments → Type 0
+IsCode tells.Name arguments = Unit {0}
+IsCode tells.Bytes arguments = Unit {0}
+IsCode tells.Code arguments = arguments.first ≤ 63
+
 abbrev pub NamesCode : Request → Type 0
-NamesCode (FinishCcb code) = code ≤ 63
-NamesCode request = Unit {0}
+NamesCode request = IsCode (row_of request.helper).tells request.arguments
 
 abbrev pub StopsByCode : Stop → Type 0
 StopsByCode (at_helper request) = NamesCode request

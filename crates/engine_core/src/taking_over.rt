@@ -10,13 +10,13 @@ ghost use Rattle.engine_core.specs.TakingOver.{IsAdmitted, LeadsBy, Does, GoesOn
 use bpf_semantics::Stop;
 use ccb::QueueId;
 use ccb_table::CcbTable;
-use helpers::{Answer, Request, Written};
+use helpers::{Answer, Deed, Request, Tells, Written};
 use interpreter::Segment;
 use recoveries::Recoveries;
 use std::alloc::{AllocError, Global};
 use world::{StoppedAt, TracedBytes};
 
-/// What is recorded of a stop. Only the bytes of a trace call take memory.
+/// What is recorded of a stop. Only bytes that a call tells take memory.
 pub(crate) fn recorded(alloc: Global, stop: &Stop) -> Result<StoppedAt, AllocError>
     requires { StopsByCode stop.now }
     ensures { IfOk result (λ kept. kept ≡ stopped_at stop.now) }
@@ -31,19 +31,11 @@ fn recorded_call(alloc: Global, request: &Request) -> Result<StoppedAt, AllocErr
     requires { NamesCode request.now }
     ensures { IfOk result (λ kept. kept ≡ stopped_at (Helper request.now)) }
 {
-    match request {
-        Request::Trace { bytes, .. } => Ok(StoppedAt::Trace(TracedBytes::new(alloc, *bytes)?)),
-        Request::Finish { code } => Ok(StoppedAt::Finish(*code as u8)),
-        Request::Freeze { .. }
-        | Request::Release { .. }
-        | Request::ReleaseAfter { .. }
-        | Request::Requeue { .. }
-        | Request::TableGet { .. }
-        | Request::TablePut { .. }
-        | Request::TableAdd { .. }
-        | Request::QueueInfo { .. }
-        | Request::Now
-        | Request::SetOpenings { .. } => Ok(StoppedAt::Helper(request.helper())),
+    let helper = request.helper;
+    match helper.row().tells {
+        Tells::Name => Ok(StoppedAt::Helper(helper)),
+        Tells::Bytes => Ok(StoppedAt::Trace(helper, TracedBytes::new(alloc, request.bytes)?)),
+        Tells::Code => Ok(StoppedAt::Finish(helper, request.arguments.first as u8)),
     }
 }
 
@@ -102,47 +94,51 @@ fn carry_out(
     requires admitted { (number : ℕ) × IsAdmitted ccbs.old recoveries.old number place segment.now }
     ensures { Does place segment.now request.now result ccbs.old recoveries.old ccbs.new recoveries.new }
 {
-    match *request {
-        Request::Freeze { queue } => {
-            let freeze = recoveries.take(place, QueueId(queue as u32));
+    let arguments = request.arguments;
+    match request.helper.row().deed {
+        Deed::Nothing => Answer::number(0),
+        Deed::Freeze => {
+            let freeze = recoveries.take(place, QueueId(arguments.first as u32));
             Answer::number(u64::from(freeze))
         }
-        Request::Release { freeze } => {
-            let count = recoveries.release(place, freeze as u32);
+        Deed::GiveBack => {
+            let count = recoveries.release(place, arguments.first as u32);
             Answer::number(u64::from(count))
         }
-        Request::ReleaseAfter {
-            freeze,
-            milliseconds,
-        } => {
-            recoveries.hand_over(place, freeze as u32, milliseconds as u32);
+        Deed::HandOver => {
+            recoveries.hand_over(place, arguments.first as u32, arguments.second as u32);
             Answer::number(0)
         }
-        Request::Requeue { retries } => {
-            ccbs.requeue(recoveries.ccb(place), retries as u32);
+        Deed::Requeue => {
+            ccbs.requeue(recoveries.ccb(place), arguments.first as u32);
             Answer::number(0)
         }
-        Request::Finish { code: _ } => {
+        Deed::Finish => {
             ccbs.finish(recoveries.ccb(place));
             Answer::number(0)
         }
-        Request::TableGet { table, index } => {
-            Answer::number(recoveries.table_get(table as usize, index as usize))
+        Deed::GetWord => Answer::number(recoveries.table_get(
+            arguments.first as usize,
+            arguments.second as usize,
+        )),
+        Deed::PutWord => {
+            Answer::number(recoveries.table_put(
+                arguments.first as usize,
+                arguments.second as usize,
+                arguments.third,
+            ))
         }
-        Request::TablePut {
-            table,
-            index,
-            value,
-        } => Answer::number(recoveries.table_put(table as usize, index as usize, value)),
-        Request::TableAdd {
-            table,
-            index,
-            value,
-        } => Answer::number(recoveries.table_add(table as usize, index as usize, value)),
-        Request::QueueInfo { address } => {
+        Deed::AddWord => {
+            Answer::number(recoveries.table_add(
+                arguments.first as usize,
+                arguments.second as usize,
+                arguments.third,
+            ))
+        }
+        Deed::TellQueue => {
             let info = ccbs.queue_info(recoveries.queue(place), recoveries.ledger());
             let written = Written {
-                address,
+                address: arguments.first,
                 bytes: info.to_bytes(),
             };
             Answer {
@@ -150,13 +146,9 @@ fn carry_out(
                 written: Some(written),
             }
         }
-        Request::Trace {
-            address: _,
-            bytes: _,
-        } => Answer::number(0),
-        Request::Now => Answer::number(recoveries.clock()),
-        Request::SetOpenings { openings } => {
-            let old = ccbs.set_openings(recoveries.queue(place), openings as u8);
+        Deed::TellClock => Answer::number(recoveries.clock()),
+        Deed::SetOpenings => {
+            let old = ccbs.set_openings(recoveries.queue(place), arguments.first as u8);
             Answer::number(u64::from(old))
         }
     }

@@ -1,41 +1,45 @@
--- The table of the helper functions: the number of each, and what it asks of its arguments, which stand in R1, R2 and R3.
-use Rattle.std.specs.Prelude.{ℕ, ℤ, pos, length, ◌+◌, ◌==◌, Bool, Option, Some, None, if◌then◌else◌}
+-- The table of the helper functions, by its rows: the number of each is its row's place, from 1.
+use Rattle.std.specs.Prelude.{ℕ, ℤ, pos, ◌+◌, ◌==◌, Bool, Option, Some, None, List, [], length, find, slice_index_or}
+use Rattle.std.specs.Option.{option_map}
 use Rattle.std.specs.Ordering.{int_eq}
-use Rattle.helpers.specs.declared.helper.Helper.{Helper}
-use Rattle.helpers.specs.declared.helper.Helper.TheVariants as helpers
-use Rattle.helpers.specs.declared.helper.Asked.{Asked}
-use Rattle.helpers.specs.declared.helper.Asked.TheVariants.{Queue, HeldFreeze, Within, Table, Index, Word, Room, Bytes}
-use Rattle.helpers.specs.declared.helper.Asks.{Asks}
+use Rattle.helpers.specs.declared.table.Helper.{Helper}
+use Rattle.helpers.specs.declared.table.Helper.TheVariants as helpers
+use Rattle.helpers.specs.contracts.table.Helper as helper
+use Rattle.helpers.specs.declared.columns.Asked.{Asked}
+use Rattle.helpers.specs.declared.columns.Asks.{Asks}
+use Rattle.helpers.specs.declared.columns.Needs.TheVariants as needs
+use Rattle.helpers.specs.declared.columns.Gives.TheVariants.{Number}
+use Rattle.helpers.specs.declared.columns.Change.TheVariants as changes
+use Rattle.helpers.specs.declared.columns.Tells.TheVariants as tells
+use Rattle.helpers.specs.declared.table.Deed.TheVariants as deeds
+use Rattle.helpers.specs.declared.table.Row.{Row}
+use Rattle.helpers.specs.declared.table.TheConstants.{HELPERS}
 use Rattle.helpers.specs.declared.request.Arguments.{Arguments}
 use Rattle.helpers.specs.declared.request.Request.{Request}
-use Rattle.helpers.specs.declared.request.Request.TheVariants.{Freeze, Release, ReleaseAfter, Requeue, Finish, TableGet, TablePut, TableAdd, QueueInfo, Trace, Now, SetOpenings}
 use Rattle.helpers.specs.declared.request.Answer.{Answer}
+use denote.Enum.Declared.{tag_of}
 
-abbrev pub nothing : Asks
-nothing = record { first = None; second = None; third = None }
+abbrev pub number_of : Helper → ℕ
+number_of name = tag_of helper.the_type name + 1
 
-abbrev pub one : Asked → Asks
-one first = record { first = Some first; second = None; third = None }
+-- the row of no helper
+abbrev pub no_row : Row
+no_row = record {
+  helper = helpers.Now;
+  asks = record { first = None; second = None; third = None };
+  needs = needs.Nothing;
+  gives = Number 0 0;
+  machine = changes.Nothing;
+  tells = tells.Name;
+  deed = deeds.Nothing;
+}
 
-abbrev pub two : Asked → Asked → Asks
-two first second = record { first = Some first; second = Some second; third = None }
-
-abbrev pub three : Asked → Asked → Asked → Asks
-three first second third = record { first = Some first; second = Some second; third = Some third }
+-- the row of a helper
+unfoldable pub row_of : Helper → Row
+row_of name = slice_index_or HELPERS (tag_of helper.the_type name) no_row
 
 abbrev pub asks : Helper → Asks
-asks helpers.Freeze = one Queue
-asks helpers.Release = one HeldFreeze
-asks helpers.ReleaseAfter = two HeldFreeze (Within 1 600000)
-asks helpers.Requeue = one (Within 0 1)
-asks helpers.Finish = one (Within 0 63)
-asks helpers.TableGet = two Table Index
-asks helpers.TablePut = three Table Index Word
-asks helpers.TableAdd = three Table Index Word
-asks helpers.QueueInfo = one (Room 16)
-asks helpers.Trace = two Bytes (Within 1 64)
-asks helpers.Now = nothing
-asks helpers.SetOpenings = one (Within 1 255)
+asks name = (row_of name).asks
 
 abbrev pub counted : Option Asked → ℕ
 counted (Some asked) = 1
@@ -43,87 +47,23 @@ counted None = 0
 
 -- how many arguments a helper takes
 abbrev pub arity : Helper → ℕ
-arity helper = counted (asks helper).first + counted (asks helper).second + counted (asks helper).third
-
-abbrev pub number_of : Helper → ℕ
-number_of helpers.Freeze = 1
-number_of helpers.Release = 2
-number_of helpers.ReleaseAfter = 3
-number_of helpers.Requeue = 4
-number_of helpers.Finish = 5
-number_of helpers.TableGet = 6
-number_of helpers.TablePut = 7
-number_of helpers.TableAdd = 8
-number_of helpers.QueueInfo = 9
-number_of helpers.Trace = 10
-number_of helpers.Now = 11
-number_of helpers.SetOpenings = 12
+arity name = counted (asks name).first + counted (asks name).second + counted (asks name).third
 
 -- the helper of a number, if there is one
 abbrev pub helper_of : ℤ → Option Helper
-helper_of number =
-    if int_eq number (pos 1) then Some helpers.Freeze
-    else if int_eq number (pos 2) then Some helpers.Release
-    else if int_eq number (pos 3) then Some helpers.ReleaseAfter
-    else if int_eq number (pos 4) then Some helpers.Requeue
-    else if int_eq number (pos 5) then Some helpers.Finish
-    else if int_eq number (pos 6) then Some helpers.TableGet
-    else if int_eq number (pos 7) then Some helpers.TablePut
-    else if int_eq number (pos 8) then Some helpers.TableAdd
-    else if int_eq number (pos 9) then Some helpers.QueueInfo
-    else if int_eq number (pos 10) then Some helpers.Trace
-    else if int_eq number (pos 11) then Some helpers.Now
-    else if int_eq number (pos 12) then Some helpers.SetOpenings
-    else None
+helper_of number = option_map (λ row. row.helper) (find (λ row. int_eq (pos (number_of row.helper)) number) HELPERS)
 
 -- both are one helper
 abbrev pub is_helper : Helper → Helper → Bool
 is_helper a b = number_of a == number_of b
 
--- the call of a helper with these arguments, if they tell all of it: not what a trace call puts into the history
-abbrev pub request_of : Helper → Arguments → Option Request
-request_of helpers.Freeze arguments = Some (Freeze arguments.first)
-request_of helpers.Release arguments = Some (Release arguments.first)
-request_of helpers.ReleaseAfter arguments = Some (ReleaseAfter arguments.first arguments.second)
-request_of helpers.Requeue arguments = Some (Requeue arguments.first)
-request_of helpers.Finish arguments = Some (Finish arguments.first)
-request_of helpers.TableGet arguments = Some (TableGet arguments.first arguments.second)
-request_of helpers.TablePut arguments = Some (TablePut arguments.first arguments.second arguments.third)
-request_of helpers.TableAdd arguments = Some (TableAdd arguments.first arguments.second arguments.third)
-request_of helpers.QueueInfo arguments = Some (QueueInfo arguments.first)
-request_of helpers.Trace arguments = None
-request_of helpers.Now arguments = Some Now
-request_of helpers.SetOpenings arguments = Some (SetOpenings arguments.first)
+-- a call with these arguments, of a helper that names no bytes
+abbrev pub asking : Helper → ℕ → ℕ → ℕ → Request
+asking name first second third = record { helper = name; arguments = record { first = first; second = second; third = third }; bytes = [] }
 
--- the helper that is called
-abbrev pub helper_in : Request → Helper
-helper_in (Freeze queue) = helpers.Freeze
-helper_in (Release freeze) = helpers.Release
-helper_in (ReleaseAfter freeze milliseconds) = helpers.ReleaseAfter
-helper_in (Requeue retries) = helpers.Requeue
-helper_in (Finish code) = helpers.Finish
-helper_in (TableGet table index) = helpers.TableGet
-helper_in (TablePut table index value) = helpers.TablePut
-helper_in (TableAdd table index value) = helpers.TableAdd
-helper_in (QueueInfo address) = helpers.QueueInfo
-helper_in (Trace address bytes) = helpers.Trace
-helper_in Now = helpers.Now
-helper_in (SetOpenings openings) = helpers.SetOpenings
-
--- the arguments with which it is called
-abbrev pub arguments_in : Request → Arguments
-arguments_in (Freeze queue) = record { first = queue; second = 0; third = 0 }
-arguments_in (Release freeze) = record { first = freeze; second = 0; third = 0 }
-arguments_in (ReleaseAfter freeze milliseconds) = record { first = freeze; second = milliseconds; third = 0 }
-arguments_in (Requeue retries) = record { first = retries; second = 0; third = 0 }
-arguments_in (Finish code) = record { first = code; second = 0; third = 0 }
-arguments_in (TableGet table index) = record { first = table; second = index; third = 0 }
-arguments_in (TablePut table index value) = record { first = table; second = index; third = value }
-arguments_in (TableAdd table index value) = record { first = table; second = index; third = value }
-arguments_in (QueueInfo address) = record { first = address; second = 0; third = 0 }
-arguments_in (Trace address bytes) = record { first = address; second = length bytes; third = 0 }
-arguments_in Now = record { first = 0; second = 0; third = 0 }
-arguments_in (SetOpenings openings) = record { first = openings; second = 0; third = 0 }
+-- and one that names these bytes, from an address on
+abbrev pub telling : Helper → ℕ → List ℕ → Request
+telling name address bytes = record { helper = name; arguments = record { first = address; second = length bytes; third = 0 }; bytes = bytes }
 
 -- an answer that is a number alone
 abbrev pub answer_number : ℕ → Answer

@@ -2,10 +2,12 @@
 // what a call may name. It relies on `short_bytes` for the bytes that a call names.
 #![tactic(auto)]
 
-mod helper;
+mod columns;
 mod limits;
 mod request;
+mod table;
 
-pub use helper::{Asked, Asks, Helper};
+pub use columns::{Asked, Asks, Change, Gives, Needs, Tells};
 pub use limits::{HelperLimits, TableLengths};
 pub use request::{Answer, Arguments, Request, Written};
+pub use table::{Deed, HELPERS, Helper, Row};

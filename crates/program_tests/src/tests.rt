@@ -4,6 +4,7 @@
 use ccb::{CamStatus, CcbId, Completion};
 use command_line::Plan;
 use commands::carry;
+use helpers::Helper;
 use short_bytes::ShortBytes;
 use std::alloc::{AllocError, Global};
 use std::io;
@@ -161,7 +162,7 @@ fn records_of_no_scenario(rt: HostRuntime) -> Result<(), Fail> {
     let traced = Record::Advance {
         run: 2,
         instructions: 1,
-        stop: StoppedAt::Trace(TracedBytes::new(alloc, bytes)?),
+        stop: StoppedAt::Trace(Helper::Trace, TracedBytes::new(alloc, bytes)?),
         r0: 0,
     };
     let records = vec![in alloc; started, traced, ended]?;

@@ -143,11 +143,11 @@ impl Recoveries {
         self.tables.get(table, index)
     }
 
-    /// Writes a word of a table, and answers the one that stood there.
+    /// Writes a word of a table, which is one below 2^64, and answers the one that stood there.
     pub fn table_put(&mut self, table: usize, index: usize, value: u64) -> u64
         requires { HasWord self.old.tables table index }
         ensures answer { result ≡ word_at self.old.tables table index }
-        ensures tables { self.new ≡ record self.old { tables = with_word self.old.tables table index value } }
+        ensures tables { self.new ≡ record self.old { tables = with_word self.old.tables table index (value % 2 ^ 64) } }
     {
         self.tables.put(table, index, value)
     }

@@ -1,5 +1,5 @@
 -- What becomes of a described machine by a helper call, and that the call meets its rule.
-use Rattle.std.proofs.Common.{◌≡◌, ℕ, ℤ, ◌+◌, ◌<◌, true, false, not, List, [], Option, Some, None, Result, Ok, Err, IfOk, length, drop, refl, ap, sym, subst, ◌∙◌, arith, length-drop}
+use Rattle.std.proofs.Common.{◌≡◌, ℕ, ℤ, ◌+◌, ◌<◌, true, not, List, Option, Some, None, Result, Ok, Err, IfOk, length, drop, refl, ap, sym, subst, ◌∙◌, arith, length-drop}
 use Rattle.std.specs.Prelude.{All, IsOk, slice_index_or, unwrap_or}
 use Rattle.std.specs.Option.{option_map, option_and_then}
 use Rattle.std.proofs.lemmas.Bool.{and_from, lt-ltb}
@@ -7,22 +7,29 @@ use Rattle.std.proofs.lemmas.List.{get_or-drop}
 use Rattle.bpf_insn.specs.declared.reg.Reg.{Reg}
 use Rattle.bpf_insn.specs.declared.reg.Reg.TheVariants.{R0, R1, R2, R3, R4, R5, R6, R7, R8, R9, R10}
 use Rattle.bpf_insn.specs.Reg.{number_of}
-use Rattle.helpers.specs.declared.helper.Helper.{Helper}
-use Rattle.helpers.specs.declared.helper.Helper.TheVariants as helpers
-use Rattle.helpers.specs.declared.helper.Asked.{Asked}
-use Rattle.helpers.specs.declared.helper.Asks.{Asks}
+use Rattle.helpers.specs.declared.columns.Asked.{Asked}
+use Rattle.helpers.specs.declared.columns.Asked.TheVariants.{HeldFreeze, Room as RoomOf}
+use Rattle.helpers.specs.declared.columns.Asks.{Asks}
+use Rattle.helpers.specs.declared.columns.Change.{Change}
+use Rattle.helpers.specs.declared.columns.Change.TheVariants as changes
+use Rattle.helpers.specs.declared.columns.Gives.{Gives}
+use Rattle.helpers.specs.declared.columns.Gives.TheVariants.{NewFreeze}
+use Rattle.helpers.specs.declared.columns.Needs.{Needs}
+use Rattle.helpers.specs.declared.columns.Needs.TheVariants as needs
 use Rattle.helpers.specs.declared.limits.HelperLimits.{HelperLimits}
 use Rattle.helpers.specs.declared.request.Answer.{Answer}
 use Rattle.helpers.specs.declared.request.Arguments.{Arguments}
 use Rattle.helpers.specs.declared.request.Request.{Request}
-use Rattle.helpers.specs.declared.request.Request.TheVariants as requests
-use Rattle.helpers.specs.Table.{asks, helper_of, request_of}
 use Rattle.helpers.specs.declared.request.Written.{Written}
-use Rattle.bpf_semantics.specs.Calls.{all_written, argument, meets, obeys as obeys_rule, request_by, request_with, run_may, traced}
+use Rattle.helpers.specs.declared.table.Helper.{Helper}
+use Rattle.helpers.specs.declared.table.Row.{Row}
+use Rattle.helpers.specs.Table.{asks, helper_of, row_of}
+use Rattle.helpers.proofs.Together.{IsRange, Wants, told, wanted}
+use Rattle.bpf_semantics.specs.Calls.{all_written, argument, arguments_at, meets, meets_need, named_bytes, request_by, request_with}
 use Rattle.bpf_semantics.specs.Frames.{frames_with}
-use Rattle.bpf_semantics.specs.MachineState.{MachineState}
+use Rattle.bpf_semantics.specs.MachineState.{MachineState, register}
 use Rattle.bpf_semantics.specs.Memory.{with_memory}
-use Rattle.bpf_semantics.specs.Step.{Allowed, WroteAt, after_call, frames_after}
+use Rattle.bpf_semantics.specs.Step.{IsGiven, IsWritten as IsWrittenBy, WroteAt, after_call, changed_by, frames_after}
 use Rattle.bpf_semantics.specs.Stuck.{call_is_stuck}
 use Rattle.reg_domain.specs.declared.arguments.Known.{Known}
 use Rattle.register_kinds.specs.declared.cause.Cause.{Cause}
@@ -31,15 +38,15 @@ use Rattle.register_kinds.specs.declared.freeze_name.FreezeName.{FreezeName}
 use Rattle.register_kinds.specs.declared.kind.Kind.{Kind}
 use Rattle.register_kinds.specs.declared.kind.Kind.TheVariants.{Unwritten, Number, Address, Freeze}
 use Rattle.reg_domain.specs.declared.saved.SavedRegisters.{SavedRegisters}
-use Rattle.reg_domain.specs.Arguments.{AllFit, AreArguments, FitsAny}
-use Rattle.reg_domain.specs.Calls.{CallIsNeverStuck, IsLawfulCall, Obeys, Passes, RunMay, after_call_kinds}
+use Rattle.reg_domain.specs.Arguments.{AllFit, AreArguments, FitsAny, MeetsNeed}
+use Rattle.reg_domain.specs.Calls.{CallFollows, CallIsNeverStuck, Changes, HoldsGiven, IsChange, IsLawfulCall, IsNamed, Obeys, Passes, after_call_kinds}
 use Rattle.reg_domain.specs.Description.{Describes, DescribesWith}
 use Rattle.register_kinds.specs.Freezes.{FreezeNumbers}
 use Rattle.register_kinds.specs.Kinds.{HoldsKind, IsWritten}
 use Rattle.reg_domain.specs.Memory.{AreWritten}
 use Rattle.reg_domain.specs.OpenCalls.{IsFresh}
 use Rattle.register_kinds.proofs.Freezes.{few_held}
-use Rattle.reg_domain.proofs.Tracing.{some_same, traced_unstuck}
+use Rattle.reg_domain.proofs.Tracing.{bytes_there, some_same}
 
 -- what lists of kinds say of lists of registers
 abbrev HoldKinds : FreezeNumbers → List Kind → List (Option ℕ) → Type 0
@@ -104,15 +111,13 @@ written_is m with_bytes address written place does = of_frames (frames_with 0 m.
     of_frames None e = absurd (let bad : None ≡ Some with_bytes = e in cc)
     of_frames (Some frames) e = some_same (record m { frames = frames }) with_bytes e
 
-pub informed : (numbers : FreezeNumbers) (callers : List SavedRegisters) (address r0 : ℕ) (between there : Description) (m : MachineState) (o : Option Written) → WroteAt address o
-    → ((bytes : List ℕ) → length bytes ≡ 16 → All (λ byte. byte < 256) bytes → AreWritten numbers callers m address bytes between)
-    → ((n : MachineState) → DescribesWith numbers callers between n → DescribesWith numbers callers there (after_call n r0))
-    → DescribesWith numbers callers there (record (after_call m r0) { frames = frames_after m.frames o })
-informed numbers callers address r0 between there m None wrote writes passes = absurd wrote
-informed numbers callers address r0 between there m (Some written) wrote writes passes =
+pub bytes_written : (numbers : FreezeNumbers) (callers : List SavedRegisters) (address count : ℕ) (there : Description) (m : MachineState) (o : Option Written) → WroteAt address count o
+    → ((bytes : List ℕ) → length bytes ≡ count → All (λ byte. byte < 256) bytes → AreWritten numbers callers m address bytes there)
+    → DescribesWith numbers callers there (record m { frames = frames_after m.frames o })
+bytes_written numbers callers address count there m None wrote writes = absurd wrote
+bytes_written numbers callers address count there m (Some written) wrote writes =
     let are = writes written.bytes wrote.size wrote.bytes in
-    passes (record m { frames = frames_after m.frames (Some written) })
-    (subst (DescribesWith numbers callers between) (sym (written_is m are.with_bytes address written wrote.place are.does)) are.describes)
+    subst (DescribesWith numbers callers there) (sym (written_is m are.with_bytes address written wrote.place are.does)) are.describes
 
 -- what is written is some number
 value_of : (numbers : FreezeNumbers) (kind : Kind) (o : Option ℕ) → IsWritten kind → HoldsKind numbers kind o → (value : ℕ) × (o ≡ Some value) × HoldsKind numbers kind (Some value)
@@ -133,7 +138,7 @@ pub record HoldsArguments (numbers : FreezeNumbers) (m : MachineState) (asks : A
   pub second : HoldsKind numbers known.second (argument m asks.second R2)
   pub third : HoldsKind numbers known.third (argument m asks.third R3)
 
-pub lawful : (limits : HelperLimits) (d : Description) (numbers : FreezeNumbers) (callers : List SavedRegisters) (m : MachineState) (helper : Helper) (known : Known) → DescribesWith numbers callers d m → HoldsArguments numbers m (asks helper) known → AllFit limits d (asks helper) known → run_may m helper ≡ true
+pub lawful : (limits : HelperLimits) (d : Description) (numbers : FreezeNumbers) (callers : List SavedRegisters) (m : MachineState) (helper : Helper) (known : Known) → DescribesWith numbers callers d m → HoldsArguments numbers m (asks helper) known → AllFit limits d (asks helper) known → meets_need m (row_of helper).needs ≡ true
     → IsLawfulCall limits m helper
 lawful limits d numbers callers m helper known is holds fit may =
     let first = value_of numbers known.first (argument m (asks helper).first R1) fit.first_written holds.first in
@@ -148,146 +153,113 @@ lawful limits d numbers callers m helper known is holds fit may =
           ∙ (ap (λ (o : Option ℕ). all_written (Some first.0) o (argument m (asks helper).third R3)) second.1
           ∙ ap (λ (o : Option ℕ). all_written (Some first.0) (Some second.0) o) third.1);
       obeys =
-          and_from (run_may m helper) _ may
+          and_from (meets_need m (row_of helper).needs) _ may
           (and_from _ _ (meets_asked limits d numbers callers m known arguments (asks helper).first known.first first.0 is are first.2 fit.first)
           (and_from _ _ (meets_asked limits d numbers callers m known arguments (asks helper).second known.second second.0 is are second.2 fit.second)
           (meets_asked limits d numbers callers m known arguments (asks helper).third known.third third.0 is are third.2 fit.third)));
     }
 
--- what a helper asks of the run
-pub may_run : (numbers : FreezeNumbers) (saved callers : List SavedRegisters) (d : Description) (m : MachineState) (name : FreezeName) (helper : Helper) → DescribesWith numbers callers d m → RunMay saved d name helper → run_may m helper ≡ true
-may_run numbers saved callers d m name helpers.Freeze is may =
+-- what a helper needs of the run
+pub needs_met : (numbers : FreezeNumbers) (saved callers : List SavedRegisters) (d : Description) (m : MachineState) (name : FreezeName) (needed : Needs) → DescribesWith numbers callers d m → MeetsNeed saved d name needed → meets_need m needed ≡ true
+needs_met numbers saved callers d m name needs.Nothing is may = refl
+needs_met numbers saved callers d m name needs.Room is may =
     let few = few_held numbers d.held m.held is.held in
     let room : length m.held < 8 = omega (arith, few, may.0) in
     lt-ltb (length m.held) 8 room
-may_run numbers saved callers d m name helpers.Release is may = refl
-may_run numbers saved callers d m name helpers.ReleaseAfter is may = refl
-may_run numbers saved callers d m name helpers.Requeue is may = ap not (is.disposal ∙ may)
-may_run numbers saved callers d m name helpers.Finish is may = ap not (is.disposal ∙ may)
-may_run numbers saved callers d m name helpers.TableGet is may = refl
-may_run numbers saved callers d m name helpers.TablePut is may = refl
-may_run numbers saved callers d m name helpers.TableAdd is may = refl
-may_run numbers saved callers d m name helpers.QueueInfo is may = refl
-may_run numbers saved callers d m name helpers.Trace is may = refl
-may_run numbers saved callers d m name helpers.Now is may = refl
-may_run numbers saved callers d m name helpers.SetOpenings is may = refl
+needs_met numbers saved callers d m name needs.Undisposed is may = ap not (is.disposal ∙ may)
 
 -- a check that passes
-pub obeys_ok : (r : Result (Unit {0}) Cause) (limits : HelperLimits) (saved : List SavedRegisters) (d : Description) (name : FreezeName) (helper : Helper) (asked : Asks) (known : Known) → asked ≡ asks helper
-    → ((numbers : FreezeNumbers) (callers : List SavedRegisters) (m : MachineState) → DescribesWith numbers callers d m → HoldsArguments numbers m asked known) → AllFit limits d asked known → (IsOk r → RunMay saved d name helper)
+pub obeys_ok : (r : Result (Unit {0}) Cause) (limits : HelperLimits) (saved : List SavedRegisters) (d : Description) (name : FreezeName) (helper : Helper) (row : Row) (known : Known) → row ≡ row_of helper
+    → ((numbers : FreezeNumbers) (callers : List SavedRegisters) (m : MachineState) → DescribesWith numbers callers d m → HoldsArguments numbers m row.asks known) → AllFit limits d row.asks known → (IsOk r → MeetsNeed saved d name row.needs)
     → IfOk r (λ x. Obeys limits d helper)
-obeys_ok (Err cause) limits saved d name helper asked known same holds fit may = tt
-obeys_ok (Ok x) limits saved d name helper asked known same holds fit may = λ callers m (numbers, is).
-    lawful limits d numbers callers m helper known is (subst (λ (a : Asks). HoldsArguments numbers m a known) same (holds numbers callers m is)) (subst (λ (a : Asks). AllFit limits d a known) same fit)
-    (may_run numbers saved callers d m name helper is (may refl))
+obeys_ok (Err cause) limits saved d name helper row known same holds fit may = tt
+obeys_ok (Ok x) limits saved d name helper row known same holds fit may = λ callers m (numbers, is).
+    lawful limits d numbers callers m helper known is (subst (λ (r : Row). HoldsArguments numbers m r.asks known) same (holds numbers callers m is)) (subst (λ (r : Row). AllFit limits d r.asks known) same fit)
+    (needs_met numbers saved callers d m name (row_of helper).needs is (subst (λ (r : Row). MeetsNeed saved d name r.needs) same (may refl)))
 
--- what is answered
+-- the call of a helper, by its parts
+pub record IsCall (m : MachineState) (helper : Helper) (request : Request) : Type 0 where
+  pub of_helper : request.helper ≡ helper
+  pub arguments : arguments_at m helper ≡ Some request.arguments
 
--- the call of a helper of one argument, or of two
-one_is : (make : ℕ → Request) (o : Option ℕ) (request : Request) → option_and_then (λ (arguments : Arguments). Some (make arguments.first)) (all_written o (Some 0) (Some 0)) ≡ Some request → (first : ℕ) × (o ≡ Some first) × (make first ≡ request)
-one_is make None request e = absurd (let bad : None ≡ Some request = e in cc)
-one_is make (Some first) request e = (first, refl, some_same (make first) request e)
-
-handed_is : (o p : Option ℕ) (request : Request) → option_and_then (request_of helpers.ReleaseAfter) (all_written o p (Some 0)) ≡ Some request → (first : ℕ) × (second : ℕ) × (o ≡ Some first) × (requests.ReleaseAfter first second ≡ request)
-handed_is None p request e = absurd (let bad : None ≡ Some request = e in cc)
-handed_is (Some first) None request e = absurd (let bad : None ≡ Some request = e in cc)
-handed_is (Some first) (Some second) request e = (first, second, refl, some_same (requests.ReleaseAfter first second) request e)
-
--- the call of a helper that names a word of a table, and of one that brings a further word
-two_is : (make : ℕ → ℕ → Request) (o p : Option ℕ) (request : Request) → option_and_then (λ (arguments : Arguments). Some (make arguments.first arguments.second)) (all_written o p (Some 0)) ≡ Some request → (first : ℕ) × (second : ℕ) × (make first second ≡ request)
-two_is make None p request e = absurd (let bad : None ≡ Some request = e in cc)
-two_is make (Some first) None request e = absurd (let bad : None ≡ Some request = e in cc)
-two_is make (Some first) (Some second) request e = (first, second, some_same (make first second) request e)
-
-three_is : (make : ℕ → ℕ → ℕ → Request) (o p q : Option ℕ) (request : Request) → option_and_then (λ (arguments : Arguments). Some (make arguments.first arguments.second arguments.third)) (all_written o p q) ≡ Some request
-    → (first : ℕ) × (second : ℕ) × (third : ℕ) × (make first second third ≡ request)
-three_is make None p q request e = absurd (let bad : None ≡ Some request = e in cc)
-three_is make (Some first) None q request e = absurd (let bad : None ≡ Some request = e in cc)
-three_is make (Some first) (Some second) None request e = absurd (let bad : None ≡ Some request = e in cc)
-three_is make (Some first) (Some second) (Some third) request e = (first, second, third, some_same (make first second third) request e)
-
-traced_is : (m : MachineState) (first second : Option ℕ) (request : Request) → option_and_then (request_with m helpers.Trace) (all_written first second (Some 0)) ≡ Some request → (address : ℕ) × (bytes : List ℕ) × (requests.Trace address bytes ≡ request)
-traced_is m None second request e = absurd (let bad : None ≡ Some request = e in cc)
-traced_is m (Some address) None request e = absurd (let bad : None ≡ Some request = e in cc)
-traced_is m (Some address) (Some count) request e = of_bytes (traced m address count) e
+pub is_call : (m : MachineState) (helper : Helper) (request : Request) → request_by m helper ≡ Some request → IsCall m helper request
+is_call m helper request = of_arguments (arguments_at m helper) refl
   where
-    of_bytes : (o : Option (List ℕ)) → option_map (requests.Trace address) o ≡ Some request → (start : ℕ) × (bytes : List ℕ) × (requests.Trace start bytes ≡ request)
-    of_bytes None is = absurd (let bad : None ≡ Some request = is in cc)
-    of_bytes (Some bytes) is = (address, bytes, some_same (requests.Trace address bytes) request is)
+    of_arguments : (o : Option Arguments) → arguments_at m helper ≡ o → option_and_then (request_with m helper) o ≡ Some request → IsCall m helper request
+    of_arguments None at e = absurd (let bad : None ≡ Some request = e in cc)
+    of_arguments (Some arguments) at e = of_bytes (named_bytes m (row_of helper).tells arguments) e
+      where
+        of_bytes : (o : Option (List ℕ)) → option_map (λ bytes. record { helper = helper; arguments = arguments; bytes = bytes }) o ≡ Some request → IsCall m helper request
+        of_bytes None is = absurd (let bad : None ≡ Some request = is in cc)
+        of_bytes (Some bytes) is =
+            let made : Request = record { helper = helper; arguments = arguments; bytes = bytes } in
+            let same = some_same made request is in
+            record { of_helper = sym (ap (λ (r : Request). r.helper) same); arguments = at ∙ ap (λ (r : Request). Some r.arguments) same }
 
-passed : (name : FreezeName) (callers : List SavedRegisters) (helper : Helper) (d there : Description) (m m' : MachineState) (request : Request) (answer : Answer) → Passes name callers helper d there → (helper ≡ helpers.Freeze → IsFresh name callers) → Describes callers d m → request_by m helper ≡ Some request → Allowed request answer m m' → Describes callers there m'
-passed name callers helpers.Freeze d there m m' request answer passes fresh is called allowed =
-    let same = one_is requests.Freeze (slice_index_or m.registers 1 None) request called in
-    let given = subst (λ (r : Request). Allowed r answer m m') (sym same.2) allowed in
-    subst (Describes callers there) (sym given.1) (passes same.0 m answer (fresh refl) is given.0)
-passed name callers helpers.Release d there m m' request answer passes fresh is called allowed =
-    let same = one_is requests.Release (slice_index_or m.registers 1 None) request called in
-    let given = subst (λ (r : Request). Allowed r answer m m') (sym same.2) allowed in
-    subst (Describes callers there) (sym given.1) (passes same.0 m answer is same.1 given.0)
-passed name callers helpers.ReleaseAfter d there m m' request answer passes fresh is called allowed =
-    let same = handed_is (slice_index_or m.registers 1 None) (slice_index_or m.registers 2 None) request called in
-    let given = subst (λ (r : Request). Allowed r answer m m') (sym same.3) allowed in
-    subst (Describes callers there) (sym given.1) (passes same.0 same.1 m answer is same.2 given.0)
-passed name callers helpers.Requeue d there m m' request answer passes fresh is called allowed =
-    let same = one_is requests.Requeue (slice_index_or m.registers 1 None) request called in
-    let given = subst (λ (r : Request). Allowed r answer m m') (sym same.2) allowed in
-    subst (Describes callers there) (sym given.1) (passes same.0 m answer is given.0)
-passed name callers helpers.Finish d there m m' request answer passes fresh is called allowed =
-    let same = one_is requests.Finish (slice_index_or m.registers 1 None) request called in
-    let given = subst (λ (r : Request). Allowed r answer m m') (sym same.2) allowed in
-    subst (Describes callers there) (sym given.1) (passes same.0 m answer is given.0)
-passed name callers helpers.TableGet d there m m' request answer passes fresh is called allowed =
-    let same = two_is requests.TableGet (slice_index_or m.registers 1 None) (slice_index_or m.registers 2 None) request called in
-    let given = subst (λ (r : Request). Allowed r answer m m') (sym same.2) allowed in
-    subst (Describes callers there) (sym given.1) (passes m answer.r0 is (omega arith) (omega (arith, given.0)))
-passed name callers helpers.TablePut d there m m' request answer passes fresh is called allowed =
-    let same = three_is requests.TablePut (slice_index_or m.registers 1 None) (slice_index_or m.registers 2 None) (slice_index_or m.registers 3 None) request called in
-    let given = subst (λ (r : Request). Allowed r answer m m') (sym same.3) allowed in
-    subst (Describes callers there) (sym given.1) (passes m answer.r0 is (omega arith) (omega (arith, given.0)))
-passed name callers helpers.TableAdd d there m m' request answer passes fresh is called allowed =
-    let same = three_is requests.TableAdd (slice_index_or m.registers 1 None) (slice_index_or m.registers 2 None) (slice_index_or m.registers 3 None) request called in
-    let given = subst (λ (r : Request). Allowed r answer m m') (sym same.3) allowed in
-    subst (Describes callers there) (sym given.1) (passes m answer.r0 is (omega arith) (omega (arith, given.0)))
-passed name callers helpers.QueueInfo d there m m' request answer passes fresh is called allowed =
-    let same = one_is requests.QueueInfo (slice_index_or m.registers 1 None) request called in
-    let given = subst (λ (r : Request). Allowed r answer m m') (sym same.2) allowed in
-    subst (Describes callers there) (sym given.1) (passes same.0 m answer is same.1 given.0)
-passed name callers helpers.Trace d there m m' request answer passes fresh is called allowed =
-    let same = traced_is m (slice_index_or m.registers 1 None) (slice_index_or m.registers 2 None) request called in
-    let given = subst (λ (r : Request). Allowed r answer m m') (sym same.2) allowed in
-    subst (Describes callers there) (sym given.1) (passes same.0 same.1 m answer is given.0)
-passed name callers helpers.Now d there m m' request answer passes fresh is called allowed =
-    let given = subst (λ (r : Request). Allowed r answer m m') (sym (some_same requests.Now request called)) allowed in
-    subst (Describes callers there) (sym given.1) (passes m answer.r0 is (omega arith) (omega (arith, given.0)))
-passed name callers helpers.SetOpenings d there m m' request answer passes fresh is called allowed =
-    let same = one_is requests.SetOpenings (slice_index_or m.registers 1 None) request called in
-    let given = subst (λ (r : Request). Allowed r answer m m') (sym same.2) allowed in
-    subst (Describes callers there) (sym given.1) (passes m answer.r0 is given.0.0 given.0.1)
+-- R1 is the first argument, where it is read
+first_written : (o p q : Option ℕ) (arguments : Arguments) → all_written o p q ≡ Some arguments → o ≡ Some arguments.first
+first_written None p q arguments e = absurd (let bad : None ≡ Some arguments = e in cc)
+first_written (Some first) None q arguments e = absurd (let bad : None ≡ Some arguments = e in cc)
+first_written (Some first) (Some second) None arguments e = absurd (let bad : None ≡ Some arguments = e in cc)
+first_written (Some first) (Some second) (Some third) arguments e =
+    let made : Arguments = record { first = first; second = second; third = third } in
+    ap (λ (a : Arguments). Some a.first) (some_same made arguments e)
 
-pub follows : (name : FreezeName) (callers : List SavedRegisters) (number : ℤ) (helper : Helper) (d there : Description) (m m' : MachineState) (request : Request) (answer : Answer) → helper_of number ≡ Some helper → Passes name callers helper d there → (helper ≡ helpers.Freeze → IsFresh name callers)
-    → Describes callers d m → option_and_then (request_by m) (helper_of number) ≡ Some request → Allowed request answer m m' → Describes callers there m'
-follows name callers number helper d there m m' request answer named passes fresh is called allowed =
-    passed name callers helper d there m m' request answer passes fresh is (sym (ap (option_and_then (request_by m)) named) ∙ called) allowed
+first_read : (m : MachineState) (helper : Helper) (arguments : Arguments) (asked : Asked) → arguments_at m helper ≡ Some arguments → (asks helper).first ≡ Some asked → register m R1 ≡ Some arguments.first
+first_read m helper arguments asked at reads =
+    ap (λ (a : Option Asked). argument m a R1) (sym reads)
+    ∙ first_written (argument m (asks helper).first R1) (argument m (asks helper).second R2) (argument m (asks helper).third R3) arguments at
+
+-- what the change rests on
+change_is : (name : FreezeName) (callers : List SavedRegisters) (row : Row) (change : Change) (m : MachineState) (arguments : Arguments) (answer : Answer) → Wants change row → (change ≡ changes.Holds → IsFresh name callers)
+    → ((asked : Asked) → row.asks.first ≡ Some asked → register m R1 ≡ Some arguments.first) → IsGiven m.held row.gives answer.r0 → IsWrittenBy change arguments answer.written → IsChange name callers change m arguments answer
+change_is name callers row changes.Nothing m arguments answer wants fresh reads given written = tt
+change_is name callers row changes.Holds m arguments answer wants fresh reads given written = (fresh refl, subst (λ (g : Gives). IsGiven m.held g answer.r0) wants.0 given)
+change_is name callers row changes.GivesUp m arguments answer wants fresh reads given written = reads HeldFreeze wants.1
+change_is name callers row changes.Disposes m arguments answer wants fresh reads given written = tt
+change_is name callers row (changes.Writes bytes) m arguments answer wants fresh reads given written = (reads (RoomOf bytes) wants.1, written)
+
+-- the name of a freeze that is answered stands for that
+new_is_named : (name : FreezeName) (row : Row) (change : Change) (r0 : ℕ) (numbers : FreezeNumbers) → Wants change row → IsNamed name change r0 numbers → row.gives ≡ NewFreeze → numbers name ≡ Some r0
+new_is_named name row changes.Nothing r0 numbers wants named new = absurd (subst IsRange new wants)
+new_is_named name row changes.Holds r0 numbers wants named new = named
+new_is_named name row changes.GivesUp r0 numbers wants named new = absurd (subst IsRange new wants.0)
+new_is_named name row changes.Disposes r0 numbers wants named new = absurd (subst IsRange new wants.0)
+new_is_named name row (changes.Writes bytes) r0 numbers wants named new = absurd (subst IsRange new wants.0)
+
+-- the change may come before the answer
+change_first : (change : Change) (arguments : Arguments) (answer : Answer) (m : MachineState) → after_call (changed_by change arguments answer m) answer.r0 ≡ changed_by change arguments answer (after_call m answer.r0)
+change_first changes.Nothing arguments answer m = refl
+change_first changes.Holds arguments answer m = refl
+change_first changes.GivesUp arguments answer m = refl
+change_first changes.Disposes arguments answer m = refl
+change_first (changes.Writes bytes) arguments answer m = refl
+
+-- what becomes of the machine by a call, where that is known of its change and of its answer
+pub passed : (name : FreezeName) (callers : List SavedRegisters) (helper : Helper) (row : Row) (d between there : Description) (kind : Kind) → row ≡ row_of helper → Changes name callers row.machine d between → HoldsGiven name row.gives kind
+    → ((numbers : FreezeNumbers) (callers : List SavedRegisters) (r0 : ℕ) (m : MachineState) → DescribesWith numbers callers between m → HoldsKind numbers kind (Some r0) → DescribesWith numbers callers there (after_call m r0))
+    → Passes name callers helper d there
+passed name callers helper row d between there kind same changes holds answers m request answer fresh is called given =
+    let call = is_call m helper request called in
+    let wants = wanted helper in
+    let its = subst (λ (h : Helper). IsGiven m.held (row_of h).gives answer.r0 × IsWrittenBy (row_of h).machine request.arguments answer.written) call.of_helper given in
+    let change = change_is name callers (row_of helper) (row_of helper).machine m request.arguments answer wants fresh (λ asked. first_read m helper request.arguments asked call.arguments) its.0 its.1 in
+    let after = subst (λ (r : Row). Changes name callers r.machine d between) same changes m request.arguments answer is change in
+    let r0 = subst (λ (r : Row). HoldsGiven name r.gives kind) same holds after.numbers m.held answer.r0 its.0 (new_is_named name (row_of helper) (row_of helper).machine answer.r0 after.numbers wants after.named) in
+    subst (λ (h : Helper). Describes callers there (changed_by (row_of h).machine request.arguments answer (after_call m answer.r0))) (sym call.of_helper)
+    (after.numbers, subst (DescribesWith after.numbers callers there) (change_first (row_of helper).machine request.arguments answer m) (answers after.numbers callers answer.r0 _ after.describes r0))
+
+pub follows : (name : FreezeName) (callers : List SavedRegisters) (number : ℤ) (helper : Helper) (d there : Description) → helper_of number ≡ Some helper → Passes name callers helper d there → ((row_of helper).machine ≡ changes.Holds → IsFresh name callers)
+    → CallFollows callers number d there
+follows name callers number helper d there named passes fresh m m' request answer is called allowed =
+    subst (Describes callers there) (sym allowed.1) (passes m request answer fresh is (sym (ap (option_and_then (request_by m)) named) ∙ called) allowed.0)
 
 -- no machine is stuck at the call
 pub unstuck : (limits : HelperLimits) (d : Description) (number : ℤ) (helper : Helper) → helper_of number ≡ Some helper → Obeys limits d helper → CallIsNeverStuck limits number d
-unstuck limits d number helper named obeys callers m (numbers, is) =
-    let lawful = obeys callers m (numbers, is) in
+unstuck limits d number helper named obeys callers m is =
+    let lawful = obeys callers m is in
+    let there = bytes_there limits m helper lawful.arguments (row_of helper).tells (told helper) lawful.obeys in
     ap (λ (o : Option Helper). call_is_stuck limits m (option_and_then (request_by m) o)) named
     ∙ (ap (λ (o : Option Arguments). call_is_stuck limits m (option_and_then (request_with m helper) o)) lawful.at
-    ∙ goes_on limits m helper lawful.arguments is.frames.whole lawful.obeys)
-  where
-    goes_on : (limits : HelperLimits) (m : MachineState) (helper : Helper) (arguments : Arguments) → ((k : ℕ) → k < length m.frames → length (slice_index_or m.frames k []) ≡ 512) → obeys_rule limits m helper arguments ≡ true
-        → call_is_stuck limits m (request_with m helper arguments) ≡ false
-    goes_on limits m helpers.Freeze arguments whole rule = ap not rule
-    goes_on limits m helpers.Release arguments whole rule = ap not rule
-    goes_on limits m helpers.ReleaseAfter arguments whole rule = ap not rule
-    goes_on limits m helpers.Requeue arguments whole rule = ap not rule
-    goes_on limits m helpers.Finish arguments whole rule = ap not rule
-    goes_on limits m helpers.QueueInfo arguments whole rule = ap not rule
-    goes_on limits m helpers.Trace arguments whole rule = traced_unstuck limits m arguments whole rule
-    goes_on limits m helpers.TableGet arguments whole rule = ap not rule
-    goes_on limits m helpers.TablePut arguments whole rule = ap not rule
-    goes_on limits m helpers.TableAdd arguments whole rule = ap not rule
-    goes_on limits m helpers.Now arguments whole rule = ap not rule
-    goes_on limits m helpers.SetOpenings arguments whole rule = ap not rule
+    ∙ (ap (λ (o : Option (List ℕ)). call_is_stuck limits m (option_map (λ bytes. record { helper = helper; arguments = lawful.arguments; bytes = bytes }) o)) there.1
+    ∙ ap not lawful.obeys))

@@ -13,7 +13,7 @@ use Rattle.register_kinds.specs.declared.held.Certainty.TheVariants.{Sure}
 use Rattle.register_kinds.specs.declared.kind.Kind.{Kind}
 use Rattle.register_kinds.specs.declared.kind.Kind.TheVariants.{Unwritten, Number, Address, Freeze}
 use Rattle.reg_domain.specs.declared.saved.SavedRegisters.{SavedRegisters}
-use Rattle.reg_domain.specs.Calls.{IsSureFreeze}
+use Rattle.reg_domain.specs.Arguments.{IsSureFreeze}
 use Rattle.reg_domain.specs.Changes.{EachBecomes}
 use Rattle.reg_domain.specs.Description.{Describes, DescribesWith, kind_at}
 use Rattle.reg_domain.specs.Enough.{LeavesGivenUp}
@@ -90,10 +90,10 @@ given_up_described numbers callers d registers m name number copies is its has e
 }
 
 pub given_up_left : (d : Description) (registers : List Kind) (name : FreezeName) (copies : Scalar) → EachBecomes (GivesUpKind name copies) d.registers registers
-    → LeavesGivenUp 0 name (Number copies) d (record d { registers = registers; held = without d.held name })
+    → LeavesGivenUp name (Number copies) d (record d { registers = registers; held = without d.held name })
 given_up_left d registers name copies each = record {
-  copies = λ reg from is. (each (number_of reg) (number_below reg)).copies is;
-  others = λ reg from apart. (each (number_of reg) (number_below reg)).others apart;
+  copies = λ reg is. (each (number_of reg) (number_below reg)).copies is;
+  others = λ reg apart. (each (number_of reg) (number_below reg)).others apart;
   stack = refl;
   held = refl;
   disposal = refl;

@@ -1,6 +1,6 @@
 -- Which way an instruction leads that is no jump, and what an exit asks.
 use Rattle.std.proofs.Common.{◌≡◌, ℕ, ℤ, true, false, Bool, not, ◌||◌, List, [], Option, Result, Ok, Err, IfOk, refl, ap, sym, subst, ◌∙◌, inl, inr}
-use Rattle.std.specs.Prelude.{is_none}
+use Rattle.std.specs.Prelude.{IsOkAnd, is_none}
 use Rattle.bpf_insn.specs.declared.insn.Insn.{Insn}
 use Rattle.bpf_insn.specs.declared.insn.Callee.TheVariants.{Helper}
 use Rattle.bpf_insn.specs.declared.insn.Condition.{Condition}
@@ -16,11 +16,13 @@ use Rattle.register_kinds.specs.declared.cause.Cause.{Cause}
 use Rattle.reg_domain.specs.declared.description.Description.{Description}
 use Rattle.reg_domain.specs.declared.following.Way.{Way}
 use Rattle.reg_domain.specs.declared.following.Way.TheVariants.{FallThrough, Taken}
+use Rattle.register_kinds.specs.declared.freeze_name.FreezeName.{FreezeName}
 use Rattle.register_kinds.specs.declared.kind.Kind.{Kind}
 use Rattle.register_kinds.specs.declared.kind.Kind.TheVariants.{Unwritten, Number, Address, Freeze}
 use Rattle.reg_domain.specs.declared.saved.SavedRegisters.{SavedRegisters}
 use Rattle.reg_domain.specs.Calls.{CallFollows, CallIsNeverStuck}
 use Rattle.reg_domain.specs.Description.{kind_at}
+use Rattle.reg_domain.specs.Enough.{CanCall, Enough, Leaves, LeavesCalled}
 use Rattle.reg_domain.specs.Follows.{Follows, NeverStuck, jumps}
 use Rattle.register_kinds.specs.Freezes.{FreezeNumbers, numbers_held}
 use Rattle.reg_domain.specs.GoesOn.{GoesOn, is_taken}
@@ -47,6 +49,12 @@ pub call_never_stuck : {X : Type 0} (r : Result X Cause) (limits : HelperLimits)
     → IfOk r (λ _. NeverStuck limits callers (Call (Helper number)) d)
 call_never_stuck (Ok done) limits callers d number never = never callers
 call_never_stuck (Err cause) limits callers d number never = never
+
+-- and leaves what its row says, where it may be made under any limits
+pub call_leaves : {X : Type 0} (r : Result X Cause) (limits : HelperLimits) (callers : List SavedRegisters) (d there : Description) (name : FreezeName) (number : ℤ) → (CanCall limits callers d name number → IsOkAnd r (λ _. LeavesCalled name d number there))
+    → Enough (Call (Helper number)) d → IsOkAnd r (λ _. Leaves (Call (Helper number)) FallThrough d there)
+call_leaves (Ok done) limits callers d there name number leaves enough = (name, leaves (enough limits callers name))
+call_leaves (Err cause) limits callers d there name number leaves enough = leaves (enough limits callers name)
 
 pub jump_never_stuck : (r : Result Bool Cause) (limits : HelperLimits) (callers : List SavedRegisters) (width : Width) (condition : Condition) (dst : Reg) (src : Operand) (offset : ℤ) (d : Description) → IfOk r (λ is_open. (limits : HelperLimits) (callers : List SavedRegisters) (offset : ℤ) → NeverStuck limits callers (JumpIf width condition dst src offset) d) → IfOk r (λ is_open. NeverStuck limits callers (JumpIf width condition dst src offset) d)
 jump_never_stuck (Ok is_open) limits callers width condition dst src offset d never = never limits callers offset

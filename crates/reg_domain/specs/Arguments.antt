@@ -1,23 +1,60 @@
--- What is known of the arguments of a helper call, and when each is sure to be as the helper asks.
-use Rattle.std.specs.Prelude.{◌≡◌, ℕ, ◌<◌, ◌≤◌, true, List, length, Option, Some, None, slice_index_or}
+-- What is known of the arguments of a helper call, when each is sure to be as the helper asks, and when the call may pass.
+use Rattle.std.specs.Prelude.{◌≡◌, ℕ, ◌+◌, ◌<◌, ◌≤◌, true, false, List, length, Option, Some, None, slice_index_or}
 use Rattle.bpf_insn.specs.declared.reg.Reg.TheVariants.{R1, R2, R3}
-use Rattle.helpers.specs.declared.helper.Asked.{Asked}
-use Rattle.helpers.specs.declared.helper.Asked.TheVariants.{Queue, HeldFreeze, Within, Table, Index, Word, Room, Bytes}
-use Rattle.helpers.specs.declared.helper.Asks.{Asks}
+use Rattle.helpers.specs.declared.columns.Asked.{Asked}
+use Rattle.helpers.specs.declared.columns.Asked.TheVariants.{Queue, HeldFreeze, Within, Table, Index, Word, Room, Bytes}
+use Rattle.helpers.specs.declared.columns.Asks.{Asks}
+use Rattle.helpers.specs.declared.columns.Needs.{Needs}
+use Rattle.helpers.specs.declared.columns.Needs.TheVariants as needs
 use Rattle.helpers.specs.declared.limits.HelperLimits.{HelperLimits}
 use Rattle.helpers.specs.declared.request.Arguments.{Arguments}
+use Rattle.helpers.specs.declared.table.Helper.{Helper}
+use Rattle.helpers.specs.Table.{asks, row_of}
+use Rattle.bpf_semantics.specs.declared.bounds.TheConstants.{MAX_HELD}
 use Rattle.bpf_semantics.specs.Calls.{is_as_asked}
 use Rattle.bpf_semantics.specs.Frames.{has_room, has_written}
 use Rattle.bpf_semantics.specs.MachineState.{MachineState}
+use Rattle.stack_domain.specs.Stack.{Knows}
 use Rattle.reg_domain.specs.declared.arguments.Known.{Known}
 use Rattle.reg_domain.specs.declared.description.Description.{Description}
+use Rattle.register_kinds.specs.declared.freeze_name.FreezeName.{FreezeName}
+use Rattle.register_kinds.specs.declared.held.Certainty.TheVariants.{Sure}
 use Rattle.register_kinds.specs.declared.kind.Kind.{Kind}
+use Rattle.register_kinds.specs.declared.kind.Kind.TheVariants.{Unwritten, Number, Address, Freeze}
+use Rattle.register_kinds.specs.declared.region.Region.TheVariants.{Context, Frame}
 use Rattle.reg_domain.specs.declared.saved.SavedRegisters.{SavedRegisters}
-use Rattle.reg_domain.specs.Calls.{IsSureFreeze}
 use Rattle.reg_domain.specs.Description.{DescribesWith, kind_at}
-use Rattle.reg_domain.specs.Enough.{AreToldBytes, IsPlace}
-use Rattle.register_kinds.specs.Freezes.{FreezeNumbers}
+use Rattle.reg_domain.specs.OpenCalls.{IsFresh}
+use Rattle.register_kinds.specs.Freezes.{FreezeNumbers, certainty_of}
 use Rattle.register_kinds.specs.Kinds.{HoldsKind, IsBelow, IsBetween, IsKnown, IsNumber, IsWritten}
+
+-- a freeze that is held, and sure not to be 0
+abbrev pub IsSureFreeze : Description → Kind → Type 0
+IsSureFreeze d kind = (name : FreezeName) × (kind ≡ Freeze name) × (certainty_of d.held name ≡ Some Sure)
+
+-- the address of so many bytes of one live frame
+abbrev pub IsPlace : Description → ℕ → Kind → Type 0
+IsPlace d bytes Unwritten = ⊥
+IsPlace d bytes (Number scalar) = ⊥
+IsPlace d bytes (Address Context offsets) = ⊥
+IsPlace d bytes (Address (Frame frame) offsets) = (frame < length d.stack) × (offsets.least ≤ offsets.most) × (offsets.most + bytes ≤ 512)
+IsPlace d bytes (Freeze name) = ⊥
+
+-- the address of bytes of one live frame that are known to be written, at most so many
+abbrev pub IsWrittenPlace : Description → ℕ → Kind → Type 0
+IsWrittenPlace d bytes Unwritten = ⊥
+IsWrittenPlace d bytes (Number scalar) = ⊥
+IsWrittenPlace d bytes (Address Context offsets) = ⊥
+IsWrittenPlace d bytes (Address (Frame frame) offsets) =
+    IsPlace d bytes (Address (Frame frame) offsets) × ((at : ℕ) → offsets.least ≤ at → at < offsets.most + bytes → Knows d.stack frame at)
+IsWrittenPlace d bytes (Freeze name) = ⊥
+
+-- and as many as a number says
+abbrev pub AreToldBytes : Description → Kind → Kind → Type 0
+AreToldBytes d place Unwritten = ⊥
+AreToldBytes d place (Number count) = IsWrittenPlace d count.unsigned.most place
+AreToldBytes d place (Address region offsets) = ⊥
+AreToldBytes d place (Freeze name) = ⊥
 
 -- the table of that number has so many words at least
 abbrev pub HasWords : List ℕ → Kind → ℕ → Type 0
@@ -101,3 +138,14 @@ Shows d asked kind = Unit {0}
 abbrev pub ShowsAny : Description → Option Asked → Kind → Type 0
 ShowsAny d (Some asked) kind = Shows d asked kind
 ShowsAny d None kind = Unit {0}
+
+-- what a helper needs of the run, where a freeze that it takes gets that name, and these functions wait
+abbrev pub MeetsNeed : List SavedRegisters → Description → FreezeName → Needs → Type 0
+MeetsNeed callers d name needs.Nothing = Unit {0}
+MeetsNeed callers d name needs.Room = (length d.held < MAX_HELD) × (certainty_of d.held name ≡ None) × IsFresh name callers
+MeetsNeed callers d name needs.Undisposed = d.disposed ≡ false
+
+-- a call of the helper may pass: by its arguments, and by what it needs
+pub record MayCall (limits : HelperLimits) (callers : List SavedRegisters) (d : Description) (name : FreezeName) (helper : Helper) : Type 0 where
+  pub suit : RegistersSuit limits d (asks helper)
+  pub run : MeetsNeed callers d name (row_of helper).needs

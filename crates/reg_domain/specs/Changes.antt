@@ -1,14 +1,11 @@
 -- What becomes of all registers at once: where two paths meet, and where a freeze is held no more.
-use Rattle.std.specs.Prelude.{◌≡◌, ℕ, ◌<◌, List, [], ◌∷◌, Option, Some, None, slice_index_or}
+use Rattle.std.specs.Prelude.{◌≡◌, ℕ, ◌<◌, List, [], ◌∷◌, Option, slice_index_or}
 use Rattle.bpf_insn.specs.declared.reg.Reg.{Reg}
 use Rattle.bpf_insn.specs.Reg.{number_of}
 use Rattle.bpf_semantics.specs.MachineState.{entry, register}
-use Rattle.scalar_domain.specs.declared.scalars.Scalar.{Scalar}
-use Rattle.scalar_domain.specs.Scalar.{Has}
-use Rattle.register_kinds.specs.declared.freeze_name.FreezeName.{FreezeName}
 use Rattle.register_kinds.specs.declared.kind.Kind.{Kind}
-use Rattle.register_kinds.specs.declared.kind.Kind.TheVariants.{Unwritten, Number, Freeze}
-use Rattle.register_kinds.specs.Freezes.{FreezeNumbers, numbers_at_start, renumbered}
+use Rattle.register_kinds.specs.declared.kind.Kind.TheVariants.{Unwritten}
+use Rattle.register_kinds.specs.Freezes.{FreezeNumbers, numbers_at_start}
 use Rattle.register_kinds.specs.Kinds.{HoldsKind, IsAtMost, IsNumber}
 
 abbrev pub at : List Kind → ℕ → Kind

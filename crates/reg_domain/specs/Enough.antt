@@ -1,6 +1,6 @@
 -- What is enough for the check of an instruction to pass, and what is known behind it then. It says nothing of machines:
 -- it is what a program may rely on that is to be accepted.
-use Rattle.std.specs.Prelude.{◌≡◌, ℕ, ℤ, pos, ◌+◌, ◌<◌, ◌≤◌, ◌==◌, true, false, List, [], ◌∷◌, ◌++◌, length, Some, None, ◌⊎◌, ◌^◌, slice_index_or}
+use Rattle.std.specs.Prelude.{◌≡◌, ℕ, ℤ, pos, ◌+◌, ◌<◌, ◌≤◌, ◌==◌, true, false, List, [], ◌∷◌, ◌++◌, length, Some, ◌⊎◌}
 use Rattle.std.specs.Int.{w64, byte_len, cast_unsigned}
 use Rattle.bpf_insn.specs.declared.insn.AluOp.{AluOp}
 use Rattle.bpf_insn.specs.declared.insn.AluOp.TheVariants.{Mov}
@@ -14,13 +14,15 @@ use Rattle.bpf_insn.specs.declared.insn.Operand.TheVariants.{Immediate, Register
 use Rattle.bpf_insn.specs.declared.insn.Width.{Width}
 use Rattle.bpf_insn.specs.declared.insn.Width.TheVariants.{Bits64}
 use Rattle.bpf_insn.specs.declared.reg.Reg.{Reg}
-use Rattle.bpf_insn.specs.declared.reg.Reg.TheVariants.{R0, R1, R2, R10, R3}
+use Rattle.bpf_insn.specs.declared.reg.Reg.TheVariants.{R0, R1, R2, R10}
 use Rattle.bpf_insn.specs.Reg.{number_of}
-use Rattle.helpers.specs.declared.helper.Helper.{Helper}
-use Rattle.helpers.specs.declared.helper.Helper.TheVariants as helpers
+use Rattle.helpers.specs.declared.columns.Change.{Change}
+use Rattle.helpers.specs.declared.columns.Change.TheVariants as changes
+use Rattle.helpers.specs.declared.columns.Gives.{Gives}
+use Rattle.helpers.specs.declared.columns.Gives.TheVariants as gives
+use Rattle.helpers.specs.declared.table.Helper.{Helper}
 use Rattle.helpers.specs.declared.limits.HelperLimits.{HelperLimits}
-use Rattle.helpers.specs.Table.{helper_of}
-use Rattle.bpf_semantics.specs.declared.bounds.TheConstants.{MAX_HELD}
+use Rattle.helpers.specs.Table.{helper_of, row_of}
 use Rattle.bpf_semantics.specs.Memory.{address_at, load_width, store_width}
 use Rattle.bpf_words.specs.Words.{reads_dst}
 use Rattle.stack_domain.specs.Stack.{Knows}
@@ -34,10 +36,10 @@ use Rattle.register_kinds.specs.declared.kind.Kind.{Kind}
 use Rattle.register_kinds.specs.declared.kind.Kind.TheVariants.{Unwritten, Number, Address, Freeze}
 use Rattle.reg_domain.specs.declared.saved.SavedRegisters.{SavedRegisters}
 use Rattle.register_kinds.specs.declared.region.Region.TheVariants.{Context, Frame}
+use Rattle.reg_domain.specs.Arguments.{MayCall}
 use Rattle.reg_domain.specs.Description.{kind_at}
 use Rattle.register_kinds.specs.Freezes.{certainty_of, open_freeze, with_sure, without}
-use Rattle.register_kinds.specs.Kinds.{IsAt, IsAtMost, IsBelow, IsBetween, IsKnown, IsNumber, IsNumberWithin}
-use Rattle.reg_domain.specs.OpenCalls.{IsFresh}
+use Rattle.register_kinds.specs.Kinds.{IsAt, IsAtMost, IsKnown, IsNumber, IsNumberWithin}
 
 abbrev pub IsNumberOperand : Description → Operand → Type 0
 IsNumberOperand d (Immediate value) = Unit {0}
@@ -82,97 +84,13 @@ pub record ComparesNumbers (d : Description) (dst : Reg) (src : Operand) : Type 
   pub first : IsNumber (kind_at d dst)
   pub second : IsNumberOperand d src
 
--- a freeze that is held, and sure not to be 0, is given back
-pub record GivesBack (d : Description) : Type 0 where
-  pub name : FreezeName
-  pub freeze : kind_at d R1 ≡ Freeze name
-  pub sure : certainty_of d.held name ≡ Some Sure
+-- the helper of that number may be called
+abbrev pub CanCall : HelperLimits → List SavedRegisters → Description → FreezeName → ℤ → Type 0
+CanCall limits callers d name number = (helper : Helper) × (helper_of number ≡ Some helper) × MayCall limits callers d name helper
 
--- or handed over to a timer, for some milliseconds
-pub record HandsOver (d : Description) : Type 0 where
-  pub freeze : GivesBack d
-  pub milliseconds : IsBetween 1 600000 (kind_at d R2)
-
--- the CCB is to wait again
-pub record Requeues (d : Description) : Type 0 where
-  pub retries : IsAtMost 1 (kind_at d R1)
-  pub waits_not : d.disposed ≡ false
-
--- or is finished, with some code
-pub record Finishes (d : Description) : Type 0 where
-  pub code : IsAtMost 63 (kind_at d R1)
-  pub waits_not : d.disposed ≡ false
-
--- the address of so many bytes of one live frame
-abbrev pub IsPlace : Description → ℕ → Kind → Type 0
-IsPlace d bytes Unwritten = ⊥
-IsPlace d bytes (Number scalar) = ⊥
-IsPlace d bytes (Address Context offsets) = ⊥
-IsPlace d bytes (Address (Frame frame) offsets) = (frame < length d.stack) × (offsets.least ≤ offsets.most) × (offsets.most + bytes ≤ 512)
-IsPlace d bytes (Freeze name) = ⊥
-
--- the address of bytes of one live frame that are known to be written, at most so many
-abbrev pub IsWrittenPlace : Description → ℕ → Kind → Type 0
-IsWrittenPlace d bytes Unwritten = ⊥
-IsWrittenPlace d bytes (Number scalar) = ⊥
-IsWrittenPlace d bytes (Address Context offsets) = ⊥
-IsWrittenPlace d bytes (Address (Frame frame) offsets) =
-    IsPlace d bytes (Address (Frame frame) offsets) × ((at : ℕ) → offsets.least ≤ at → at < offsets.most + bytes → Knows d.stack frame at)
-IsWrittenPlace d bytes (Freeze name) = ⊥
-
--- and as many as a number says
-abbrev pub AreToldBytes : Description → Kind → Kind → Type 0
-AreToldBytes d place Unwritten = ⊥
-AreToldBytes d place (Number count) = IsWrittenPlace d count.unsigned.most place
-AreToldBytes d place (Address region offsets) = ⊥
-AreToldBytes d place (Freeze name) = ⊥
-
--- bytes that are known to be written are put into the history, 1 to 64 of them
-pub record Traces (d : Description) : Type 0 where
-  pub count : IsBetween 1 64 (kind_at d R2)
-  pub bytes : AreToldBytes d (kind_at d R1) (kind_at d R2)
-
--- the call of a helper, under any limits; what the queue has is written to 16 bytes of a live frame, and the clock asks
--- nothing
-abbrev pub EnoughFor : Helper → Description → Type 0
-EnoughFor helpers.Release d = GivesBack d
-EnoughFor helpers.ReleaseAfter d = HandsOver d
-EnoughFor helpers.Requeue d = Requeues d
-EnoughFor helpers.Finish d = Finishes d
-EnoughFor helpers.QueueInfo d = IsPlace d 16 (kind_at d R1)
-EnoughFor helpers.Trace d = Traces d
-EnoughFor helpers.Now d = Unit {0}
-EnoughFor helpers.SetOpenings d = IsBetween 1 255 (kind_at d R1)
-EnoughFor helper d = ⊥
-
+-- and is under any limits, whichever functions wait, and however a freeze that it takes is named
 abbrev pub EnoughToCall : ℤ → Description → Type 0
-EnoughToCall number d = (helper : Helper) × (helper_of number ≡ Some helper) × EnoughFor helper d
-
--- the call takes a freeze, under these limits: the queue is there, there is room for one freeze more, and none is held, nor
--- saved in a function that waits, that was taken by this check
-pub record Takes (limits : HelperLimits) (callers : List SavedRegisters) (d : Description) (insn : Insn) (place : ℕ) : Type 0 where
-  pub call : insn ≡ Call (helper_call (pos 1))
-  pub queue : IsBelow limits.queues (kind_at d R1)
-  pub room : length d.held < MAX_HELD
-  pub fresh : certainty_of d.held (names.Call place) ≡ None
-  pub fresh_saved : IsFresh (names.Call place) callers
-
--- a word of a table: the table is one known number, and the index lies below its length
-pub record NamesWord (limits : HelperLimits) (d : Description) : Type 0 where
-  pub table : ℕ
-  pub known : IsKnown table (kind_at d R1)
-  pub there : table < length limits.table_lengths
-  pub index : IsBelow (slice_index_or limits.table_lengths table 0) (kind_at d R2)
-
--- the call of a helper that reads a word of a table, or writes or adds a number there, under these limits
-abbrev pub UsesWord : HelperLimits → Description → Helper → Type 0
-UsesWord limits d helpers.TableGet = NamesWord limits d
-UsesWord limits d helpers.TablePut = NamesWord limits d × IsNumber (kind_at d R3)
-UsesWord limits d helpers.TableAdd = NamesWord limits d × IsNumber (kind_at d R3)
-UsesWord limits d helper = ⊥
-
-abbrev pub UsesTable : HelperLimits → ℤ → Description → Type 0
-UsesTable limits number d = (helper : Helper) × (helper_of number ≡ Some helper) × UsesWord limits d helper
+EnoughToCall number d = (limits : HelperLimits) (callers : List SavedRegisters) (name : FreezeName) → CanCall limits callers d name number
 
 -- a register is copied, or numbers are computed with
 abbrev pub EnoughToCompute : Description → Width → AluOp → Reg → Operand → Type 0
@@ -244,11 +162,10 @@ pub record LeavesSure (name : FreezeName) (d there : Description) : Type 0 where
   pub held : there.held ≡ with_sure d.held name
   pub disposal : there.disposed ≡ d.disposed
 
--- A freeze is held no more, and its copies are of that kind. All else is as before; of the registers that is said from
--- the one of this number on.
-pub record LeavesGivenUp (from : ℕ) (name : FreezeName) (copy : Kind) (d there : Description) : Type 0 where
-  pub copies : (reg : Reg) → from ≤ number_of reg → kind_at d reg ≡ Freeze name → kind_at there reg ≡ copy
-  pub others : (reg : Reg) → from ≤ number_of reg → (kind_at d reg ≡ Freeze name → ⊥) → kind_at there reg ≡ kind_at d reg
+-- a freeze is held no more, and its copies are of that kind; all else is as before
+pub record LeavesGivenUp (name : FreezeName) (copy : Kind) (d there : Description) : Type 0 where
+  pub copies : (reg : Reg) → kind_at d reg ≡ Freeze name → kind_at there reg ≡ copy
+  pub others : (reg : Reg) → (kind_at d reg ≡ Freeze name → ⊥) → kind_at there reg ≡ kind_at d reg
   pub stack : there.stack ≡ d.stack
   pub held : there.held ≡ without d.held name
   pub disposal : there.disposed ≡ d.disposed
@@ -257,65 +174,64 @@ pub record LeavesGivenUp (from : ℕ) (name : FreezeName) (copy : Kind) (d there
 -- where it was not sure before.
 abbrev pub LeavesTested : Way → FreezeName → Description → Description → Type 0
 LeavesTested FallThrough name d there = LeavesSure name d there
-LeavesTested Taken name d there = (certainty_of d.held name ≡ Some Sure → ⊥) × (copy : Kind) × IsKnown 0 copy × LeavesGivenUp 0 name copy d there
+LeavesTested Taken name d there = (certainty_of d.held name ≡ Some Sure → ⊥) × (copy : Kind) × IsKnown 0 copy × LeavesGivenUp name copy d there
 
 pub record LeavesCompared (d : Description) (width : Width) (condition : Condition) (dst : Reg) (src : Operand) (way : Way) (there : Description) : Type 0 where
   pub numbers : ComparesNumbers d dst src → LeavesKnown d there × (there.held ≡ d.held)
   pub tested : (tests : TestsFreeze d width condition dst src) → LeavesTested way tests.name d there
 
--- R0 is 0, and R6 to R10, the freezes and the CCB are as before
-pub record LeavesZero (d there : Description) : Type 0 where
-  pub r0 : IsKnown 0 (kind_at there R0)
-  pub registers : (reg : Reg) → 6 ≤ number_of reg → kind_at there reg ≡ kind_at d reg
+-- what was known to be written still is, and nothing else is changed
+pub record ChangesStack (d there : Description) : Type 0 where
+  pub registers : there.registers ≡ d.registers
+  pub depth : length there.stack ≡ length d.stack
+  pub known : (k at : ℕ) → Knows d.stack k at → Knows there.stack k at
   pub held : there.held ≡ d.held
   pub disposal : there.disposed ≡ d.disposed
 
--- R0 is a number of this range, and R6 to R10, the stack, the freezes and the CCB are as before
-pub record LeavesWithin (least most : ℕ) (d there : Description) : Type 0 where
-  pub r0 : IsNumberWithin least most (kind_at there R0)
+-- so many bytes are written from R1's address on, where it is one address
+abbrev pub LeavesFirstWritten : ℕ → Description → Description → Type 0
+LeavesFirstWritten bytes d there = (frame at : ℕ) → IsAt (Frame frame) at (kind_at d R1) → AreKnown there frame at bytes
+
+-- the freeze of which R1 is a copy is held no more, and other copies are numbers that a freeze may have
+abbrev pub LeavesFirstGivenUp : Description → Description → Type 0
+LeavesFirstGivenUp d there =
+    (name : FreezeName) → kind_at d R1 ≡ Freeze name → (copy : Kind) × IsNumberWithin 1 0xffff_ffff copy × LeavesGivenUp name copy d there
+
+-- What a call changes, but for R0 to R5. A freeze that it takes is held by that name, and may be 0.
+abbrev pub LeavesChanged : FreezeName → Change → Description → Description → Type 0
+LeavesChanged name changes.Nothing d there = there ≡ d
+LeavesChanged name changes.Holds d there = there ≡ record d { held = d.held ++ open_freeze name ∷ [] }
+LeavesChanged name changes.GivesUp d there = LeavesFirstGivenUp d there
+LeavesChanged name changes.Disposes d there = there ≡ record d { disposed = true }
+LeavesChanged name (changes.Writes bytes) d there = ChangesStack d there × LeavesFirstWritten bytes d there
+
+-- what is given: a number of this range, known where it is but one, or a freeze of that name
+abbrev pub IsGivenAs : FreezeName → Gives → Kind → Type 0
+IsGivenAs name (gives.Number least most) kind = IsNumberWithin least most kind × (least ≡ most → IsKnown least kind)
+IsGivenAs name gives.NewFreeze kind = kind ≡ Freeze name
+
+-- the answer is in R0, and all else but R1 to R5 is known as before
+pub record LeavesAnswer (kind : Kind) (d there : Description) : Type 0 where
+  pub r0 : kind_at there R0 ≡ kind
   pub registers : (reg : Reg) → 6 ≤ number_of reg → kind_at there reg ≡ kind_at d reg
   pub stack : there.stack ≡ d.stack
   pub held : there.held ≡ d.held
   pub disposal : there.disposed ≡ d.disposed
 
--- 16 bytes are written from R1's address on, where it is one address
-abbrev pub LeavesInformation : Description → Description → Type 0
-LeavesInformation d there = (frame at : ℕ) → IsAt (Frame frame) at (kind_at d R1) → AreKnown there frame at 16
-
--- the freeze of which R1 is a copy is held no more, and other copies are numbers that a freeze may have
-abbrev pub LeavesFirstGivenUp : ℕ → Description → Description → Type 0
-LeavesFirstGivenUp from d there =
-    (name : FreezeName) → kind_at d R1 ≡ Freeze name → (copy : Kind) × IsNumberWithin 1 0xffff_ffff copy × LeavesGivenUp from name copy d there
-
--- behind the call of a helper
-abbrev pub LeavesOver : Helper → Description → Description → Type 0
-LeavesOver helpers.Release d there = IsNumberWithin 0 254 (kind_at there R0) × LeavesFirstGivenUp 6 d there
-LeavesOver helpers.ReleaseAfter d there = IsKnown 0 (kind_at there R0) × LeavesFirstGivenUp 6 d there
-LeavesOver helpers.Requeue d there = LeavesZero (record d { disposed = true }) there × (there.stack ≡ d.stack)
-LeavesOver helpers.Finish d there = LeavesZero (record d { disposed = true }) there × (there.stack ≡ d.stack)
-LeavesOver helpers.QueueInfo d there = LeavesZero d there × LeavesInformation d there
-LeavesOver helpers.Trace d there = LeavesZero d there × (there.stack ≡ d.stack)
-LeavesOver helpers.TableGet d there = LeavesWithin 0 0xffff_ffff_ffff_ffff d there
-LeavesOver helpers.TablePut d there = LeavesWithin 0 0xffff_ffff_ffff_ffff d there
-LeavesOver helpers.TableAdd d there = LeavesWithin 0 0xffff_ffff_ffff_ffff d there
-LeavesOver helpers.Now d there = LeavesWithin 0 (2 ^ 62) d there
-LeavesOver helpers.SetOpenings d there = LeavesWithin 1 255 d there
-LeavesOver helpers.Freeze d there = Unit {0}
+-- behind the call of a helper, by its row: what it changes comes first, and then its answer
+pub record LeavesOver (name : FreezeName) (helper : Helper) (d there : Description) : Type 0 where
+  pub between : Description
+  pub change : LeavesChanged name (row_of helper).machine d between
+  pub kind : Kind
+  pub given : IsGivenAs name (row_of helper).gives kind
+  pub answer : LeavesAnswer kind between there
 
 -- and behind that of any: what is in R6 to R10 and no freeze is there as before
-pub record LeavesCalled (d : Description) (number : ℤ) (there : Description) : Type 0 where
+pub record LeavesCalled (name : FreezeName) (d : Description) (number : ℤ) (there : Description) : Type 0 where
   pub registers : (reg : Reg) → 6 ≤ number_of reg → (IsFreeze (kind_at d reg) → ⊥) → kind_at there reg ≡ kind_at d reg
   pub depth : length there.stack ≡ length d.stack
   pub known : (frame at : ℕ) → Knows d.stack frame at → Knows there.stack frame at
-  pub by : (helper : Helper) → helper_of number ≡ Some helper → LeavesOver helper d there
-
--- behind one that took a freeze: it is in R0, is held by its name, and may be 0
-pub record LeavesTaken (name : FreezeName) (d there : Description) : Type 0 where
-  pub r0 : kind_at there R0 ≡ Freeze name
-  pub registers : (reg : Reg) → 6 ≤ number_of reg → kind_at there reg ≡ kind_at d reg
-  pub stack : there.stack ≡ d.stack
-  pub held : there.held ≡ d.held ++ open_freeze name ∷ []
-  pub disposal : there.disposed ≡ d.disposed
+  pub by : (helper : Helper) → helper_of number ≡ Some helper → LeavesOver name helper d there
 
 -- what is known behind an instruction of which enough was known, where the way is open
 abbrev pub Leaves : Insn → Way → Description → Description → Type 0
@@ -328,7 +244,7 @@ Leaves (LoadImmediate dst value) way d there = LeavesNumber dst d there
 Leaves (Load form dst src offset) way d there = LeavesNumber dst d there
 Leaves (Store size dst src offset) way d there = LeavesStored d dst offset (byte_len (store_width size)) there
 Leaves (Call (Local distance)) way d there = Unit {0}
-Leaves (Call (helper_call number)) way d there = LeavesCalled d number there
+Leaves (Call (helper_call number)) way d there = (name : FreezeName) × LeavesCalled name d number there
 Leaves Exit way d there = Unit {0}
 
 -- what is known at the entry

@@ -59,14 +59,6 @@ WritesFrom reg count d there =
     (numbers : FreezeNumbers) (callers : List SavedRegisters) (m : MachineState) (address : ℕ) (bytes : List ℕ) → DescribesWith numbers callers d m → register m reg ≡ Some address →
     length bytes ≡ count → All (λ byte. byte < 256) bytes → AreWritten numbers callers m address bytes there
 
--- what was known to be written still is, and nothing else is changed
-pub record ChangesStack (d there : Description) : Type 0 where
-  pub registers : there.registers ≡ d.registers
-  pub depth : length there.stack ≡ length d.stack
-  pub known : (k at : ℕ) → Knows d.stack k at → Knows there.stack k at
-  pub held : there.held ≡ d.held
-  pub disposal : there.disposed ≡ d.disposed
-
 -- the word is there, and there is room for it; the machine with it is described
 pub record IsStored (numbers : FreezeNumbers) (callers : List SavedRegisters) (m : MachineState) (size : StoreSize) (dst : Reg) (offset : ℤ) (stored : Option ℕ) (there : Description) : Type 0 where
   pub address : ℕ

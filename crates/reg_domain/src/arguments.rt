@@ -5,14 +5,12 @@ ghost use Rattle.std.specs.Prelude.{◌≡◌, ◌↔◌, ℕ, ◌+◌, ◌<◌,
 ghost use Rattle.bpf_insn.specs.declared.reg.Reg.TheVariants.{R1, R2, R3};
 ghost use Rattle.bpf_semantics.specs.Calls.{argument};
 ghost use Rattle.bpf_semantics.specs.MachineState.{MachineState};
-ghost use Rattle.reg_domain.specs.Arguments.{AllFit, AllSuit, AreKnownOf, Fits, FitsAny, HasBytes, HasRoom, HasWords, IsKnownOf, Shows, ShowsAny, Suits, SuitsAny};
-ghost use Rattle.reg_domain.specs.Calls.{IsSureFreeze};
+ghost use Rattle.reg_domain.specs.Arguments.{AllFit, AllSuit, AreKnownOf, AreToldBytes, Fits, FitsAny, HasBytes, HasRoom, HasWords, IsKnownOf, IsPlace, IsSureFreeze, IsWrittenPlace, Shows, ShowsAny, Suits, SuitsAny};
 ghost use Rattle.reg_domain.specs.Description.{DescribesWith, kind_at};
 ghost use Rattle.register_kinds.specs.declared.region.Region.TheVariants.{Frame};
 ghost use Rattle.reg_domain.specs.declared.saved.SavedRegisters.{SavedRegisters};
-ghost use Rattle.reg_domain.specs.Enough.{AreToldBytes, IsPlace, IsWrittenPlace};
 ghost use Rattle.register_kinds.specs.Freezes.{FreezeNumbers};
-ghost use Rattle.register_kinds.specs.Kinds.{HoldsKind, IsBelow, IsBetween, IsKnown, LiesWithin, LiesBelow};
+ghost use Rattle.register_kinds.specs.Kinds.{HoldsKind, IsKnown};
 
 use crate::description::Description;
 use bpf_insn::Reg;

@@ -1,46 +1,29 @@
-// Helper calls where a machine is described. It relies on `arguments` for what is known of their arguments, on `freeze` for
-// freezes that are taken or given up, and on `helpers` for what is asked of arguments.
+// Helper calls where a machine is described, by the rows of the helpers' table. It relies on `arguments` for what is known of
+// their arguments, on `freeze` for freezes that are taken or given up, and on `helpers` for the table.
 
-ghost use Rattle.std.specs.Prelude.{◌≡◌, ◌↔◌, ◌<◌, ◌≤◌, ℕ, false, List, length, IfOk, IfSome, IsOk, IsOkAnd, IsTrue, None, Some};
-ghost use Rattle.bpf_insn.specs.declared.insn.Callee.TheVariants.{Helper as helper_call};
-ghost use Rattle.bpf_insn.specs.declared.insn.Insn.TheVariants.{Call};
+ghost use Rattle.std.specs.Prelude.{◌≡◌, ◌↔◌, ◌<◌, ◌≤◌, ℕ, false, List, length, IfOk, IsOk, IsOkAnd, None, Some};
 ghost use Rattle.bpf_insn.specs.declared.reg.Reg.TheVariants.{R1};
 ghost use Rattle.bpf_semantics.specs.MachineState.{MachineState, register};
 ghost use Rattle.bpf_semantics.specs.Step.{after_call as called, held_without};
-ghost use Rattle.helpers.specs.declared.helper.Helper.TheVariants as helpers;
-ghost use Rattle.helpers.specs.Table.{asks, helper_of};
+ghost use Rattle.helpers.specs.declared.columns.Change.TheVariants.{Holds};
+ghost use Rattle.helpers.specs.Table.{row_of};
 ghost use Rattle.register_kinds.specs.declared.freeze_name.FreezeName.TheVariants as names;
-ghost use Rattle.reg_domain.specs.Arguments.{RegistersSuit};
-ghost use Rattle.reg_domain.specs.Calls.{AnswersWithin, CallFollows, CallIsNeverStuck, IsSureFreeze, KeepsOver, LeavesAnswer, MayPass, Obeys, Passes, RunMay, after_call_kinds};
+ghost use Rattle.reg_domain.specs.Arguments.{IsPlace, IsSureFreeze, MayCall, MeetsNeed};
+ghost use Rattle.reg_domain.specs.Calls.{CallFollows, CallIsNeverStuck, Changes, HoldsGiven, MayChange, MayPass, Obeys, Passes, after_call_kinds};
 ghost use Rattle.reg_domain.specs.Description.{Describes, DescribesWith, kind_at};
-ghost use Rattle.reg_domain.specs.Enough.{EnoughToCall, IsPlace, LeavesCalled, LeavesFirstGivenUp, LeavesInformation, LeavesOver, LeavesTaken, LeavesWithin, LeavesZero, Takes, UsesTable};
+ghost use Rattle.reg_domain.specs.Enough.{CanCall, ChangesStack, IsGivenAs, LeavesAnswer, LeavesCalled, LeavesChanged, LeavesFirstGivenUp, LeavesFirstWritten, LeavesOver};
 ghost use Rattle.register_kinds.specs.Freezes.{FreezeNumbers, certainty_of};
-ghost use Rattle.register_kinds.specs.Kinds.{HoldsKind};
-ghost use Rattle.reg_domain.specs.Memory.{ChangesStack, WritesFrom};
+ghost use Rattle.register_kinds.specs.Kinds.{HoldsKind, IsKnown, IsNumberWithin};
+ghost use Rattle.reg_domain.specs.Memory.{WritesFrom};
 ghost use Rattle.reg_domain.specs.OpenCalls.{IsFresh};
 
 use crate::description::Description;
 use crate::saved::{SavedRegisters, is_saved};
 use bpf_insn::Reg;
 use bpf_semantics::MAX_HELD;
-use helpers::{Helper, HelperLimits};
+use helpers::{Change, Gives, Helper, HelperLimits, Needs};
 use register_kinds::{Cause, FreezeName, GREATEST_FREEZE, Kind, Region};
 use scalar_domain::Scalar;
-
-/// The most freezes that a queue can have once one is given back.
-const MOST_FROZEN_LEFT: u64 = 254;
-
-/// The greatest word.
-const GREATEST_WORD: u64 = u64::MAX;
-
-/// The last clock reading, in milliseconds: 2^62.
-const LAST_READING: u64 = 1 << 62;
-
-/// The most openings that a queue may have.
-const MOST_OPENINGS: u64 = 255;
-
-/// How many bytes tell what a queue has.
-const INFORMATION_BYTES: u16 = 16;
 
 impl Description {
     /// Calls the helper of that number under these limits, where these functions wait. A freeze that it takes is named by
@@ -58,9 +41,7 @@ impl Description {
     ) -> Result<(), Cause>
         ensures unstuck { IfOk result (λ _. CallIsNeverStuck limits.now number self.old) }
         ensures follows { IfOk result (λ _. CallFollows callers.now number self.old self.new) }
-        ensures leaves { EnoughToCall number self.old → IsOkAnd result (λ _. LeavesCalled self.old number self.new) }
-        ensures takes { Takes limits.now callers.now self.old (Call (helper_call number)) place → IsOkAnd result (λ _. LeavesTaken (names.Call place) self.old self.new) }
-        ensures words { UsesTable limits.now number self.old → IsOkAnd result (λ _. LeavesCalled self.old number self.new) }
+        ensures leaves { CanCall limits.now callers.now self.old (names.Call place) number → IsOkAnd result (λ _. LeavesCalled (names.Call place) self.old number self.new) }
         ensures depth { IfOk result (λ _. length self.new.stack ≡ length self.old.stack) }
     {
         let Some(helper) = Helper::with_number(number) else {
@@ -82,37 +63,28 @@ impl Description {
     ) -> Result<(), Cause>
         ensures obeys { IfOk result (λ _. Obeys limits.now self.now helper) }
         ensures found { IfOk result (λ _. MayPass self.now name helper) }
-        ensures fresh { IfOk result (λ _. helper ≡ helpers.Freeze → IsFresh name callers.now) }
-        ensures suits { RegistersSuit limits.now self.now (asks helper) → RunMay callers.now self.now name helper → IsOk result }
+        ensures fresh { IfOk result (λ _. (row_of helper).machine ≡ Holds → IsFresh name callers.now) }
+        ensures suits { MayCall limits.now callers.now self.now name helper → IsOk result }
     {
-        let asks = helper.asks();
-        let known = self.arguments(asks);
-        self.check_arguments(limits, asks, &known)?;
-        self.check_run(callers, helper, name)
+        let row = helper.row();
+        let known = self.arguments(row.asks);
+        self.check_arguments(limits, row.asks, &known)?;
+        self.check_need(callers, row.needs, name)
     }
 
-    // Whether what the helper asks of the run is so.
-    fn check_run(
+    // Whether what a helper needs of the run is so.
+    fn check_need(
         &self,
         callers: &[SavedRegisters],
-        helper: Helper,
+        needs: Needs,
         name: FreezeName,
     ) -> Result<(), Cause>
-        ensures { IsOk result ↔ RunMay callers.now self.now name helper }
+        ensures { IsOk result ↔ MeetsNeed callers.now self.now name needs }
     {
-        match helper {
-            Helper::Freeze => self.check_room(callers, name),
-            Helper::Requeue => self.check_waits(),
-            Helper::Finish => self.check_waits(),
-            Helper::Release
-            | Helper::ReleaseAfter
-            | Helper::TableGet
-            | Helper::TablePut
-            | Helper::TableAdd
-            | Helper::QueueInfo
-            | Helper::Trace
-            | Helper::Now
-            | Helper::SetOpenings => Ok(()),
+        match needs {
+            Needs::Nothing => Ok(()),
+            Needs::Room => self.check_room(callers, name),
+            Needs::Undisposed => self.check_waits(),
         }
     }
 
@@ -146,64 +118,33 @@ impl Description {
     fn pass(&mut self, helper: Helper, name: FreezeName)
         requires { MayPass self.old name helper }
         ensures passes { (callers : List SavedRegisters) → Passes name callers helper self.old self.new }
-        ensures leaves { LeavesOver helper self.old self.new }
-        ensures keeps { KeepsOver self.old self.new }
-        ensures takes { helper ≡ helpers.Freeze → LeavesTaken name self.old self.new }
+        ensures leaves { LeavesOver name helper self.old self.new }
     {
-        match helper {
-            Helper::Freeze => self.take_freeze(name),
-            Helper::Release => self.release(),
-            Helper::ReleaseAfter => self.release_after(),
-            Helper::Requeue => self.requeue(),
-            Helper::Finish => self.finish(),
-            Helper::QueueInfo => self.queue_info(),
-            Helper::Trace => self.trace(),
-            Helper::TableGet | Helper::TablePut | Helper::TableAdd => {
-                self.answer_within(0, GREATEST_WORD);
-            }
-            Helper::Now => self.answer_within(0, LAST_READING),
-            Helper::SetOpenings => self.answer_within(1, MOST_OPENINGS),
+        let row = helper.row();
+        self.undergo(row.machine, name);
+        self.answer(given(row.gives, name));
+    }
+
+    // What a call changes, but for R0 to R5. A freeze that was taken gets that name.
+    fn undergo(&mut self, change: Change, name: FreezeName)
+        requires { MayChange name change self.old }
+        ensures changes { (callers : List SavedRegisters) → Changes name callers change self.old self.new }
+        ensures leaves { LeavesChanged name change self.old self.new }
+    {
+        match change {
+            Change::Nothing => {}
+            Change::Holds => self.hold(name),
+            Change::GivesUp => self.give_up_first(),
+            Change::Disposes => self.disposed = true,
+            Change::Writes { bytes } => self.write_first(bytes as u16),
         }
-    }
-
-    // A freeze was taken, or none was got.
-    fn take_freeze(&mut self, name: FreezeName)
-        requires { MayPass self.old name helpers.Freeze }
-        ensures passes { (callers : List SavedRegisters) → Passes name callers helpers.Freeze self.old self.new }
-        ensures keeps { KeepsOver self.old self.new }
-        ensures takes { LeavesTaken name self.old self.new }
-    {
-        self.hold(name);
-        self.answer(Kind::Freeze(name));
-    }
-
-    // The freeze is given back.
-    fn release(&mut self)
-        requires { IsSureFreeze self.old (kind_at self.old R1) }
-        ensures passes { (name : FreezeName) (callers : List SavedRegisters) → Passes name callers helpers.Release self.old self.new }
-        ensures leaves { LeavesOver helpers.Release self.old self.new }
-        ensures keeps { KeepsOver self.old self.new }
-    {
-        self.give_up_first();
-        self.answer(Kind::Number(Scalar::within(0, MOST_FROZEN_LEFT)));
-    }
-
-    // The freeze is handed over to a timer.
-    fn release_after(&mut self)
-        requires { IsSureFreeze self.old (kind_at self.old R1) }
-        ensures passes { (name : FreezeName) (callers : List SavedRegisters) → Passes name callers helpers.ReleaseAfter self.old self.new }
-        ensures leaves { LeavesOver helpers.ReleaseAfter self.old self.new }
-        ensures keeps { KeepsOver self.old self.new }
-    {
-        self.give_up_first();
-        self.answer_zero();
     }
 
     // The freeze that R1 holds is held no more, and its copies are no freeze any more.
     fn give_up_first(&mut self)
         requires { IsSureFreeze self.old (kind_at self.old R1) }
         ensures kept { (callers : List SavedRegisters) (freeze : ℕ) (m : MachineState) → Describes callers self.old m → register m R1 ≡ Some freeze → Describes callers self.new (record m { held = held_without m.held freeze }) }
-        ensures leaves { LeavesFirstGivenUp 0 self.old self.new }
+        ensures leaves { LeavesFirstGivenUp self.old self.new }
     {
         match self.kind(Reg::R1) {
             Kind::Freeze(name) => self.give_up(name, Scalar::within(1, GREATEST_FREEZE)),
@@ -211,77 +152,21 @@ impl Description {
         }
     }
 
-    // The CCB waits again.
-    fn requeue(&mut self)
-        ensures passes { (name : FreezeName) (callers : List SavedRegisters) → Passes name callers helpers.Requeue self.old self.new }
-        ensures leaves { LeavesOver helpers.Requeue self.old self.new }
-    {
-        self.answer_zero();
-        self.disposed = true;
-    }
-
-    // The CCB is finished.
-    fn finish(&mut self)
-        ensures passes { (name : FreezeName) (callers : List SavedRegisters) → Passes name callers helpers.Finish self.old self.new }
-        ensures leaves { LeavesOver helpers.Finish self.old self.new }
-    {
-        self.answer_zero();
-        self.disposed = true;
-    }
-
-    // What the queue has is written from R1's address on.
-    fn queue_info(&mut self)
-        requires { IsPlace self.old INFORMATION_BYTES (kind_at self.old R1) }
-        ensures passes { (name : FreezeName) (callers : List SavedRegisters) → Passes name callers helpers.QueueInfo self.old self.new }
-        ensures leaves { LeavesOver helpers.QueueInfo self.old self.new }
-        ensures keeps { KeepsOver self.old self.new }
-    {
-        self.write_information();
-        self.answer_zero();
-    }
-
     // So many bytes are written from R1's address on, and known to be where it is one address.
-    fn write_information(&mut self)
-        requires { IsPlace self.old INFORMATION_BYTES (kind_at self.old R1) }
-        ensures writes { WritesFrom R1 INFORMATION_BYTES self.old self.new }
-        ensures written { LeavesInformation self.old self.new }
+    fn write_first(&mut self, bytes: u16)
+        requires place { IsPlace self.old bytes (kind_at self.old R1) }
+        requires few { bytes ≤ 16 }
+        ensures writes { WritesFrom R1 bytes self.old self.new }
+        ensures leaves { LeavesFirstWritten bytes self.old self.new }
         ensures only { ChangesStack self.old self.new }
     {
         match self.kind(Reg::R1) {
-            Kind::Address(Region::Frame(frame), offsets) => {
-                self.write_in(frame, offsets, INFORMATION_BYTES);
-            }
+            Kind::Address(Region::Frame(frame), offsets) => self.write_in(frame, offsets, bytes),
             Kind::Address(Region::Context, _)
             | Kind::Unwritten
             | Kind::Number(_)
             | Kind::Freeze(_) => {}
         }
-    }
-
-    // Bytes were put into the history.
-    fn trace(&mut self)
-        ensures passes { (name : FreezeName) (callers : List SavedRegisters) → Passes name callers helpers.Trace self.old self.new }
-        ensures leaves { LeavesOver helpers.Trace self.old self.new }
-    {
-        self.answer_zero();
-    }
-
-    // R0 is a number of this range, R1 to R5 are unwritten, and all else is as before.
-    fn answer_within(&mut self, least: u64, most: u64)
-        requires { least ≤ most }
-        ensures passes { (callers : List SavedRegisters) → AnswersWithin callers least most self.old self.new }
-        ensures leaves { LeavesWithin least most self.old self.new }
-        ensures keeps { KeepsOver self.old self.new }
-    {
-        self.answer(Kind::Number(Scalar::within(least, most)));
-    }
-
-    // R0 is 0, R1 to R5 are unwritten, and all else is as before.
-    fn answer_zero(&mut self)
-        ensures passes { (numbers : FreezeNumbers) (callers : List SavedRegisters) (r0 : ℕ) (m : MachineState) → DescribesWith numbers callers self.old m → r0 ≡ 0 → DescribesWith numbers callers self.new (called m r0) }
-        ensures leaves { LeavesZero self.old self.new × (self.new.stack ≡ self.old.stack) }
-    {
-        self.answer(Kind::exactly(0));
     }
 
     // R0 is that, R1 to R5 are unwritten, and all else is as before.
@@ -305,4 +190,28 @@ fn after_call(registers: [Kind; 11], r0: Kind) -> [Kind; 11]
     after[4] = Kind::Unwritten;
     after[5] = Kind::Unwritten;
     after
+}
+
+// What R0 is by what a helper gives: a freeze has that name.
+fn given(gives: Gives, name: FreezeName) -> Kind
+    ensures holds { HoldsGiven name gives result }
+    ensures leaves { IsGivenAs name gives result }
+{
+    match gives {
+        Gives::Number { least, most } => number_within(least, most),
+        Gives::NewFreeze => Kind::Freeze(name),
+    }
+}
+
+// A number of this range, known where it is but one.
+fn number_within(least: u64, most: u64) -> Kind
+    ensures holds { (numbers : FreezeNumbers) (r0 : ℕ) → least ≤ r0 → r0 ≤ most → HoldsKind numbers result (Some r0) }
+    ensures within { IsNumberWithin least most result }
+    ensures known { least ≡ most → IsKnown least result }
+{
+    if least == most {
+        Kind::exactly(least)
+    } else {
+        Kind::Number(Scalar::within(least, most))
+    }
 }

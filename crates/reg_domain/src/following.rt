@@ -9,7 +9,7 @@ ghost use Rattle.bpf_insn.specs.declared.reg.Reg.TheVariants.{R0};
 ghost use Rattle.reg_domain.specs.declared.following.Way.TheVariants.{FallThrough};
 ghost use Rattle.register_kinds.specs.declared.freeze_name.FreezeName.TheVariants as names;
 ghost use Rattle.reg_domain.specs.Description.{kind_at};
-ghost use Rattle.reg_domain.specs.Enough.{Enough, Leaves, LeavesCalled, LeavesTaken, Takes, UsesTable};
+ghost use Rattle.reg_domain.specs.Enough.{CanCall, Enough, Leaves, LeavesCalled};
 ghost use Rattle.reg_domain.specs.Follows.{Follows, NeverStuck, Stays};
 ghost use Rattle.reg_domain.specs.GoesOn.{HasWay, is_taken};
 ghost use Rattle.register_kinds.specs.Kinds.{IsNumber};
@@ -60,8 +60,7 @@ impl Description {
         ensures depth { IfOk result (λ is_open. length self.new.stack ≡ length self.old.stack) }
         ensures ways { IfOk result (λ is_open. IsTrue is_open → HasWay insn way) }
         ensures passes { Enough insn self.old → IsOkAnd result (λ is_open. IsTrue is_open → Leaves insn way self.old self.new) }
-        ensures words { (number : ℤ) → insn ≡ Call (helper_call number) → UsesTable limits.now number self.old → IsOkAnd result (λ is_open. IsTrue is_open → LeavesCalled self.old number self.new) }
-        ensures takes { Takes limits.now callers.now self.old insn place → IsOkAnd result (λ is_open. IsTrue is_open → LeavesTaken (names.Call place) self.old self.new) }
+        ensures calls { (number : ℤ) → insn ≡ Call (helper_call number) → CanCall limits.now callers.now self.old (names.Call place) number → IsOkAnd result (λ is_open. IsTrue is_open → LeavesCalled (names.Call place) self.old number self.new) }
     {
         match insn {
             Insn::Alu {
@@ -116,8 +115,7 @@ impl Description {
         ensures follows { IfOk result (λ _. Follows callers.now (Call callee) FallThrough self.old true self.new) }
         ensures depth { IfOk result (λ _. length self.new.stack ≡ length self.old.stack) }
         ensures leaves { Enough (Call callee) self.old → IsOkAnd result (λ _. Leaves (Call callee) FallThrough self.old self.new) }
-        ensures words { (number : ℤ) → callee ≡ helper_call number → UsesTable limits.now number self.old → IsOkAnd result (λ _. LeavesCalled self.old number self.new) }
-        ensures takes { Takes limits.now callers.now self.old (Call callee) place → IsOkAnd result (λ _. LeavesTaken (names.Call place) self.old self.new) }
+        ensures calls { (number : ℤ) → callee ≡ helper_call number → CanCall limits.now callers.now self.old (names.Call place) number → IsOkAnd result (λ _. LeavesCalled (names.Call place) self.old number self.new) }
     {
         match callee {
             Callee::Helper(number) => self.call(limits, callers, number, place),

@@ -1,13 +1,12 @@
 // What becomes of what is known where a freeze is taken, is found to be 0 or not, or is held no more. It relies on
 // `register_kinds` for what is held, and on `registers` for copies of a freeze.
 
-ghost use Rattle.std.specs.Prelude.{◌≡◌, ◌<◌, ◌++◌, ◌∷◌, [], ℕ, true, false, List, length, IsTrue, None, Option, Some};
+ghost use Rattle.std.specs.Prelude.{◌≡◌, ◌<◌, ◌++◌, ◌∷◌, [], ℕ, true, false, List, length, IsTrue, None, Some};
 ghost use Rattle.bpf_semantics.specs.MachineState.{MachineState};
 ghost use Rattle.bpf_semantics.specs.Step.{IsNewFreeze, held_with, held_without};
 ghost use Rattle.scalar_domain.specs.Scalar.{Has};
 ghost use Rattle.reg_domain.specs.declared.following.Way.TheVariants.{FallThrough, Taken};
 ghost use Rattle.reg_domain.specs.declared.saved.SavedRegisters.{SavedRegisters};
-ghost use Rattle.register_kinds.specs.Kinds.{GivesUpKind};
 ghost use Rattle.reg_domain.specs.Description.{Describes, DescribesWith};
 ghost use Rattle.reg_domain.specs.Enough.{LeavesGivenUp, LeavesTested};
 ghost use Rattle.register_kinds.specs.Freezes.{FreezeNumbers, certainty_of, open_freeze, renumbered};
@@ -36,7 +35,7 @@ impl Description {
     // The freeze of that name, which was one of these numbers, is held no more.
     pub(crate) fn give_up(&mut self, name: FreezeName, copies: Scalar)
         ensures kept { (numbers : FreezeNumbers) (callers : List SavedRegisters) (number : ℕ) (m : MachineState) → DescribesWith numbers callers self.old m → numbers name ≡ Some number → Has copies number → DescribesWith (renumbered numbers name None) callers self.new (record m { held = held_without m.held number }) }
-        ensures leaves { LeavesGivenUp 0 name (Kind.Number copies) self.old self.new }
+        ensures leaves { LeavesGivenUp name (Kind.Number copies) self.old self.new }
         ensures depth { length self.new.stack ≡ length self.old.stack }
     {
         give_up_copies(&mut self.registers, name, copies);

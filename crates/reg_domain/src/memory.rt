@@ -6,9 +6,9 @@ ghost use Rattle.std.specs.Int.{byte_len};
 ghost use Rattle.bpf_semantics.specs.Memory.{load_width, loaded, store_width};
 ghost use Rattle.scalar_domain.specs.Scalar.{Has};
 ghost use Rattle.register_kinds.specs.declared.region.Region.TheVariants.{Context, Frame};
-ghost use Rattle.reg_domain.specs.Enough.{AreKnown, LeavesStored, LiesInContext, LiesInFrame, LiesWritten};
+ghost use Rattle.reg_domain.specs.Enough.{AreKnown, ChangesStack, LeavesStored, LiesInContext, LiesInFrame, LiesWritten};
 ghost use Rattle.register_kinds.specs.Kinds.{IsNumber, size_of};
-ghost use Rattle.reg_domain.specs.Memory.{ChangesStack, Loads, Reads, ReadsFrame, LeavesMarked, Stores, Writes};
+ghost use Rattle.reg_domain.specs.Memory.{Loads, Reads, ReadsFrame, LeavesMarked, Stores, Writes};
 
 use crate::description::Description;
 use bpf_insn::{LoadForm, Reg, SignExtension, StoreSize};

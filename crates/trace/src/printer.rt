@@ -1,8 +1,6 @@
-// The trace as text, version 1: a header, a line a record, and the sums. It relies on `world` for records, and on
-// `helpers` for the numbers of the helpers of whose calls more is told.
+// The trace as text, version 1: a header, a line a record, and the sums. It relies on `world` for records.
 
 use ccb::CcbId;
-use helpers::Helper;
 use std::io;
 use std::io::Write;
 use world::{CallRefusal, Completed, CompletionRecord, Record, StoppedAt, Trace};
@@ -65,11 +63,11 @@ fn print_record<W: Write>(record: &Record, out: &mut W) -> io::Result<()> {
 fn print_stop<W: Write>(stop: &StoppedAt, out: &mut W) -> io::Result<()> {
     match stop {
         StoppedAt::Helper(helper) => write!(out, "helper {}", helper.number()),
-        StoppedAt::Trace(bytes) => {
-            write!(out, "helper {} ", Helper::Trace.number())?;
+        StoppedAt::Trace(helper, bytes) => {
+            write!(out, "helper {} ", helper.number())?;
             print_bytes(bytes.as_slice(), out)
         }
-        StoppedAt::Finish(code) => write!(out, "helper {} {code:02x}", Helper::Finish.number()),
+        StoppedAt::Finish(helper, code) => write!(out, "helper {} {code:02x}", helper.number()),
         StoppedAt::Exit => write!(out, "exit"),
     }
 }

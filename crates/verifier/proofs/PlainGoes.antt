@@ -19,10 +19,12 @@ use Rattle.bpf_insn.specs.Reg.{number_of}
 use Rattle.bpf_insn.specs.Program.{insn_at}
 use Rattle.bpf_insn.specs.Target.{target}
 use Rattle.call_shape.specs.StaticPath.{outermost}
-use Rattle.helpers.specs.declared.helper.Helper.TheVariants as helpers
+use Rattle.helpers.specs.declared.table.Helper.TheVariants as helpers
+use Rattle.helpers.specs.Table.{row_of}
 use Rattle.reg_domain.specs.declared.description.Description.{Description}
 use Rattle.reg_domain.specs.declared.following.Way.{Way}
 use Rattle.reg_domain.specs.declared.following.Way.TheVariants.{FallThrough, Taken}
+use Rattle.register_kinds.specs.declared.freeze_name.FreezeName.{FreezeName}
 use Rattle.register_kinds.specs.declared.freeze_name.FreezeName.TheVariants.{Start}
 use Rattle.register_kinds.specs.declared.held.HeldFreeze.{HeldFreeze}
 use Rattle.register_kinds.specs.declared.kind.Kind.{Kind}
@@ -30,8 +32,8 @@ use Rattle.register_kinds.specs.declared.kind.Kind.TheVariants.{Unwritten, Numbe
 use Rattle.register_kinds.specs.declared.region.Region.TheVariants.{Context}
 use Rattle.reg_domain.specs.Description.{kind_at}
 use Rattle.register_kinds.specs.Freezes.{certainty_of, with_sure, without}
-use Rattle.register_kinds.specs.Kinds.{IsAtMost, IsKnown, IsAt}
-use Rattle.reg_domain.specs.Enough.{Enough, Leaves, IsEntryKnown, TestsFreeze, GivesBack, Requeues}
+use Rattle.register_kinds.specs.Kinds.{IsAtMost, IsBetween, IsKnown, IsAt}
+use Rattle.reg_domain.specs.Enough.{Enough, EnoughToCall, Leaves, LeavesOver, IsEntryKnown, TestsFreeze}
 use Rattle.verifier.specs.Arrives.{Arrives, enters, follows, joins, NeverLacks, goes_to}
 use Rattle.verifier.specs.Plain.{IsContextLoad, IsListed, IsPlain, is_free, is_kept, writes_register}
 use Rattle.verifier.proofs.PlainInsns.{length_plain, test, copy, release, Stands, loads_there, tests, copies, gives_back, lists, sets_retries, requeues_there, sets_answer, exits, stands}
@@ -113,8 +115,17 @@ load_follows program place to Exit way d there load at goes leaves is = absurd l
 tests_freeze : (program : List Slot) (place : ℕ) (d : Description) → AtLoad program place d → TestsFreeze d Bits64 Equal R2 (Immediate (pos 0))
 tests_freeze program place d is = record { all = refl; equal = refl; zero_constant = refl; name = Start; freeze = is.freeze }
 
-gives_back_freeze : (program : List Slot) (place : ℕ) (d : Description) → AtRelease program place d → GivesBack d
-gives_back_freeze program place d is = record { name = Start; freeze = is.freeze; sure = ap (λ (held : List HeldFreeze). certainty_of held Start) is.held }
+gives_back_freeze : (program : List Slot) (place : ℕ) (d : Description) → AtRelease program place d → EnoughToCall (pos 2) d
+unfolding row_of
+gives_back_freeze program place d is = λ limits callers name.
+    let sure = ap (λ (held : List HeldFreeze). certainty_of held Start) is.held in
+    (helpers.Release, refl, record { suit = λ known are. record { first = (Start, are.first ∙ is.freeze, sure); second = are.second; third = are.third }; run = tt })
+
+freeze_gone : (name : FreezeName) (d there : Description) → kind_at d R1 ≡ Freeze Start → LeavesOver name helpers.Release d there → (there.held ≡ without d.held Start) × (there.disposed ≡ d.disposed)
+unfolding row_of
+freeze_gone name d there is leaves =
+    let gone = (leaves.change Start is).2 in
+    (leaves.answer.held ∙ gone.held, leaves.answer.disposal ∙ gone.disposal)
 
 test_follows : (program : List Slot) (first size place to : ℕ) (way : Way) (d there : Description) → place ≡ first → place ≤ MAX_SLOTS → insn_at program place ≡ Some test → goes_to place test way ≡ Some to → Leaves test way d there → AtLoad program place d → PlainAt program first size to there
 unfolding tests_freeze
@@ -159,10 +170,10 @@ release_follows program first size place to Taken d there here at goes leaves is
 release_follows program first size place to FallThrough d there here at goes leaves is =
     let same : to ≡ place + 1 = sym (same_slot (place + 1) to goes) in
     let step : IsStep program place release to = record { at = at; leads = ap outermost same } in
-    let released = ((leaves.by helpers.Release refl).1 Start is.freeze).2 in
+    let gone = freeze_gone leaves.0 d there is.freeze (leaves.1.by helpers.Release refl) in
     list_fits program first size to there (omega (arith, same, here)) (omega (arith, same, here)) (record {
-      common = called_on program place to (pos 2) d there step leaves released.disposal is.start.low is.start.common;
-      held = released.held ∙ ap (λ (held : List HeldFreeze). without held Start) is.held;
+      common = called_on program place to (pos 2) leaves.0 d there step leaves.1 gone.1 is.start.low is.start.common;
+      held = gone.0 ∙ ap (λ (held : List HeldFreeze). without held Start) is.held;
     })
 
 -- behind the list
@@ -189,18 +200,31 @@ retries_follow program first size place to n FallThrough d there here few goes l
       few = known_at_most (cast_unsigned w64 n) 1 (kind_at there R1) (few_words n few) (leaves.moved refl refl);
     })
 
-requeues_ccb : (d : Description) → AtRequeue d → Requeues d
-requeues_ccb d is = record { retries = is.few; waits_not = is.waits }
+at_most_between : (most : ℕ) (kind : Kind) → IsAtMost most kind → IsBetween 0 most kind
+at_most_between most Unwritten is = absurd is
+at_most_between most (Number scalar) is = (omega arith, is)
+at_most_between most (Address region offsets) is = absurd is
+at_most_between most (Freeze name) is = absurd is
+
+requeues_ccb : (d : Description) → AtRequeue d → EnoughToCall (pos 4) d
+unfolding row_of
+requeues_ccb d is = λ limits callers name.
+    let few = at_most_between 1 (kind_at d R1) is.few in
+    (helpers.Requeue, refl, record { suit = λ known are. record { first = subst (IsBetween 0 1) (sym are.first) few; second = are.second; third = are.third }; run = is.waits })
+
+ccb_requeued : (name : FreezeName) (d there : Description) → LeavesOver name helpers.Requeue d there → (there.held ≡ d.held) × (there.disposed ≡ true)
+unfolding row_of
+ccb_requeued name d there leaves = (leaves.answer.held ∙ ap (λ (x : Description). x.held) leaves.change, leaves.answer.disposal ∙ ap (λ (x : Description). x.disposed) leaves.change)
 
 requeue_follows : (program : List Slot) (first size place to : ℕ) (way : Way) (d there : Description) → place ≡ first + 4 + size → goes_to place (Call (Helper (pos 4))) way ≡ Some to → Leaves (Call (Helper (pos 4))) way d there → AtRequeue d → PlainAt program first size to there
 requeue_follows program first size place to Taken d there here goes leaves is = nowhere to goes
 requeue_follows program first size place to FallThrough d there here goes leaves is =
     let same : to ≡ place + 1 = sym (same_slot (place + 1) to goes) in
-    let requeued = (leaves.by helpers.Requeue refl).0 in
+    let requeued = ccb_requeued leaves.0 d there (leaves.1.by helpers.Requeue refl) in
     answer_fits program first size to there (omega (arith, same, here)) (record {
-      held = requeued.held ∙ is.held;
-      done = requeued.disposal;
-      depth = leaves.depth ∙ is.depth;
+      held = requeued.0 ∙ is.held;
+      done = requeued.1;
+      depth = leaves.1.depth ∙ is.depth;
     })
 
 answer_follows : (program : List Slot) (first size place to : ℕ) (k : ℤ) (way : Way) (d there : Description) → place ≡ first + 5 + size → goes_to place (Alu Bits64 Mov R0 (Immediate k)) way ≡ Some to → Leaves (Alu Bits64 Mov R0 (Immediate k)) way d there → AtAnswer d → PlainAt program first size to there
@@ -239,13 +263,13 @@ enough_by program is place insn d fits (loads_there lt load) = load_enough progr
 enough_by program is place insn d fits (tests e it) = subst (λ (i : Insn). Enough i d) (sym it) (inr (tests_freeze program place d (fits.at_load (omega (arith, e)))))
 enough_by program is place insn d fits (copies e it) =
     subst (λ (i : Insn). Enough i d) (sym it) (inr (refl, refl, R2, refl, (Start, (fits.at_copy e).freeze)))
-enough_by program is place insn d fits (gives_back e it) = subst (λ (i : Insn). Enough i d) (sym it) (helpers.Release, refl, gives_back_freeze program place d (fits.at_release e))
+enough_by program is place insn d fits (gives_back e it) = subst (λ (i : Insn). Enough i d) (sym it) (gives_back_freeze program place d (fits.at_release e))
 enough_by program is place insn d fits (lists i e lt there) =
     let end : ℕ = length is.loads + 3 + length is.list in
     let listed : IsListed place end insn = subst (λ (p : ℕ). IsListed p end insn) (sym e) (is.listed i insn there) in
     list_enough program place end insn d listed (reads_written program is place i insn e there) (fits.in_list (omega (arith, e)) (omega (arith, e, lt)))
 enough_by program is place insn d fits (sets_retries e it) = subst (λ (i : Insn). Enough i d) (sym it) (inl ((λ reads. absurd (let bad : false ≡ true = reads in cc)), tt))
-enough_by program is place insn d fits (requeues_there e it) = subst (λ (i : Insn). Enough i d) (sym it) (helpers.Requeue, refl, requeues_ccb d (fits.at_requeue e))
+enough_by program is place insn d fits (requeues_there e it) = subst (λ (i : Insn). Enough i d) (sym it) (requeues_ccb d (fits.at_requeue e))
 enough_by program is place insn d fits (sets_answer e it) = subst (λ (i : Insn). Enough i d) (sym it) (inl ((λ reads. absurd (let bad : false ≡ true = reads in cc)), tt))
 enough_by program is place insn d fits (exits e it) =
     let last = fits.at_exit e in

@@ -155,10 +155,10 @@ sure_keeps name d there leaves = record {
     same : (reg : Reg) → kind_at there reg ≡ kind_at d reg
     same reg = ap (λ kinds. slice_index_or kinds (number_of reg) Unwritten) leaves.registers
 
-pub given_up_keeps : (name : FreezeName) (copy : Kind) (d there : Description) → LeavesGivenUp 0 name copy d there → KeepsCommon d there
+pub given_up_keeps : (name : FreezeName) (copy : Kind) (d there : Description) → LeavesGivenUp name copy d there → KeepsCommon d there
 given_up_keeps name copy d there leaves = record {
-  frame = λ is. leaves.others R10 (omega arith) (λ same. address_is_none (kind_at d R10) is (name, same)) ∙ is;
-  numbers = λ reg is. subst IsNumber (sym (leaves.others reg (omega arith) (λ same. number_is_none (kind_at d reg) is (name, same)))) is;
+  frame = λ is. leaves.others R10 (λ same. address_is_none (kind_at d R10) is (name, same)) ∙ is;
+  numbers = λ reg is. subst IsNumber (sym (leaves.others reg (λ same. number_is_none (kind_at d reg) is (name, same)))) is;
   stack = leaves.stack;
   disposal = leaves.disposal;
 }
@@ -180,9 +180,9 @@ known_on program place to insn d there step writes spares leaves is = record {
 }
 
 -- a helper is called, which keeps R6 to R9; no path has written the others yet
-pub called_on : (program : List Slot) (place to : ℕ) (number : ℤ) (d there : Description) → IsStep program place (Call (Helper number)) to → LeavesCalled d number there → there.disposed ≡ d.disposed
+pub called_on : (program : List Slot) (place to : ℕ) (number : ℤ) (name : FreezeName) (d there : Description) → IsStep program place (Call (Helper number)) to → LeavesCalled name d number there → there.disposed ≡ d.disposed
     → ((reg : Reg) → is_free reg ≡ true → number_of reg < 6 → Comes (writes_register reg) program place) → IsCommon program place d → IsCommon program to there
-called_on program place to number d there step leaves same low is = record {
+called_on program place to number name d there step leaves same low is = record {
   frame = leaves.registers R10 (omega arith) (address_is_none (kind_at d R10) is.frame) ∙ is.frame;
   depth = leaves.depth ∙ is.depth;
   waits = same ∙ is.waits;

@@ -13,12 +13,15 @@ use Rattle.bpf_insn.specs.declared.insn.StoreSize.{StoreSize}
 use Rattle.bpf_insn.specs.declared.reg.Reg.{Reg}
 use Rattle.bpf_insn.specs.declared.insn.Callee.TheVariants.{Helper, Local}
 use Rattle.bpf_insn.specs.Target.{target, distance_of}
+use Rattle.helpers.specs.declared.columns.Change.{Change}
+use Rattle.helpers.specs.declared.columns.Change.TheVariants as changes
 use Rattle.helpers.specs.declared.request.Request.{Request}
-use Rattle.helpers.specs.declared.request.Request.TheVariants.{Freeze, Release, ReleaseAfter, Requeue, Finish, TableGet, TablePut, TableAdd, QueueInfo, Trace, Now, SetOpenings}
 use Rattle.helpers.specs.declared.request.Answer.{Answer}
+use Rattle.helpers.specs.declared.request.Arguments.{Arguments}
+use Rattle.helpers.specs.Table.{row_of}
 use Rattle.bpf_semantics.specs.MachineState.{OpenCall, MachineState, register, with_register, moved_to}
 use Rattle.bpf_semantics.specs.Memory.{address_of, load_width, loaded, word_from}
-use Rattle.bpf_semantics.specs.Step.{Allowed, answered, calls as local_call, compute, compute_one, does, entered, first_operand, has_frame_left, jump_if, operand, request_in, returned, store}
+use Rattle.bpf_semantics.specs.Step.{Allowed, after_call, calls as local_call, changed_by, compute, compute_one, does, entered, first_operand, has_frame_left, jump_if, operand, request_in, returned, store}
 use Rattle.bpf_words.specs.Words.{holds_of, in_place, sign_extended}
 use Rattle.call_shape.specs.Shape.{behind, goes_on_behind, target_in}
 use Rattle.call_shape.specs.StaticPath.{Standing, moved, LeadsTo, ReturnsTo}
@@ -175,26 +178,19 @@ private_onward m m' (Call (Helper number)) inside e = absurd (none_is m' e)
 private_onward m m' (Call (Local distance)) inside e = absurd (let bad : false ≡ true = inside in cc)
 private_onward m m' Exit inside e = absurd (let bad : false ≡ true = inside in cc)
 
-answered_next : (request : Request) (answer : Answer) (m : MachineState) → IsNext m 1 (answered request answer m)
-answered_next (Freeze queue) answer m = record { calls = refl; place = refl }
-answered_next (Release freeze) answer m = record { calls = refl; place = refl }
-answered_next (ReleaseAfter freeze milliseconds) answer m = record { calls = refl; place = refl }
-answered_next (Requeue retries) answer m = record { calls = refl; place = refl }
-answered_next (Finish code) answer m = record { calls = refl; place = refl }
-answered_next (TableGet table index) answer m = record { calls = refl; place = refl }
-answered_next (TablePut table index value) answer m = record { calls = refl; place = refl }
-answered_next (TableAdd table index value) answer m = record { calls = refl; place = refl }
-answered_next (QueueInfo address) answer m = record { calls = refl; place = refl }
-answered_next (Trace address bytes) answer m = record { calls = refl; place = refl }
-answered_next Now answer m = record { calls = refl; place = refl }
-answered_next (SetOpenings openings) answer m = record { calls = refl; place = refl }
+changed_next : (change : Change) (arguments : Arguments) (answer : Answer) (m : MachineState) → IsNext m 1 (changed_by change arguments answer (after_call m answer.r0))
+changed_next changes.Nothing arguments answer m = record { calls = refl; place = refl }
+changed_next changes.Holds arguments answer m = record { calls = refl; place = refl }
+changed_next changes.GivesUp arguments answer m = record { calls = refl; place = refl }
+changed_next changes.Disposes arguments answer m = record { calls = refl; place = refl }
+changed_next (changes.Writes bytes) arguments answer m = record { calls = refl; place = refl }
 
 no_request : (request : Request) → None ≡ Some request → ⊥
 no_request request e = absurd cc
 
 called_onward : (m m' : MachineState) (insn : Insn) (request : Request) (answer : Answer) → request_in m insn ≡ Some request → Allowed request answer m m' → IsOnward m insn m'
 called_onward m m' (Call (Helper number)) request answer made allowed =
-    let is : IsNext m 1 m' = subst (IsNext m 1) (sym allowed.1) (answered_next request answer m) in
+    let is : IsNext m 1 m' = subst (IsNext m 1) (sym allowed.1) (changed_next (row_of request.helper).machine request.arguments answer m) in
     next_onward m m' (Call (Helper number)) 1 is refl refl refl (moved_on m m' _ is.calls is.place)
 called_onward m m' (Call (Local distance)) request answer made allowed = absurd (no_request request made)
 called_onward m m' (Alu width op dst src) request answer made allowed = absurd (no_request request made)

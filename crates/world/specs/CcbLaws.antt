@@ -32,10 +32,10 @@ finished_by_run code None = []
 finished_by_run code (Some run) = record { number = run.ccb; code = code } ∷ []
 
 -- the CCB that an event finishes in this world: that of a completion which is done, with the code of its status, and that
--- of a run which calls helper 5, with the code that it names
+-- of a run whose call is told to finish it, with the code that is told
 abbrev pub finished_by : World → Event → Reply → List EndedCcb
 finished_by before (complete outcome) done = record { number = outcome.ccb.0; code = code_of outcome.status } ∷ []
-finished_by before (executes run (call (finishes code))) reply = finished_by_run code (run_of run before.runs)
+finished_by before (executes run (call (finishes helper code))) reply = finished_by_run code (run_of run before.runs)
 finished_by before event reply = []
 
 -- all that the events finish, in order

@@ -43,8 +43,8 @@ resume_reply (Err refusal) = refused refusal
 -- the instruction at which a run stopped
 abbrev pub stop_of : StoppedAt → Instruction
 stop_of (Helper helper) = call (plain helper)
-stop_of (Trace bytes) = call (traces bytes)
-stop_of (Finish code) = call (finishes code)
+stop_of (Trace helper bytes) = call (traces helper bytes)
+stop_of (Finish helper code) = call (finishes helper code)
 stop_of Exit = exit
 
 -- An advance by so many instructions: all but the last are private. One by no instruction is none: it claims a helper

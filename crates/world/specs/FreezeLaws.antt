@@ -3,14 +3,15 @@ use Rattle.std.specs.Prelude.{◌≡◌, ℕ, ◌+◌, ◌==◌, true, false, if
 use Rattle.freeze_ledger.specs.declared.freeze.Freeze.{Freeze}
 use Rattle.freeze_ledger.specs.Freezes.{names, frozen, entry_of, due_at}
 use Rattle.ccb.specs.Completion.{Outcome}
-use Rattle.helpers.specs.declared.helper.Helper.TheVariants as helpers
+use Rattle.helpers.specs.declared.table.Deed.{Deed}
+use Rattle.helpers.specs.declared.table.Deed.TheVariants as deeds
 use Rattle.helpers.specs.declared.request.Request.{Request}
-use Rattle.helpers.specs.declared.request.Request.TheVariants.{Freeze as FreezeQueue, Release, ReleaseAfter}
+use Rattle.helpers.specs.Table.{row_of}
 use Rattle.bpf_semantics.specs.Step.{request_at}
 use Rattle.world.specs.World.{Setup, LiveCcb, LiveRun, World}
 use Rattle.world.specs.Lawful.{IsLawful}
 use Rattle.world.specs.Lookups.{ccb_of, run_of}
-use Rattle.world.specs.Told.{plain}
+use Rattle.world.specs.Told.{Told, helper_in}
 use Rattle.world.specs.Event.{call, Event, complete, guest_freeze, guest_release, clock_reads, executes, Reply, done, run_started, freeze_given, count_left, expired, result, refused}
 use Rattle.world.specs.FreezeSteps.{frozen_with, is_timer}
 use Rattle.world.specs.RunSteps.{is_run}
@@ -71,25 +72,47 @@ abbrev pub Calls : World → ℕ → Request → Type 0
 Calls world run request =
     (it : LiveRun) × (run_of run world.runs ≡ Some it) × (request_at it.program it.machine ≡ Some request)
 
+-- the run stands at a call that does this deed, with this number in R1
+pub record CallsTo (deed : Deed) (world : World) (run number : ℕ) : Type 0 where
+  pub request : Request
+  pub calls : Calls world run request
+  pub deed_is : (row_of request.helper).deed ≡ deed
+  pub number_is : request.arguments.first ≡ number
+
 -- the freeze that the run asks to give back
 abbrev pub AsksFor : World → ℕ → ℕ → Type 0
-AsksFor world run number = Calls world run (Release number)
+AsksFor world run number = CallsTo deeds.GiveBack world run number
 
 -- and that which it asks to hand over to a timer
 abbrev pub HandsOver : World → ℕ → ℕ → Type 0
-HandsOver world run number = (milliseconds : ℕ) × Calls world run (ReleaseAfter number milliseconds)
+HandsOver world run number = CallsTo deeds.HandOver world run number
 
 -- A run's call for a further freeze of a queue, by its reply: one more of the queue, or, where the reply is 0, none.
 pub record MovesByTaking (before : World) (run : ℕ) (reply : Reply) (after : World) : Type 0 where
   pub queue : ℕ
   pub freeze : ℕ
-  pub asks : Calls before run (FreezeQueue queue)
+  pub asks : CallsTo deeds.Freeze before run queue
   pub reply_is : reply ≡ result freeze
   pub more : (other : ℕ) → frozen other after.freezes ≡ frozen other before.freezes + (if freeze == 0 then 0 else if queue == other then 1 else 0)
+
+-- A run's call that gives a freeze back: one fewer of its queue, and the reply is how many there are then.
+pub record MovesByGiving (before : World) (run : ℕ) (reply : Reply) (after : World) : Type 0 where
+  pub number : ℕ
+  pub count : ℕ
+  pub asks : AsksFor before run number
+  pub reply_is : reply ≡ result count
+  pub fewer : OneFewer before number count after
 
 -- no queue's count changed: a freeze may have another holder
 abbrev pub KeepsCounts : World → World → Type 0
 KeepsCounts before after = (other : ℕ) → frozen other after.freezes ≡ frozen other before.freezes
+
+-- what a run's call does to each queue's frozen count, by its deed
+abbrev pub MovesByDeed : Deed → World → ℕ → Reply → World → Type 0
+MovesByDeed deeds.Freeze before run reply after = MovesByTaking before run reply after
+MovesByDeed deeds.GiveBack before run reply after = MovesByGiving before run reply after
+MovesByDeed deeds.HandOver before run reply after = KeepsCounts before after
+MovesByDeed deed before run reply after = KeepsFreezes before after
 
 -- What a step does to each queue's frozen count: a freeze that was taken adds one to its queue's, by whomever it was
 -- taken, and one that is given back takes one; the reply to that is the number of entries that name the queue now. One
@@ -100,10 +123,7 @@ MovesCounts before (complete outcome) reply after = MovesByCompletion before out
 MovesCounts before (guest_release number) reply after =
     (count : ℕ) × (reply ≡ count_left count) × OneFewer before number count after
 MovesCounts before (clock_reads reading) reply after = MovesByClock before reading reply after
-MovesCounts before (executes run (call (plain helpers.Release))) reply after =
-    (number count : ℕ) × AsksFor before run number × (reply ≡ result count) × OneFewer before number count after
-MovesCounts before (executes run (call (plain helpers.Freeze))) reply after = MovesByTaking before run reply after
-MovesCounts before (executes run (call (plain helpers.ReleaseAfter))) reply after = KeepsCounts before after
+MovesCounts before (executes run (call told)) reply after = MovesByDeed (row_of (helper_in told)).deed before run reply after
 MovesCounts before event reply after = KeepsFreezes before after
 
 -- at every moment of every run each frozen count moves as its entries do
@@ -121,9 +141,9 @@ GivenUpStaysGivenUp =
 -- nor is one that a run gave up
 abbrev pub GivenUpByRunStaysGivenUp : Type 0
 GivenUpByRunStaysGivenUp =
-    (setup : Setup) (xs ys : List (Event × Reply)) (run number : ℕ) (reply : Reply) (before world : World) →
+    (setup : Setup) (xs ys : List (Event × Reply)) (run number : ℕ) (told : Told) (reply : Reply) (before world : World) →
     WorldRun setup xs before → AsksFor before run number →
-    Leads setup before ((executes run (call (plain helpers.Release)), reply) ∷ ys) world → IsHeld number world → ⊥
+    Leads setup before ((executes run (call told), reply) ∷ ys) world → IsHeld number world → ⊥
 
 -- a run or a guest holds the freeze of that number
 abbrev pub IsOwned : ℕ → World → Type 0
@@ -132,9 +152,9 @@ IsOwned number world = (freeze : Freeze) × (entry_of number world.freezes ≡ S
 -- one that a run handed over is held by a timer or gone ever after, and never by a run or a guest again
 abbrev pub HandedOverStaysHandedOver : Type 0
 HandedOverStaysHandedOver =
-    (setup : Setup) (xs ys : List (Event × Reply)) (run number : ℕ) (reply : Reply) (before world : World) →
+    (setup : Setup) (xs ys : List (Event × Reply)) (run number : ℕ) (told : Told) (reply : Reply) (before world : World) →
     WorldRun setup xs before → HandsOver before run number →
-    Leads setup before ((executes run (call (plain helpers.ReleaseAfter)), reply) ∷ ys) world → IsOwned number world → ⊥
+    Leads setup before ((executes run (call told), reply) ∷ ys) world → IsOwned number world → ⊥
 
 -- a number whose freeze is gone never has one again
 abbrev pub GoneStaysGone : Type 0

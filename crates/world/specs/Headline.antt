@@ -2,15 +2,19 @@
 use Rattle.std.specs.Prelude.{◌≡◌, ℕ, ◌+◌, ◌-◌, ◌<◌, ◌≤◌, ◌==◌, ◌||◌, Bool, true, false, List, [], ◌∷◌, ◌++◌, Option, Some, None, is_some, count_by}
 use Rattle.ccb.specs.declared.cam_status.CamStatus.TheVariants.{RequestInProgress}
 use Rattle.ccb.specs.Completion.{Outcome}
-use Rattle.helpers.specs.declared.helper.Helper.TheVariants as helpers
-use Rattle.helpers.specs.declared.request.Request.TheVariants.{Requeue, Finish}
+use Rattle.helpers.specs.declared.columns.Change.{Change}
+use Rattle.helpers.specs.declared.columns.Change.TheVariants as changes
+use Rattle.helpers.specs.declared.table.Deed.{Deed}
+use Rattle.helpers.specs.declared.table.Deed.TheVariants as deeds
+use Rattle.helpers.specs.declared.request.Request.{Request}
+use Rattle.helpers.specs.Table.{row_of}
 use Rattle.bpf_semantics.specs.Stuck.{is_stuck}
 use Rattle.bpf_semantics.specs.Reached.{Reached}
 use Rattle.world.specs.declared.ccb_state.CcbState.TheVariants.{Waiting, InRecovery}
 use Rattle.world.specs.World.{Setup, queue_setup, LiveCcb, LiveRun, World}
 use Rattle.world.specs.Lawful.{IsLawful}
 use Rattle.world.specs.Lookups.{ccb_of, run_of}
-use Rattle.world.specs.Told.{Told, plain, traces, finishes}
+use Rattle.world.specs.Told.{Told, plain, finishes, helper_in}
 use Rattle.world.specs.Event.{Instruction, private, call, exit, Event, complete, parks, resumes, executes, instruction_of, Reply, run_started}
 use Rattle.world.specs.Step.{WorldStep}
 use Rattle.world.specs.WorldRun.{Leads, WorldRun}
@@ -31,12 +35,17 @@ is_turn_of run event = false
 abbrev pub is_own_of : ℕ → Event → Bool
 is_own_of run event = is_step_of run event || is_turn_of run event
 
+-- a change of the machine by which the run's CCB is disposed of
+abbrev pub disposes : Change → Bool
+disposes changes.Nothing = false
+disposes changes.Holds = false
+disposes changes.GivesUp = false
+disposes changes.Disposes = true
+disposes (changes.Writes bytes) = false
+
 -- the call disposes of the run's CCB: it makes it wait again, or finishes it
 abbrev pub is_disposing : Told → Bool
-is_disposing (plain helpers.Requeue) = true
-is_disposing (plain helper) = false
-is_disposing (traces bytes) = false
-is_disposing (finishes code) = true
+is_disposing told = disposes (row_of (helper_in told)).machine
 
 -- the instruction disposes of the run's CCB
 abbrev pub is_disposal : Option Instruction → Bool
@@ -148,11 +157,24 @@ pub record IsFinished (ccb code : ℕ) (before after : World) : Type 0 where
   pub gone : ccb_of ccb after.live ≡ None
   pub ended : after.ended ≡ before.ended ++ record { number = ccb; code = code } ∷ []
 
--- what the instruction makes of the run's CCB: a call of helper 4 requeues it with the retries that the run asks for, one
--- of helper 5 finishes it with the code that it asks for and that is told, and no other disposes of it
+-- What a call makes of the run's CCB, by its deed: it is requeued with the retries that the run asks for, or finished with
+-- the code that the run asks for and that is told. No other deed disposes of it.
+abbrev pub DisposesByDeed : Deed → Request → Told → ℕ → LiveCcb → World → World → Type 0
+DisposesByDeed deeds.Requeue request told ccb was before after =
+    (told ≡ plain request.helper) × IsRequeued ccb request.arguments.first was before after
+DisposesByDeed deeds.Finish request told ccb was before after =
+    (told ≡ finishes request.helper request.arguments.first) × IsFinished ccb request.arguments.first before after
+DisposesByDeed deed request told ccb was before after = ⊥
+
+-- the call at which the run stands disposes of its CCB, by what is told of it
+pub record DisposesByCall (told : Told) (run ccb : ℕ) (was : LiveCcb) (before after : World) : Type 0 where
+  pub request : Request
+  pub calls : Calls before run request
+  pub does : DisposesByDeed (row_of request.helper).deed request told ccb was before after
+
+-- what the instruction makes of the run's CCB: no other than a call disposes of it
 abbrev pub DisposesBy : Option Instruction → ℕ → ℕ → LiveCcb → World → World → Type 0
-DisposesBy (Some (call (plain helpers.Requeue))) run ccb was before after = (used : ℕ) × Calls before run (Requeue used) × IsRequeued ccb used was before after
-DisposesBy (Some (call (finishes code))) run ccb was before after = Calls before run (Finish code) × IsFinished ccb code before after
+DisposesBy (Some (call told)) run ccb was before after = DisposesByCall told run ccb was before after
 DisposesBy instruction run ccb was before after = ⊥
 
 -- By this step the run disposes of the CCB: that was in recovery by this run alone, and is requeued or finished. All other

@@ -7,10 +7,11 @@ use Rattle.freeze_ledger.specs.declared.freeze.Holder.TheVariants.{Run, Timer, G
 use Rattle.freeze_ledger.specs.declared.freeze.Freeze.{Freeze}
 use Rattle.freeze_ledger.specs.Freezes.{entry_of, meets_limit}
 use Rattle.helpers.specs.declared.limits.HelperLimits.{HelperLimits}
+use Rattle.helpers.specs.declared.table.Deed.{Deed}
+use Rattle.helpers.specs.declared.table.Deed.TheVariants as deeds
 use Rattle.helpers.specs.declared.request.Request.{Request}
-use Rattle.helpers.specs.declared.request.Request.TheVariants.{Freeze as FreezeQueue, Release, ReleaseAfter, Requeue, Finish, TableGet, TablePut, TableAdd, QueueInfo, Trace, Now, SetOpenings}
 use Rattle.helpers.specs.declared.request.Answer.{Answer}
-use Rattle.helpers.specs.Table.{answer_number}
+use Rattle.helpers.specs.Table.{row_of, answer_number}
 use Rattle.bpf_semantics.specs.MachineState.{MachineState}
 use Rattle.bpf_semantics.specs.Calls.{meets_rule}
 use Rattle.bpf_semantics.specs.Step.{private_step, request_at, exit_at, answered}
@@ -38,88 +39,98 @@ goes_on world run machine = record world { runs = with_run (record run { machine
 abbrev pub answers : World → LiveRun → Request → Answer → Reply × World
 answers world run request answer = (result answer.r0, goes_on world run (answered request answer run.machine))
 
+-- The deeds of the helpers. The arguments are those of the request, which is answered in the world that the deed leads to.
+
 -- the run freezes a queue, and the answer is the new freeze's number, or 0 where a further freeze meets a limit
-abbrev pub takes : World → LiveRun → ℕ → Reply × World
-takes world run queue =
+abbrev pub takes : World → LiveRun → Request → Reply × World
+takes world run request =
+    let queue = request.arguments.first in
     if meets_limit queue world.freezes world.greatest_freeze
-    then answers world run (FreezeQueue queue) (answer_number 0)
-    else answers (froze world queue (Run run.number)) run (FreezeQueue queue) (answer_number (world.greatest_freeze + 1))
+    then answers world run request (answer_number 0)
+    else answers (froze world queue (Run run.number)) run request (answer_number (world.greatest_freeze + 1))
 
 -- no event unless the run holds the freeze; it goes, and the answer is how many its queue has then
-abbrev pub releases : World → LiveRun → Option Freeze → Option (Reply × World)
-releases world run None = None
-releases world run (Some freeze) =
-    let after = thawed world freeze.number in
+abbrev pub releases : World → LiveRun → Request → Option Freeze → Option (Reply × World)
+releases world run request None = None
+releases world run request (Some freeze) =
+    let after = thawed world request.arguments.first in
     if is_run run.number freeze.holder
-    then Some (answers after run (Release freeze.number) (answer_number (frozen_with freeze after.freezes)))
+    then Some (answers after run request (answer_number (frozen_with freeze after.freezes)))
     else None
 
 -- no event unless the run holds the freeze; its holder is now a timer, which is due so many milliseconds after the clock
-abbrev pub hands_over : World → LiveRun → ℕ → Option Freeze → Option (Reply × World)
-hands_over world run milliseconds None = None
-hands_over world run milliseconds (Some freeze) =
-    let after = timed world freeze.number (world.clock + milliseconds) in
-    if is_run run.number freeze.holder
-    then Some (answers after run (ReleaseAfter freeze.number milliseconds) (answer_number 0))
-    else None
+abbrev pub hands_over : World → LiveRun → Request → Option Freeze → Option (Reply × World)
+hands_over world run request None = None
+hands_over world run request (Some freeze) =
+    let after = timed world request.arguments.first (world.clock + request.arguments.second) in
+    if is_run run.number freeze.holder then Some (answers after run request (answer_number 0)) else None
 
 -- the run's CCB waits again with so many retries fewer
-abbrev pub requeues : World → LiveRun → ℕ → Option LiveCcb → Option (Reply × World)
-requeues world run retries None = None
-requeues world run retries (Some live) =
-    let after = record world { live = with_ccb (record { ccb = requeued live.ccb retries; state = Waiting }) world.live } in
-    Some (answers after run (Requeue retries) (answer_number 0))
+abbrev pub requeues : World → LiveRun → Request → Option LiveCcb → Option (Reply × World)
+requeues world run request None = None
+requeues world run request (Some live) =
+    let again : LiveCcb = record { ccb = requeued live.ccb request.arguments.first; state = Waiting } in
+    Some (answers (record world { live = with_ccb again world.live }) run request (answer_number 0))
 
 -- the run's CCB is gone, with this final code
-abbrev pub finishes : World → LiveRun → ℕ → Option LiveCcb → Option (Reply × World)
-finishes world run code None = None
-finishes world run code (Some live) = Some (answers (ended_with world live.ccb code) run (Finish code) (answer_number 0))
+abbrev pub finishes : World → LiveRun → Request → Option LiveCcb → Option (Reply × World)
+finishes world run request None = None
+finishes world run request (Some live) = Some (answers (ended_with world live.ccb request.arguments.first) run request (answer_number 0))
 
--- the tables with this one word changed
-abbrev pub with_table_word : World → ℕ → ℕ → ℕ → World
-with_table_word world table index word = record world { tables = with_word world.tables table index word }
+-- the word that a call names
+abbrev pub its_word : World → Request → ℕ
+its_word world request = word_at world.tables request.arguments.first request.arguments.second
+
+-- the tables with this in its place
+abbrev pub with_its_word : World → Request → ℕ → World
+with_its_word world request word = record world {
+  tables = with_word world.tables request.arguments.first request.arguments.second word;
+}
 
 -- a word of a table is read
-abbrev pub gets : World → LiveRun → ℕ → ℕ → Reply × World
-gets world run table index = answers world run (TableGet table index) (answer_number (word_at world.tables table index))
+abbrev pub gets : World → LiveRun → Request → Reply × World
+gets world run request = answers world run request (answer_number (its_word world request))
 
 -- a word of a table is written, and the answer is the old one
-abbrev pub puts : World → LiveRun → ℕ → ℕ → ℕ → Reply × World
-puts world run table index value =
-    let after = with_table_word world table index (value % 2 ^ 64) in
-    answers after run (TablePut table index value) (answer_number (word_at world.tables table index))
+abbrev pub puts : World → LiveRun → Request → Reply × World
+puts world run request =
+    let after = with_its_word world request (request.arguments.third % 2 ^ 64) in
+    answers after run request (answer_number (its_word world request))
 
 -- a word of a table grows, modulo 2^64, and the answer is the new one
-abbrev pub adds : World → LiveRun → ℕ → ℕ → ℕ → Reply × World
-adds world run table index value =
-    let sum = (word_at world.tables table index + value) % 2 ^ 64 in
-    answers (with_table_word world table index sum) run (TableAdd table index value) (answer_number sum)
+abbrev pub adds : World → LiveRun → Request → Reply × World
+adds world run request =
+    let sum = (its_word world request + request.arguments.third) % 2 ^ 64 in
+    answers (with_its_word world request sum) run request (answer_number sum)
 
 -- the run's queue has so many openings from now on, and the answer is how many it had
-abbrev pub opens : World → LiveRun → ℕ → Reply × World
-opens world run openings =
-    let after = record world { openings = slice_set world.openings run.queue openings } in
-    answers after run (SetOpenings openings) (answer_number (slice_index world.openings run.queue))
+abbrev pub opens : World → LiveRun → Request → Reply × World
+opens world run request =
+    let after = record world { openings = slice_set world.openings run.queue request.arguments.first } in
+    answers after run request (answer_number (slice_index world.openings run.queue))
 
 -- what the run's queue has, as 16 bytes from the address on
 abbrev pub info_answer : World → LiveRun → ℕ → Answer
 info_answer world run address =
     record { r0 = 0; written = Some (record { address = address; bytes = info_bytes (queue_info world run.queue) }) }
 
--- what a call does
+-- what a call does, by its deed
+abbrev pub by_deed : Deed → World → LiveRun → Request → Option (Reply × World)
+by_deed deeds.Nothing world run request = Some (answers world run request (answer_number 0))
+by_deed deeds.Freeze world run request = Some (takes world run request)
+by_deed deeds.GiveBack world run request = releases world run request (entry_of request.arguments.first world.freezes)
+by_deed deeds.HandOver world run request = hands_over world run request (entry_of request.arguments.first world.freezes)
+by_deed deeds.Requeue world run request = requeues world run request (ccb_of run.ccb world.live)
+by_deed deeds.Finish world run request = finishes world run request (ccb_of run.ccb world.live)
+by_deed deeds.GetWord world run request = Some (gets world run request)
+by_deed deeds.PutWord world run request = Some (puts world run request)
+by_deed deeds.AddWord world run request = Some (adds world run request)
+by_deed deeds.TellQueue world run request = Some (answers world run request (info_answer world run request.arguments.first))
+by_deed deeds.TellClock world run request = Some (answers world run request (answer_number world.clock))
+by_deed deeds.SetOpenings world run request = Some (opens world run request)
+
 abbrev pub step_request : World → LiveRun → Request → Option (Reply × World)
-step_request world run (FreezeQueue queue) = Some (takes world run queue)
-step_request world run (Release freeze) = releases world run (entry_of freeze world.freezes)
-step_request world run (ReleaseAfter freeze milliseconds) = hands_over world run milliseconds (entry_of freeze world.freezes)
-step_request world run (Requeue retries) = requeues world run retries (ccb_of run.ccb world.live)
-step_request world run (Finish code) = finishes world run code (ccb_of run.ccb world.live)
-step_request world run (TableGet table index) = Some (gets world run table index)
-step_request world run (TablePut table index value) = Some (puts world run table index value)
-step_request world run (TableAdd table index value) = Some (adds world run table index value)
-step_request world run (QueueInfo address) = Some (answers world run (QueueInfo address) (info_answer world run address))
-step_request world run (Trace address bytes) = Some (answers world run (Trace address bytes) (answer_number 0))
-step_request world run Now = Some (answers world run Now (answer_number world.clock))
-step_request world run (SetOpenings openings) = Some (opens world run openings)
+step_request world run request = by_deed (row_of request.helper).deed world run request
 
 -- it is the very call that is told, by the helper's rule
 abbrev pub may_call : HelperLimits → LiveRun → Told → Request → Bool

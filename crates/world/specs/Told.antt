@@ -1,42 +1,43 @@
--- What the history tells of a helper call: which helper is called, of a trace call its bytes, and of one that finishes the
--- CCB its final code.
-use Rattle.std.specs.Prelude.{ℕ, ◌==◌, Bool, false, List, bytes_eq}
-use Rattle.helpers.specs.declared.helper.Helper.{Helper}
-use Rattle.helpers.specs.declared.helper.Helper.TheVariants as helpers
+-- What the history tells of a helper call: which helper is called, and, by what its row tells, no more, the bytes that the
+-- call names, or the code in its first argument.
+use Rattle.std.specs.Prelude.{ℕ, ◌==◌, ◌&&◌, Bool, false, List, bytes_eq}
+use Rattle.helpers.specs.declared.table.Helper.{Helper}
+use Rattle.helpers.specs.declared.columns.Tells.{Tells}
+use Rattle.helpers.specs.declared.columns.Tells.TheVariants as tells
 use Rattle.helpers.specs.declared.request.Request.{Request}
-use Rattle.helpers.specs.declared.request.Request.TheVariants.{Freeze, Release, ReleaseAfter, Requeue, Finish, TableGet, TablePut, TableAdd, QueueInfo, Trace, Now, SetOpenings}
-use Rattle.helpers.specs.Table.{is_helper}
+use Rattle.helpers.specs.Table.{row_of, is_helper}
 
 pub data Told : Type 0 where
   -- a call of this helper, and no more
   plain : Helper → Told
-  -- a call of helper 10, which puts these bytes into the history
-  traces : List ℕ → Told
-  -- a call of helper 5, which finishes the CCB with this code
-  finishes : ℕ → Told
+  -- a call of this helper, which puts these bytes into the history
+  traces : Helper → List ℕ → Told
+  -- a call of this helper, which finishes the CCB with this code
+  finishes : Helper → ℕ → Told
+
+-- what is told of a call, by what its helper tells
+abbrev pub told_by : Tells → Request → Told
+told_by tells.Name request = plain request.helper
+told_by tells.Bytes request = traces request.helper request.bytes
+told_by tells.Code request = finishes request.helper request.arguments.first
 
 abbrev pub told_of : Request → Told
-told_of (Freeze queue) = plain helpers.Freeze
-told_of (Release freeze) = plain helpers.Release
-told_of (ReleaseAfter freeze milliseconds) = plain helpers.ReleaseAfter
-told_of (Requeue retries) = plain helpers.Requeue
-told_of (Finish code) = finishes code
-told_of (TableGet table index) = plain helpers.TableGet
-told_of (TablePut table index value) = plain helpers.TablePut
-told_of (TableAdd table index value) = plain helpers.TableAdd
-told_of (QueueInfo address) = plain helpers.QueueInfo
-told_of (Trace address bytes) = traces bytes
-told_of Now = plain helpers.Now
-told_of (SetOpenings openings) = plain helpers.SetOpenings
+told_of request = told_by (row_of request.helper).tells request
+
+-- the helper that is called
+abbrev pub helper_in : Told → Helper
+helper_in (plain helper) = helper
+helper_in (traces helper bytes) = helper
+helper_in (finishes helper code) = helper
 
 -- both tell the same
 abbrev pub is_told : Told → Told → Bool
 is_told (plain a) (plain b) = is_helper a b
-is_told (plain a) (traces b) = false
-is_told (plain a) (finishes b) = false
-is_told (traces a) (plain b) = false
-is_told (traces a) (traces b) = bytes_eq a b
-is_told (traces a) (finishes b) = false
-is_told (finishes a) (plain b) = false
-is_told (finishes a) (traces b) = false
-is_told (finishes a) (finishes b) = a == b
+is_told (plain a) (traces b those) = false
+is_told (plain a) (finishes b that) = false
+is_told (traces a these) (plain b) = false
+is_told (traces a these) (traces b those) = is_helper a b && bytes_eq these those
+is_told (traces a these) (finishes b that) = false
+is_told (finishes a this) (plain b) = false
+is_told (finishes a this) (traces b those) = false
+is_told (finishes a this) (finishes b that) = is_helper a b && this == that

@@ -1,12 +1,15 @@
 -- The freezes that a run got and gave up, read along a run of the world.
 use Rattle.std.specs.Prelude.{ℕ, ◌==◌, ◌&&◌, not, if◌then◌else◌, List, [], ◌∷◌, ◌++◌, Option, Some, None}
-use Rattle.helpers.specs.declared.helper.Helper.TheVariants as helpers
+use Rattle.helpers.specs.declared.columns.Gives.{Gives}
+use Rattle.helpers.specs.declared.columns.Gives.TheVariants.{Number, NewFreeze}
+use Rattle.helpers.specs.declared.columns.Change.{Change}
+use Rattle.helpers.specs.declared.columns.Change.TheVariants as changes
 use Rattle.helpers.specs.declared.request.Request.{Request}
-use Rattle.helpers.specs.declared.request.Request.TheVariants.{Freeze, Release, ReleaseAfter, Requeue, Finish, TableGet, TablePut, TableAdd, QueueInfo, Trace, Now, SetOpenings}
+use Rattle.helpers.specs.Table.{row_of}
 use Rattle.bpf_semantics.specs.Step.{request_at}
 use Rattle.world.specs.World.{Setup, LiveRun, World}
 use Rattle.world.specs.Lookups.{run_of}
-use Rattle.world.specs.Told.{plain}
+use Rattle.world.specs.Told.{helper_in}
 use Rattle.world.specs.Event.{Instruction, private, call, exit, Event, complete, executes, instruction_of, Reply, run_started, result}
 use Rattle.world.specs.WorldRun.{Leads}
 
@@ -14,27 +17,29 @@ use Rattle.world.specs.WorldRun.{Leads}
 abbrev pub given_to : ℕ → ℕ → ℕ → List ℕ
 given_to run number freeze = if number == run && not (freeze == 0) then freeze ∷ [] else []
 
+-- the freeze that a call gives to this run by its answer: a new one, by what its helper gives
+abbrev pub taken_as : Gives → ℕ → ℕ → ℕ → List ℕ
+taken_as (Number least most) run number freeze = []
+taken_as NewFreeze run number freeze = given_to run number freeze
+
 -- the freeze that an event gives to this run by its reply: that of its start, and that which its call takes
 abbrev pub taken_by : ℕ → Event → Reply → List ℕ
 taken_by run (complete outcome) (run_started number freeze) = given_to run number freeze
-taken_by run (executes number (call (plain helpers.Freeze))) (result freeze) = given_to run number freeze
+taken_by run (executes number (call told)) (result r0) = taken_as (row_of (helper_in told)).gives run number r0
 taken_by run event reply = []
+
+-- the freeze that a call gives up, by what its helper changes: that which R1 names
+abbrev pub asked_by : Change → Request → List ℕ
+asked_by changes.Nothing request = []
+asked_by changes.Holds request = []
+asked_by changes.GivesUp request = request.arguments.first ∷ []
+asked_by changes.Disposes request = []
+asked_by (changes.Writes bytes) request = []
 
 -- the freeze that a helper call asks to give back or to hand over
 abbrev pub asked : Option Request → List ℕ
 asked None = []
-asked (Some (Freeze queue)) = []
-asked (Some (Release freeze)) = freeze ∷ []
-asked (Some (ReleaseAfter freeze milliseconds)) = freeze ∷ []
-asked (Some (Requeue retries)) = []
-asked (Some (Finish code)) = []
-asked (Some (TableGet table index)) = []
-asked (Some (TablePut table index value)) = []
-asked (Some (TableAdd table index value)) = []
-asked (Some (QueueInfo address)) = []
-asked (Some (Trace address bytes)) = []
-asked (Some Now) = []
-asked (Some (SetOpenings openings)) = []
+asked (Some request) = asked_by (row_of request.helper).machine request
 
 -- the request at which the run stands
 abbrev pub request_of_run : Option LiveRun → Option Request

@@ -23,10 +23,10 @@ pub enum Completed {
 pub enum StoppedAt {
     /// A call of this helper, of which no more is told.
     Helper(Helper),
-    /// A call of the trace helper, which put these bytes into the history.
-    Trace(TracedBytes),
-    /// A call of the helper that finishes the run's CCB, with its final code, 0 to 63.
-    Finish(u8),
+    /// A call of this helper, which put these bytes into the history.
+    Trace(Helper, TracedBytes),
+    /// A call of this helper, which finishes the run's CCB, with its final code, 0 to 63.
+    Finish(Helper, u8),
     /// The outermost exit.
     Exit,
 }

@@ -15,7 +15,8 @@ use Rattle.world.specs.ClockLaws.{ClockGoesOn, lets_go, KeepsTime, TimersKeepTim
 use Rattle.world.proofs.Lists.Found.{put, found_key, found_push, found_in_filter, put_other, leave_other}
 use Rattle.world.proofs.Lists.Rising.{filtered_out}
 use Rattle.world.proofs.Lists.Entries.{freeze_key, handed_is_put}
-use Rattle.world_laws.proofs.Steps.Calls.{FreezeDeed, leaves_freezes, takes_one, gives_one_back, hands_one_over, Asks}
+use Rattle.world_laws.proofs.Steps.Does.{FreezeDeed, leaves_freezes, takes_one, gives_one_back, hands_one_over}
+use Rattle.world_laws.proofs.Steps.Calls.{Asks}
 use Rattle.world_laws.proofs.Steps.Cases.{ReadsClock, Case, case_of, refuses, submits, dispatches, finishes_one, recovers_one, recovers_unfrozen, freezes_one, releases_one, reads_clock, turns_one, goes_on_one, asks_one, exits}
 use Rattle.world.proofs.Steps.Moves.{KeepsLists}
 use Rattle.world.proofs.Steps.Answering.{moved_on}
@@ -101,13 +102,13 @@ by_a_call : (setup : Setup) (before : World) (event : Event) (reply : Reply) (af
 by_a_call setup before event reply after kept it (leaves_freezes deed) = as_before before event reply after (λ due. ap (λ (x : Reply × World). lets_go due x.0 event) it.answer) (ap (λ (x : Reply × World). x.1.freezes) it.answer ∙ deed.freezes_is)
 by_a_call setup before event reply after kept it (takes_one deed) = one_more before event reply after _ (λ due. ap (λ (x : Reply × World). lets_go due x.0 event) it.answer) (ap (λ (x : Reply × World). x.1.freezes) it.answer ∙ deed.freezes_is)
 by_a_call setup before event reply after kept it (gives_one_back deed) =
-    one_fewer before event reply after deed.number deed.freeze (λ due. ap (λ (x : Reply × World). lets_go due x.0 event) it.answer) (ap (λ (x : Reply × World). x.1.freezes) it.answer ∙ deed.freezes_is) deed.entry (runs_no_timer it.it.run.number deed.freeze.holder deed.its)
+    one_fewer before event reply after it.request.arguments.first deed.freeze (λ due. ap (λ (x : Reply × World). lets_go due x.0 event) it.answer) (ap (λ (x : Reply × World). x.1.freezes) it.answer ∙ deed.freezes_is) deed.entry (runs_no_timer it.it.run.number deed.freeze.holder deed.its)
 by_a_call setup before event reply after kept it (hands_one_over deed) =
     let old : Freeze = deed.freeze in
-    let due : ℕ = before.clock + deed.milliseconds in
+    let due : ℕ = before.clock + it.request.arguments.second in
     one_changed before event reply after old (record old { holder = Timer due }) (λ due. ap (λ (x : Reply × World). lets_go due x.0 event) it.answer)
-    (ap (λ (x : Reply × World). x.1.freezes) it.answer ∙ (deed.freezes_is ∙ handed_is_put deed.number due 0 before.freezes before.greatest_freeze old kept.freezes.numbered deed.entry))
-    (subst (λ (n : ℕ). entry_of n before.freezes ≡ Some old) (sym (found_key freeze_key deed.number before.freezes old deed.entry)) deed.entry)
+    (ap (λ (x : Reply × World). x.1.freezes) it.answer ∙ (deed.freezes_is ∙ handed_is_put it.request.arguments.first due 0 before.freezes before.greatest_freeze old kept.freezes.numbered deed.entry))
+    (subst (λ (n : ℕ). entry_of n before.freezes ≡ Some old) (sym (found_key freeze_key it.request.arguments.first before.freezes old deed.entry)) deed.entry)
     (runs_no_timer it.it.run.number old.holder deed.its)
 
 case_keeps_time : (setup : Setup) (before : World) (event : Event) (reply : Reply) (after : World) → KeepsLists setup before → Case setup before event reply after → KeepsTime before event reply after

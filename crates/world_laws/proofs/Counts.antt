@@ -1,18 +1,18 @@
 -- Frozen counts move as the entries do.
-use Rattle.std.proofs.Common.{◌≡◌, ℕ, ◌+◌, List, false, cond, eqb, Some, ap, refl, sym, subst, ◌∙◌, arith}
+use Rattle.std.proofs.Common.{◌≡◌, ℕ, ◌+◌, List, false, cond, eqb, Some, ap, refl, sym, ◌∙◌, arith}
 use Rattle.std.proofs.lemmas.Bool.{ne_eqb}
 use Rattle.freeze_ledger.specs.declared.freeze.Freeze.{Freeze}
 use Rattle.freeze_ledger.specs.Freezes.{frozen, entry_of, without, due_at}
 use Rattle.world.specs.FreezeSteps.{frozen_with}
 use Rattle.helpers.specs.declared.request.Request.{Request}
-use Rattle.helpers.specs.declared.request.Request.TheVariants.{Freeze as FreezeQueue, Release}
+use Rattle.helpers.specs.declared.table.Deed.TheVariants as deeds
 use Rattle.helpers.specs.declared.request.Answer.{Answer}
 use Rattle.world.specs.World.{Setup, LiveRun, World}
 use Rattle.world.specs.Told.{told_of}
 use Rattle.world.specs.Event.{call, Event, executes, Reply, run_started, result}
 use Rattle.world.specs.FreezeLaws.{OneFewer, Calls, MovesCounts, CountsAreEntries}
 use Rattle.world.proofs.Lists.Entries.{frozen_push, frozen_without, frozen_handed_over, frozen_due}
-use Rattle.world_laws.proofs.Steps.Calls.{FreezeDeed, leaves_freezes, takes_one, gives_one_back, hands_one_over}
+use Rattle.world_laws.proofs.Steps.Does.{FreezeDeed, leaves_freezes, takes_one, gives_one_back, hands_one_over, moves_by}
 use Rattle.world_laws.proofs.Steps.Cases.{Case, case_of, refuses, submits, dispatches, finishes_one, recovers_one, recovers_unfrozen, freezes_one, releases_one, reads_clock, turns_one, goes_on_one, asks_one, exits}
 use Rattle.world.proofs.Steps.Moves.{KeepsLists}
 use Rattle.world_laws.proofs.Leads.{lists_are_kept}
@@ -34,19 +34,24 @@ call_moves : (setup : Setup) (before after : World) (number : ℕ) (run : LiveRu
 call_moves setup before after number run request given between kept calls same (leaves_freezes deed) = deed.moves number after calls (same ∙ deed.freezes_is)
 call_moves setup before after number run request given between kept calls same (takes_one deed) =
     let above : eqb (before.greatest_freeze + 1) 0 ≡ false = ne_eqb _ _ (λ e. omega (arith, e)) in
-    let asks : Calls before number (FreezeQueue deed.queue) = subst (Calls before number) deed.request_is calls in
-    rw (deed.request_is, deed.given_is) (record {
-      queue = deed.queue;
+    moves_by deeds.Freeze request deed.deed_is before number (result given.r0) after (rw deed.given_is (record {
+      queue = request.arguments.first;
       freeze = before.greatest_freeze + 1;
-      asks = asks;
+      asks = record { request = request; calls = calls; deed_is = deed.deed_is; number_is = refl };
       reply_is = refl;
       more = rw above (λ other. ap (frozen other) (same ∙ deed.freezes_is) ∙ frozen_push other before.freezes _);
-    })
+    }))
 call_moves setup before after number run request given between kept calls same (gives_one_back deed) =
-    let asks : Calls before number (Release deed.number) = subst (Calls before number) deed.request_is calls in
-    rw (deed.request_is, deed.given_is) (deed.number, _, asks, refl, goes setup before after deed.number deed.freeze kept deed.entry (same ∙ deed.freezes_is))
+    moves_by deeds.GiveBack request deed.deed_is before number (result given.r0) after (rw deed.given_is (record {
+      number = request.arguments.first;
+      count = _;
+      asks = record { request = request; calls = calls; deed_is = deed.deed_is; number_is = refl };
+      reply_is = refl;
+      fewer = goes setup before after request.arguments.first deed.freeze kept deed.entry (same ∙ deed.freezes_is);
+    }))
 call_moves setup before after number run request given between kept calls same (hands_one_over deed) =
-    rw deed.request_is (λ other. ap (frozen other) (same ∙ deed.freezes_is) ∙ frozen_handed_over other deed.number (before.clock + deed.milliseconds) before.freezes)
+    moves_by deeds.HandOver request deed.deed_is before number (result given.r0) after
+    (λ other. ap (frozen other) (same ∙ deed.freezes_is) ∙ frozen_handed_over other request.arguments.first (before.clock + request.arguments.second) before.freezes)
 
 pub case_moves : (setup : Setup) (before : World) (event : Event) (reply : Reply) (after : World) → KeepsLists setup before → Case setup before event reply after → MovesCounts before event reply after
 case_moves setup before event reply after kept (refuses it) = rw (it.reply_is, it.after_is) it.moves

@@ -2,7 +2,10 @@
 use Rattle.std.proofs.Common.{◌≡◌, ℕ, ◌++◌, [], ◌∷◌, Bool, true, false, cond, eqb, Option, Some, None, inl, inr, refl, ap, sym, subst, ◌∙◌}
 use Rattle.std.proofs.lemmas.Bool.{cases_Bool, eqb-true}
 use Rattle.ccb.specs.Ccb.{requeued}
+use Rattle.helpers.specs.declared.table.Deed.{Deed}
+use Rattle.helpers.specs.declared.table.Deed.TheVariants as deeds
 use Rattle.helpers.specs.declared.request.Request.{Request}
+use Rattle.helpers.specs.Table.{row_of}
 use Rattle.world.specs.declared.ccb_state.CcbState.TheVariants.{Waiting}
 use Rattle.world.specs.World.{Setup, LiveCcb, LiveRun, World}
 use Rattle.world.specs.Lookups.{ccb_of, with_ccb, run_of}
@@ -10,9 +13,10 @@ use Rattle.world.specs.Told.{Told, told_of}
 use Rattle.world.specs.Event.{Instruction, private, call, exit, Event, submit, dispatch, complete, guest_freeze, guest_release, clock_reads, parks, resumes, executes, Reply}
 use Rattle.world.specs.CcbSteps.{ended_with}
 use Rattle.world.specs.Step.{WorldStep}
-use Rattle.world.specs.Headline.{is_disposing, is_disposal, is_disposal_of, InRecoveryBy, IsRequeued, IsFinished, DisposesBy, DisposesOfIt}
+use Rattle.world.specs.Headline.{is_disposing, is_disposal, is_disposal_of, InRecoveryBy, IsRequeued, IsFinished, DisposesByDeed, DisposesBy, DisposesOfIt}
 use Rattle.world.proofs.Lists.Found.{found_key, put_same, put_other, leave_same, leave_other}
-use Rattle.world_laws.proofs.Steps.Calls.{CcbDeed, leaves_ccbs, requeues_one, ends_one, Asks, asks_of}
+use Rattle.world_laws.proofs.Steps.Does.{CcbDeed, leaves_ccbs, requeues_one, ends_one}
+use Rattle.world_laws.proofs.Steps.Calls.{Asks, asks_of}
 use Rattle.world.proofs.Steps.Moves.{ccb_key, ccb_found}
 use Rattle.world_laws.proofs.Steps.Effects.{its_instruction}
 use Rattle.world_laws.proofs.Recovering.{Recovering}
@@ -80,43 +84,56 @@ one_live : (number run_number : ℕ) (run : LiveRun) (before : World) (its : Liv
 one_live number run_number run before its recovery found =
     let both : Some its ≡ Some recovery.live = sym found ∙ recovery.found in cc
 
+-- what a call's deed makes of the CCB
+by_its_deed : (deed : Deed) (told : Told) (request : Request) (ccb : ℕ) (was : LiveCcb) (before after : World) → (row_of request.helper).deed ≡ deed → DisposesByDeed deed request told ccb was before after → DisposesByDeed (row_of request.helper).deed request told ccb was before after
+by_its_deed deed told request ccb was before after is does = subst (λ (d : Deed). DisposesByDeed d request told ccb was before after) (sym is) does
+
 -- A call by which a run disposes of its CCB.
 call_disposes : (setup : Setup) (before : World) (event : Event) (reply : Reply) (after : World) → Recovering before → (it : Asks setup before event reply after) → is_disposing (told_of it.request) ≡ true → CcbDeed before it.it.run it.request it.given it.between → DisposesOfIt it.it.number it.it.run.ccb before event after
 call_disposes setup before event reply after recovering it disposing (leaves_ccbs deed) = absurd (let bad : false ≡ true = sym deed.calm ∙ disposing in cc)
 call_disposes setup before event reply after recovering it disposing (requeues_one deed) =
     let number : ℕ = it.it.number in
+    let used : ℕ = it.request.arguments.first in
     let ccb : ℕ = it.it.run.ccb in
     let recovery = in_recovery_by number it.it.run before recovering it.it.found deed.its.fresh in
     let same : deed.its.live ≡ recovery.live = one_live ccb number it.it.run before deed.its.live recovery deed.its.found in
-    let live_is : after.live ≡ with_ccb (again recovery.live deed.retries) before.live =
-    ap (λ (x : Reply × World). x.1.live) it.answer ∙ (deed.live_is ∙ ap (λ (c : LiveCcb). with_ccb (again c deed.retries) before.live) same) in
-    let instruction_is = its_instruction before event (call (told_of it.request)) it.it ∙ ap (λ (r : Request). Some (call (told_of r))) deed.request_is in
+    let live_is : after.live ≡ with_ccb (again recovery.live used) before.live =
+    ap (λ (x : Reply × World). x.1.live) it.answer ∙ (deed.live_is ∙ ap (λ (c : LiveCcb). with_ccb (again c used) before.live) same) in
+    let instruction_is = its_instruction before event (call (told_of it.request)) it.it in
     record {
       recovery = recovery;
-      disposes = subst (λ (o : Option Instruction). DisposesBy o number ccb recovery.live before after) (sym instruction_is) (
-        deed.retries,
-        (it.it.run, it.it.found, it.call_is ∙ ap Some deed.request_is),
-        requeued_now ccb deed.retries recovery.live before after recovery.found live_is (ap (λ (x : Reply × World). x.1.ended) it.answer ∙ deed.ended_is),
-      );
-      others = requeued_alone ccb deed.retries recovery.live before after recovery.found live_is;
+      disposes = subst (λ (o : Option Instruction). DisposesBy o number ccb recovery.live before after) (sym instruction_is) (record {
+        request = it.request;
+        calls = (it.it.run, it.it.found, it.call_is);
+        does = by_its_deed deeds.Requeue (told_of it.request) it.request ccb recovery.live before after deed.deed_is (
+          deed.told_is,
+          requeued_now ccb used recovery.live before after recovery.found live_is (ap (λ (x : Reply × World). x.1.ended) it.answer ∙ deed.ended_is),
+        );
+      });
+      others = requeued_alone ccb used recovery.live before after recovery.found live_is;
     }
 call_disposes setup before event reply after recovering it disposing (ends_one deed) =
     let number : ℕ = it.it.number in
+    let code : ℕ = it.request.arguments.first in
     let ccb : ℕ = it.it.run.ccb in
     let recovery = in_recovery_by number it.it.run before recovering it.it.found deed.its.fresh in
     let same : deed.its.live ≡ recovery.live = one_live ccb number it.it.run before deed.its.live recovery deed.its.found in
-    let live_is : after.live ≡ (ended_with before recovery.live.ccb deed.code).live =
-    ap (λ (x : Reply × World). x.1.live) it.answer ∙ (deed.live_is ∙ ap (λ (c : LiveCcb). (ended_with before c.ccb deed.code).live) same) in
-    let ended_is : after.ended ≡ (ended_with before recovery.live.ccb deed.code).ended =
-    ap (λ (x : Reply × World). x.1.ended) it.answer ∙ (deed.ended_is ∙ ap (λ (c : LiveCcb). (ended_with before c.ccb deed.code).ended) same) in
-    let instruction_is = its_instruction before event (call (told_of it.request)) it.it ∙ ap (λ (r : Request). Some (call (told_of r))) deed.request_is in
+    let live_is : after.live ≡ (ended_with before recovery.live.ccb code).live =
+    ap (λ (x : Reply × World). x.1.live) it.answer ∙ (deed.live_is ∙ ap (λ (c : LiveCcb). (ended_with before c.ccb code).live) same) in
+    let ended_is : after.ended ≡ (ended_with before recovery.live.ccb code).ended =
+    ap (λ (x : Reply × World). x.1.ended) it.answer ∙ (deed.ended_is ∙ ap (λ (c : LiveCcb). (ended_with before c.ccb code).ended) same) in
+    let instruction_is = its_instruction before event (call (told_of it.request)) it.it in
     record {
       recovery = recovery;
-      disposes = subst (λ (o : Option Instruction). DisposesBy o number ccb recovery.live before after) (sym instruction_is) (
-        (it.it.run, it.it.found, it.call_is ∙ ap Some deed.request_is),
-        finished_now ccb deed.code recovery.live before after recovery.found live_is ended_is,
-      );
-      others = finished_alone ccb deed.code recovery.live before after recovery.found live_is;
+      disposes = subst (λ (o : Option Instruction). DisposesBy o number ccb recovery.live before after) (sym instruction_is) (record {
+        request = it.request;
+        calls = (it.it.run, it.it.found, it.call_is);
+        does = by_its_deed deeds.Finish (told_of it.request) it.request ccb recovery.live before after deed.deed_is (
+          deed.told_is,
+          finished_now ccb code recovery.live before after recovery.found live_is ended_is,
+        );
+      });
+      others = finished_alone ccb code recovery.live before after recovery.found live_is;
     }
 
 -- a step of the run that disposes is such a call

@@ -17,8 +17,8 @@ no_call_goes_on setup before run told after e =
 
 pub empty_advance_is_none : EmptyAdvanceIsNone
 empty_advance_is_none setup run (Helper helper) r0 before after leads = no_call_goes_on setup before run (plain helper) leads.0 leads.1
-empty_advance_is_none setup run (Trace bytes) r0 before after leads = no_call_goes_on setup before run (traces bytes) leads.0 leads.1
-empty_advance_is_none setup run (Finish code) r0 before after leads = no_call_goes_on setup before run (finishes code) leads.0 leads.1
+empty_advance_is_none setup run (Trace helper bytes) r0 before after leads = no_call_goes_on setup before run (traces helper bytes) leads.0 leads.1
+empty_advance_is_none setup run (Finish helper code) r0 before after leads = no_call_goes_on setup before run (finishes helper code) leads.0 leads.1
 empty_advance_is_none setup run Exit r0 before after leads =
     let it = exit_parts setup before run went_on leads.0 leads.1 in
     let bad : went_on ≡ result it.r0 = it.reply_is in cc

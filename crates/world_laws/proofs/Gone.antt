@@ -1,27 +1,32 @@
 -- A number that was given up, or whose freeze is gone, is never held again, and one that was handed over only by a timer.
 use Rattle.std.proofs.Common.{◌≡◌, ℕ, ◌+◌, ◌≤◌, List, [], ◌∷◌, true, false, not, Option, Some, None, IsSome, inl, inr, refl, ap, sym, subst, ◌∙◌, arith}
 use Rattle.std.proofs.lemmas.Bool.{cases_eq}
-use Rattle.helpers.specs.declared.helper.Helper.TheVariants as helpers
 use Rattle.freeze_ledger.specs.declared.freeze.Holder.TheVariants.{Timer}
 use Rattle.freeze_ledger.specs.declared.freeze.Freeze.{Freeze}
 use Rattle.freeze_ledger.specs.Freezes.{entry_of, without}
+use Rattle.helpers.specs.declared.table.Deed.{Deed}
+use Rattle.helpers.specs.declared.table.Deed.TheVariants as deeds
+use Rattle.helpers.specs.declared.columns.Change.{Change}
+use Rattle.helpers.specs.declared.columns.Change.TheVariants as changes
 use Rattle.helpers.specs.declared.request.Request.{Request}
-use Rattle.helpers.specs.declared.request.Request.TheVariants.{Freeze as FreezeQueue, Release, ReleaseAfter}
+use Rattle.helpers.specs.Table.{row_of}
 use Rattle.helpers.specs.declared.request.Answer.{Answer}
 use Rattle.bpf_semantics.specs.Step.{request_at}
 use Rattle.world.specs.World.{Setup, LiveRun, World, opening}
 use Rattle.world.specs.Lookups.{run_of}
-use Rattle.world.specs.Told.{Told, plain, told_of}
+use Rattle.world.specs.Told.{Told, told_of}
 use Rattle.world.specs.Event.{call, Event, Reply, guest_release, executes}
 use Rattle.world.specs.FreezeSteps.{is_timer}
 use Rattle.world.specs.Step.{WorldStep}
 use Rattle.world.specs.WorldRun.{Leads}
 use Rattle.world.specs.FreezeLaws.{IsHeld, Calls, GivenUpStaysGivenUp, GivenUpByRunStaysGivenUp, HandedOverStaysHandedOver, GoneStaysGone}
-use Rattle.world.specs.TookGave.{asked}
+use Rattle.world.specs.TookGave.{asked_by, asked}
 use Rattle.world.proofs.Lists.Found.{put, found_in_push, put_same, put_other, missing_filter}
 use Rattle.world.proofs.Lists.Rising.{found_unfiltered}
 use Rattle.world.proofs.Lists.Entries.{freeze_key, entry_push, entry_removed, entry_bounds, handed_is_put, none_since}
-use Rattle.world_laws.proofs.Steps.Calls.{LeavesFreezes, FreezeDeed, leaves_freezes, takes_one, gives_one_back, hands_one_over, Asks, asks_of}
+use Rattle.world_laws.proofs.Deeds.{suits}
+use Rattle.world_laws.proofs.Steps.Does.{LeavesFreezes, FreezeDeed, leaves_freezes, takes_one, gives_one_back, hands_one_over}
+use Rattle.world_laws.proofs.Steps.Calls.{Asks, asks_of}
 use Rattle.world_laws.proofs.Steps.Cases.{case_of, guest_release_parts}
 use Rattle.world.proofs.Steps.Moves.{KeepsLists, FreezeMove, freezes_stay, freeze_enters, freezes_leave, freeze_changes}
 use Rattle.world_laws.proofs.Steps.Effects.{effect_of}
@@ -106,24 +111,32 @@ the_call setup before run told reply after request calls it =
 asked_for_one : (setup : Setup) (before : World) (run : LiveRun) (request : Request) (given : Answer) (between : World) (number : ℕ) → asked (Some request) ≡ number ∷ [] → LeavesFreezes setup before run request given between → ⊥
 asked_for_one setup before run request given between number is deed = let bad : [] ≡ number ∷ [] = sym deed.keeps ∙ is in cc
 
-given_back_past : (setup : Setup) (before after : World) (number : ℕ) (run : LiveRun) (request : Request) (given : Answer) (between : World) → KeepsLists setup before → request ≡ Release number → after.freezes ≡ between.freezes → after.greatest_freeze ≡ between.greatest_freeze → FreezeDeed setup before run request given between → IsPast number after
-given_back_past setup before after number run request given between kept is e g (leaves_freezes deed) = absurd (asked_for_one setup before run request given between number (ap (λ (r : Request). asked (Some r)) is) deed)
-given_back_past setup before after number run request given between kept is e g (takes_one deed) = absurd (let bad : FreezeQueue deed.queue ≡ Release number = sym deed.request_is ∙ is in cc)
-given_back_past setup before after number run request given between kept is e g (gives_one_back deed) =
-    let both : Release deed.number ≡ Release number = sym deed.request_is ∙ is in
-    let same : deed.number ≡ number = cc in
+gives_it_up : (request : Request) (number : ℕ) → (row_of request.helper).machine ≡ changes.GivesUp → request.arguments.first ≡ number → asked (Some request) ≡ number ∷ []
+gives_it_up request number machine_is same = ap (λ (c : Change). asked_by c request) machine_is ∙ ap (λ (n : ℕ). n ∷ []) same
+
+-- two deeds of one row are one
+one_deed : (request : Request) (a b : Deed) → (row_of request.helper).deed ≡ a → (row_of request.helper).deed ≡ b → a ≡ b
+one_deed request a b first second = sym first ∙ second
+
+given_back_past : (setup : Setup) (before after : World) (number : ℕ) (run : LiveRun) (request : Request) (given : Answer) (between : World) → KeepsLists setup before → (row_of request.helper).deed ≡ deeds.GiveBack → request.arguments.first ≡ number → after.freezes ≡ between.freezes → after.greatest_freeze ≡ between.greatest_freeze → FreezeDeed setup before run request given between → IsPast number after
+given_back_past setup before after number run request given between kept is same e g (leaves_freezes deed) =
+    absurd (asked_for_one setup before run request given between number (gives_it_up request number (suits deeds.GiveBack request is).machine_is same) deed)
+given_back_past setup before after number run request given between kept is same e g (takes_one deed) = absurd (let bad : deeds.Freeze ≡ deeds.GiveBack = one_deed request _ _ deed.deed_is is in cc)
+given_back_past setup before after number run request given between kept is same e g (gives_one_back deed) =
     removed_past setup before after number deed.freeze kept (subst (λ (n : ℕ). entry_of n before.freezes ≡ Some deed.freeze) same deed.entry)
     (e ∙ (deed.freezes_is ∙ ap (λ (n : ℕ). without n before.freezes) same)) (g ∙ deed.greatest_is)
-given_back_past setup before after number run request given between kept is e g (hands_one_over deed) = absurd (let bad : ReleaseAfter deed.number deed.milliseconds ≡ Release number = sym deed.request_is ∙ is in cc)
+given_back_past setup before after number run request given between kept is same e g (hands_one_over deed) = absurd (let bad : deeds.HandOver ≡ deeds.GiveBack = one_deed request _ _ deed.deed_is is in cc)
 
 pub given_up_by_run_stays_given_up : GivenUpByRunStaysGivenUp
-given_up_by_run_stays_given_up setup xs ys run number reply before world first asks second held =
+given_up_by_run_stays_given_up setup xs ys run number told reply before world first asks second held =
     let after : World = second.0 in
     let kept = lists_are_kept setup xs before first in
-    let it = asks_of setup before run (plain helpers.Release) reply after second.1 in
-    let past = given_back_past setup before after number it.it.run it.request it.given it.between kept (the_call setup before run (plain helpers.Release) reply after (Release number) asks it)
+    let it = asks_of setup before run told reply after second.1 in
+    let call_is = the_call setup before run told reply after asks.request asks.calls it in
+    let past = given_back_past setup before after number it.it.run it.request it.given it.between kept
+    (ap (λ (r : Request). (row_of r.helper).deed) call_is ∙ asks.deed_is) (ap (λ (r : Request). r.arguments.first) call_is ∙ asks.number_is)
     (ap (λ (x : Reply × World). x.1.freezes) it.answer) (ap (λ (x : Reply × World). x.1.greatest_freeze) it.answer) it.freezes in
-    none_held number world (leads_past setup after ys world number (step_keeps setup before (executes run (call (plain helpers.Release))) reply after second.1 kept) second.2 past).none held
+    none_held number world (leads_past setup after ys world number (step_keeps setup before (executes run (call told)) reply after second.1 kept) second.2 past).none held
 
 -- a number was given, and what bears it, if anything does, is a timer's
 record IsTimed (number : ℕ) (world : World) : Type 0 where
@@ -166,18 +179,18 @@ leads_timed setup before (x ∷ xs) after number kept run timed =
     leads_timed setup run.0 xs after number (step_keeps setup before x.0 x.1 run.0 run.1 kept) run.2
     (move_timed setup before x.0 run.0 number kept (step_freezes setup before x.0 x.1 run.0 kept run.1) timed)
 
-handed_over_timed : (setup : Setup) (before after : World) (number milliseconds : ℕ) (run : LiveRun) (request : Request) (given : Answer) (between : World) → KeepsLists setup before → request ≡ ReleaseAfter number milliseconds → after.freezes ≡ between.freezes → after.greatest_freeze ≡ between.greatest_freeze → FreezeDeed setup before run request given between → IsTimed number after
-handed_over_timed setup before after number milliseconds run request given between kept is e g (leaves_freezes deed) = absurd (asked_for_one setup before run request given between number (ap (λ (r : Request). asked (Some r)) is) deed)
-handed_over_timed setup before after number milliseconds run request given between kept is e g (takes_one deed) = absurd (let bad : FreezeQueue deed.queue ≡ ReleaseAfter number milliseconds = sym deed.request_is ∙ is in cc)
-handed_over_timed setup before after number milliseconds run request given between kept is e g (gives_one_back deed) = absurd (let bad : Release deed.number ≡ ReleaseAfter number milliseconds = sym deed.request_is ∙ is in cc)
-handed_over_timed setup before after number milliseconds run request given between kept is e g (hands_one_over deed) =
-    let both : ReleaseAfter deed.number deed.milliseconds ≡ ReleaseAfter number milliseconds = sym deed.request_is ∙ is in
-    let same : deed.number ≡ number = cc in
+handed_over_timed : (setup : Setup) (before after : World) (number : ℕ) (run : LiveRun) (request : Request) (given : Answer) (between : World) → KeepsLists setup before → (row_of request.helper).deed ≡ deeds.HandOver → request.arguments.first ≡ number → after.freezes ≡ between.freezes → after.greatest_freeze ≡ between.greatest_freeze → FreezeDeed setup before run request given between → IsTimed number after
+handed_over_timed setup before after number run request given between kept is same e g (leaves_freezes deed) =
+    absurd (asked_for_one setup before run request given between number (gives_it_up request number (suits deeds.HandOver request is).machine_is same) deed)
+handed_over_timed setup before after number run request given between kept is same e g (takes_one deed) = absurd (let bad : deeds.Freeze ≡ deeds.HandOver = one_deed request _ _ deed.deed_is is in cc)
+handed_over_timed setup before after number run request given between kept is same e g (gives_one_back deed) = absurd (let bad : deeds.GiveBack ≡ deeds.HandOver = one_deed request _ _ deed.deed_is is in cc)
+handed_over_timed setup before after number run request given between kept is same e g (hands_one_over deed) =
+    let asked_number : ℕ = request.arguments.first in
     let old : Freeze = deed.freeze in
-    let due : ℕ = before.clock + deed.milliseconds in
+    let due : ℕ = before.clock + request.arguments.second in
     let new : Freeze = record old { holder = Timer due } in
-    let bounds = entry_bounds 0 before.freezes before.greatest_freeze deed.number old kept.freezes.numbered deed.entry in
-    let freezes_is : after.freezes ≡ put freeze_key new before.freezes = e ∙ (deed.freezes_is ∙ handed_is_put deed.number due 0 before.freezes before.greatest_freeze old kept.freezes.numbered deed.entry) in
+    let bounds = entry_bounds 0 before.freezes before.greatest_freeze asked_number old kept.freezes.numbered deed.entry in
+    let freezes_is : after.freezes ≡ put freeze_key new before.freezes = e ∙ (deed.freezes_is ∙ handed_is_put asked_number due 0 before.freezes before.greatest_freeze old kept.freezes.numbered deed.entry) in
     let there : entry_of old.number after.freezes ≡ Some new = ap (entry_of old.number) freezes_is ∙ put_same freeze_key new before.freezes old (subst (λ (n : ℕ). entry_of n before.freezes ≡ Some old) (sym bounds.0) deed.entry) in
     record {
       given = omega (arith, same, bounds.2, g, deed.greatest_is);
@@ -188,13 +201,15 @@ handed_over_timed setup before after number milliseconds run request given betwe
     }
 
 pub handed_over_stays_handed_over : HandedOverStaysHandedOver
-handed_over_stays_handed_over setup xs ys run number reply before world first hands second owned =
+handed_over_stays_handed_over setup xs ys run number told reply before world first hands second owned =
     let after : World = second.0 in
     let kept = lists_are_kept setup xs before first in
-    let it = asks_of setup before run (plain helpers.ReleaseAfter) reply after second.1 in
-    let timed = handed_over_timed setup before after number hands.0 it.it.run it.request it.given it.between kept (the_call setup before run (plain helpers.ReleaseAfter) reply after (ReleaseAfter number hands.0) hands.1 it)
+    let it = asks_of setup before run told reply after second.1 in
+    let call_is = the_call setup before run told reply after hands.request hands.calls it in
+    let timed = handed_over_timed setup before after number it.it.run it.request it.given it.between kept
+    (ap (λ (r : Request). (row_of r.helper).deed) call_is ∙ hands.deed_is) (ap (λ (r : Request). r.arguments.first) call_is ∙ hands.number_is)
     (ap (λ (x : Reply × World). x.1.freezes) it.answer) (ap (λ (x : Reply × World). x.1.greatest_freeze) it.answer) it.freezes in
-    let later = leads_timed setup after ys world number (step_keeps setup before (executes run (call (plain helpers.ReleaseAfter))) reply after second.1 kept) second.2 timed in
+    let later = leads_timed setup after ys world number (step_keeps setup before (executes run (call told)) reply after second.1 kept) second.2 timed in
     let bad : false ≡ true = sym owned.2 ∙ later.timer owned.0 owned.1 in cc
 
 pub gone_stays_gone : GoneStaysGone

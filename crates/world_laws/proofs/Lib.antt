@@ -1,6 +1,8 @@
 pub mod Telling
 pub mod Rows
 pub mod Apart
+pub mod Alike
+pub mod Deeds
 pub mod Steps
 pub mod Kept
 pub mod Leads

@@ -1,6 +1,6 @@
 -- Private instructions move: a change of one run's machine and an event that is none of that run's do not mind each other.
 use Rattle.std.proofs.Common.{◌≡◌, ℕ, ◌+◌, List, [], ◌∷◌, ◌++◌, Bool, true, false, cond, eqb, Option, Some, None, refl, ap, sym, subst, ◌∙◌}
-use Rattle.std.specs.Prelude.{⊤, not, ◌||◌, ◌&&◌, nat_lt, nat_le, length, slice_index}
+use Rattle.std.specs.Prelude.{not, ◌||◌, ◌&&◌, nat_lt, nat_le, length, slice_index}
 use Rattle.std.specs.Option.{is_some, option_map, option_and_then}
 use Rattle.std.specs.List.{list_all}
 use Rattle.std.proofs.lemmas.Bool.{cond-true, eq-eqb, and_parts, or_parts, not-true}
@@ -9,7 +9,6 @@ use Rattle.ccb.specs.Completion.{Outcome}
 use Rattle.ccb.specs.Ccb.{completed}
 use Rattle.helpers.specs.declared.limits.HelperLimits.{HelperLimits}
 use Rattle.helpers.specs.declared.request.Request.{Request}
-use Rattle.helpers.specs.declared.request.Request.TheVariants.{Freeze as FreezeQueue, Release, ReleaseAfter, Requeue, Finish, TableGet, TablePut, TableAdd, QueueInfo, Trace, Now, SetOpenings}
 use Rattle.freeze_ledger.specs.declared.freeze.Freeze.{Freeze}
 use Rattle.freeze_ledger.specs.declared.freeze.Holder.TheVariants.{Run, Guest}
 use Rattle.freeze_ledger.specs.Freezes.{frozen, meets_limit, entry_of, due_at}
@@ -19,12 +18,12 @@ use Rattle.world.specs.Capacities.{most_runs, last_number, last_reading}
 use Rattle.world.specs.World.{Setup, queue_count, LiveCcb, LiveRun, World}
 use Rattle.world.specs.declared.call_refusal.CallRefusal.TheVariants.{Unknown, Limit, NotActive, GoesBack, Frozen, NoOpening, NothingWaits}
 use Rattle.world.specs.declared.call_refusal.CallRefusal.{CallRefusal}
-use Rattle.world.specs.Lookups.{is_active, active_count, ccb_of, next_waiting, run_of, with_run}
+use Rattle.world.specs.Lookups.{is_active, active_count, ccb_of, next_waiting, run_of}
 use Rattle.world.specs.Told.{Told}
 use Rattle.world.specs.Event.{Instruction, private, call, exit, Event, submit, dispatch, complete, guest_freeze, guest_release, clock_reads, parks, resumes, executes, Reply, ccb_given, done, freeze_given, expired, ok, went_on, result, refused}
-use Rattle.world.specs.FreezeSteps.{froze, thawed, timed, step_guest_freeze, step_guest_release, clock_at, step_clock_reads}
-use Rattle.world.specs.CcbSteps.{ccb_meets_limit, step_submit, starts, step_dispatch, is_success, run_meets_limit, ended_with, finishes as finishes_done, run_starts, recovers, completes}
-use Rattle.world.specs.RunSteps.{goes_on, takes, releases, hands_over, requeues, finishes, with_table_word, step_request, step_call, ends, step_run, step_executes}
+use Rattle.world.specs.FreezeSteps.{froze, step_guest_freeze, step_guest_release, clock_at, step_clock_reads}
+use Rattle.world.specs.CcbSteps.{ccb_meets_limit, step_submit, starts, step_dispatch, is_success, run_meets_limit, finishes as finishes_done, run_starts, recovers, completes}
+use Rattle.world.specs.RunSteps.{goes_on, step_call, ends, step_run, step_executes}
 use Rattle.world.specs.ParkSteps.{step_parks, step_resumes}
 use Rattle.world.specs.Step.{step, WorldStep}
 use Rattle.world.specs.WorldRun.{Leads}
@@ -32,64 +31,15 @@ use Rattle.world.specs.Headline.{is_own_of}
 use Rattle.world.specs.Moved.{is_start_of, is_of_another, Moved}
 use Rattle.world.proofs.Lists.Found.{found_key, put_other, leave_other}
 use Rattle.world.proofs.Lists.Each.{put_length}
-use Rattle.world_laws.proofs.Apart.{put_swap, leave_swap, push_swap, push_other}
+use Rattle.world_laws.proofs.Apart.{leave_swap, push_swap, push_other}
+use Rattle.world_laws.proofs.Alike.{changed, Alike, AlikeOr, neither, an_event, one_of, one_of_two, if_so, stays, changes}
 use Rattle.world.proofs.Steps.Moves.{run_key}
 use Rattle.world_laws.proofs.Steps.Running.{private_parts}
-
--- the world with this run in the place of the one that has its number
-abbrev changed : LiveRun → World → World
-changed c world = record world { runs = with_run c world.runs }
+use Rattle.world_laws.proofs.Deeds.{requests_alike}
 
 module _ (r : ℕ) (c : LiveRun) (named : c.number ≡ r) (w : World) where
-  -- What a step from this world leads to, and what one from the changed world does: the same reply, and, where the run does
-  -- not start, the same world but for the change; and the step leaves the run.
-  record Alike (x y : Reply × World) : Type 0 where
-    reply_is : x.0 ≡ y.0
-    world_is : is_start_of r x.0 ≡ false → (y.1 ≡ changed c x.1) × (run_of r x.1.runs ≡ run_of r w.runs)
-
-  -- or both are no event
-  abbrev Both : Option (Reply × World) → Option (Reply × World) → Type 0
-  Both None None = ⊤
-  Both None (Some y) = ⊥
-  Both (Some x) None = ⊥
-  Both (Some x) (Some y) = Alike x y
-
-  record AlikeOr (x y : Option (Reply × World)) : Type 0 where
-    both : Both x y
-
-  neither : AlikeOr None None
-  neither = record { both = tt }
-
-  an_event : (x y : Reply × World) → Alike x y → AlikeOr (Some x) (Some y)
-  an_event x y it = record { both = it }
-
-  one_of : (b : Bool) (x x' y y' : Reply × World) → Alike x x' → Alike y y' → Alike (cond b x y) (cond b x' y')
-  one_of true x x' y y' first second = first
-  one_of false x x' y y' first second = second
-
-  one_of_two : (b b' : Bool) → b' ≡ b → (x x' y y' : Reply × World) → Alike x x' → Alike y y' → Alike (cond b x y) (cond b' x' y')
-  one_of_two b b' same x x' y y' first second = subst (λ (a : Bool). Alike (cond b x y) (cond a x' y')) (sym same) (one_of b x x' y y' first second)
-
-  if_so : (b : Bool) (x x' : Option (Reply × World)) → AlikeOr x x' → AlikeOr (cond b x None) (cond b x' None)
-  if_so true x x' it = it
-  if_so false x x' it = neither
-
-  -- the runs are as they were
-  stays : (reply : Reply) (after : World) → after.runs ≡ w.runs → Alike (reply, after) (reply, changed c after)
-  stays reply after e = record { reply_is = refl; world_is = λ other. (refl, ap (run_of r) e) }
-
-  -- another run is changed
-  changes : (reply : Reply) (between : World) (d : LiveRun) → between.runs ≡ w.runs → (d.number ≡ r → ⊥) → Alike (reply, changed d between) (reply, changed d (changed c between))
-  changes reply between d e apart = record {
-    reply_is = refl;
-    world_is = λ other. (
-      ap (λ (runs : List LiveRun). record between { runs = runs }) (put_swap run_key d c between.runs (λ same. apart (same ∙ named))),
-      put_other run_key d r between.runs apart ∙ ap (run_of r) e,
-    );
-  }
-
   -- another run leaves
-  leaves : (reply : Reply) (run : LiveRun) → (run.number ≡ r → ⊥) → Alike (reply, ends w run) (reply, ends (changed c w) run)
+  leaves : (reply : Reply) (run : LiveRun) → (run.number ≡ r → ⊥) → Alike r c named w (reply, ends w run) (reply, ends (changed c w) run)
   leaves reply run apart = record {
     reply_is = refl;
     world_is = λ other. (
@@ -99,7 +49,7 @@ module _ (r : ℕ) (c : LiveRun) (named : c.number ≡ r) (w : World) where
   }
 
   -- a run starts
-  begins : (setup : Setup) (between : World) (ccb : Ccb) (freeze : ℕ) → between.runs ≡ w.runs → Alike (run_starts setup between ccb freeze) (run_starts setup (changed c between) ccb freeze)
+  begins : (setup : Setup) (between : World) (ccb : Ccb) (freeze : ℕ) → between.runs ≡ w.runs → Alike r c named w (run_starts setup between ccb freeze) (run_starts setup (changed c between) ccb freeze)
   begins setup between ccb freeze e = record {
     reply_is = refl;
     world_is = λ other.
@@ -110,122 +60,89 @@ module _ (r : ℕ) (c : LiveRun) (named : c.number ≡ r) (w : World) where
   }
 
   -- it is refused
-  refuses : (refusal : CallRefusal) → Alike (refused refusal, w) (refused refusal, changed c w)
-  refuses refusal = stays (refused refusal) w refl
+  refuses : (refusal : CallRefusal) → Alike r c named w (refused refusal, w) (refused refusal, changed c w)
+  refuses refusal = stays r c named w (refused refusal) w refl
 
   -- The events, one by one.
 
-  submits : (setup : Setup) (queue priority retries : ℕ) → Alike (step_submit setup w queue priority retries) (step_submit setup (changed c w) queue priority retries)
+  submits : (setup : Setup) (queue priority retries : ℕ) → Alike r c named w (step_submit setup w queue priority retries) (step_submit setup (changed c w) queue priority retries)
   submits setup queue priority retries =
-      one_of (nat_le (queue_count setup) queue) _ _ _ _ (refuses Unknown)
-      (one_of (ccb_meets_limit queue w) _ _ _ _ (refuses Limit) (stays (ccb_given (w.greatest_ccb + 1)) (record w { live = _; greatest_ccb = _ }) refl))
+      one_of r c named w (nat_le (queue_count setup) queue) _ _ _ _ (refuses Unknown)
+      (one_of r c named w (ccb_meets_limit queue w) _ _ _ _ (refuses Limit) (stays r c named w (ccb_given (w.greatest_ccb + 1)) (record w { live = _; greatest_ccb = _ }) refl))
 
-  freezes : (setup : Setup) (queue guest : ℕ) → Alike (step_guest_freeze setup w queue guest) (step_guest_freeze setup (changed c w) queue guest)
+  freezes : (setup : Setup) (queue guest : ℕ) → Alike r c named w (step_guest_freeze setup w queue guest) (step_guest_freeze setup (changed c w) queue guest)
   freezes setup queue guest =
-      one_of (nat_le (queue_count setup) queue) _ _ _ _ (refuses Unknown)
-      (one_of (meets_limit queue w.freezes w.greatest_freeze) _ _ _ _ (refuses Limit) (stays (freeze_given (w.greatest_freeze + 1)) (froze w queue (Guest guest)) refl))
+      one_of r c named w (nat_le (queue_count setup) queue) _ _ _ _ (refuses Unknown)
+      (one_of r c named w (meets_limit queue w.freezes w.greatest_freeze) _ _ _ _ (refuses Limit) (stays r c named w (freeze_given (w.greatest_freeze + 1)) (froze w queue (Guest guest)) refl))
 
-  reads : (reading : ℕ) → Alike (step_clock_reads w reading) (step_clock_reads (changed c w) reading)
+  reads : (reading : ℕ) → Alike r c named w (step_clock_reads w reading) (step_clock_reads (changed c w) reading)
   reads reading =
-      one_of (nat_lt last_reading reading) _ _ _ _ (refuses Limit)
-      (one_of (nat_lt reading w.clock) _ _ _ _ (refuses GoesBack) (stays (expired (length (due_at reading w.freezes))) (clock_at w reading) refl))
+      one_of r c named w (nat_lt last_reading reading) _ _ _ _ (refuses Limit)
+      (one_of r c named w (nat_lt reading w.clock) _ _ _ _ (refuses GoesBack) (stays r c named w (expired (length (due_at reading w.freezes))) (clock_at w reading) refl))
 
-  starts_next : (o : Option LiveCcb) → Alike (starts w o) (starts (changed c w) o)
+  starts_next : (o : Option LiveCcb) → Alike r c named w (starts w o) (starts (changed c w) o)
   starts_next None = refuses NothingWaits
-  starts_next (Some next) = stays _ _ refl
+  starts_next (Some next) = stays r c named w _ _ refl
 
-  dispatches : (setup : Setup) (queue : ℕ) → Alike (step_dispatch setup w queue) (step_dispatch setup (changed c w) queue)
+  dispatches : (setup : Setup) (queue : ℕ) → Alike r c named w (step_dispatch setup w queue) (step_dispatch setup (changed c w) queue)
   dispatches setup queue =
-      one_of (nat_le (queue_count setup) queue) _ _ _ _ (refuses Unknown)
-      (one_of (nat_lt 0 (frozen queue w.freezes)) _ _ _ _ (refuses Frozen)
-      (one_of (nat_le (slice_index w.openings queue) (active_count queue w.live)) _ _ _ _ (refuses NoOpening) (starts_next (next_waiting queue w.live))))
+      one_of r c named w (nat_le (queue_count setup) queue) _ _ _ _ (refuses Unknown)
+      (one_of r c named w (nat_lt 0 (frozen queue w.freezes)) _ _ _ _ (refuses Frozen)
+      (one_of r c named w (nat_le (slice_index w.openings queue) (active_count queue w.live)) _ _ _ _ (refuses NoOpening) (starts_next (next_waiting queue w.live))))
 
   same_limit : run_meets_limit (changed c w) ≡ run_meets_limit w
   same_limit = ap (λ (n : ℕ). nat_le most_runs n || nat_le last_number w.greatest_run) (put_length run_key c w.runs)
 
-  recovers_alike : (setup : Setup) (ccb : Ccb) (outcome : Outcome) → Alike (recovers setup w ccb outcome) (recovers setup (changed c w) ccb outcome)
+  recovers_alike : (setup : Setup) (ccb : Ccb) (outcome : Outcome) → Alike r c named w (recovers setup w ccb outcome) (recovers setup (changed c w) ccb outcome)
   recovers_alike setup ccb outcome =
-      one_of (meets_limit ccb.queue.0 w.freezes w.greatest_freeze) _ _ _ _ (begins setup w (completed ccb outcome false) 0 refl)
+      one_of r c named w (meets_limit ccb.queue.0 w.freezes w.greatest_freeze) _ _ _ _ (begins setup w (completed ccb outcome false) 0 refl)
       (begins setup (froze w ccb.queue.0 (Run (w.greatest_run + 1))) (completed ccb outcome true) (w.greatest_freeze + 1) refl)
 
-  completes_alike : (setup : Setup) (outcome : Outcome) (o : Option LiveCcb) → Alike (completes setup w outcome o) (completes setup (changed c w) outcome o)
+  completes_alike : (setup : Setup) (outcome : Outcome) (o : Option LiveCcb) → Alike r c named w (completes setup w outcome o) (completes setup (changed c w) outcome o)
   completes_alike setup outcome None = refuses Unknown
   completes_alike setup outcome (Some live) =
-      one_of_two (not (is_success outcome.status) && run_meets_limit w) (not (is_success outcome.status) && run_meets_limit (changed c w)) (ap (λ (full : Bool). not (is_success outcome.status) && full) same_limit)
+      one_of_two r c named w (not (is_success outcome.status) && run_meets_limit w) (not (is_success outcome.status) && run_meets_limit (changed c w)) (ap (λ (full : Bool). not (is_success outcome.status) && full) same_limit)
       _ _ _ _ (refuses Limit)
-      (one_of (not (is_active live.state)) _ _ _ _ (refuses NotActive)
-      (one_of (is_success outcome.status) _ _ _ _ (stays done (finishes_done w live.ccb outcome.status) refl) (recovers_alike setup live.ccb outcome)))
+      (one_of r c named w (not (is_active live.state)) _ _ _ _ (refuses NotActive)
+      (one_of r c named w (is_success outcome.status) _ _ _ _ (stays r c named w done (finishes_done w live.ccb outcome.status) refl) (recovers_alike setup live.ccb outcome)))
 
-  released : (o : Option Freeze) → AlikeOr (step_guest_release w o) (step_guest_release (changed c w) o)
-  released None = neither
-  released (Some freeze) = if_so _ _ _ (an_event _ _ (stays _ _ refl))
+  released : (o : Option Freeze) → AlikeOr r c named w (step_guest_release w o) (step_guest_release (changed c w) o)
+  released None = neither r c named w
+  released (Some freeze) = if_so r c named w _ _ _ (an_event r c named w _ _ (stays r c named w _ _ refl))
 
   -- an event of another run
 
-  takes_alike : (run : LiveRun) → (run.number ≡ r → ⊥) → (queue : ℕ) → Alike (takes w run queue) (takes (changed c w) run queue)
-  takes_alike run apart queue = one_of (meets_limit queue w.freezes w.greatest_freeze) _ _ _ _ (changes _ w _ refl apart) (changes _ (froze w queue (Run run.number)) _ refl apart)
+  calls : (limits : HelperLimits) (run : LiveRun) → (run.number ≡ r → ⊥) → (told : Told) (o : Option Request) → AlikeOr r c named w (option_and_then (step_call limits w run told) o) (option_and_then (step_call limits (changed c w) run told) o)
+  calls limits run apart told None = neither r c named w
+  calls limits run apart told (Some request) = if_so r c named w _ _ _ (requests_alike r c named w run apart request)
 
-  gives_back : (run : LiveRun) → (run.number ≡ r → ⊥) → (o : Option Freeze) → AlikeOr (releases w run o) (releases (changed c w) run o)
-  gives_back run apart None = neither
-  gives_back run apart (Some freeze) = if_so _ _ _ (an_event _ _ (changes _ (thawed w freeze.number) _ refl apart))
+  goes : (run : LiveRun) → (run.number ≡ r → ⊥) → (o : Option MachineState) → AlikeOr r c named w (option_map (λ machine. (went_on, goes_on w run machine)) o) (option_map (λ machine. (went_on, goes_on (changed c w) run machine)) o)
+  goes run apart None = neither r c named w
+  goes run apart (Some machine) = an_event r c named w _ _ (changes r c named w went_on w (record run { machine = machine }) refl apart)
 
-  hands : (run : LiveRun) → (run.number ≡ r → ⊥) → (milliseconds : ℕ) (o : Option Freeze) → AlikeOr (hands_over w run milliseconds o) (hands_over (changed c w) run milliseconds o)
-  hands run apart milliseconds None = neither
-  hands run apart milliseconds (Some freeze) = if_so _ _ _ (an_event _ _ (changes _ (timed w freeze.number (w.clock + milliseconds)) _ refl apart))
+  exits : (run : LiveRun) → (run.number ≡ r → ⊥) → (o : Option ℕ) → AlikeOr r c named w (option_map (λ r0. (result r0, ends w run)) o) (option_map (λ r0. (result r0, ends (changed c w) run)) o)
+  exits run apart None = neither r c named w
+  exits run apart (Some r0) = an_event r c named w _ _ (leaves (result r0) run apart)
 
-  waits_again : (run : LiveRun) → (run.number ≡ r → ⊥) → (retries : ℕ) (o : Option LiveCcb) → AlikeOr (requeues w run retries o) (requeues (changed c w) run retries o)
-  waits_again run apart retries None = neither
-  waits_again run apart retries (Some live) = an_event _ _ (changes _ (record w { live = _ }) _ refl apart)
-
-  is_finished : (run : LiveRun) → (run.number ≡ r → ⊥) → (code : ℕ) (o : Option LiveCcb) → AlikeOr (finishes w run code o) (finishes (changed c w) run code o)
-  is_finished run apart code None = neither
-  is_finished run apart code (Some live) = an_event _ _ (changes _ (ended_with w live.ccb code) _ refl apart)
-
-  requests : (run : LiveRun) → (run.number ≡ r → ⊥) → (request : Request) → AlikeOr (step_request w run request) (step_request (changed c w) run request)
-  requests run apart (FreezeQueue queue) = an_event _ _ (takes_alike run apart queue)
-  requests run apart (Release freeze) = gives_back run apart (entry_of freeze w.freezes)
-  requests run apart (ReleaseAfter freeze milliseconds) = hands run apart milliseconds (entry_of freeze w.freezes)
-  requests run apart (Requeue retries) = waits_again run apart retries (ccb_of run.ccb w.live)
-  requests run apart (Finish code) = is_finished run apart code (ccb_of run.ccb w.live)
-  requests run apart (TableGet table index) = an_event _ _ (changes _ w _ refl apart)
-  requests run apart (TablePut table index value) = an_event _ _ (changes _ (with_table_word w table index _) _ refl apart)
-  requests run apart (TableAdd table index value) = an_event _ _ (changes _ (with_table_word w table index _) _ refl apart)
-  requests run apart (QueueInfo address) = an_event _ _ (changes _ w _ refl apart)
-  requests run apart (Trace address bytes) = an_event _ _ (changes _ w _ refl apart)
-  requests run apart Now = an_event _ _ (changes _ w _ refl apart)
-  requests run apart (SetOpenings openings) = an_event _ _ (changes _ (record w { openings = _ }) _ refl apart)
-
-  calls : (limits : HelperLimits) (run : LiveRun) → (run.number ≡ r → ⊥) → (told : Told) (o : Option Request) → AlikeOr (option_and_then (step_call limits w run told) o) (option_and_then (step_call limits (changed c w) run told) o)
-  calls limits run apart told None = neither
-  calls limits run apart told (Some request) = if_so _ _ _ (requests run apart request)
-
-  goes : (run : LiveRun) → (run.number ≡ r → ⊥) → (o : Option MachineState) → AlikeOr (option_map (λ machine. (went_on, goes_on w run machine)) o) (option_map (λ machine. (went_on, goes_on (changed c w) run machine)) o)
-  goes run apart None = neither
-  goes run apart (Some machine) = an_event _ _ (changes went_on w (record run { machine = machine }) refl apart)
-
-  exits : (run : LiveRun) → (run.number ≡ r → ⊥) → (o : Option ℕ) → AlikeOr (option_map (λ r0. (result r0, ends w run)) o) (option_map (λ r0. (result r0, ends (changed c w) run)) o)
-  exits run apart None = neither
-  exits run apart (Some r0) = an_event _ _ (leaves (result r0) run apart)
-
-  runs_alike : (limits : HelperLimits) (run : LiveRun) → (run.number ≡ r → ⊥) → (instruction : Instruction) → AlikeOr (step_run limits w run instruction) (step_run limits (changed c w) run instruction)
+  runs_alike : (limits : HelperLimits) (run : LiveRun) → (run.number ≡ r → ⊥) → (instruction : Instruction) → AlikeOr r c named w (step_run limits w run instruction) (step_run limits (changed c w) run instruction)
   runs_alike limits run apart private = goes run apart (private_step run.program run.machine)
   runs_alike limits run apart (call told) = calls limits run apart told (request_at run.program run.machine)
   runs_alike limits run apart exit = exits run apart (exit_at run.program run.machine)
 
-  executes_alike : (limits : HelperLimits) (number : ℕ) → (number ≡ r → ⊥) → (instruction : Instruction) (o : Option LiveRun) → run_of number w.runs ≡ o → AlikeOr (step_executes limits w instruction o) (step_executes limits (changed c w) instruction o)
-  executes_alike limits number apart instruction None found = neither
+  executes_alike : (limits : HelperLimits) (number : ℕ) → (number ≡ r → ⊥) → (instruction : Instruction) (o : Option LiveRun) → run_of number w.runs ≡ o → AlikeOr r c named w (step_executes limits w instruction o) (step_executes limits (changed c w) instruction o)
+  executes_alike limits number apart instruction None found = neither r c named w
   executes_alike limits number apart instruction (Some run) found =
-      if_so _ _ _ (runs_alike limits run (λ same. apart (sym (found_key run_key number w.runs run found) ∙ same)) instruction)
+      if_so r c named w _ _ _ (runs_alike limits run (λ same. apart (sym (found_key run_key number w.runs run found) ∙ same)) instruction)
 
-  parks_alike : (number : ℕ) → (number ≡ r → ⊥) → (o : Option LiveRun) → run_of number w.runs ≡ o → AlikeOr (step_parks w o) (step_parks (changed c w) o)
-  parks_alike number apart None found = neither
+  parks_alike : (number : ℕ) → (number ≡ r → ⊥) → (o : Option LiveRun) → run_of number w.runs ≡ o → AlikeOr r c named w (step_parks w o) (step_parks (changed c w) o)
+  parks_alike number apart None found = neither r c named w
   parks_alike number apart (Some run) found =
-      if_so _ _ _ (an_event _ _ (changes ok w (record run { out = false }) refl (λ same. apart (sym (found_key run_key number w.runs run found) ∙ same))))
+      if_so r c named w _ _ _ (an_event r c named w _ _ (changes r c named w ok w (record run { out = false }) refl (λ same. apart (sym (found_key run_key number w.runs run found) ∙ same))))
 
-  resumes_alike : (number : ℕ) → (number ≡ r → ⊥) → (o : Option LiveRun) → run_of number w.runs ≡ o → Alike (step_resumes w o) (step_resumes (changed c w) o)
+  resumes_alike : (number : ℕ) → (number ≡ r → ⊥) → (o : Option LiveRun) → run_of number w.runs ≡ o → Alike r c named w (step_resumes w o) (step_resumes (changed c w) o)
   resumes_alike number apart None found = refuses Unknown
   resumes_alike number apart (Some run) found =
-      one_of run.out _ _ _ _ (refuses Unknown) (changes ok w (record run { out = true }) refl (λ same. apart (sym (found_key run_key number w.runs run found) ∙ same)))
+      one_of r c named w run.out _ _ _ _ (refuses Unknown) (changes r c named w ok w (record run { out = true }) refl (λ same. apart (sym (found_key run_key number w.runs run found) ∙ same)))
 
   -- the number of another run is of the same run in the changed world
   same_run : (number : ℕ) → (number ≡ r → ⊥) → run_of number (changed c w).runs ≡ run_of number w.runs
@@ -238,24 +155,24 @@ module _ (r : ℕ) (c : LiveRun) (named : c.number ≡ r) (w : World) where
   executes_other number instruction other same =
       let bad : true ≡ false = sym (ap (λ (b : Bool). is_some (cond b (Some instruction) None) || false) (eq-eqb number r same)) ∙ other in cc
 
-  step_alike : (setup : Setup) (event : Event) → is_own_of r event ≡ false → AlikeOr (step setup w event) (step setup (changed c w) event)
-  step_alike setup (submit queue priority retries) other = an_event _ _ (submits setup queue priority retries)
-  step_alike setup (dispatch queue) other = an_event _ _ (dispatches setup queue)
-  step_alike setup (complete outcome) other = if_so _ _ _ (an_event _ _ (completes_alike setup outcome (ccb_of outcome.ccb.0 w.live)))
-  step_alike setup (guest_freeze queue guest) other = an_event _ _ (freezes setup queue guest)
+  step_alike : (setup : Setup) (event : Event) → is_own_of r event ≡ false → AlikeOr r c named w (step setup w event) (step setup (changed c w) event)
+  step_alike setup (submit queue priority retries) other = an_event r c named w _ _ (submits setup queue priority retries)
+  step_alike setup (dispatch queue) other = an_event r c named w _ _ (dispatches setup queue)
+  step_alike setup (complete outcome) other = if_so r c named w _ _ _ (an_event r c named w _ _ (completes_alike setup outcome (ccb_of outcome.ccb.0 w.live)))
+  step_alike setup (guest_freeze queue guest) other = an_event r c named w _ _ (freezes setup queue guest)
   step_alike setup (guest_release number) other = released (entry_of number w.freezes)
-  step_alike setup (clock_reads reading) other = an_event _ _ (reads reading)
+  step_alike setup (clock_reads reading) other = an_event r c named w _ _ (reads reading)
   step_alike setup (parks number) other =
       let apart = not_its number other in
-      subst (λ (o : Option LiveRun). AlikeOr (step_parks w (run_of number w.runs)) (step_parks (changed c w) o)) (sym (same_run number apart))
+      subst (λ (o : Option LiveRun). AlikeOr r c named w (step_parks w (run_of number w.runs)) (step_parks (changed c w) o)) (sym (same_run number apart))
       (parks_alike number apart (run_of number w.runs) refl)
   step_alike setup (resumes number) other =
       let apart = not_its number other in
-      an_event _ _ (subst (λ (o : Option LiveRun). Alike (step_resumes w (run_of number w.runs)) (step_resumes (changed c w) o)) (sym (same_run number apart))
+      an_event r c named w _ _ (subst (λ (o : Option LiveRun). Alike r c named w (step_resumes w (run_of number w.runs)) (step_resumes (changed c w) o)) (sym (same_run number apart))
       (resumes_alike number apart (run_of number w.runs) refl))
   step_alike setup (executes number instruction) other =
       let apart = executes_other number instruction other in
-      subst (λ (o : Option LiveRun). AlikeOr (step_executes setup.limits w instruction (run_of number w.runs)) (step_executes setup.limits (changed c w) instruction o)) (sym (same_run number apart))
+      subst (λ (o : Option LiveRun). AlikeOr r c named w (step_executes setup.limits w instruction (run_of number w.runs)) (step_executes setup.limits (changed c w) instruction o)) (sym (same_run number apart))
       (executes_alike setup.limits number apart instruction (run_of number w.runs) refl)
 
 -- Now a private step of the run is such a change, and so is what one event more leads to.

@@ -1,11 +1,10 @@
 -- No live run is stuck, and each that is out has exactly one step.
-use Rattle.std.proofs.Common.{◌≡◌, ℕ, List, true, false, not, Option, Some, None, inl, inr, refl, ap, sym, subst, ◌∙◌}
+use Rattle.std.proofs.Common.{◌≡◌, ℕ, List, true, false, Option, Some, None, inl, inr, refl, ap, sym, subst, ◌∙◌}
 use Rattle.std.specs.Option.{option_map, option_and_then}
-use Rattle.std.proofs.lemmas.Bool.{cond-true, and_from, and_parts, not-true}
+use Rattle.std.proofs.lemmas.Bool.{cond-true, and_from}
 use Rattle.freeze_ledger.specs.declared.freeze.Freeze.{Freeze}
 use Rattle.freeze_ledger.specs.Freezes.{entry_of}
 use Rattle.helpers.specs.declared.request.Request.{Request}
-use Rattle.helpers.specs.declared.request.Request.TheVariants.{Freeze as FreezeQueue, Release, ReleaseAfter, Requeue, Finish, TableGet, TablePut, TableAdd, QueueInfo, Trace, Now, SetOpenings}
 use Rattle.bpf_semantics.specs.Calls.{is_held, meets_rule}
 use Rattle.bpf_semantics.specs.MachineState.{MachineState}
 use Rattle.bpf_semantics.specs.Step.{private_step, request_at, exit_at}
@@ -16,7 +15,7 @@ use Rattle.world.specs.World.{Setup, LiveRun, World}
 use Rattle.world.specs.Lookups.{run_of}
 use Rattle.world.specs.Told.{told_of}
 use Rattle.world.specs.Event.{Instruction, private, call, exit, executes, Reply}
-use Rattle.world.specs.RunSteps.{is_run, may_call, step_request, step_call, step_run, step_executes, releases, hands_over, requeues, finishes}
+use Rattle.world.specs.RunSteps.{is_run, may_call, step_request, step_call, step_run, step_executes}
 use Rattle.world.specs.Step.{WorldStep}
 use Rattle.world.specs.Headline.{HasOneStep, NeverStuck}
 use Rattle.world.proofs.Lists.Found.{found_key}
@@ -24,6 +23,7 @@ use Rattle.world_laws.proofs.Telling.{told_itself}
 use Rattle.world_laws.proofs.Steps.Running.{some_is, Executes, private_parts, call_parts, exit_parts}
 use Rattle.world.proofs.Steps.Moves.{run_key}
 use Rattle.world_laws.proofs.Steps.Fates.{same_run}
+use Rattle.world_laws.proofs.Deeds.{HasItsOwn, leads_on}
 use Rattle.world_laws.proofs.Reaching.{reached_goes}
 use Rattle.world.proofs.Lists.HeldBy.{among_is}
 use Rattle.world_laws.proofs.Sound.{IsSound, run_sound}
@@ -104,33 +104,18 @@ its_entry setup world number run sound found f held =
     let named : run.number ≡ number = found_key run_key number world.runs run found in
     (among.0, among.1, subst (λ (n : ℕ). is_run n among.0.holder ≡ true) (sym named) among.2)
 
--- each call leads somewhere: a freeze that is given back or handed over is there and is the run's, and so is a CCB that
--- waits again or is finished
-leads_on : (setup : Setup) (world : World) (number : ℕ) (run : LiveRun) → IsSound setup world → run_of number world.runs ≡ Some run → (request : Request) → meets_rule setup.limits run.machine request ≡ true → (p : Reply × World) × (step_request world run request ≡ Some p)
-leads_on setup world number run sound found (FreezeQueue queue) rule = (_, refl)
-leads_on setup world number run sound found (Release f) rule =
-    let its = its_entry setup world number run sound found f (and_parts _ _ rule).0 in
-    (_, ap (releases world run) its.1 ∙ cond-true (is_run run.number its.0.holder) _ None its.2)
-leads_on setup world number run sound found (ReleaseAfter f milliseconds) rule =
-    let its = its_entry setup world number run sound found f (and_parts _ _ rule).0 in
-    (_, ap (hands_over world run milliseconds) its.1 ∙ cond-true (is_run run.number its.0.holder) _ None its.2)
-leads_on setup world number run sound found (Requeue n) rule =
-    let recovery = sound.recovering.ccbs number run found (not-true _ (and_parts (not run.machine.disposed) _ rule).0) in
-    (_, ap (requeues world run n) recovery.found)
-leads_on setup world number run sound found (Finish code) rule =
-    let recovery = sound.recovering.ccbs number run found (not-true _ (and_parts (not run.machine.disposed) _ rule).0) in
-    (_, ap (finishes world run code) recovery.found)
-leads_on setup world number run sound found (TableGet table index) rule = (_, refl)
-leads_on setup world number run sound found (TablePut table index value) rule = (_, refl)
-leads_on setup world number run sound found (TableAdd table index value) rule = (_, refl)
-leads_on setup world number run sound found (QueueInfo address) rule = (_, refl)
-leads_on setup world number run sound found (Trace address bytes) rule = (_, refl)
-leads_on setup world number run sound found Now rule = (_, refl)
-leads_on setup world number run sound found (SetOpenings openings) rule = (_, refl)
+-- what a run's call may rely on
+has_its_own : (setup : Setup) (world : World) (number : ℕ) (run : LiveRun) → IsSound setup world → run_of number world.runs ≡ Some run → HasItsOwn world run
+has_its_own setup world number run sound found = record {
+  freezes = its_entry setup world number run sound found;
+  ccb = λ fresh.
+      let recovery = sound.recovering.ccbs number run found fresh in
+      (recovery.live, recovery.found);
+}
 
 at_call : (setup : Setup) (world : World) (number : ℕ) (run : LiveRun) → IsSound setup world → run_of number world.runs ≡ Some run → run.out ≡ true → (request : Request) → request_at run.program run.machine ≡ Some request → meets_rule setup.limits run.machine request ≡ true → private_step run.program run.machine ≡ None → exit_at run.program run.machine ≡ None → HasOneStep setup world number
 at_call setup world number run sound found out request call_is rule no_step no_exit =
-    let leads = leads_on setup world number run sound found request rule in
+    let leads = leads_on setup.limits world run request (has_its_own setup world number run sound found) rule in
     at_this_call setup world number run found out request call_is rule no_step no_exit leads.0 leads.1
 
 -- the lawful exit is the one

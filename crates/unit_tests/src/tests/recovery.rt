@@ -378,7 +378,10 @@ fn traced_once_and_memory_refused_once(rt: HostRuntime) -> Result<(), Fail> {
             completion: completed(rt.alloc(), &failed)?,
             answer: Ok(Completed::Started { run: 1, freeze: 1 }),
         },
-        advanced(6, StoppedAt::Trace(traced(rt.alloc(), seven)?)),
+        advanced(
+            6,
+            StoppedAt::Trace(Helper::Trace, traced(rt.alloc(), seven)?),
+        ),
         advanced(3, StoppedAt::Helper(Helper::Release)),
         advanced(2, StoppedAt::Helper(Helper::Requeue)),
         advanced(2, StoppedAt::Exit),

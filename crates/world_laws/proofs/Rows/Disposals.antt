@@ -1,7 +1,8 @@
 -- Worked rows of helpers 4 and 5: what becomes of the CCB that a run recovers, while the other CCBs stay as they are.
 use Rattle.std.proofs.Common.{◌≡◌, ℕ, true, false, List, [], ◌∷◌, map, Some, None, refl}
 use Rattle.ccb.specs.declared.cam_status.CamStatus.TheVariants.{CommandTimeout, RequestInProgress}
-use Rattle.helpers.specs.declared.helper.Helper.TheVariants as helpers
+use Rattle.helpers.specs.declared.table.Helper.TheVariants as helpers
+use Rattle.helpers.specs.Table.{row_of, asking}
 use Rattle.world.specs.declared.ccb_state.CcbState.TheVariants.{Waiting, Active, InRecovery}
 use Rattle.world.specs.World.{LiveCcb, World}
 use Rattle.world.specs.Lookups.{ccb_of}
@@ -66,51 +67,67 @@ requeues = executes 1 (call (plain helpers.Requeue))
 -- A CCB that is requeued waits, with the retries that the call names fewer; the others are as they were, and none ends.
 
 one_retry_fewer : (next setup (at_call 4 1 3) requeues).live ≡ waits 2 ∷ the_others
+unfolding row_of
 one_retry_fewer = refl
 
 no_retry_fewer : (next setup (at_call 4 0 3) requeues).live ≡ waits 3 ∷ the_others
+unfolding row_of
 no_retry_fewer = refl
 
 none_to_use : (next setup (at_call 4 1 0) requeues).live ≡ waits 0 ∷ the_others
+unfolding row_of
 none_to_use = refl
 
 none_ends : (next setup (at_call 4 1 3) requeues).ended ≡ record { number = 5; code = 4 } ∷ []
+unfolding row_of
 none_ends = refl
 
 no_two_retries : step setup (at_call 4 2 3) requeues ≡ None
+unfolding row_of
 no_two_retries = refl
 
 -- as the headline says it
 is_requeued : DisposesBy (instruction_of 1 requeues) 1 1 (failed 3) (at_call 4 1 3) (next setup (at_call 4 1 3) requeues)
-is_requeued = (
-  1,
-  (run_at 4 1 0 [] false, refl, refl),
-  record {
-    now = waits 2;
-    found = refl;
-    state = refl;
-    queue = refl;
-    priority = refl;
-    retries = refl;
-    attempts = refl;
-    status = refl;
-    scsi = refl;
-    sense = refl;
-    freeze_taken = refl;
-    ended = refl;
-  },
-)
+unfolding row_of
+is_requeued = record {
+  request = asking helpers.Requeue 1 0 0;
+  calls = (run_at 4 1 0 [] false, refl, refl);
+  does = (
+    refl,
+    record {
+      now = waits 2;
+      found = refl;
+      state = refl;
+      queue = refl;
+      priority = refl;
+      retries = refl;
+      attempts = refl;
+      status = refl;
+      scsi = refl;
+      sense = refl;
+      freeze_taken = refl;
+      ended = refl;
+    },
+  );
+}
 
 -- A CCB that is finished is gone, and ends last, with the code; the others are as they were.
 
 finished : (next setup (at_call 5 11 3) (ends 11)).live ≡ the_others
+unfolding row_of
 finished = refl
 
 ends_last : (next setup (at_call 5 11 3) (ends 11)).ended ≡ record { number = 5; code = 4 } ∷ record { number = 1; code = 11 } ∷ []
+unfolding row_of
 ends_last = refl
 
 is_finished : DisposesBy (instruction_of 1 (ends 11)) 1 1 (failed 3) (at_call 5 11 3) (next setup (at_call 5 11 3) (ends 11))
-is_finished = ((run_at 5 11 0 [] false, refl, refl), record { gone = refl; ended = refl })
+unfolding row_of
+is_finished = record {
+  request = asking helpers.Finish 11 0 0;
+  calls = (run_at 5 11 0 [] false, refl, refl);
+  does = (refl, record { gone = refl; ended = refl });
+}
 
 -- it was in recovery until then
 found_failed : ccb_of 1 (at_call 4 1 3).live ≡ Some (failed 3)
@@ -118,4 +135,5 @@ found_failed = refl
 
 -- the run goes on, and has disposed of it
 disposed_of : map (λ run. run.machine.disposed) (next setup (at_call 4 1 3) requeues).runs ≡ true ∷ []
+unfolding row_of
 disposed_of = refl

@@ -12,7 +12,8 @@ use Rattle.bpf_insn.specs.declared.reg.Reg.{Reg}
 use Rattle.bpf_insn.specs.declared.reg.Reg.TheVariants.{R0, R1, R2, R6}
 use Rattle.bpf_insn.specs.Program.{layout}
 use Rattle.freeze_ledger.specs.declared.freeze.Holder.TheVariants.{Timer}
-use Rattle.helpers.specs.declared.helper.Helper.TheVariants as helpers
+use Rattle.helpers.specs.declared.table.Helper.TheVariants as helpers
+use Rattle.helpers.specs.Table.{row_of}
 use Rattle.world.specs.declared.record.Completed.TheVariants.{Started}
 use Rattle.world.specs.declared.record.StoppedAt.TheVariants.{Helper as AtHelper, Finish, Exit as AtExit}
 use Rattle.world.specs.declared.record.Record.{Record}
@@ -64,7 +65,7 @@ records =
     ∷ Advance 1 3 (AtHelper helpers.Freeze) 2
     ∷ Advance 1 3 (AtHelper helpers.ReleaseAfter) 0
     ∷ Advance 1 2 (AtHelper helpers.Release) 0
-    ∷ Advance 1 2 (Finish 11) 0
+    ∷ Advance 1 2 (Finish helpers.Finish 11) 0
     ∷ Advance 1 1 AtExit 0 ∷ []
 
 abbrev events : List (Event × Reply)
@@ -76,7 +77,7 @@ events =
     ∷ (executes 1 private, went_on) ∷ (executes 1 private, went_on) ∷ (executes 1 (call (plain helpers.Freeze)), result 2)
     ∷ (executes 1 private, went_on) ∷ (executes 1 private, went_on) ∷ (executes 1 (call (plain helpers.ReleaseAfter)), result 0)
     ∷ (executes 1 private, went_on) ∷ (executes 1 (call (plain helpers.Release)), result 0)
-    ∷ (executes 1 private, went_on) ∷ (executes 1 (call (finishes 11)), result 0)
+    ∷ (executes 1 private, went_on) ∷ (executes 1 (call (finishes helpers.Finish 11)), result 0)
     ∷ (executes 1 exit, result 0) ∷ []
 
 what_they_stand_for : flat records ≡ events
@@ -98,10 +99,12 @@ at_end = record {
 }
 
 it_runs : WorldRun setup events at_end
+unfolding row_of
 it_runs = (_, refl, (_, refl, (_, refl, (_, refl, (_, refl, (_, refl, (_, refl, (_, refl, (_, refl, (_, refl, (_, refl, (_, refl, (_, refl, (_, refl, (_, refl, refl)))))))))))))))
 
 -- it got freeze 1 at its start and took freeze 2, and gave up both
 it_took : took 1 events ≡ 1 ∷ 2 ∷ []
+unfolding row_of
 it_took = refl
 
 it_gave : gave 1 setup (opening setup) events at_end it_runs ≡ 2 ∷ 1 ∷ []
@@ -110,6 +113,7 @@ it_gave = refl
 
 -- its eleven steps are its budget; it disposed of its CCB once, and exited
 its_steps : (steps_of 1 events ≡ 11) × (disposals_of 1 events ≡ 1) × (exits_of 1 events ≡ 1)
+unfolding row_of
 its_steps = (refl, refl, refl)
 
 -- the CCB ended with the code that the program named

@@ -6,8 +6,9 @@ use Rattle.std.proofs.lemmas.List.Elements.{All-nil, All-cons}
 use Rattle.std.proofs.lemmas.Bool.{cases_Bool, cond-false, eq-eqb, not_from_true}
 use Rattle.helpers.specs.declared.limits.HelperLimits.{HelperLimits}
 use Rattle.helpers.specs.declared.request.Request.{Request}
-use Rattle.helpers.specs.declared.request.Request.TheVariants.{Release, Requeue}
 use Rattle.helpers.specs.declared.request.Answer.{Answer}
+use Rattle.helpers.specs.declared.table.Helper.TheVariants as helpers
+use Rattle.helpers.specs.Table.{row_of, asking}
 use Rattle.bpf_semantics.specs.MachineState.{MachineState, entry, unwritten_frame, context_address, frame_pointer}
 use Rattle.bpf_semantics.specs.Step.{private_step, request_at, Allowed}
 use Rattle.bpf_semantics.specs.Stuck.{is_stuck}
@@ -65,29 +66,32 @@ jumps n context freeze m' first e =
 called : (request other : Request) (answer : Answer) (m m' : MachineState) → Some request ≡ Some other → Allowed other answer m m' → Allowed request answer m m'
 called request other answer m m' e allowed = subst (λ (r : Request). Allowed r answer m m') (some_value request other e) allowed
 
-released : (n : ℕ) (context : List ℕ) (freeze : ℕ) (m' : MachineState) (answer : Answer) → n ≡ 2 → Allowed (Release freeze) answer (machine 2 (None ∷ Some freeze ∷ Some freeze ∷ others) context (freeze ∷ []) false) m' → Known (suc n) m'
+released : (n : ℕ) (context : List ℕ) (freeze : ℕ) (m' : MachineState) (answer : Answer) → n ≡ 2 → Allowed (asking helpers.Release freeze 0 0) answer (machine 2 (None ∷ Some freeze ∷ Some freeze ∷ others) context (freeze ∷ []) false) m' → Known (suc n) m'
+unfolding row_of
 released n context freeze m' answer third allowed =
     at_constant context (Some answer.r0) None _ (omega (arith, third))
     (allowed.1 ∙ ap (λ (held : List ℕ). machine 3 (Some answer.r0 ∷ None ∷ None ∷ None ∷ None ∷ None ∷ None ∷ None ∷ None ∷ None ∷ Some (frame_pointer 0) ∷ []) context held false)
     (cond-false (not (eqb freeze freeze)) (freeze ∷ []) [] (not_from_true _ (eq-eqb freeze freeze refl))))
 
-requeued : (n : ℕ) (context : List ℕ) (r0 : Option ℕ) (rest : List (Option ℕ)) (m' : MachineState) (answer : Answer) → n ≤ 4 → Allowed (Requeue 1) answer (machine 4 (r0 ∷ Some 1 ∷ rest) context [] false) m' → Known (suc n) m'
+requeued : (n : ℕ) (context : List ℕ) (r0 : Option ℕ) (rest : List (Option ℕ)) (m' : MachineState) (answer : Answer) → n ≤ 4 → Allowed (asking helpers.Requeue 1 0 0) answer (machine 4 (r0 ∷ Some 1 ∷ rest) context [] false) m' → Known (suc n) m'
+unfolding row_of
 requeued n context r0 rest m' answer few allowed = at_result context (Some answer.r0) _ (omega (arith, few)) allowed.1
 
 -- one instruction on
 onward : (n : ℕ) (m m' : MachineState) → Known n m → Steps program m m' → Known (suc n) m'
+unfolding row_of
 onward n m m' (at_jump context freeze first is) (inl e) = jumps n context freeze m' first (sym (ap (private_step program) is) ∙ e)
 onward n m m' (at_jump context freeze first is) (inr call) = absurd (none_some call.0 (sym (ap (request_at program) is) ∙ call.2))
 onward n m m' (at_copy context freeze second is) (inl e) = at_release context freeze (omega (arith, second)) (some_value _ m' (sym (ap (private_step program) is) ∙ e))
 onward n m m' (at_copy context freeze second is) (inr call) = absurd (none_some call.0 (sym (ap (request_at program) is) ∙ call.2))
 onward n m m' (at_release context freeze third is) (inl e) = absurd (none_some m' (sym (ap (private_step program) is) ∙ e))
 onward n m m' (at_release context freeze third is) (inr call) =
-    released n context freeze m' call.1 third (called (Release freeze) call.0 call.1 _ m' (sym (ap (request_at program) is) ∙ call.2) (subst (λ (x : MachineState). Allowed call.0 call.1 x m') is call.3))
+    released n context freeze m' call.1 third (called (asking helpers.Release freeze 0 0) call.0 call.1 (machine 2 (None ∷ Some freeze ∷ Some freeze ∷ others) context (freeze ∷ []) false) m' (sym (ap (request_at program) is) ∙ call.2) (subst (λ (x : MachineState). Allowed call.0 call.1 x m') is call.3))
 onward n m m' (at_constant context r0 r1 rest few is) (inl e) = at_requeue context r0 rest (omega (arith, few)) (some_value _ m' (sym (ap (private_step program) is) ∙ e))
 onward n m m' (at_constant context r0 r1 rest few is) (inr call) = absurd (none_some call.0 (sym (ap (request_at program) is) ∙ call.2))
 onward n m m' (at_requeue context r0 rest few is) (inl e) = absurd (none_some m' (sym (ap (private_step program) is) ∙ e))
 onward n m m' (at_requeue context r0 rest few is) (inr call) =
-    requeued n context r0 rest m' call.1 few (called (Requeue 1) call.0 call.1 _ m' (sym (ap (request_at program) is) ∙ call.2) (subst (λ (x : MachineState). Allowed call.0 call.1 x m') is call.3))
+    requeued n context r0 rest m' call.1 few (called (asking helpers.Requeue 1 0 0) call.0 call.1 (machine 4 (r0 ∷ Some 1 ∷ rest) context [] false) m' (sym (ap (request_at program) is) ∙ call.2) (subst (λ (x : MachineState). Allowed call.0 call.1 x m') is call.3))
 onward n m m' (at_result context r0 rest few is) (inl e) = at_exit context rest (omega (arith, few)) (some_value _ m' (sym (ap (private_step program) is) ∙ e))
 onward n m m' (at_result context r0 rest few is) (inr call) = absurd (none_some call.0 (sym (ap (request_at program) is) ∙ call.2))
 onward n m m' (at_exit context rest few is) (inl e) = absurd (none_some m' (sym (ap (private_step program) is) ∙ e))
@@ -99,6 +103,7 @@ known (suc n) m it = onward n it.0 m (known n it.0 it.1) it.2
 
 -- what is known is not stuck
 goes : (limits : HelperLimits) (n : ℕ) (m : MachineState) → Known n m → is_stuck program limits m ≡ false
+unfolding row_of
 goes limits n m (at_jump context freeze first is) = ap (is_stuck program limits) is
 goes limits n m (at_copy context freeze second is) = ap (is_stuck program limits) is
 goes limits n m (at_release context freeze third is) =

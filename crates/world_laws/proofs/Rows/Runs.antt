@@ -2,7 +2,8 @@
 -- wait again.
 use Rattle.std.proofs.Common.{◌≡◌, false, List, [], ◌∷◌, map, Some, None, Ok, refl}
 use Rattle.ccb.specs.declared.cam_status.CamStatus.TheVariants.{CommandTimeout, RequestInProgress, RequestCompleted}
-use Rattle.helpers.specs.declared.helper.Helper.TheVariants as helpers
+use Rattle.helpers.specs.declared.table.Helper.TheVariants as helpers
+use Rattle.helpers.specs.Table.{row_of}
 use Rattle.freeze_ledger.specs.declared.freeze.Holder.TheVariants.{Run}
 use Rattle.helpers.specs.declared.limits.HelperLimits.{HelperLimits}
 use Rattle.table_store.specs.Tables.{zero_table}
@@ -99,6 +100,7 @@ what_they_stand_for : flat records ≡ events
 what_they_stand_for = refl
 
 it_runs : (l : HelperLimits) → WorldRun (one_queue l) events (at_end l)
+unfolding row_of
 it_runs l = (
   submitted_one l,
   refl,
@@ -146,6 +148,7 @@ its_totals l = (at_end l, it_runs l, refl)
 
 -- the run got freeze 1 at its start, and gave it up
 it_took : took 1 events ≡ 1 ∷ []
+unfolding row_of
 it_took = refl
 
 it_gave : (l : HelperLimits) → gave 1 (one_queue l) (opening (one_queue l)) events (at_end l) (it_runs l) ≡ 1 ∷ []
@@ -158,10 +161,12 @@ its_freeze l = refl
 
 -- the run is that of the CCB that failed, at its start and at its exit
 its_ccb : (l : HelperLimits) → (map (λ run. run.ccb) (failed l).runs ≡ 1 ∷ []) × (map (λ run. run.ccb) (at_exit l).runs ≡ 1 ∷ [])
+unfolding row_of
 its_ccb l = (refl, refl)
 
 -- the run's seven steps are its budget; it made its CCB wait again once, and exited
 its_steps : (steps_of 1 events ≡ 7) × (disposals_of 1 events ≡ 1) × (exits_of 1 events ≡ 1)
+unfolding row_of
 its_steps = (refl, refl, refl)
 
 -- no CCB ended
@@ -171,6 +176,7 @@ none_ended l = refl
 
 -- by the steps alone the events lead there
 its_world : (l : HelperLimits) → world_after (one_queue l) (opening (one_queue l)) events ≡ at_end l
+unfolding row_of
 its_world l = refl
 
 -- while the run holds its freeze, the queue starts nothing
@@ -181,6 +187,7 @@ frozen_by_the_run : (l : HelperLimits) → answer (one_queue l) (another_waits l
 frozen_by_the_run l = refl
 
 then_it_starts : (l : HelperLimits) → answer (one_queue l) (next (one_queue l) (released l) (submit 0 10 3)) (dispatch 0) ≡ Some (ccb_given 2)
+unfolding row_of
 then_it_starts l = refl
 
 -- the CCB is in recovery, so that a second completion of it is refused
@@ -192,6 +199,7 @@ no_private : (l : HelperLimits) → step (one_queue l) (at_release l) (executes 
 no_private l = refl
 
 no_requeue : (l : HelperLimits) → step (one_queue l) (at_release l) (executes 1 (call (plain helpers.Requeue))) ≡ None
+unfolding row_of
 no_requeue l = refl
 
 no_exit : (l : HelperLimits) → step (one_queue l) (at_release l) (executes 1 exit) ≡ None

@@ -4,8 +4,9 @@ use Rattle.bpf_insn.specs.declared.insn.Insn.TheVariants.{Call}
 use Rattle.bpf_insn.specs.declared.insn.Callee.TheVariants.{Helper}
 use Rattle.bpf_insn.specs.declared.program.Slot.TheVariants.{First}
 use Rattle.bpf_semantics.specs.MachineState.{unwritten_frame}
-use Rattle.helpers.specs.declared.helper.Helper.{Helper as HelperName}
-use Rattle.helpers.specs.declared.helper.Helper.TheVariants as helpers
+use Rattle.helpers.specs.declared.table.Helper.{Helper as HelperName}
+use Rattle.helpers.specs.declared.table.Helper.TheVariants as helpers
+use Rattle.helpers.specs.Table.{row_of}
 use Rattle.world.specs.declared.call_refusal.CallRefusal.TheVariants.{NoOpening, NothingWaits}
 use Rattle.world.specs.declared.ccb_state.CcbState.TheVariants.{Waiting, Active, InRecovery}
 use Rattle.world.specs.World.{Setup, LiveRun, World, opening}
@@ -62,18 +63,23 @@ abbrev before_put : World
 before_put = with_runs (run_at 1 7 1 2 77 ∷ run_at 2 6 1 2 0 ∷ []) ((5 ∷ 6 ∷ []) ∷ (7 ∷ 8 ∷ 9 ∷ []) ∷ [])
 
 old_word : answer setup before_put (asks 1 helpers.TablePut) ≡ Some (result 9)
+unfolding row_of
 old_word = refl
 
 one_word : (next setup before_put (asks 1 helpers.TablePut)).tables ≡ (5 ∷ 6 ∷ []) ∷ (7 ∷ 8 ∷ 77 ∷ []) ∷ []
+unfolding row_of
 one_word = refl
 
 read_before : answer setup before_put (asks 2 helpers.TableGet) ≡ Some (result 9)
+unfolding row_of
 read_before = refl
 
 read_after : answer setup (next setup before_put (asks 1 helpers.TablePut)) (asks 2 helpers.TableGet) ≡ Some (result 77)
+unfolding row_of
 read_after = refl
 
 reading_leaves_it : (next setup before_put (asks 2 helpers.TableGet)).tables ≡ before_put.tables
+unfolding row_of
 reading_leaves_it = refl
 
 -- A word that grows is told as it is then, modulo 2^64.
@@ -82,27 +88,34 @@ abbrev before_add : World
 before_add = with_runs (run_at 1 8 0 1 2 ∷ []) ((5 ∷ 18446744073709551615 ∷ []) ∷ (7 ∷ 8 ∷ 9 ∷ []) ∷ [])
 
 it_wraps : answer setup before_add (asks 1 helpers.TableAdd) ≡ Some (result 1)
+unfolding row_of
 it_wraps = refl
 
 wrapped : (next setup before_add (asks 1 helpers.TableAdd)).tables ≡ (5 ∷ 1 ∷ []) ∷ (7 ∷ 8 ∷ 9 ∷ []) ∷ []
+unfolding row_of
 wrapped = refl
 
 it_grows : answer setup (with_runs (run_at 1 8 1 0 3 ∷ []) before_add.tables) (asks 1 helpers.TableAdd) ≡ Some (result 10)
+unfolding row_of
 it_grows = refl
 
 -- there is no table 2, and no third word of the first
 no_table : step setup (with_runs (run_at 1 6 2 0 0 ∷ []) before_add.tables) (asks 1 helpers.TableGet) ≡ None
+unfolding row_of
 no_table = refl
 
 no_word : step setup (with_runs (run_at 1 7 0 2 0 ∷ []) before_add.tables) (asks 1 helpers.TablePut) ≡ None
+unfolding row_of
 no_word = refl
 
 -- The clock is told as it read last.
 
 clock_told : answer setup (with_runs (run_at 1 11 0 0 0 ∷ []) []) (asks 1 helpers.Now) ≡ Some (result 1000)
+unfolding row_of
 clock_told = refl
 
 after_a_reading : answer setup (next setup (with_runs (run_at 1 11 0 0 0 ∷ []) []) (clock_reads 1500)) (asks 1 helpers.Now) ≡ Some (result 1500)
+unfolding row_of
 after_a_reading = refl
 
 -- A run sets the openings of its own queue, and is told how many there were.
@@ -111,9 +124,11 @@ abbrev two_active : World
 two_active = record (with_runs (run_at 1 12 1 0 0 ∷ []) []) { live = ccb_in 1 5 InRecovery ∷ ccb_in 2 5 Active ∷ ccb_in 3 5 Active ∷ ccb_in 4 5 Waiting ∷ []; openings = 3 ∷ 2 ∷ []; greatest_ccb = 4 }
 
 old_openings : answer setup two_active (asks 1 helpers.SetOpenings) ≡ Some (result 3)
+unfolding row_of
 old_openings = refl
 
 its_own_queue : (next setup two_active (asks 1 helpers.SetOpenings)).openings ≡ 1 ∷ 2 ∷ []
+unfolding row_of
 its_own_queue = refl
 
 -- below the active ones they stop the next start, and nothing else: what is active stays so
@@ -121,21 +136,27 @@ one_more_starts : answer setup two_active (dispatch 0) ≡ Some (ccb_given 4)
 one_more_starts = refl
 
 no_start : answer setup (next setup two_active (asks 1 helpers.SetOpenings)) (dispatch 0) ≡ Some (refused NoOpening)
+unfolding row_of
 no_start = refl
 
 all_stay : (next setup two_active (asks 1 helpers.SetOpenings)).live ≡ two_active.live
+unfolding row_of
 all_stay = refl
 
 -- another queue has its own
 other_queue : answer setup (next setup two_active (asks 1 helpers.SetOpenings)) (dispatch 1) ≡ Some (refused NothingWaits)
+unfolding row_of
 other_queue = refl
 
 -- 1 to 255 are openings
 most : (next setup (with_runs (run_at 1 12 255 0 0 ∷ []) []) (asks 1 helpers.SetOpenings)).openings ≡ 255 ∷ 2 ∷ []
+unfolding row_of
 most = refl
 
 too_many : step setup (with_runs (run_at 1 12 256 0 0 ∷ []) []) (asks 1 helpers.SetOpenings) ≡ None
+unfolding row_of
 too_many = refl
 
 not_none : step setup (with_runs (run_at 1 12 0 0 0 ∷ []) []) (asks 1 helpers.SetOpenings) ≡ None
+unfolding row_of
 not_none = refl

@@ -9,21 +9,22 @@ use Rattle.freeze_ledger.specs.declared.freeze.Holder.{Holder}
 use Rattle.freeze_ledger.specs.declared.freeze.Holder.TheVariants.{Run, Timer, Guest}
 use Rattle.freeze_ledger.specs.declared.freeze.Freeze.{Freeze}
 use Rattle.freeze_ledger.specs.Freezes.{entry_of, is_due}
-use Rattle.helpers.specs.declared.request.Request.{Request}
-use Rattle.helpers.specs.declared.request.Request.TheVariants.{Freeze as FreezeQueue, Release, ReleaseAfter, Requeue, Finish}
+use Rattle.helpers.specs.declared.columns.Gives.{Gives}
+use Rattle.helpers.specs.declared.columns.Gives.TheVariants.{Number, NewFreeze}
+use Rattle.helpers.specs.Table.{row_of}
 use Rattle.helpers.specs.declared.request.Answer.{Answer}
 use Rattle.bpf_semantics.specs.Step.{answered}
 use Rattle.world.specs.declared.ccb_state.CcbState.{CcbState}
 use Rattle.world.specs.declared.ccb_state.CcbState.TheVariants.{Waiting, Active, InRecovery}
 use Rattle.world.specs.World.{Setup, queue_count, LiveCcb, EndedCcb, LiveRun, World}
 use Rattle.world.specs.Lookups.{is_waiting, is_active, active_count, ccb_of, with_ccb, run_of, with_run}
-use Rattle.world.specs.Told.{Told, plain, traces, finishes, told_of}
+use Rattle.world.specs.Told.{Told, plain, finishes, told_of}
 use Rattle.world.specs.Event.{Instruction, call, Event, complete, executes, instruction_of, Reply, result}
 use Rattle.world.specs.FreezeSteps.{is_guest, is_timer}
 use Rattle.world.specs.RunSteps.{is_run}
-use Rattle.world.specs.TookGave.{given_to, taken_by}
+use Rattle.world.specs.TookGave.{given_to, taken_as, taken_by}
 use Rattle.world.specs.CcbLaws.{finished_by_run, finished_by}
-use Rattle.world.specs.Headline.{is_disposing, is_step_of, is_turn_of, is_own_of}
+use Rattle.world.specs.Headline.{is_step_of, is_turn_of, is_own_of}
 use Rattle.world.specs.Limits.{CcbLimits, RunLimits}
 use Rattle.world.proofs.Lists.Found.{leave, found_key, missing_push, at_head, put_same}
 use Rattle.world.proofs.Lists.Rising.{missing_high}
@@ -31,7 +32,8 @@ use Rattle.world.proofs.Lists.Each.{all_found}
 use Rattle.world.proofs.Lists.Entries.{freeze_key, handed_is_put}
 use Rattle.world.proofs.Steps.Answering.{OpeningsMove, openings_stay, TablesMove, tables_stay, AnswerMove, answers_stay}
 use Rattle.world_laws.proofs.Steps.Running.{Executes, pair_parts}
-use Rattle.world_laws.proofs.Steps.Calls.{FreezeDeed, leaves_freezes, takes_one, gives_one_back, hands_one_over, HasItsCcb, CcbDeed, leaves_ccbs, requeues_one, ends_one, Asks}
+use Rattle.world_laws.proofs.Steps.Does.{FreezeDeed, leaves_freezes, takes_one, gives_one_back, hands_one_over, HasItsCcb, CcbDeed, leaves_ccbs, requeues_one, ends_one, takes_by}
+use Rattle.world_laws.proofs.Steps.Calls.{Asks}
 use Rattle.world_laws.proofs.Steps.Cases.{Recovers, RecoversUnfrozen, Case, refuses, submits, dispatches, finishes_one, recovers_one, recovers_unfrozen, freezes_one, releases_one, reads_clock, Turns, turns_one, goes_on_one, asks_one, exits}
 use Rattle.world.proofs.Steps.Moves.{KeepsLists, ccb_key, run_key, ccb_found, run_found, next_found, MayTouch, CcbMove, ccbs_stay, ccb_enters, ccb_changes, ccb_leaves, Comes, FreezeMove, freezes_stay, freeze_enters, freezes_leave, freeze_changes, Begins, tells_start, runs_stay, run_enters, run_changes, run_leaves, Effect}
 
@@ -197,17 +199,10 @@ call_runs setup before event reply after it =
     ap (λ (x : Reply × World). x.1.runs) it.answer ∙ ap (with_run (record it.it.run { machine = answered it.request it.given it.it.run.machine })) it.rest.runs_is
 
 -- what it gives to a run, by its request and its answer alone
-pub call_takes : (setup : Setup) (before : World) (event : Event) (reply : Reply) (after : World) → (it : Asks setup before event reply after) → (run : ℕ) (request : Request) (given : Answer) → it.request ≡ request → it.given ≡ given → taken_by run event reply ≡ taken_by run (executes it.it.number (call (told_of request))) (result given.r0)
-call_takes setup before event reply after it run request given request_is given_is =
+pub call_takes : (setup : Setup) (before : World) (event : Event) (reply : Reply) (after : World) → (it : Asks setup before event reply after) → (run : ℕ) (given : Answer) → it.given ≡ given → taken_by run event reply ≡ taken_by run (executes it.it.number (call (told_of it.request))) (result given.r0)
+call_takes setup before event reply after it run given given_is =
     let reply_is : reply ≡ result given.r0 = ap (λ (x : Reply × World). x.0) it.answer ∙ ap (λ (a : Answer). result a.r0) given_is in
-    let event_is : event ≡ executes it.it.number (call (told_of request)) = it.it.event_is ∙ ap (λ (r : Request). executes it.it.number (call (told_of r))) request_is in
-    λ i. taken_by run (event_is i) (reply_is i)
-
--- one that does not dispose of a CCB finishes none
-calm_ends_none : (before : World) (number : ℕ) (told : Told) (reply : Reply) → is_disposing told ≡ false → finished_by before (executes number (call told)) reply ≡ []
-calm_ends_none before number (plain helper) reply calm = refl
-calm_ends_none before number (traces bytes) reply calm = refl
-calm_ends_none before number (finishes code) reply calm = absurd (let bad : true ≡ false = calm in cc)
+    λ i. taken_by run (it.it.event_is i) (reply_is i)
 
 -- what is told of a call says what it finishes
 finished_by_call : (setup : Setup) (before : World) (event : Event) (reply : Reply) (after : World) (told : Told) → (it : Asks setup before event reply after) → told_of it.request ≡ told → finished_by before event reply ≡ finished_by before (executes it.it.number (call told)) reply
@@ -231,14 +226,14 @@ call_ccbs setup before event reply after it (leaves_ccbs deed) =
     let live_is : after.live ≡ before.live = ap (λ (x : Reply × World). x.1.live) it.answer ∙ deed.live_is in
     let greatest_is : after.greatest_ccb ≡ before.greatest_ccb = ap (λ (x : Reply × World). x.1.greatest_ccb) it.answer ∙ deed.greatest_is in
     let ended_is : after.ended ≡ before.ended = ap (λ (x : Reply × World). x.1.ended) it.answer ∙ deed.ended_is in
-    let none : finished_by before event reply ≡ [] = finished_by_call setup before event reply after (told_of it.request) it refl ∙ calm_ends_none before it.it.number (told_of it.request) reply deed.calm in
+    let none : finished_by before event reply ≡ [] = finished_by_call setup before event reply after (told_of it.request) it refl ∙ deed.ends_none it.it.number reply in
     (ccbs_stay live_is greatest_is none, none_ended before after event reply none ended_is)
 call_ccbs setup before event reply after it (requeues_one deed) =
-    let new : LiveCcb = record { ccb = requeued deed.its.live.ccb deed.retries; state = Waiting } in
+    let new : LiveCcb = record { ccb = requeued deed.its.live.ccb it.request.arguments.first; state = Waiting } in
     let live_is : after.live ≡ with_ccb new before.live = ap (λ (x : Reply × World). x.1.live) it.answer ∙ deed.live_is in
     let greatest_is : after.greatest_ccb ≡ before.greatest_ccb = ap (λ (x : Reply × World). x.1.greatest_ccb) it.answer ∙ deed.greatest_is in
     let ended_is : after.ended ≡ before.ended = ap (λ (x : Reply × World). x.1.ended) it.answer ∙ deed.ended_is in
-    let none : finished_by before event reply ≡ [] = finished_by_call setup before event reply after (told_of (Requeue deed.retries)) it (ap told_of deed.request_is) in (
+    let none : finished_by before event reply ≡ [] = finished_by_call setup before event reply after (plain it.request.helper) it deed.told_is in (
       ccb_changes deed.its.live new (ccb_found _ before.live deed.its.live deed.its.found) refl (inl refl) (its_ccb before event _ it.it deed.its) live_is greatest_is none,
       none_ended before after event reply none ended_is,
     )
@@ -247,10 +242,10 @@ call_ccbs setup before event reply after it (ends_one deed) =
     let live_is : after.live ≡ leave ccb_key old.ccb.number.0 before.live = ap (λ (x : Reply × World). x.1.live) it.answer ∙ deed.live_is in
     let greatest_is : after.greatest_ccb ≡ before.greatest_ccb = ap (λ (x : Reply × World). x.1.greatest_ccb) it.answer ∙ deed.greatest_is in
     let named : old.ccb.number.0 ≡ it.it.run.ccb = found_key ccb_key it.it.run.ccb before.live old deed.its.found in
-    let one : finished_by before event reply ≡ one_ended old.ccb.number.0 deed.code =
-    finished_by_call setup before event reply after (told_of (Finish deed.code)) it (ap told_of deed.request_is)
-    ∙ (ap (finished_by_run deed.code) it.it.found ∙ ap (λ (n : ℕ). one_ended n deed.code) (sym named)) in (
-      ccb_leaves old.ccb.number.0 deed.code old (ccb_found _ before.live old deed.its.found) (its_ccb before event _ it.it deed.its) live_is greatest_is one,
+    let one : finished_by before event reply ≡ one_ended old.ccb.number.0 it.request.arguments.first =
+    finished_by_call setup before event reply after (finishes it.request.helper it.request.arguments.first) it deed.told_is
+    ∙ (ap (finished_by_run it.request.arguments.first) it.it.found ∙ ap (λ (n : ℕ). one_ended n it.request.arguments.first) (sym named)) in (
+      ccb_leaves old.ccb.number.0 it.request.arguments.first old (ccb_found _ before.live old deed.its.found) (its_ccb before event _ it.it deed.its) live_is greatest_is one,
       ap (λ (x : Reply × World). x.1.ended) it.answer ∙ (deed.ended_is ∙ sym (ap (λ (l : List EndedCcb). before.ended ++ l) one)),
     )
 
@@ -264,7 +259,7 @@ call_freezes setup before event reply after kept it (leaves_freezes deed) =
     freezes_stay (ap (λ (x : Reply × World). x.1.freezes) it.answer ∙ deed.freezes_is) (ap (λ (x : Reply × World). x.1.greatest_freeze) it.answer ∙ deed.greatest_is)
 call_freezes setup before event reply after kept it (takes_one deed) =
     let named : it.it.run.number ≡ it.it.number = found_key run_key it.it.number before.runs it.it.run it.it.found in
-    freeze_enters deed.queue (Run it.it.run.number) (λ agreed. omega (arith, deed.known, agreed)) deed.room
+    freeze_enters it.request.arguments.first (Run it.it.run.number) (λ agreed. omega (arith, deed.known, agreed)) deed.room
     (ap (λ (x : Reply × World). x.1.freezes) it.answer ∙ deed.freezes_is) (ap (λ (x : Reply × World). x.1.greatest_freeze) it.answer ∙ deed.greatest_is)
     (record {
       whose = λ run its. inr (subst (λ (k : ℕ). is_step_of k event ≡ true) (eqb-true _ _ its) (its_own_step before event _ it.it));
@@ -275,18 +270,18 @@ call_freezes setup before event reply after kept it (takes_one deed) =
           refl);
     })
 call_freezes setup before event reply after kept it (gives_one_back deed) =
-    freezes_leave (λ (f : Freeze). eqb f.number deed.number) (ap (λ (x : Reply × World). x.1.freezes) it.answer ∙ deed.freezes_is) (ap (λ (x : Reply × World). x.1.greatest_freeze) it.answer ∙ deed.greatest_is)
+    freezes_leave (λ (f : Freeze). eqb f.number it.request.arguments.first) (ap (λ (x : Reply × World). x.1.freezes) it.answer ∙ deed.freezes_is) (ap (λ (x : Reply × World). x.1.greatest_freeze) it.answer ∙ deed.greatest_is)
     (λ n f entry goes run held.
-    let named : deed.freeze.number ≡ deed.number = found_key freeze_key deed.number before.freezes deed.freeze deed.entry in
-    let same = same_entry before.freezes n deed.number f deed.freeze entry deed.entry (eqb-true _ _ goes ∙ sym named) in
+    let named : deed.freeze.number ≡ it.request.arguments.first = found_key freeze_key it.request.arguments.first before.freezes deed.freeze deed.entry in
+    let same = same_entry before.freezes n it.request.arguments.first f deed.freeze entry deed.entry (eqb-true _ _ goes ∙ sym named) in
     its_freeze before event _ it.it f (subst (λ (x : Freeze). is_run it.it.run.number x.holder ≡ true) (sym same) deed.its) run held)
 call_freezes setup before event reply after kept it (hands_one_over deed) =
     let old : Freeze = deed.freeze in
-    let due : ℕ = before.clock + deed.milliseconds in
-    let named : old.number ≡ deed.number = found_key freeze_key deed.number before.freezes old deed.entry in
+    let due : ℕ = before.clock + it.request.arguments.second in
+    let named : old.number ≡ it.request.arguments.first = found_key freeze_key it.request.arguments.first before.freezes old deed.entry in
     freeze_changes old (record old { holder = Timer due })
     (subst (λ (n : ℕ). entry_of n before.freezes ≡ Some old) (sym named) deed.entry) refl
-    (ap (λ (x : Reply × World). x.1.freezes) it.answer ∙ (deed.freezes_is ∙ handed_is_put deed.number due 0 before.freezes before.greatest_freeze old kept.freezes.numbered deed.entry))
+    (ap (λ (x : Reply × World). x.1.freezes) it.answer ∙ (deed.freezes_is ∙ handed_is_put it.request.arguments.first due 0 before.freezes before.greatest_freeze old kept.freezes.numbered deed.entry))
     (ap (λ (x : Reply × World). x.1.greatest_freeze) it.answer ∙ deed.greatest_is)
     (record { owned = run_is_owned it.it.run.number old.holder deed.its; timed = refl; whose = λ run held. its_freeze before event _ it.it old deed.its run held })
 
@@ -303,9 +298,9 @@ call_answers setup before event reply after it =
 call_taken : (setup : Setup) (before : World) (event : Event) (reply : Reply) (after : World) (run : ℕ) → instruction_of run event ≡ None → (it : Asks setup before event reply after) → FreezeDeed setup before it.it.run it.request it.given it.between → taken_by run event reply ≡ []
 call_taken setup before event reply after run idle it deed = by_deed deed
   where
-    -- by the call's request and answer alone
-    taken_as : (request : Request) (given : Answer) → it.request ≡ request → it.given ≡ given → taken_by run event reply ≡ taken_by run (executes it.it.number (call (told_of request))) (result given.r0)
-    taken_as request given request_is given_is = call_takes setup before event reply after it run request given request_is given_is
+    -- by its helper's row and its answer alone
+    by_row : (gives : Gives) (given : Answer) → (row_of it.request.helper).gives ≡ gives → it.given ≡ given → taken_by run event reply ≡ taken_as gives run it.it.number given.r0
+    by_row gives given gives_is given_is = call_takes setup before event reply after it run given given_is ∙ takes_by gives it.request gives_is run it.it.number given.r0
 
     not_own : it.it.number ≡ run → ⊥
     not_own same =
@@ -313,10 +308,10 @@ call_taken setup before event reply after run idle it deed = by_deed deed
         let bad : None ≡ Some (call (told_of it.request)) = sym idle ∙ own in cc
 
     by_deed : FreezeDeed setup before it.it.run it.request it.given it.between → taken_by run event reply ≡ []
-    by_deed (leaves_freezes deed) = taken_as it.request it.given refl refl ∙ deed.taken run it.it.number
-    by_deed (takes_one deed) = taken_as (FreezeQueue deed.queue) _ deed.request_is deed.given_is ∙ given_to_other run it.it.number (before.greatest_freeze + 1) not_own
-    by_deed (gives_one_back deed) = taken_as (Release deed.number) _ deed.request_is deed.given_is
-    by_deed (hands_one_over deed) = taken_as (ReleaseAfter deed.number deed.milliseconds) _ deed.request_is deed.given_is
+    by_deed (leaves_freezes deed) = call_takes setup before event reply after it run it.given refl ∙ deed.taken run it.it.number
+    by_deed (takes_one deed) = by_row NewFreeze _ deed.gives_is deed.given_is ∙ given_to_other run it.it.number (before.greatest_freeze + 1) not_own
+    by_deed (gives_one_back deed) = by_row (Number 0 254) _ deed.gives_is deed.given_is
+    by_deed (hands_one_over deed) = by_row (Number 0 0) _ deed.gives_is deed.given_is
 
 -- what each step does
 pub effect_of : (setup : Setup) (before : World) (event : Event) (reply : Reply) (after : World) → KeepsLists setup before → Case setup before event reply after → Effect setup before event reply after

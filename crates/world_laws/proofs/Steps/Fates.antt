@@ -7,22 +7,25 @@ use Rattle.freeze_ledger.specs.declared.freeze.Holder.TheVariants.{Run, Timer}
 use Rattle.freeze_ledger.specs.declared.freeze.Freeze.{Freeze}
 use Rattle.freeze_ledger.specs.Freezes.{entry_of, without}
 use Rattle.helpers.specs.declared.request.Request.{Request}
-use Rattle.helpers.specs.declared.request.Request.TheVariants.{Freeze as FreezeQueue, Release, ReleaseAfter}
+use Rattle.helpers.specs.declared.columns.Gives.{Gives}
+use Rattle.helpers.specs.declared.columns.Gives.TheVariants.{Number, NewFreeze}
+use Rattle.helpers.specs.declared.columns.Change.{Change}
+use Rattle.helpers.specs.declared.columns.Change.TheVariants as changes
 use Rattle.helpers.specs.declared.request.Answer.{Answer}
-use Rattle.helpers.specs.Table.{answer_number}
+use Rattle.helpers.specs.Table.{row_of, answer_number}
 use Rattle.bpf_semantics.specs.MachineState.{MachineState}
 use Rattle.bpf_semantics.specs.Calls.{is_held}
-use Rattle.bpf_semantics.specs.Step.{request_at, exit_at, IsAnswer, held_without, answered}
+use Rattle.bpf_semantics.specs.Step.{request_at, exit_at, IsAnswer, held_without, answered, changed_by, after_call}
 use Rattle.bpf_semantics.specs.Reached.{Steps}
 use Rattle.world.specs.FreezeSteps.{frozen_with}
 use Rattle.world.specs.World.{Setup, queue_count, LiveRun, World}
 use Rattle.world.specs.Lookups.{run_of, with_run}
 use Rattle.world.specs.Told.{told_of}
-use Rattle.world.specs.Event.{Instruction, private, call, exit, Event, executes, instruction_of, Reply, result}
+use Rattle.world.specs.Event.{Instruction, private, call, exit, Event, instruction_of, Reply}
 use Rattle.world.specs.RunSteps.{is_run}
 use Rattle.world.specs.FreezeLaws.{entries_of, held_by, HoldsWhatEntriesSay}
-use Rattle.world.specs.TookGave.{taken_by, asked, given_up}
-use Rattle.world.specs.Headline.{is_disposing, is_disposal, is_exit}
+use Rattle.world.specs.TookGave.{taken_as, taken_by, asked_by, asked, given_up}
+use Rattle.world.specs.Headline.{is_disposal, is_exit}
 use Rattle.world.specs.Limits.{FreezeLimits, AnswerLimits, KeepsLimits}
 use Rattle.world.proofs.Lists.Found.{leave, found_key, found_push, put_same, put_other, leave_same, leave_other}
 use Rattle.world.proofs.Lists.Each.{all_found}
@@ -30,7 +33,8 @@ use Rattle.world.proofs.Lists.Entries.{freeze_key, frozen_without, entry_bounds,
 use Rattle.world.proofs.Lists.HeldBy.{entries_put, none_above}
 use Rattle.world_laws.proofs.Kept.{room_from}
 use Rattle.world_laws.proofs.Steps.Running.{Executes}
-use Rattle.world_laws.proofs.Steps.Calls.{FreezeDeed, leaves_freezes, takes_one, gives_one_back, hands_one_over, CcbDeed, leaves_ccbs, requeues_one, ends_one, Asks}
+use Rattle.world_laws.proofs.Steps.Does.{FreezeDeed, leaves_freezes, takes_one, gives_one_back, hands_one_over, CcbDeed, leaves_ccbs, requeues_one, ends_one, takes_by, disposes_by}
+use Rattle.world_laws.proofs.Steps.Calls.{Asks}
 use Rattle.world_laws.proofs.Steps.Cases.{Case, refuses, submits, dispatches, finishes_one, recovers_one, recovers_unfrozen, freezes_one, releases_one, reads_clock, Turns, turns_one, goes_on_one, asks_one, exits}
 use Rattle.world.proofs.Steps.Moves.{run_key, Begins}
 use Rattle.world_laws.proofs.Steps.Effects.{its_instruction, not_others, call_runs, call_takes}
@@ -124,14 +128,16 @@ one_turns before event reply after it number run found =
 call_allowed : (setup : Setup) (before : World) (run : LiveRun) (request : Request) (given : Answer) (between : World) → FreezeLimits setup before → AnswerLimits setup before → run.queue < queue_count setup → run.machine.held ≡ held_by run.number before.freezes → FreezeDeed setup before run request given between → IsAnswer run.machine request given
 call_allowed setup before run request given between kept answers known held (leaves_freezes deed) = deed.allowed answers known
 call_allowed setup before run request given between kept answers known held (takes_one deed) =
-    let room = room_from deed.queue before.freezes before.greatest_freeze deed.room in
+    let room = room_from request.arguments.first before.freezes before.greatest_freeze deed.room in
     let fresh : is_held run.machine.held (before.greatest_freeze + 1) ≡ false =
     ap (λ (ns : List ℕ). is_held ns (before.greatest_freeze + 1)) held ∙ none_above run.number (before.greatest_freeze + 1) before.freezes before.greatest_freeze kept.numbered (omega arith) in
-    rw (deed.request_is, deed.given_is) (inr (omega arith, omega (arith, room.numbers), fresh))
+    rw (deed.gives_is, deed.machine_is, deed.given_is) (inr (omega arith, omega (arith, room.numbers), fresh), tt)
 call_allowed setup before run request given between kept answers known held (gives_one_back deed) =
-    let named : deed.freeze.number ≡ deed.number = found_key freeze_key deed.number before.freezes deed.freeze deed.entry in
-    rw (deed.request_is, deed.given_is) (subst (λ (n : ℕ). frozen_with deed.freeze (without n before.freezes) ≤ 254) named (count_after setup before deed.number deed.freeze kept deed.entry))
-call_allowed setup before run request given between kept answers known held (hands_one_over deed) = rw (deed.request_is, deed.given_is) refl
+    let number : ℕ = request.arguments.first in
+    let named : deed.freeze.number ≡ number = found_key freeze_key number before.freezes deed.freeze deed.entry in
+    rw (deed.gives_is, deed.machine_is, deed.given_is)
+    ((omega arith, subst (λ (n : ℕ). frozen_with deed.freeze (without n before.freezes) ≤ 254) named (count_after setup before number deed.freeze kept deed.entry)), tt)
+call_allowed setup before run request given between kept answers known held (hands_one_over deed) = rw (deed.gives_is, deed.machine_is, deed.given_is) ((omega arith, omega arith), tt)
 
 -- what the run holds with the answer
 call_holding : (setup : Setup) (before : World) (event : Event) (reply : Reply) (after : World) → FreezeLimits setup before → (it : Asks setup before event reply after) → FreezeDeed setup before it.it.run it.request it.given it.between → Holding before event reply after it.it.number it.it.run (call (told_of it.request)) (answered it.request it.given it.it.run.machine)
@@ -149,48 +155,53 @@ call_holding setup before event reply after kept it = by_deed
     freezes_is : after.freezes ≡ it.between.freezes
     freezes_is = ap (λ (x : Reply × World). x.1.freezes) it.answer
 
-    taken_as : (request : Request) (given : Answer) → it.request ≡ request → it.given ≡ given → taken_by number event reply ≡ taken_by number (executes number (call (told_of request))) (result given.r0)
-    taken_as request given request_is given_is = call_takes setup before event reply after it number request given request_is given_is
+    number_in_R1 : ℕ
+    number_in_R1 = it.request.arguments.first
 
-    given_as : (request : Request) → it.request ≡ request → given_up (Some (call (told_of it.request))) (request_at run.program run.machine) ≡ asked (Some request)
-    given_as request request_is = ap asked it.call_is ∙ ap (λ (r : Request). asked (Some r)) request_is
+    takes : (gives : Gives) (given : Answer) → (row_of it.request.helper).gives ≡ gives → it.given ≡ given → taken_by number event reply ≡ taken_as gives number number given.r0
+    takes gives given gives_is given_is = call_takes setup before event reply after it number given given_is ∙ takes_by gives it.request gives_is number number given.r0
 
-    held_as : (request : Request) (given : Answer) → it.request ≡ request → it.given ≡ given → (answered it.request it.given run.machine).held ≡ (answered request given run.machine).held
-    held_as request given request_is given_is = λ i. (answered (request_is i) (given_is i) run.machine).held
+    given_as : (change : Change) → (row_of it.request.helper).machine ≡ change → given_up (Some (call (told_of it.request))) (request_at run.program run.machine) ≡ asked_by change it.request
+    given_as change machine_is = ap asked it.call_is ∙ ap (λ (c : Change). asked_by c it.request) machine_is
+
+    held_as : (change : Change) (given : Answer) → (row_of it.request.helper).machine ≡ change → it.given ≡ given → (answered it.request it.given run.machine).held ≡ (changed_by change it.request.arguments given (after_call run.machine given.r0)).held
+    held_as change given machine_is given_is = λ i. (changed_by (machine_is i) it.request.arguments (given_is i) (after_call run.machine (given_is i).r0)).held
 
     by_deed : FreezeDeed setup before run it.request it.given it.between → Holding before event reply after number run (call (told_of it.request)) (answered it.request it.given run.machine)
     by_deed (leaves_freezes deed) =
-        holds_the_same deed.held (freezes_is ∙ deed.freezes_is) (given_as it.request refl ∙ deed.keeps) (taken_as it.request it.given refl refl ∙ deed.taken number number)
+        holds_the_same deed.held (freezes_is ∙ deed.freezes_is) (ap asked it.call_is ∙ deed.keeps) (call_takes setup before event reply after it number it.given refl ∙ deed.taken number number)
     by_deed (takes_one deed) =
         let next : ℕ = before.greatest_freeze + 1 in
         let above : eqb next 0 ≡ false = ne_eqb _ _ (λ e. omega (arith, e)) in
-        holds_one_more (record { number = next; queue = record { 0 = deed.queue }; holder = Run run.number }) refl (eq-eqb _ _ named)
-        (held_as (FreezeQueue deed.queue) (answer_number next) deed.request_is deed.given_is ∙ cond-false (eqb next 0) run.machine.held (run.machine.held ++ next ∷ []) above)
-        (freezes_is ∙ deed.freezes_is) (ap (λ (x : Reply × World). x.1.greatest_freeze) it.answer ∙ deed.greatest_is) (given_as (FreezeQueue deed.queue) deed.request_is)
-        (taken_as (FreezeQueue deed.queue) (answer_number next) deed.request_is deed.given_is
+        holds_one_more (record { number = next; queue = record { 0 = number_in_R1 }; holder = Run run.number }) refl (eq-eqb _ _ named)
+        (held_as changes.Holds (answer_number next) deed.machine_is deed.given_is ∙ cond-false (eqb next 0) run.machine.held (run.machine.held ++ next ∷ []) above)
+        (freezes_is ∙ deed.freezes_is) (ap (λ (x : Reply × World). x.1.greatest_freeze) it.answer ∙ deed.greatest_is) (given_as changes.Holds deed.machine_is)
+        (takes NewFreeze (answer_number next) deed.gives_is deed.given_is
         ∙ cond-true (eqb number number && not (eqb next 0)) (next ∷ []) [] (and_from (eqb number number) (not (eqb next 0)) (eq-eqb number number refl) (not_from_false _ above)))
     by_deed (gives_one_back deed) =
-        holds_one_fewer deed.number deed.freeze deed.entry (subst (λ (n : ℕ). is_run n deed.freeze.holder ≡ true) named deed.its)
-        (held_as (Release deed.number) _ deed.request_is deed.given_is) (ap (entries_of number) (freezes_is ∙ deed.freezes_is)) (given_as (Release deed.number) deed.request_is)
-        (taken_as (Release deed.number) _ deed.request_is deed.given_is)
+        holds_one_fewer number_in_R1 deed.freeze deed.entry (subst (λ (n : ℕ). is_run n deed.freeze.holder ≡ true) named deed.its)
+        (held_as changes.GivesUp it.given deed.machine_is refl) (ap (entries_of number) (freezes_is ∙ deed.freezes_is)) (given_as changes.GivesUp deed.machine_is)
+        (takes (Number 0 254) it.given deed.gives_is refl)
     by_deed (hands_one_over deed) =
-        let due : ℕ = before.clock + deed.milliseconds in
+        let due : ℕ = before.clock + it.request.arguments.second in
         let new : Freeze = record deed.freeze { holder = Timer due } in
-        let is_number : deed.freeze.number ≡ deed.number = found_key freeze_key deed.number before.freezes deed.freeze deed.entry in
-        holds_one_fewer deed.number deed.freeze deed.entry (subst (λ (n : ℕ). is_run n deed.freeze.holder ≡ true) named deed.its)
-        (held_as (ReleaseAfter deed.number deed.milliseconds) _ deed.request_is deed.given_is)
-        (ap (entries_of number) (freezes_is ∙ (deed.freezes_is ∙ handed_is_put deed.number due 0 before.freezes before.greatest_freeze deed.freeze kept.numbered deed.entry))
+        let is_number : deed.freeze.number ≡ number_in_R1 = found_key freeze_key number_in_R1 before.freezes deed.freeze deed.entry in
+        holds_one_fewer number_in_R1 deed.freeze deed.entry (subst (λ (n : ℕ). is_run n deed.freeze.holder ≡ true) named deed.its)
+        (held_as changes.GivesUp it.given deed.machine_is refl)
+        (ap (entries_of number) (freezes_is ∙ (deed.freezes_is ∙ handed_is_put number_in_R1 due 0 before.freezes before.greatest_freeze deed.freeze kept.numbered deed.entry))
         ∙ (entries_put number new before.freezes refl ∙ ap (λ (n : ℕ). entries_of number (without n before.freezes)) is_number))
-        (given_as (ReleaseAfter deed.number deed.milliseconds) deed.request_is)
-        (taken_as (ReleaseAfter deed.number deed.milliseconds) _ deed.request_is deed.given_is)
+        (given_as changes.GivesUp deed.machine_is)
+        (takes (Number 0 0) it.given deed.gives_is refl)
 
 -- and what becomes of its CCB
+disposed_by : (setup : Setup) (before : World) (event : Event) (reply : Reply) (after : World) → (it : Asks setup before event reply after) → (row_of it.request.helper).machine ≡ changes.Disposes → (answered it.request it.given it.it.run.machine).disposed ≡ true
+disposed_by setup before event reply after it is =
+    ap (λ (c : Change). (changed_by c it.request.arguments it.given (after_call it.it.run.machine it.given.r0)).disposed) is
+
 call_disposing : (setup : Setup) (before : World) (event : Event) (reply : Reply) (after : World) → (it : Asks setup before event reply after) → CcbDeed before it.it.run it.request it.given it.between → Disposing before after it.it.run (call (told_of it.request)) (answered it.request it.given it.it.run.machine)
 call_disposing setup before event reply after it (leaves_ccbs deed) = leaves_its_ccb deed.disposed (ap (λ (x : Reply × World). x.1.live) it.answer ∙ deed.live_is) deed.calm
-call_disposing setup before event reply after it (requeues_one deed) =
-    disposes_of_it deed.its.fresh (ap (λ (r : Request). (answered r it.given it.it.run.machine).disposed) deed.request_is) (ap (λ (r : Request). is_disposing (told_of r)) deed.request_is)
-call_disposing setup before event reply after it (ends_one deed) =
-    disposes_of_it deed.its.fresh (ap (λ (r : Request). (answered r it.given it.it.run.machine).disposed) deed.request_is) (ap (λ (r : Request). is_disposing (told_of r)) deed.request_is)
+call_disposing setup before event reply after it (requeues_one deed) = disposes_of_it deed.its.fresh (disposed_by setup before event reply after it deed.machine_is) (disposes_by changes.Disposes it.request deed.machine_is)
+call_disposing setup before event reply after it (ends_one deed) = disposes_of_it deed.its.fresh (disposed_by setup before event reply after it deed.machine_is) (disposes_by changes.Disposes it.request deed.machine_is)
 
 pub fate_of : (setup : Setup) (before : World) (event : Event) (reply : Reply) (after : World) (number : ℕ) (run : LiveRun) → KeepsLimits setup before → HoldsWhatEntriesSay before → run_of number before.runs ≡ Some run → Case setup before event reply after → Fate before event reply after number run
 fate_of setup before event reply after number run kept held found (refuses it) = unchanged before event reply after number run found (it.idle number) (ap (λ (w : World). w.runs) it.after_is)

@@ -3,6 +3,7 @@ use Rattle.std.specs.Int.{w16}
 use Rattle.std.proofs.lemmas.Int.{to_z-of_z}
 use Rattle.bpf_insn.specs.declared.insn.Callee.TheVariants.{Helper as helper_call}
 use Rattle.bpf_insn.specs.declared.insn.Insn.TheVariants.{Call}
+use Rattle.register_kinds.specs.declared.freeze_name.FreezeName.TheVariants as names
 use Rattle.reg_domain.specs.declared.description.Description.{Description}
 use Rattle.reg_domain.specs.Enough.{LeavesCalled}
 use Rattle.reg_domain.specs.Follows.{Stays}
@@ -41,8 +42,8 @@ returns-clause-follows c = elim c.match-insn.branch [
   | in-Call+in_ok-call_function-in-Call w ↦ rw (c.is_taken-2.ensures, w.in-Call.is, w.self-is) (follows_way c.args.callers.now (Call w.in-Call.callee) c.args.way c.args.self.now w.call_function.new.self (λ m. refl) w.in_ok-call_function-in-Call.ensures.follows)
 ]
 
-pub returns-clause-words : goal.returns-clause-words
-returns-clause-words c = λ number call uses falls. elim c.match-insn.branch [
+pub returns-clause-calls : goal.returns-clause-calls
+returns-clause-calls c = λ number call may falls. elim c.match-insn.branch [
   | in-Alu+in_ok-compute-in-Alu w ↦ absurd (let e = w.in-Alu.is in cc)
   | in-InPlace+in_ok-change-in-InPlace w ↦ absurd (let e = w.in-InPlace.is in cc)
   | in-SignExtend+in_ok-extend-in-SignExtend w ↦ absurd (let e = w.in-SignExtend.is in cc)
@@ -51,5 +52,5 @@ returns-clause-words c = λ number call uses falls. elim c.match-insn.branch [
   | in-Store+in_ok-store_operand-in-Store w ↦ absurd (let e = w.in-Store.is in cc)
   | in-Call+in_ok-call_function-in-Call w ↦
       let same : w.in-Call.callee ≡ helper_call number = let e = w.in-Call.is in cc in
-      subst (λ (there : Description). LeavesCalled c.args.self.now number there) (sym w.self-is) (w.in_ok-call_function-in-Call.ensures.words number same uses)
+      subst (λ (there : Description). LeavesCalled (names.Call c.args.place) c.args.self.now number there) (sym w.self-is) (w.in_ok-call_function-in-Call.ensures.calls number same may)
 ]

@@ -1,5 +1,5 @@
 use Rattle.std.proofs.Common.{◌≡◌, true, sym, subst}
-use Rattle.helpers.specs.declared.helper.Asked.{Asked}
+use Rattle.helpers.specs.declared.columns.Asked.{Asked}
 use Rattle.bpf_semantics.specs.Calls.{is_as_asked}
 use Rattle.reg_domain.proofs.Giving.{sure_is_held}
 use Rattle.reg_domain.proofs.description.Description.is_fit.Goals as goal

@@ -5,18 +5,18 @@ use Rattle.register_kinds.specs.declared.region.Region.{Region}
 use Rattle.register_kinds.specs.declared.region.Region.TheVariants.{Frame}
 use Rattle.reg_domain.specs.Description.{kind_at}
 use Rattle.reg_domain.proofs.Storing.{known_from, writes_from}
-use Rattle.reg_domain.proofs.description.Description.write_information.Goals as goal
+use Rattle.reg_domain.proofs.description.Description.write_first.Goals as goal
 
 pub returns-in-Address-Frame-default-clause-writes : goal.returns-in-Address-Frame-default-clause-writes
 returns-in-Address-Frame-default-clause-writes c =
     let frame = c.in-Address-Frame-default.frame in
     let offsets = c.in-Address-Frame-default.offsets in
     let in_frame : kind_at c.args.self.now R1 ≡ Address (Frame frame) offsets = sym c.kind.ensures ∙ c.in-Address-Frame-default.is ∙ ap (λ (region : Region). Address region offsets) c.in-Address-Frame-default.field-0-is in
-    writes_from c.args.self.now c.write_in.new.self R1 frame offsets 16 in_frame c.write_in.ensures.writes
+    writes_from c.args.self.now c.write_in.new.self R1 frame offsets c.args.bytes in_frame c.write_in.ensures.writes
 
-pub returns-in-Address-Frame-default-clause-written : goal.returns-in-Address-Frame-default-clause-written
-returns-in-Address-Frame-default-clause-written c =
+pub returns-in-Address-Frame-default-clause-leaves : goal.returns-in-Address-Frame-default-clause-leaves
+returns-in-Address-Frame-default-clause-leaves c =
     let frame = c.in-Address-Frame-default.frame in
     let offsets = c.in-Address-Frame-default.offsets in
     let in_frame : kind_at c.args.self.now R1 ≡ Address (Frame frame) offsets = sym c.kind.ensures ∙ c.in-Address-Frame-default.is ∙ ap (λ (region : Region). Address region offsets) c.in-Address-Frame-default.field-0-is in
-    known_from c.args.self.now c.write_in.new.self R1 frame offsets 16 in_frame c.write_in.ensures.leaves
+    known_from c.args.self.now c.write_in.new.self R1 frame offsets c.args.bytes in_frame c.write_in.ensures.leaves

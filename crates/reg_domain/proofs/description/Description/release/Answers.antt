@@ -1,8 +1,0 @@
-use Rattle.std.proofs.Common.{refl, arith}
-use Rattle.bpf_semantics.specs.Step.{held_without}
-use Rattle.reg_domain.proofs.description.Description.release.Goals as goal
-
-pub returns-clause-passes : goal.returns-clause-passes
-returns-clause-passes c = λ name callers freeze m answer is at few.
-    let given = c.give_up_first.ensures.kept callers freeze m is at in
-    (given.0, c.answer.ensures.passes given.0 callers answer.r0 (record m { held = held_without m.held freeze }) given.1 (answer.r0, refl, c.within.ensures.has answer.r0 (omega arith) few))

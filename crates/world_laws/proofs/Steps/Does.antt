@@ -1,0 +1,160 @@
+-- What the calls of helpers do: each to the freezes, to the CCBs, and to the openings and the tables, in one of a few ways.
+use Rattle.std.proofs.Common.{◌≡◌, ℕ, ◌+◌, ◌<◌, [], true, false, Some, ap, sym, subst, ◌∙◌}
+use Rattle.ccb.specs.Ccb.{requeued}
+use Rattle.freeze_ledger.specs.declared.freeze.Holder.TheVariants.{Run}
+use Rattle.freeze_ledger.specs.declared.freeze.Freeze.{Freeze}
+use Rattle.freeze_ledger.specs.Freezes.{meets_limit, entry_of, without, handed_over}
+use Rattle.helpers.specs.declared.table.Helper.{Helper}
+use Rattle.helpers.specs.declared.table.Deed.{Deed}
+use Rattle.helpers.specs.declared.table.Deed.TheVariants as deeds
+use Rattle.helpers.specs.declared.columns.Gives.{Gives}
+use Rattle.helpers.specs.declared.columns.Gives.TheVariants.{Number, NewFreeze}
+use Rattle.helpers.specs.declared.columns.Change.{Change}
+use Rattle.helpers.specs.declared.columns.Change.TheVariants as changes
+use Rattle.helpers.specs.declared.request.Request.{Request}
+use Rattle.helpers.specs.declared.request.Answer.{Answer}
+use Rattle.helpers.specs.Table.{row_of, answer_number}
+use Rattle.bpf_semantics.specs.Step.{answered, IsAnswer}
+use Rattle.world.specs.declared.ccb_state.CcbState.TheVariants.{Waiting}
+use Rattle.world.specs.World.{Setup, queue_count, LiveCcb, LiveRun, World}
+use Rattle.world.specs.Lookups.{ccb_of, with_ccb}
+use Rattle.world.specs.Told.{plain, finishes, told_of}
+use Rattle.world.specs.Event.{call, executes, Reply, result}
+use Rattle.world.specs.FreezeSteps.{frozen_with, froze}
+use Rattle.world.specs.CcbSteps.{ended_with}
+use Rattle.world.specs.RunSteps.{is_run, answers}
+use Rattle.world.specs.FreezeLaws.{Calls, MovesByDeed, MovesCounts}
+use Rattle.world.specs.CcbLaws.{finished_by}
+use Rattle.world.specs.TookGave.{taken_as, taken_by, asked}
+use Rattle.world.specs.Headline.{disposes, is_disposing}
+use Rattle.world.specs.Limits.{AnswerLimits}
+use Rattle.world.proofs.Steps.Answering.{OpeningsMove, TablesMove}
+use Rattle.world_laws.proofs.Telling.{helper_told}
+
+-- What a call of a helper does to the freezes, `between` being the world in which its answer comes.
+
+-- nothing, and the run holds what it held
+pub record LeavesFreezes (setup : Setup) (before : World) (run : LiveRun) (request : Request) (given : Answer) (between : World) : Type 0 where
+  pub keeps : asked (Some request) ≡ []
+  pub allowed : AnswerLimits setup before → run.queue < queue_count setup → IsAnswer run.machine request given
+  pub held : (answered request given run.machine).held ≡ run.machine.held
+  pub taken : (other number : ℕ) → taken_by other (executes number (call (told_of request))) (result given.r0) ≡ []
+  pub moves : (number : ℕ) (after : World) → Calls before number request → after.freezes ≡ before.freezes → MovesCounts before (executes number (call (told_of request))) (result given.r0) after
+  pub freezes_is : between.freezes ≡ before.freezes
+  pub greatest_is : between.greatest_freeze ≡ before.greatest_freeze
+
+-- the run takes a new one
+pub record TakesOne (setup : Setup) (before : World) (run : LiveRun) (request : Request) (given : Answer) (between : World) : Type 0 where
+  pub deed_is : (row_of request.helper).deed ≡ deeds.Freeze
+  pub machine_is : (row_of request.helper).machine ≡ changes.Holds
+  pub gives_is : (row_of request.helper).gives ≡ NewFreeze
+  pub known : request.arguments.first < setup.limits.queues
+  pub room : meets_limit request.arguments.first before.freezes before.greatest_freeze ≡ false
+  pub given_is : given ≡ answer_number (before.greatest_freeze + 1)
+  pub freezes_is : between.freezes ≡ (froze before request.arguments.first (Run run.number)).freezes
+  pub greatest_is : between.greatest_freeze ≡ before.greatest_freeze + 1
+
+-- one that the run holds goes
+pub record GivesOneBack (before : World) (run : LiveRun) (request : Request) (given : Answer) (between : World) : Type 0 where
+  pub deed_is : (row_of request.helper).deed ≡ deeds.GiveBack
+  pub machine_is : (row_of request.helper).machine ≡ changes.GivesUp
+  pub gives_is : (row_of request.helper).gives ≡ Number 0 254
+  pub freeze : Freeze
+  pub entry : entry_of request.arguments.first before.freezes ≡ Some freeze
+  pub its : is_run run.number freeze.holder ≡ true
+  pub given_is : given ≡ answer_number (frozen_with freeze (without request.arguments.first before.freezes))
+  pub freezes_is : between.freezes ≡ without request.arguments.first before.freezes
+  pub greatest_is : between.greatest_freeze ≡ before.greatest_freeze
+
+-- one that the run holds is a timer's from now on
+pub record HandsOneOver (before : World) (run : LiveRun) (request : Request) (given : Answer) (between : World) : Type 0 where
+  pub deed_is : (row_of request.helper).deed ≡ deeds.HandOver
+  pub machine_is : (row_of request.helper).machine ≡ changes.GivesUp
+  pub gives_is : (row_of request.helper).gives ≡ Number 0 0
+  pub freeze : Freeze
+  pub entry : entry_of request.arguments.first before.freezes ≡ Some freeze
+  pub its : is_run run.number freeze.holder ≡ true
+  pub given_is : given ≡ answer_number 0
+  pub freezes_is : between.freezes ≡ handed_over request.arguments.first (before.clock + request.arguments.second) before.freezes
+  pub greatest_is : between.greatest_freeze ≡ before.greatest_freeze
+
+pub data FreezeDeed (setup : Setup) (before : World) (run : LiveRun) (request : Request) (given : Answer) (between : World) : Type 0 where
+  leaves_freezes : LeavesFreezes setup before run request given between → FreezeDeed setup before run request given between
+  takes_one : TakesOne setup before run request given between → FreezeDeed setup before run request given between
+  gives_one_back : GivesOneBack before run request given between → FreezeDeed setup before run request given between
+  hands_one_over : HandsOneOver before run request given between → FreezeDeed setup before run request given between
+
+-- What it does to the CCBs.
+
+-- nothing
+pub record LeavesCcbs (before : World) (run : LiveRun) (request : Request) (given : Answer) (between : World) : Type 0 where
+  pub calm : is_disposing (told_of request) ≡ false
+  pub ends_none : (number : ℕ) (reply : Reply) → finished_by before (executes number (call (told_of request))) reply ≡ []
+  pub disposed : (answered request given run.machine).disposed ≡ run.machine.disposed
+  pub live_is : between.live ≡ before.live
+  pub ended_is : between.ended ≡ before.ended
+  pub greatest_is : between.greatest_ccb ≡ before.greatest_ccb
+
+-- the run's CCB is there and not disposed of
+pub record HasItsCcb (before : World) (run : LiveRun) : Type 0 where
+  pub fresh : run.machine.disposed ≡ false
+  pub live : LiveCcb
+  pub found : ccb_of run.ccb before.live ≡ Some live
+
+-- it waits again
+pub record RequeuesOne (before : World) (run : LiveRun) (request : Request) (between : World) : Type 0 where
+  pub deed_is : (row_of request.helper).deed ≡ deeds.Requeue
+  pub machine_is : (row_of request.helper).machine ≡ changes.Disposes
+  pub told_is : told_of request ≡ plain request.helper
+  pub its : HasItsCcb before run
+  pub live_is : between.live ≡ with_ccb (record { ccb = requeued its.live.ccb request.arguments.first; state = Waiting }) before.live
+  pub ended_is : between.ended ≡ before.ended
+  pub greatest_is : between.greatest_ccb ≡ before.greatest_ccb
+
+-- it ends with the code that is told
+pub record EndsOne (before : World) (run : LiveRun) (request : Request) (between : World) : Type 0 where
+  pub deed_is : (row_of request.helper).deed ≡ deeds.Finish
+  pub machine_is : (row_of request.helper).machine ≡ changes.Disposes
+  pub told_is : told_of request ≡ finishes request.helper request.arguments.first
+  pub its : HasItsCcb before run
+  pub live_is : between.live ≡ (ended_with before its.live.ccb request.arguments.first).live
+  pub ended_is : between.ended ≡ (ended_with before its.live.ccb request.arguments.first).ended
+  pub greatest_is : between.greatest_ccb ≡ before.greatest_ccb
+
+pub data CcbDeed (before : World) (run : LiveRun) (request : Request) (given : Answer) (between : World) : Type 0 where
+  leaves_ccbs : LeavesCcbs before run request given between → CcbDeed before run request given between
+  requeues_one : RequeuesOne before run request between → CcbDeed before run request given between
+  ends_one : EndsOne before run request between → CcbDeed before run request given between
+
+-- What it does to the openings and the tables: one number is set, or none. No call touches the runs or the clock.
+pub record LeavesTheRest (before between : World) : Type 0 where
+  pub openings : OpeningsMove before.openings between.openings
+  pub tables : TablesMove before.tables between.tables
+  pub runs_is : between.runs ≡ before.runs
+  pub greatest_is : between.greatest_run ≡ before.greatest_run
+  pub clock_is : between.clock ≡ before.clock
+
+-- All that a call does, with its answer.
+pub record Does (setup : Setup) (before : World) (run : LiveRun) (request : Request) (step : Reply × World) : Type 0 where
+  pub given : Answer
+  pub between : World
+  pub answer : step ≡ answers between run request given
+  pub freezes : FreezeDeed setup before run request given between
+  pub ccbs : CcbDeed before run request given between
+  pub rest : LeavesTheRest before between
+
+-- What the columns of its helper say of a call that is told.
+
+-- what it gives to a run
+pub takes_by : (gives : Gives) (request : Request) → (row_of request.helper).gives ≡ gives → (run number r0 : ℕ) → taken_by run (executes number (call (told_of request))) (result r0) ≡ taken_as gives run number r0
+takes_by gives request is run number r0 =
+    ap (λ (h : Helper). taken_as (row_of h).gives run number r0) (helper_told request) ∙ ap (λ (g : Gives). taken_as g run number r0) is
+
+-- how it moves counts
+pub moves_by : (deed : Deed) (request : Request) → (row_of request.helper).deed ≡ deed → (before : World) (number : ℕ) (reply : Reply) (after : World) → MovesByDeed deed before number reply after → MovesCounts before (executes number (call (told_of request))) reply after
+moves_by deed request is before number reply after moves =
+    subst (λ (d : Deed). MovesByDeed d before number reply after) (sym (ap (λ (h : Helper). (row_of h).deed) (helper_told request) ∙ is)) moves
+
+-- whether it disposes of a CCB
+pub disposes_by : (change : Change) (request : Request) → (row_of request.helper).machine ≡ change → is_disposing (told_of request) ≡ disposes change
+disposes_by change request is = ap (λ (h : Helper). disposes (row_of h).machine) (helper_told request) ∙ ap disposes is

@@ -2,6 +2,7 @@
 use Rattle.std.proofs.Common.{◌≡◌, ℕ, ◌<◌, List, length, ap, sym, subst, ◌∙◌}
 use Rattle.std.proofs.lemmas.List.{length-map}
 use Rattle.dev_queue.specs.State.{QueueState}
+use Rattle.freeze_ledger.specs.Places.{device}
 use Rattle.freeze_ledger.specs.Freezes.{frozen}
 use Rattle.world.specs.declared.queue_info.QueueInfo.{QueueInfo}
 use Rattle.world.specs.World.{World}
@@ -19,7 +20,7 @@ known_there list queues queue known = subst (λ (n : ℕ). queue < n) (length-ma
 pub same_info : (a b : QueueInfo) → a.frozen ≡ b.frozen → a.active ≡ b.active → a.waiting ≡ b.waiting → a.openings ≡ b.openings → a ≡ b
 same_info a b f k w o = λ i. record { frozen = f i; active = k i; waiting = w i; openings = o i }
 
-pub info_is : (list : ListState) (queues : List QueueState) (queue : ℕ) (world : World) (own : QueueState) (info : QueueInfo) → KeepsTable list queues → queue < length queues → own ≡ queue_at queues queue → info.frozen ≡ frozen queue world.freezes → info.active ≡ own.active → info.waiting ≡ length own.waiting → info.openings ≡ own.openings → info ≡ queue_info (with_ccbs (seen list queues) world) queue
+pub info_is : (list : ListState) (queues : List QueueState) (queue : ℕ) (world : World) (own : QueueState) (info : QueueInfo) → KeepsTable list queues → queue < length queues → own ≡ queue_at queues queue → info.frozen ≡ frozen (device queue) world.freezes → info.active ≡ own.active → info.waiting ≡ length own.waiting → info.openings ≡ own.openings → info ≡ queue_info (with_ccbs (seen list queues) world) queue
 info_is list queues queue world own info h known is freezes active waiting openings =
     let told = is ∙ h.told queue known in
     same_info info (queue_info (with_ccbs (seen list queues) world) queue) freezes (active ∙ ap (λ (q : QueueState). q.active) told)

@@ -1,23 +1,28 @@
 -- What the world's steps answer, read off what the table knows.
-use Rattle.std.proofs.Common.{◌≡◌, ℕ, ◌+◌, ◌<◌, List, [], ◌∷◌, ◌++◌, length, map, get_or, true, false, cond, eqb, leb, ltb, Some, None, inl, inr, ap, sym, subst, ◌∙◌, arith}
-use Rattle.std.specs.Prelude.{nat_le}
+use Rattle.std.proofs.Common.{◌≡◌, ℕ, ◌+◌, ◌<◌, List, [], ◌∷◌, ◌++◌, length, map, get_or, true, false, cond, eqb, leb, ltb, Option, Some, None, inl, inr, ap, sym, subst, ◌∙◌, arith}
+use Rattle.std.specs.Prelude.{nat_le, is_none}
+use Rattle.std.specs.Option.{option_map}
 use Rattle.std.proofs.lemmas.Bool.{cases_Bool, cases_eq, cond-true, cond-false, or_left, or_parts, or_from, lt-leb, le-ltb, eq-eqb, ne_eqb, not_from_true, not_from_false}
 use Rattle.std.proofs.lemmas.List.{length-map}
 use Rattle.ccb.specs.declared.CcbId.{CcbId}
 use Rattle.ccb.specs.declared.ccb.Ccb.{Ccb}
 use Rattle.ccb.specs.Ccb.{submitted, started}
+use Rattle.freeze_ledger.specs.Places.{device}
 use Rattle.freeze_ledger.specs.Freezes.{frozen}
 use Rattle.dev_queue.specs.State.{QueueState, live}
 use Rattle.dev_queue.specs.Faults.{insert_fault, start_fault}
 use Rattle.dev_queue.specs.declared.queue_fault.QueueFault.{QueueFault}
 use Rattle.dev_queue.specs.declared.queue_fault.QueueFault.TheVariants as fault
-use Rattle.world.specs.declared.call_refusal.CallRefusal.{CallRefusal}
-use Rattle.world.specs.declared.call_refusal.CallRefusal.TheVariants.{Limit}
+use Rattle.calls.specs.declared.call.Call.TheVariants.{Submit, Dispatch}
+use Rattle.calls.specs.declared.call_answer.CallAnswer.TheVariants as answers
+use Rattle.calls.specs.declared.call_refusal.CallRefusal.{CallRefusal}
+use Rattle.calls.specs.declared.call_refusal.CallRefusal.TheVariants.{Limit, NothingWaits}
 use Rattle.world.specs.declared.ccb_state.CcbState.TheVariants.{Waiting}
 use Rattle.world.specs.World.{Setup, World, queue_count, LiveCcb}
 use Rattle.world.specs.Lookups.{live_count, active_count, with_ccb, next_waiting}
-use Rattle.world.specs.Event.{Reply, ccb_given, refused}
-use Rattle.world.specs.CcbSteps.{ccb_meets_limit, step_submit, starts, step_dispatch}
+use Rattle.world.specs.Event.{Reply, replies, refused}
+use Rattle.world.specs.CcbSteps.{ccb_meets_limit, starts}
+use Rattle.world.specs.Step.{step_call}
 use Rattle.ccb_table.specs.CcbsState.{CcbsState, with_ccbs}
 use Rattle.ccb_table.specs.Listed.{ListState, is_full}
 use Rattle.ccb_table.specs.Queues.{queue_at, queue_state_of}
@@ -41,7 +46,7 @@ no_limit list queues queue world h known roomy open_to =
     let parts = or_parts (nat_le 4096 (length list.live)) (nat_le 4294967295 list.greatest) open_to in
     or_from _ _ (or_from _ _ (subst (λ (n : ℕ). nat_le 256 n ≡ false) (crowd_is list queues queue h known) roomy) parts.0) parts.1
 
-pub submit_limit : (setup : Setup) (world : World) (queue priority retries : ℕ) → queue < queue_count setup → ccb_meets_limit queue world ≡ true → step_submit setup world queue priority retries ≡ (refused Limit, world)
+pub submit_limit : (setup : Setup) (world : World) (queue priority retries : ℕ) → queue < queue_count setup → ccb_meets_limit queue world ≡ true → step_call setup world (Submit (record { 0 = queue }) priority retries) ≡ Some (refused Limit, world)
 submit_limit setup world queue priority retries known limit =
     cond-false (leb (queue_count setup) queue) _ _ (lt-leb _ _ known) ∙ cond-true (ccb_meets_limit queue world) _ _ limit
 
@@ -52,18 +57,22 @@ new_ccb number queue priority retries = record { ccb = submitted (record { 0 = n
 abbrev pub given : World → ℕ → ℕ → ℕ → Reply × World
 given world queue priority retries =
     let number = world.greatest_ccb + 1 in (
-      ccb_given number,
+      replies (answers.Ccb (record { 0 = number })),
       record world { live = world.live ++ new_ccb number queue priority retries ∷ []; greatest_ccb = number },
     )
 
-pub submit_given : (setup : Setup) (world : World) (queue priority retries : ℕ) → queue < queue_count setup → ccb_meets_limit queue world ≡ false → step_submit setup world queue priority retries ≡ given world queue priority retries
+pub submit_given : (setup : Setup) (world : World) (queue priority retries : ℕ) → queue < queue_count setup → ccb_meets_limit queue world ≡ false → step_call setup world (Submit (record { 0 = queue }) priority retries) ≡ Some (given world queue priority retries)
 submit_given setup world queue priority retries known limit =
     cond-false (leb (queue_count setup) queue) _ _ (lt-leb _ _ known) ∙ cond-false (ccb_meets_limit queue world) _ _ limit
 
+-- the next CCB starts, if there is one
+abbrev chosen : World → Option LiveCcb → Option (Reply × World)
+chosen world next = cond (is_none next) (Some (refused NothingWaits, world)) (option_map (starts world) next)
+
 -- where the queue has no fault, its next CCB starts
-pub dispatch_starts : (setup : Setup) (world : World) (queue openings : ℕ) → queue < queue_count setup → get_or world.openings queue 0 ≡ openings → start_fault (frozen queue world.freezes) (queue_state_of queue openings world.live) ≡ None → step_dispatch setup world queue ≡ starts world (next_waiting queue world.live)
+pub dispatch_starts : (setup : Setup) (world : World) (queue openings : ℕ) → queue < queue_count setup → get_or world.openings queue 0 ≡ openings → start_fault (frozen (device queue) world.freezes) (queue_state_of queue openings world.live) ≡ None → step_call setup world (Dispatch (record { 0 = queue })) ≡ chosen world (next_waiting queue world.live)
 dispatch_starts setup world queue openings known openings_are e =
-    elim (cases_eq (frozen queue world.freezes) 0) [
+    elim (cases_eq (frozen (device queue) world.freezes) 0) [
       | inr apart ↦ absurd (let bad : Some fault.Frozen ≡ None = sym (cond-true _ _ _ (not_from_false _ (ne_eqb _ _ apart))) ∙ e in cc)
       | inl none ↦
           let later : cond (leb openings (active_count queue world.live)) (Some fault.NoOpening) (cond (eqb (length (queue_state_of queue openings world.live).waiting) 0) (Some fault.NothingWaits) None) ≡ None =
@@ -72,7 +81,7 @@ dispatch_starts setup world queue openings known openings_are e =
             | inl full ↦ absurd (let bad : Some fault.NoOpening ≡ None = sym (cond-true _ _ _ full) ∙ later in cc)
             | inr room ↦
                 cond-false (leb (queue_count setup) queue) _ _ (lt-leb _ _ known)
-                ∙ (cond-false (ltb 0 (frozen queue world.freezes)) _ _ (le-ltb _ _ (omega (arith, none)))
+                ∙ (cond-false (ltb 0 (frozen (device queue) world.freezes)) _ _ (le-ltb _ _ (omega (arith, none)))
                 ∙ cond-false (leb (get_or world.openings queue 0) (active_count queue world.live)) _ _ (ap (λ (o : ℕ). leb o (active_count queue world.live)) openings_are ∙ room))
           ]
     ]
@@ -98,33 +107,33 @@ roomy_by state e =
       | inr roomy ↦ roomy
     ]
 
-pub crowded_reply : (setup : Setup) (world : World) (list : ListState) (queues after : List QueueState) (queue priority retries : ℕ) (f : QueueFault) (refusal : CallRefusal) → KeepsTable list queues → queue < length queues → queue_count setup ≡ length (map (λ (q : QueueState). q.openings) queues) → insert_fault (queue_at queues queue) ≡ Some f → refusal ≡ refusal_of f → after ≡ queues → step_submit setup (with_ccbs (seen list queues) world) queue priority retries ≡ (refused refusal, with_ccbs (seen list after) world)
+pub crowded_reply : (setup : Setup) (world : World) (list : ListState) (queues after : List QueueState) (queue priority retries : ℕ) (f : QueueFault) (refusal : CallRefusal) → KeepsTable list queues → queue < length queues → queue_count setup ≡ length (map (λ (q : QueueState). q.openings) queues) → insert_fault (queue_at queues queue) ≡ Some f → refusal ≡ refusal_of f → after ≡ queues → step_call setup (with_ccbs (seen list queues) world) (Submit (record { 0 = queue }) priority retries) ≡ Some (refused refusal, with_ccbs (seen list after) world)
 crowded_reply setup world list queues after queue priority retries f refusal h known count e refusal_is after_is =
     let told = crowded_by (queue_at queues queue) f e in
     let is : Limit ≡ refusal = sym (refusal_is ∙ ap refusal_of told.1) in
     submit_limit setup (with_ccbs (seen list queues) world) queue priority retries (known_to setup queues queue known count) (crowded_limit list queues queue world h known told.0)
-    ∙ (ap (λ (r : CallRefusal). (refused r, with_ccbs (seen list queues) world)) is
-    ∙ ap (λ (qs : List QueueState). (refused refusal, with_ccbs (seen list qs) world)) (sym after_is))
+    ∙ (ap (λ (r : CallRefusal). let x : Option (Reply × World) = Some (refused r, with_ccbs (seen list queues) world) in x) is
+    ∙ ap (λ (qs : List QueueState). let x : Option (Reply × World) = Some (refused refusal, with_ccbs (seen list qs) world) in x) (sym after_is))
 
 -- the answer with this number, and the world with the CCB
-abbrev answered : World → ListState → List QueueState → ℕ → ℕ → ℕ → ℕ → Reply × World
+abbrev answered : World → ListState → List QueueState → ℕ → ℕ → ℕ → ℕ → Option (Reply × World)
 answered world list queues queue priority retries number =
-    (ccb_given number, with_ccbs (seen (listed_as number (list.live ++ new_ccb number queue priority retries ∷ [])) queues) world)
+    Some (replies (answers.Ccb (record { 0 = number })), with_ccbs (seen (listed_as number (list.live ++ new_ccb number queue priority retries ∷ [])) queues) world)
 
-abbrev with_number : World → ℕ → CcbsState → Reply × World
-with_number world number state = (ccb_given number, with_ccbs state world)
+abbrev with_number : World → CcbId → CcbsState → Option (Reply × World)
+with_number world number state = Some (replies (answers.Ccb number), with_ccbs state world)
 
-pub submit_reply : (setup : Setup) (world : World) (list after : ListState) (queues queues_after : List QueueState) (queue priority retries number : ℕ) → KeepsTable list queues → queue < length queues → queue_count setup ≡ length (map (λ (q : QueueState). q.openings) queues) → nat_le 256 (live (queue_at queues queue)) ≡ false → is_full list ≡ false → number ≡ list.greatest + 1 → seen after queues_after ≡ seen (listed_as number (list.live ++ new_ccb number queue priority retries ∷ [])) queues → step_submit setup (with_ccbs (seen list queues) world) queue priority retries ≡ (ccb_given number, with_ccbs (seen after queues_after) world)
+pub submit_reply : (setup : Setup) (world : World) (list after : ListState) (queues queues_after : List QueueState) (queue priority retries number : ℕ) → KeepsTable list queues → queue < length queues → queue_count setup ≡ length (map (λ (q : QueueState). q.openings) queues) → nat_le 256 (live (queue_at queues queue)) ≡ false → is_full list ≡ false → number ≡ list.greatest + 1 → seen after queues_after ≡ seen (listed_as number (list.live ++ new_ccb number queue priority retries ∷ [])) queues → step_call setup (with_ccbs (seen list queues) world) (Submit (record { 0 = queue }) priority retries) ≡ Some (replies (answers.Ccb (record { 0 = number })), with_ccbs (seen after queues_after) world)
 submit_reply setup world list after queues queues_after queue priority retries number h known count roomy open_to number_is seen_is =
     submit_given setup (with_ccbs (seen list queues) world) queue priority retries (known_to setup queues queue known count) (no_limit list queues queue world h known roomy open_to)
-    ∙ (ap (answered world list queues queue priority retries) (sym number_is) ∙ ap (with_number world number) (sym seen_is))
+    ∙ (ap (answered world list queues queue priority retries) (sym number_is) ∙ ap (with_number world (record { 0 = number })) (sym seen_is))
 
-pub dispatch_reply : (setup : Setup) (world : World) (list after : ListState) (queues queues_after : List QueueState) (queue freezes : ℕ) (number : CcbId) (next : LiveCcb) (ccb : Ccb) → KeepsTable list queues → queue < length queues → queue_count setup ≡ length (map (λ (q : QueueState). q.openings) queues) → freezes ≡ frozen queue world.freezes → start_fault freezes (queue_at queues queue) ≡ None → Dispatched queue list number next ccb → seen after queues_after ≡ seen (listed_as list.greatest (with_ccb (as_active (started next.ccb)) list.live)) queues → step_dispatch setup (with_ccbs (seen list queues) world) queue ≡ (ccb_given number.0, with_ccbs (seen after queues_after) world)
+pub dispatch_reply : (setup : Setup) (world : World) (list after : ListState) (queues queues_after : List QueueState) (queue freezes : ℕ) (number : CcbId) (next : LiveCcb) (ccb : Ccb) → KeepsTable list queues → queue < length queues → queue_count setup ≡ length (map (λ (q : QueueState). q.openings) queues) → freezes ≡ frozen (device queue) world.freezes → start_fault freezes (queue_at queues queue) ≡ None → Dispatched queue list number next ccb → seen after queues_after ≡ seen (listed_as list.greatest (with_ccb (as_active (started next.ccb)) list.live)) queues → step_call setup (with_ccbs (seen list queues) world) (Dispatch (record { 0 = queue })) ≡ Some (replies (answers.Ccb number), with_ccbs (seen after queues_after) world)
 dispatch_reply setup world list after queues queues_after queue freezes number next ccb h known count freezes_are no_fault d seen_is =
-    let fault_is : start_fault (frozen queue world.freezes) (queue_state_of queue (queue_at queues queue).openings list.live) ≡ None =
+    let fault_is : start_fault (frozen (device queue) world.freezes) (queue_state_of queue (queue_at queues queue).openings list.live) ≡ None =
     subst (λ (f : ℕ). start_fault f (queue_state_of queue (queue_at queues queue).openings list.live) ≡ None) freezes_are
     (subst (λ (q : QueueState). start_fault freezes q ≡ None) (h.told queue known) no_fault) in
     dispatch_starts setup (with_ccbs (seen list queues) world) queue (queue_at queues queue).openings (known_to setup queues queue known count) (openings_at queues queue) fault_is
-    ∙ (ap (starts (with_ccbs (seen list queues) world)) d.next_is
-    ∙ (ap (λ (n : CcbId). with_number world n.0 (seen (listed_as list.greatest (with_ccb (as_active (started next.ccb)) list.live)) queues)) d.number_is
-    ∙ ap (with_number world number.0) (sym seen_is)))
+    ∙ (ap (chosen (with_ccbs (seen list queues) world)) d.next_is
+    ∙ (ap (λ (n : CcbId). with_number world n (seen (listed_as list.greatest (with_ccb (as_active (started next.ccb)) list.live)) queues)) d.number_is
+    ∙ ap (with_number world number) (sym seen_is)))

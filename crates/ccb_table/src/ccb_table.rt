@@ -8,19 +8,22 @@ ghost use Rattle.world.specs.declared.ccb_state.CcbState.TheVariants.{Waiting, I
 ghost use Rattle.world.specs.World.{Setup, World, queue_count, LiveCcb as WorldCcb};
 ghost use Rattle.world.specs.Capacities.{most_queues, most_ccbs};
 ghost use Rattle.world.specs.Lookups.{is_waiting, is_active, ccb_of, with_ccb};
-ghost use Rattle.world.specs.CcbSteps.{step_submit, step_dispatch};
+ghost use Rattle.calls.specs.declared.call.Call.TheVariants.{Submit, Dispatch};
+ghost use Rattle.calls.specs.Answered.{ccb_answer};
+ghost use Rattle.world.specs.Event.{replies};
+ghost use Rattle.world.specs.Step.{step_call};
 ghost use Rattle.world.specs.QueueInfo.{queue_info};
-ghost use Rattle.world.specs.Flat.{ccb_reply};
 ghost use Rattle.ccb_table.specs.CcbsState.{CcbsState, no_ccbs, with_ccbs};
 
 use crate::ccb_list::CcbList;
 use crate::live_ccb::LiveCcb;
 use crate::queue_list::{QueueList, refusal};
+use calls::CallRefusal;
 use ccb::{Ccb, CcbId, QueueId};
-use freeze_ledger::Ledger;
+use freeze_ledger::{Ledger, Place};
 use std::alloc::{AllocError, Global};
 use std::marker::Model;
-use world::{CallRefusal, CcbState, QueueInfo};
+use world::{CcbState, QueueInfo};
 
 /// The live CCBs of all device queues, at most 4096 and 256 a queue, of at most 64 queues. Contracts see the CCBs in
 /// the order of their numbers, the openings of each queue, and the greatest number that was given.
@@ -72,7 +75,7 @@ impl CcbTable {
         priority: u32,
         retries: u32,
     ) -> Result<CcbId, CallRefusal>
-        ensures step { (setup : Setup) (world : World) → queue_count setup ≡ length self.old.openings → step_submit setup (with_ccbs self.old world) queue.0 priority retries ≡ (ccb_reply result, with_ccbs self.new world) }
+        ensures step { (setup : Setup) (world : World) → queue_count setup ≡ length self.old.openings → step_call setup (with_ccbs self.old world) (Submit queue priority retries) ≡ Some (replies (ccb_answer result), with_ccbs self.new world) }
     {
         if queue.0 as usize >= self.queues.len() {
             return Err(CallRefusal::Unknown);
@@ -96,12 +99,12 @@ impl CcbTable {
     /// as it has openings, Q4 where none waits. A refusal changes nothing.
     pub fn dispatch(&mut self, queue: QueueId, ledger: &Ledger) -> Result<CcbId, CallRefusal>
         requires { ledger.now.queues ≡ length self.old.openings }
-        ensures step { (setup : Setup) (world : World) → queue_count setup ≡ length self.old.openings → world.freezes ≡ ledger.now.freezes → step_dispatch setup (with_ccbs self.old world) queue.0 ≡ (ccb_reply result, with_ccbs self.new world) }
+        ensures step { (setup : Setup) (world : World) → queue_count setup ≡ length self.old.openings → world.freezes ≡ ledger.now.freezes → step_call setup (with_ccbs self.old world) (Dispatch queue) ≡ Some (replies (ccb_answer result), with_ccbs self.new world) }
     {
         if queue.0 as usize >= self.queues.len() {
             return Err(CallRefusal::Unknown);
         }
-        let freezes = ledger.count(queue);
+        let freezes = ledger.count(Place::Device(queue));
         match self.queues.start(queue, freezes) {
             Err(fault) => Err(refusal(fault)),
             Ok(number) => {
@@ -171,7 +174,7 @@ impl CcbTable {
         let own = self.queues.get(queue);
         let (waiting, active, _) = own.counts();
         QueueInfo {
-            frozen: ledger.count(queue),
+            frozen: ledger.count(Place::Device(queue)),
             active,
             waiting,
             openings: u32::from(own.openings()),

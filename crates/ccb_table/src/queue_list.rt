@@ -8,11 +8,11 @@ ghost use Rattle.dev_queue.specs.Faults.{insert_fault, start_fault};
 ghost use Rattle.ccb_table.specs.Queues.{queue_at, with_gone};
 ghost use Rattle.ccb_table.specs.Refusals.{refusal_of};
 
+use calls::CallRefusal;
 use ccb::{CcbId, QueueId};
 use dev_queue::{DevQueue, Frozen, QueueFault};
 use std::alloc::{AllocError, Global};
 use std::marker::Model;
-use world::CallRefusal;
 
 /// A queue that is frozen so many times.
 #[derive(Drop)]

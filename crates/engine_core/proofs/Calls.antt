@@ -17,6 +17,8 @@ use Rattle.helpers.specs.declared.columns.Tells.{Tells}
 use Rattle.helpers.specs.declared.table.Deed.{Deed}
 use Rattle.helpers.specs.declared.table.Deed.TheVariants as deeds
 use Rattle.helpers.specs.declared.limits.HelperLimits.{HelperLimits}
+use Rattle.freeze_ledger.specs.declared.place.Place.TheVariants.{Device}
+use Rattle.freeze_ledger.specs.Places.{device}
 use Rattle.helpers.specs.declared.request.Request.{Request}
 use Rattle.helpers.specs.declared.request.Answer.{Answer}
 use Rattle.helpers.specs.Table.{row_of, answer_number}
@@ -31,7 +33,7 @@ use Rattle.recoveries.specs.RunPlaces.{HasRunAt, HoldsFreeze}
 use Rattle.table_store.specs.Tables.{HasWord, with_word, word_at}
 use Rattle.world.specs.declared.ccb_state.CcbState.TheVariants.{Waiting, InRecovery}
 use Rattle.world.specs.declared.queue_info.QueueInfo.{QueueInfo as Info}
-use Rattle.world.specs.declared.record.Record.{Record}
+use Rattle.calls.specs.declared.record.Record.{Record}
 use Rattle.world.specs.Capacities.{last_reading, most_openings}
 use Rattle.world.specs.Limits.{AnswerLimits}
 use Rattle.world.specs.World.{Setup, queue_count, LiveCcb, LiveRun, World}
@@ -61,17 +63,17 @@ use Rattle.engine_core.proofs.StopEnds.{arrival, rule_of, room_of}
 
 -- what the taking of a freeze left
 data Took (old after : RecoveryState) (run : ℕ) (queue : QueueId) (answer : ℕ) : Type 0 where
-  took_none : meets_limit queue.0 old.freezes old.greatest_freeze ≡ true → answer ≡ 0 → after ≡ old → Took old after run queue answer
-  took_one : meets_limit queue.0 old.freezes old.greatest_freeze ≡ false → answer ≡ old.greatest_freeze + 1 → after ≡ record old { freezes = old.freezes ++ record { number = old.greatest_freeze + 1; queue = queue; holder = Run run } ∷ []; greatest_freeze = old.greatest_freeze + 1 } → Took old after run queue answer
+  took_none : meets_limit (Device queue) old.freezes old.greatest_freeze ≡ true → answer ≡ 0 → after ≡ old → Took old after run queue answer
+  took_one : meets_limit (Device queue) old.freezes old.greatest_freeze ≡ false → answer ≡ old.greatest_freeze + 1 → after ≡ record old { freezes = old.freezes ++ record { number = old.greatest_freeze + 1; place = Device queue; holder = Run run } ∷ []; greatest_freeze = old.greatest_freeze + 1 } → Took old after run queue answer
 
 took : (old after : RecoveryState) (run : ℕ) (queue : QueueId) (answer : ℕ) → (answer, after) ≡ taken_for old run queue → Took old after run queue answer
 took old after run queue answer e =
-    elim (cases_Bool (meets_limit queue.0 old.freezes old.greatest_freeze)) [
+    elim (cases_Bool (meets_limit (Device queue) old.freezes old.greatest_freeze)) [
       | inl full ↦
-          let is = e ∙ cond-true (meets_limit queue.0 old.freezes old.greatest_freeze) _ _ full in
+          let is = e ∙ cond-true (meets_limit (Device queue) old.freezes old.greatest_freeze) _ _ full in
           took_none full (ap (λ (p : ℕ × RecoveryState). p.0) is) (ap (λ (p : ℕ × RecoveryState). p.1) is)
       | inr free ↦
-          let is = e ∙ cond-false (meets_limit queue.0 old.freezes old.greatest_freeze) _ _ free in
+          let is = e ∙ cond-false (meets_limit (Device queue) old.freezes old.greatest_freeze) _ _ free in
           took_one free (ap (λ (p : ℕ × RecoveryState). p.0) is) (ap (λ (p : ℕ × RecoveryState). p.1) is)
     ]
 
@@ -150,7 +152,7 @@ module _ (ccbs : CcbsState) (old : RecoveryState) (place : ℕ) (segment : Segme
   new_freeze number answer after queue a (took_none full answer_is after_is) = inl answer_is
   new_freeze number answer after queue a (took_one free answer_is after_is) =
       let sound = kept_sound a.setup a.history ccbs old a.kept in
-      let room = room_from queue.0 old.freezes old.greatest_freeze free in
+      let room = room_from (Device queue) old.freezes old.greatest_freeze free in
       let fresh : is_held segment.to.held (old.greatest_freeze + 1) ≡ false =
       ap (λ (ns : List ℕ). is_held ns (old.greatest_freeze + 1)) (held_are number a)
       ∙ none_above a.out.it.number (old.greatest_freeze + 1) old.freezes old.greatest_freeze sound.kept.freezes.numbered (omega arith) in
@@ -163,18 +165,18 @@ module _ (ccbs : CcbsState) (old : RecoveryState) (place : ℕ) (segment : Segme
       record {
         world = before;
         step = deed_step before standing request deeds.Freeze deed
-            ∙ (ap Some (cond-true (meets_limit request.arguments.first old.freezes old.greatest_freeze) _ _ full
+            ∙ (ap Some (cond-true (meets_limit (device request.arguments.first) old.freezes old.greatest_freeze) _ _ full
             ∙ ap (λ (n : ℕ). answers before standing request (answer_number n)) (sym answer_is)));
         fields = ap (λ (r : RecoveryState). with_ccbs ccbs (with_recoveries (record r { runs = with_run standing r.runs }) before)) (sym after_is);
       }
   takes_so request answer after setup history run deed (took_one free answer_is after_is) =
       let standing : LiveRun = at_stop run segment in
       let before : World = between setup history run in
-      let end : World = froze before request.arguments.first (Run run.number) in
+      let end : World = froze before (device request.arguments.first) (Run run.number) in
       record {
         world = end;
         step = deed_step before standing request deeds.Freeze deed
-            ∙ (ap Some (cond-false (meets_limit request.arguments.first old.freezes old.greatest_freeze) _ _ free
+            ∙ (ap Some (cond-false (meets_limit (device request.arguments.first) old.freezes old.greatest_freeze) _ _ free
             ∙ ap (λ (n : ℕ). answers end standing request (answer_number n)) (sym answer_is)));
         fields = ap (λ (r : RecoveryState). with_ccbs ccbs (with_recoveries (record r { runs = with_run standing r.runs }) end)) (sym after_is);
       }

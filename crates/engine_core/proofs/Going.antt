@@ -8,9 +8,9 @@ use Rattle.ccb_table.specs.CcbsState.{CcbsState}
 use Rattle.recoveries.specs.RecoveryState.{RecoveryState}
 use Rattle.recoveries.specs.RunPlaces.{HasRunAt}
 use Rattle.recoveries.specs.Admits.{IsOutAs}
-use Rattle.world.specs.declared.record.Record.{Record}
-use Rattle.world.specs.declared.record.Record.TheVariants.{Advance}
-use Rattle.world.specs.declared.record.StoppedAt.{StoppedAt}
+use Rattle.calls.specs.declared.record.Record.{Record}
+use Rattle.calls.specs.declared.record.Record.TheVariants.{Advance}
+use Rattle.calls.specs.declared.record.StoppedAt.{StoppedAt}
 use Rattle.helpers.specs.declared.request.Request.{Request}
 use Rattle.bpf_semantics.specs.declared.stop.Stop.{Stop}
 use Rattle.bpf_semantics.specs.declared.stop.Stop.TheVariants.{Helper}

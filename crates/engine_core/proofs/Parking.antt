@@ -1,53 +1,62 @@
 -- Where a run is parked or goes on: to an engine with one record more, which has room for the park of each run that is out.
-use Rattle.std.proofs.Common.{◌≡◌, ℕ, ◌+◌, ◌<◌, ◌≤◌, Bool, true, false, cond, List, [], ◌∷◌, ◌++◌, map, Ok, Err, Option, Some, None, refl, ap, sym, subst, ◌∙◌, arith}
+use Rattle.std.proofs.Common.{◌≡◌, ℕ, ◌+◌, ◌<◌, ◌≤◌, Bool, true, false, cond, List, [], ◌∷◌, ◌++◌, map, not, Option, Some, None, refl, ap, sym, subst, ◌∙◌, arith}
+use Rattle.std.specs.Option.{option_map}
 use Rattle.std.proofs.lemmas.Bool.{cond-true, cond-false}
 use Rattle.ccb.specs.Rising.{AreRising}
 use Rattle.ccb_table.specs.CcbsState.{CcbsState, with_ccbs}
 use Rattle.recoveries.specs.RecoveryState.{RecoveryState, with_recoveries}
-use Rattle.world.specs.declared.record.Record.{Record}
-use Rattle.world.specs.declared.record.Record.TheVariants.{Park, Resume}
-use Rattle.world.specs.declared.call_refusal.CallRefusal.TheVariants.{Unknown}
+use Rattle.calls.specs.declared.record.Record.{Record}
+use Rattle.calls.specs.declared.call.Call.TheVariants.{Park, Resume}
+use Rattle.calls.specs.declared.call_answer.CallAnswer.TheVariants as answers
+use Rattle.calls.specs.declared.record.Record.TheVariants.{Called}
+use Rattle.calls.specs.declared.call_refusal.CallRefusal.TheVariants.{Unknown}
 use Rattle.bpf_semantics.specs.Reached.{Reached}
 use Rattle.world.specs.World.{LiveRun, Setup, World, queue_count, queue_setup}
 use Rattle.world.specs.Lookups.{run_of, with_run}
-use Rattle.world.specs.Event.{parks, resumes, ok, refused}
-use Rattle.world.specs.ParkSteps.{step_parks, step_resumes, with_out}
+use Rattle.world.specs.Event.{Reply, replies, refused}
+use Rattle.world.specs.ParkSteps.{parks, resumes, with_out}
+use Rattle.world.specs.Refusals.{is_parked, unless_refused}
 use Rattle.world.proofs.Lists.Each.{all_found}
 use Rattle.world.proofs.Lists.Found.{found_key, put_same}
 use Rattle.world.proofs.Lists.Rising.{count_put, found_counts}
 use Rattle.world.proofs.Steps.Moves.{run_key, run_found}
 use Rattle.engine_core.specs.EngineState.{world_of}
 use Rattle.engine_core.specs.Invariant.{HasRoom, KeepsEngine}
-use Rattle.engine_core.proofs.Recording.{Goes, goes_once, kept_sound}
+use Rattle.engine_core.proofs.Recording.{Goes, kept_sound}
+use Rattle.engine_core.proofs.OneMore.{calls_once}
 
 -- the runs where this one is out or parked
 abbrev pub with_out_run : LiveRun → Bool → RecoveryState → RecoveryState
 with_out_run it out recoveries = record recoveries { runs = with_run (record it { out = out }) recoveries.runs }
 
-pub parks_run : (setup : Setup) (history later : List Record) (ccbs : CcbsState) (recoveries after : RecoveryState) (number : ℕ) (it : LiveRun) → KeepsEngine setup history ccbs recoveries → later ≡ history ++ Park number ∷ [] → run_of number recoveries.runs ≡ Some it → it.out ≡ true → after ≡ with_out_run it false recoveries → Goes setup history later ccbs ccbs recoveries after (Park number)
+pub parks_run : (setup : Setup) (history later : List Record) (ccbs : CcbsState) (recoveries after : RecoveryState) (number : ℕ) (it : LiveRun) → KeepsEngine setup history ccbs recoveries → later ≡ history ++ Called answers.Ok (Park number) ∷ [] → run_of number recoveries.runs ≡ Some it → it.out ≡ true → after ≡ with_out_run it false recoveries → Goes setup history later ccbs ccbs recoveries after (Called answers.Ok (Park number))
 parks_run setup history later ccbs recoveries after number it kept is found out same =
     let before : World = world_of setup history ccbs recoveries in
-    goes_once setup history later ccbs ccbs recoveries after (Park number) (parks number) ok (with_out before it false) kept is (ap (λ (r : RecoveryState). r.queues) same) refl
-    (ap (step_parks before) found ∙ cond-true it.out (Some (ok, with_out before it false)) None out)
+    calls_once setup history later ccbs ccbs recoveries after (Park number) answers.Ok (with_out before it false) kept is (ap (λ (r : RecoveryState). r.queues) same)
+    (ap (parks before) found ∙ cond-true it.out (Some (replies answers.Ok, with_out before it false)) None out)
     (sym (ap (λ (r : RecoveryState). with_ccbs ccbs (with_recoveries r (with_out before it false))) same))
 
-pub resumes_run : (setup : Setup) (history later : List Record) (ccbs : CcbsState) (recoveries after : RecoveryState) (number : ℕ) (it : LiveRun) → KeepsEngine setup history ccbs recoveries → later ≡ history ++ Resume number (Ok tt) ∷ [] → run_of number recoveries.runs ≡ Some it → it.out ≡ false → after ≡ with_out_run it true recoveries → Goes setup history later ccbs ccbs recoveries after (Resume number (Ok tt))
+-- what is answered to a resume of this run, if there is one
+abbrev resumed : World → Option LiveRun → Option (Reply × World)
+resumed before it = unless_refused ((not (is_parked it), Unknown) ∷ []) before (option_map (resumes before) it)
+
+pub resumes_run : (setup : Setup) (history later : List Record) (ccbs : CcbsState) (recoveries after : RecoveryState) (number : ℕ) (it : LiveRun) → KeepsEngine setup history ccbs recoveries → later ≡ history ++ Called answers.Ok (Resume number) ∷ [] → run_of number recoveries.runs ≡ Some it → it.out ≡ false → after ≡ with_out_run it true recoveries → Goes setup history later ccbs ccbs recoveries after (Called answers.Ok (Resume number))
 resumes_run setup history later ccbs recoveries after number it kept is found out same =
     let before : World = world_of setup history ccbs recoveries in
-    goes_once setup history later ccbs ccbs recoveries after (Resume number (Ok tt)) (resumes number) ok (with_out before it true) kept is (ap (λ (r : RecoveryState). r.queues) same) refl
-    (ap Some (ap (step_resumes before) found ∙ cond-false it.out (refused Unknown, before) (ok, with_out before it true) out))
+    calls_once setup history later ccbs ccbs recoveries after (Resume number) answers.Ok (with_out before it true) kept is (ap (λ (r : RecoveryState). r.queues) same)
+    (ap (resumed before) found ∙ cond-false (not (not it.out)) _ _ (ap (λ (b : Bool). not (not b)) out))
     (sym (ap (λ (r : RecoveryState). with_ccbs ccbs (with_recoveries r (with_out before it true))) same))
 
 -- no run of that number is parked
-none_resumes : (before : World) (o : Option LiveRun) → ((it : LiveRun) → o ≡ Some it → it.out ≡ true) → step_resumes before o ≡ (refused Unknown, before)
+none_resumes : (before : World) (o : Option LiveRun) → ((it : LiveRun) → o ≡ Some it → it.out ≡ true) → resumed before o ≡ Some (refused Unknown, before)
 none_resumes before None none = refl
-none_resumes before (Some it) none = cond-true it.out (refused Unknown, before) (ok, with_out before it true) (none it refl)
+none_resumes before (Some it) none = cond-true (not (not it.out)) _ _ (ap (λ (b : Bool). not (not b)) (none it refl))
 
-pub resumes_none : (setup : Setup) (history later : List Record) (ccbs : CcbsState) (recoveries : RecoveryState) (number : ℕ) → KeepsEngine setup history ccbs recoveries → later ≡ history ++ Resume number (Err Unknown) ∷ [] → ((it : LiveRun) → run_of number recoveries.runs ≡ Some it → it.out ≡ true) → Goes setup history later ccbs ccbs recoveries recoveries (Resume number (Err Unknown))
+pub resumes_none : (setup : Setup) (history later : List Record) (ccbs : CcbsState) (recoveries : RecoveryState) (number : ℕ) → KeepsEngine setup history ccbs recoveries → later ≡ history ++ Called (answers.Refused Unknown) (Resume number) ∷ [] → ((it : LiveRun) → run_of number recoveries.runs ≡ Some it → it.out ≡ true) → Goes setup history later ccbs ccbs recoveries recoveries (Called (answers.Refused Unknown) (Resume number))
 resumes_none setup history later ccbs recoveries number kept is none =
     let before : World = world_of setup history ccbs recoveries in
-    goes_once setup history later ccbs ccbs recoveries recoveries (Resume number (Err Unknown)) (resumes number) (refused Unknown) before kept is refl refl
-    (ap Some (none_resumes before (run_of number recoveries.runs) none)) refl
+    calls_once setup history later ccbs ccbs recoveries recoveries (Resume number) (answers.Refused Unknown) before kept is refl
+    (none_resumes before (run_of number recoveries.runs) none) refl
 
 -- there is room for the record of the park of a run that is out
 pub room_to_park : (records capacity number : ℕ) (runs : List LiveRun) (it : LiveRun) → HasRoom records capacity runs → run_of number runs ≡ Some it → it.out ≡ true → records + 1 ≤ capacity

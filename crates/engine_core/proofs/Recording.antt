@@ -4,7 +4,7 @@ use Rattle.std.proofs.lemmas.List.Concat.{flat_map-append}
 use Rattle.std.proofs.Common.{append-nil}
 use Rattle.ccb_table.specs.CcbsState.{CcbsState, with_ccbs}
 use Rattle.recoveries.specs.RecoveryState.{RecoveryState, with_recoveries}
-use Rattle.world.specs.declared.record.Record.{Record}
+use Rattle.calls.specs.declared.record.Record.{Record}
 use Rattle.world.specs.World.{Setup, World, queue_count, opening}
 use Rattle.world.specs.Event.{Event, Reply}
 use Rattle.world.specs.Step.{WorldStep}

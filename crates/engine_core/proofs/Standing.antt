@@ -17,7 +17,7 @@ use Rattle.world.specs.Lawful.{IsLawful}
 use Rattle.world.specs.Lookups.{run_of}
 use Rattle.world.specs.Told.{told_of}
 use Rattle.world.specs.Event.{call, exit, executes, Reply, result}
-use Rattle.world.specs.RunSteps.{is_run, ends, step_request, may_call, step_call, step_run, step_executes}
+use Rattle.world.specs.RunSteps.{is_run, ends, step_request, may_call, step_helper, step_run, step_executes}
 use Rattle.world.specs.Step.{WorldStep}
 use Rattle.world.specs.FreezeLaws.{entries_of}
 use Rattle.world.proofs.Lists.Entries.{entry_bounds}
@@ -69,7 +69,7 @@ pub call_step : (setup : Setup) (world : World) (run : LiveRun) (request : Reque
 call_step setup world run request p found out call_is rule leads =
     ap (step_executes setup.limits world (call (told_of request))) found
     ∙ (cond-true run.out (step_run setup.limits world run (call (told_of request))) None out
-    ∙ (ap (option_and_then (step_call setup.limits world run (told_of request))) call_is
+    ∙ (ap (option_and_then (step_helper setup.limits world run (told_of request))) call_is
     ∙ (cond-true (may_call setup.limits run (told_of request) request) (step_request world run request) None (and_from _ _ (told_itself (told_of request)) rule) ∙ leads)))
 
 -- its exit is a step

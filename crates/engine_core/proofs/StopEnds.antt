@@ -22,9 +22,9 @@ use Rattle.interpreter.specs.Segments.{SegmentState, IsSegment, StandsAt}
 use Rattle.ccb_table.specs.CcbsState.{CcbsState}
 use Rattle.recoveries.specs.RecoveryState.{RecoveryState}
 use Rattle.recoveries.specs.RunPlaces.{HasRunAt}
-use Rattle.world.specs.declared.record.Record.{Record}
-use Rattle.world.specs.declared.record.Record.TheVariants.{Advance}
-use Rattle.world.specs.declared.record.StoppedAt.TheVariants.{Exit as at_exit_stop}
+use Rattle.calls.specs.declared.record.Record.{Record}
+use Rattle.calls.specs.declared.record.Record.TheVariants.{Advance}
+use Rattle.calls.specs.declared.record.StoppedAt.TheVariants.{Exit as at_exit_stop}
 use Rattle.world.specs.World.{Setup, LiveRun, World}
 use Rattle.world.specs.Lookups.{run_of, with_run}
 use Rattle.world.specs.Flat.{events_of}

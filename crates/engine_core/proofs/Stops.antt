@@ -15,9 +15,9 @@ use Rattle.ccb_table.specs.CcbsState.{CcbsState, with_ccbs}
 use Rattle.recoveries.specs.RecoveryState.{RecoveryState, with_recoveries}
 use Rattle.recoveries.specs.Admits.{IsOutAs}
 use Rattle.bpf_insn.specs.declared.program.Slot.{Slot}
-use Rattle.world.specs.declared.record.StoppedAt.{StoppedAt}
-use Rattle.world.specs.declared.record.StoppedAt.TheVariants.{Exit as at_exit_stop}
-use Rattle.world.specs.declared.record.Record.TheVariants.{Advance}
+use Rattle.calls.specs.declared.record.StoppedAt.{StoppedAt}
+use Rattle.calls.specs.declared.record.StoppedAt.TheVariants.{Exit as at_exit_stop}
+use Rattle.calls.specs.declared.record.Record.TheVariants.{Advance}
 use Rattle.world.specs.World.{Setup, LiveRun, World}
 use Rattle.world.specs.Lawful.{IsLawful}
 use Rattle.world.specs.Lookups.{run_of, with_run}

@@ -8,10 +8,10 @@ use Rattle.helpers.specs.Table.{row_of}
 use Rattle.bpf_semantics.specs.declared.stop.Stop.{Stop}
 use Rattle.bpf_semantics.specs.declared.stop.Stop.TheVariants.{Helper as at_helper, Exit as at_exit}
 use Rattle.interpreter.specs.Segments.{SegmentState}
-use Rattle.world.specs.declared.record.Completed.{Completed}
-use Rattle.world.specs.declared.record.Completed.TheVariants.{Done as is_done, Started as is_started}
-use Rattle.world.specs.declared.record.StoppedAt.{StoppedAt}
-use Rattle.world.specs.declared.record.StoppedAt.TheVariants.{Helper, Trace, Finish, Exit}
+use Rattle.calls.specs.declared.call_answer.CallAnswer.{CallAnswer}
+use Rattle.calls.specs.declared.call_answer.CallAnswer.TheVariants as answers
+use Rattle.calls.specs.declared.record.StoppedAt.{StoppedAt}
+use Rattle.calls.specs.declared.record.StoppedAt.TheVariants.{Helper, Trace, Finish, Exit}
 use Rattle.world.specs.Told.{Told, plain, traces, finishes, told_of}
 use Rattle.world.specs.World.{Setup, World}
 use Rattle.engine_core.specs.declared.answers.CompleteAnswer.{CompleteAnswer}
@@ -21,9 +21,9 @@ use Rattle.engine_core.specs.declared.answers.AdvanceAnswer.TheVariants.{Goes, E
 use Rattle.engine_core.specs.RunState.{RunState, IsOut, IsOutUnder}
 
 -- what is recorded of an answered completion
-abbrev pub completed_of : CompleteAnswer → Completed
-completed_of Done = is_done
-completed_of (Started run freeze) = is_started run.number freeze
+abbrev pub completed_of : CompleteAnswer → CallAnswer
+completed_of Done = answers.Done
+completed_of (Started run freeze) = answers.Started run.number freeze
 
 -- the run that a completion started is out, with the recorded program
 abbrev pub StartsOut : Setup → World → CompleteAnswer → Type 0

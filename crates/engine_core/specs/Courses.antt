@@ -5,7 +5,8 @@ use Rattle.ccb.specs.Completion.{Outcome}
 use Rattle.world.specs.declared.ccb_state.CcbState.TheVariants.{Active}
 use Rattle.world.specs.World.{Setup, World}
 use Rattle.world.specs.Lookups.{ccb_of}
-use Rattle.world.specs.Event.{Reply, done, refused}
+use Rattle.calls.specs.declared.call_answer.CallAnswer.TheVariants as answers
+use Rattle.world.specs.Event.{Reply, replies, refused}
 use Rattle.world.specs.CcbSteps.{run_meets_limit, finishes, recovers}
 use Rattle.engine_core.specs.declared.course.Course.{Course}
 use Rattle.engine_core.specs.declared.course.Course.TheVariants.{Refuse, Finish, Recover}
@@ -13,7 +14,7 @@ use Rattle.engine_core.specs.declared.course.Course.TheVariants.{Refuse, Finish,
 -- where each course leads
 abbrev pub takes : Setup → World → Outcome → Course → Reply × World
 takes setup world outcome (Refuse refusal) = (refused refusal, world)
-takes setup world outcome (Finish ccb) = (done, finishes world ccb outcome.status)
+takes setup world outcome (Finish ccb) = (replies answers.Done, finishes world ccb outcome.status)
 takes setup world outcome (Recover ccb) = recovers setup world ccb outcome
 
 -- the CCB is the one that is completed, and active

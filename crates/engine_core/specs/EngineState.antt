@@ -3,7 +3,7 @@ use Rattle.std.specs.Prelude.{◌≡◌, true, List, [], ◌∷◌, ◌++◌, Co
 use Rattle.freeze_ledger.specs.declared.freeze.Freeze.{Freeze}
 use Rattle.ccb_table.specs.CcbsState.{CcbsState, with_ccbs}
 use Rattle.recoveries.specs.RecoveryState.{RecoveryState, with_recoveries}
-use Rattle.world.specs.declared.record.Record.{Record}
+use Rattle.calls.specs.declared.record.Record.{Record}
 use Rattle.world.specs.World.{Setup, World, opening}
 use Rattle.world.specs.Lawful.{IsLawful}
 use Rattle.world.specs.FreezeSteps.{is_guest}

@@ -2,7 +2,7 @@
 use Rattle.std.specs.Prelude.{◌≡◌, ℕ, ◌+◌, ◌≤◌, List, count_by}
 use Rattle.ccb_table.specs.CcbsState.{CcbsState}
 use Rattle.recoveries.specs.RecoveryState.{RecoveryState}
-use Rattle.world.specs.declared.record.Record.{Record}
+use Rattle.calls.specs.declared.record.Record.{Record}
 use Rattle.world.specs.World.{Setup, LiveRun, queue_count}
 use Rattle.engine_core.specs.EngineState.{world_of, IsRun}
 

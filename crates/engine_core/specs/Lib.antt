@@ -14,3 +14,4 @@ pub mod RunState
 pub mod Answers
 pub mod Courses
 pub mod TakingOver
+pub mod Replies

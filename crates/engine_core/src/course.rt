@@ -6,19 +6,22 @@ ghost use Rattle.ccb.specs.Completion.{IsCompletion};
 ghost use Rattle.ccb_table.specs.CcbsState.{with_ccbs};
 ghost use Rattle.recoveries.specs.RecoveryState.{with_recoveries};
 ghost use Rattle.world.specs.World.{Setup, World, queue_count};
-ghost use Rattle.world.specs.Event.{run_started};
-ghost use Rattle.world.specs.CcbSteps.{is_success, run_meets_limit, recovers, step_complete};
+ghost use Rattle.calls.specs.declared.call.Call.TheVariants.{Complete};
+ghost use Rattle.calls.specs.declared.call_answer.CallAnswer.TheVariants as answers;
+ghost use Rattle.world.specs.Event.{replies};
+ghost use Rattle.world.specs.CcbSteps.{is_success, run_meets_limit, recovers};
+ghost use Rattle.world.specs.Step.{step_call};
 ghost use Rattle.engine_core.specs.Courses.{takes, IsActive, IsOpen};
 ghost use Rattle.engine_core.specs.RunState.{IsOutUnder};
 
 use crate::run::Run;
+use calls::CallRefusal;
 use ccb::{CamStatus, Ccb, Completion};
 use ccb_table::CcbTable;
 use engine_config::Config;
 use recoveries::Recoveries;
 use std::alloc::AllocError;
 use std::sync::Arc;
-use world::CallRefusal;
 
 /// What is to be done about a completion.
 pub(crate) enum Course {
@@ -41,7 +44,7 @@ fn has_succeeded(completion: &Completion) -> bool
 /// CCB is not active; else it is finished, or recovered by a run.
 pub(crate) fn decide(ccbs: &CcbTable, recoveries: &Recoveries, completion: &Completion) -> Course
     ensures step { (setup : Setup) (world : World) →
-        step_complete setup (with_ccbs ccbs.now (with_recoveries recoveries.now world)) completion.now
+        step_call setup (with_ccbs ccbs.now (with_recoveries recoveries.now world)) (Complete completion.now)
         ≡ Some (takes setup (with_ccbs ccbs.now (with_recoveries recoveries.now world)) completion.now result) }
     ensures ready { (world : World) → IsOpen (with_ccbs ccbs.now (with_recoveries recoveries.now world)) completion.now result }
 {
@@ -77,7 +80,7 @@ pub(crate) fn recover(
     requires room { (world : World) → run_meets_limit (with_recoveries recoveries.old world) ≡ false }
     ensures step { IfOk result (λ started. (world : World) →
         recovers config.now (with_ccbs ccbs.old (with_recoveries recoveries.old world)) ccb completion.now
-        ≡ (run_started started.0.number started.1, with_ccbs ccbs.new (with_recoveries recoveries.new world))) }
+        ≡ (replies (answers.Started started.0.number started.1), with_ccbs ccbs.new (with_recoveries recoveries.new world))) }
     ensures out { IfOk result (λ started. (world : World) → IsOutUnder config.now (with_recoveries recoveries.new world) started.0) }
     ensures queues { recoveries.new.queues ≡ recoveries.old.queues }
     ensures refused { OnErr result ((ccbs.new ≡ ccbs.old) × (recoveries.new ≡ recoveries.old)) }

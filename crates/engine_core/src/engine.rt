@@ -7,7 +7,10 @@ ghost use Rattle.freeze_ledger.specs.declared.freeze.Holder.TheVariants.{Guest};
 ghost use Rattle.ccb_table.specs.CcbsState.{no_ccbs};
 ghost use Rattle.recoveries.specs.RecoveryState.{no_recoveries};
 ghost use Rattle.recoveries.specs.Admits.{IsOutAs};
-ghost use Rattle.world.specs.declared.record.Record.TheVariants.{Submit, Dispatch, Complete, Advance, GuestFreeze, GuestRelease, Clock, Park, Resume};
+ghost use Rattle.freeze_ledger.specs.declared.place.Place.TheVariants.{Device};
+ghost use Rattle.calls.specs.declared.call.Call.TheVariants.{Submit, Dispatch, Complete, GuestFreeze, GuestRelease, Clock, Park, Resume};
+ghost use Rattle.calls.specs.declared.call_answer.CallAnswer.TheVariants as answers;
+ghost use Rattle.calls.specs.declared.record.Record.TheVariants.{Called, Advance};
 ghost use Rattle.world.specs.World.{queue_count};
 ghost use Rattle.world.specs.TotalsOf.{TotalsOf, totals_in};
 ghost use Rattle.engine_core.specs.declared.engine.TheConstants.{ROOM};
@@ -17,20 +20,22 @@ ghost use Rattle.engine_core.specs.RunState.{IsOut, IsOutUnder};
 ghost use Rattle.engine_core.specs.Answers.{completed_of, StartsOut, stopped_at, r0_of, GoesOrEnds};
 ghost use Rattle.engine_core.specs.Faults.{FaultIs, HoldsUnlessTold, AdmitsUnlessTold};
 
-use crate::answers::{AdvanceAnswer, AdvanceFault, CallFault, CompleteAnswer, ReleaseFault};
+use crate::answers::{
+    AdvanceAnswer, AdvanceFault, CallFault, CompleteAnswer, ReleaseFault, told_ccb, told_removed,
+};
 use crate::course::{Course, decide, recover};
 use crate::run::Run;
 use crate::taking_over::{recorded, take_over};
 use bpf_semantics::Stop;
+use calls::{Call, CallAnswer, CallRefusal, CompletionRecord, Record, Totals, Trace};
 use ccb::{CcbId, Completion, QueueId};
 use ccb_table::CcbTable;
 use engine_config::Config;
-use freeze_ledger::FreezeToken;
+use freeze_ledger::{FreezeToken, Place};
 use interpreter::Segment;
 use recoveries::{MAX_RUNS, Recoveries};
 use std::alloc::{AllocError, Global};
 use std::marker::Model;
-use world::{CallRefusal, Completed, CompletionRecord, Record, Totals, Trace};
 
 /// The room that a call makes in the history: for its own record, and for one of each run, which may be parked behind it.
 const ROOM: usize = 1 + MAX_RUNS;
@@ -114,8 +119,8 @@ impl Engine {
         priority: u32,
         retries: u32,
     ) -> Result<CcbId, CallFault>
-        ensures answered { IfOk result (λ ccb. Records self.old self.new (Submit queue priority retries (Ok ccb))) }
-        ensures fault { IfErr result (λ fault. FaultIs fault (self.new ≡ self.old) (λ refusal. Records self.old self.new (Submit queue priority retries (Err refusal)))) }
+        ensures answered { IfOk result (λ ccb. Records self.old self.new (Called (answers.Ccb ccb) (Submit queue priority retries))) }
+        ensures fault { IfErr result (λ fault. FaultIs fault (self.new ≡ self.old) (λ refusal. Records self.old self.new (Called (answers.Refused refusal) (Submit queue priority retries)))) }
         ensures run { IsRun self.new }
     {
         self.history.reserve(ROOM)?;
@@ -123,11 +128,13 @@ impl Engine {
         keep(
             &mut self.history,
             &self.recoveries,
-            Record::Submit {
-                queue,
-                priority,
-                retries,
-                answer,
+            Record::Called {
+                answer: told_ccb(answer),
+                call: Call::Submit {
+                    queue,
+                    priority,
+                    retries,
+                },
             },
         );
         match answer {
@@ -140,8 +147,8 @@ impl Engine {
     /// number: its number. C1 where there is no such queue; Q2 where it is frozen; Q3 where as many of its CCBs are
     /// active as it has openings; Q4 where none waits. All are recorded and change nothing else.
     pub fn dispatch(&mut self, queue: QueueId) -> Result<CcbId, CallFault>
-        ensures answered { IfOk result (λ ccb. Records self.old self.new (Dispatch queue (Ok ccb))) }
-        ensures fault { IfErr result (λ fault. FaultIs fault (self.new ≡ self.old) (λ refusal. Records self.old self.new (Dispatch queue (Err refusal)))) }
+        ensures answered { IfOk result (λ ccb. Records self.old self.new (Called (answers.Ccb ccb) (Dispatch queue))) }
+        ensures fault { IfErr result (λ fault. FaultIs fault (self.new ≡ self.old) (λ refusal. Records self.old self.new (Called (answers.Refused refusal) (Dispatch queue)))) }
         ensures run { IsRun self.new }
     {
         self.history.reserve(ROOM)?;
@@ -149,7 +156,10 @@ impl Engine {
         keep(
             &mut self.history,
             &self.recoveries,
-            Record::Dispatch { queue, answer },
+            Record::Called {
+                answer: told_ccb(answer),
+                call: Call::Dispatch { queue },
+            },
         );
         match answer {
             Ok(ccb) => Ok(ccb),
@@ -167,9 +177,9 @@ impl Engine {
         &mut self,
         completion: Completion,
     ) -> Result<CompleteAnswer, (CallFault, Completion)>
-        ensures answered { IfOk result (λ answer. Records self.old self.new (Complete completion (Ok (completed_of answer)))) }
+        ensures answered { IfOk result (λ answer. Records self.old self.new (Called (completed_of answer) (Complete completion))) }
         ensures started { IfOk result (StartsOut self.new.setup self.new.world) }
-        ensures fault { IfErr result (λ fault. FaultIs fault.0 (self.new ≡ self.old) (λ refusal. Records self.old self.new (Complete completion (Err refusal)))) }
+        ensures fault { IfErr result (λ fault. FaultIs fault.0 (self.new ≡ self.old) (λ refusal. Records self.old self.new (Called (answers.Refused refusal) (Complete completion)))) }
         ensures back { IfErr result (λ fault. fault.1 ≡ completion) }
         ensures run { IsRun self.new }
     {
@@ -184,9 +194,9 @@ impl Engine {
                 keep(
                     &mut self.history,
                     &self.recoveries,
-                    Record::Complete {
-                        completion: told,
-                        answer: Err(refusal),
+                    Record::Called {
+                        answer: CallAnswer::Refused(refusal),
+                        call: Call::Complete { completion: told },
                     },
                 );
                 Err((CallFault::Refused(refusal), completion))
@@ -196,9 +206,9 @@ impl Engine {
                 keep(
                     &mut self.history,
                     &self.recoveries,
-                    Record::Complete {
-                        completion: told,
-                        answer: Ok(Completed::Done),
+                    Record::Called {
+                        answer: CallAnswer::Done,
+                        call: Call::Complete { completion: told },
                     },
                 );
                 Ok(CompleteAnswer::Done)
@@ -215,12 +225,12 @@ impl Engine {
                         keep(
                             &mut self.history,
                             &self.recoveries,
-                            Record::Complete {
-                                completion: told,
-                                answer: Ok(Completed::Started {
+                            Record::Called {
+                                answer: CallAnswer::Started {
                                     run: run.number(),
                                     freeze,
-                                }),
+                                },
+                                call: Call::Complete { completion: told },
                             },
                         );
                         Ok(CompleteAnswer::Started(run, freeze))
@@ -316,7 +326,7 @@ impl Engine {
     /// machine is not the recorded one; programs are compared by their instructions. It hands the run back and changes
     /// nothing.
     pub fn park(&mut self, run: Run) -> Result<(), Run>
-        ensures parked { IfOk result (λ _. Records self.old self.new (Park run.number)) }
+        ensures parked { IfOk result (λ _. Records self.old self.new (Called answers.Ok (Park run.number))) }
         ensures admitted { MatchResult result (λ _. IsOut self.old.world run) (λ _. IsOut self.old.world run → ⊥) }
         ensures back { IfErr result (λ back. (back ≡ run) × (self.new ≡ self.old)) }
         ensures run { IsRun self.new }
@@ -330,15 +340,18 @@ impl Engine {
         };
         run.forfeit();
         self.recoveries.set_out(place, false);
-        self.history.push_reserved(Record::Park { run: number });
+        self.history.push_reserved(Record::Called {
+            answer: CallAnswer::Ok,
+            call: Call::Park { run: number },
+        });
         Ok(())
     }
 
     /// Lets a run that is parked go on: the run, with the machine that it had. C1 where no run of that number is parked; it
     /// is recorded and changes nothing else.
     pub fn resume(&mut self, run: u32) -> Result<Run, CallFault>
-        ensures resumed { IfOk result (λ again. Records self.old self.new (Resume run (Ok tt)) × (again.number ≡ run) × IsOutUnder self.new.setup self.new.world again) }
-        ensures fault { IfErr result (λ fault. FaultIs fault (self.new ≡ self.old) (λ refusal. Records self.old self.new (Resume run (Err refusal)))) }
+        ensures resumed { IfOk result (λ again. Records self.old self.new (Called answers.Ok (Resume run)) × (again.number ≡ run) × IsOutUnder self.new.setup self.new.world again) }
+        ensures fault { IfErr result (λ fault. FaultIs fault (self.new ≡ self.old) (λ refusal. Records self.old self.new (Called (answers.Refused refusal) (Resume run)))) }
         ensures run { IsRun self.new }
     {
         self.history.reserve(ROOM)?;
@@ -347,9 +360,9 @@ impl Engine {
             keep(
                 &mut self.history,
                 &self.recoveries,
-                Record::Resume {
-                    run,
-                    answer: Err(refusal),
+                Record::Called {
+                    answer: CallAnswer::Refused(refusal),
+                    call: Call::Resume { run },
                 },
             );
             return Err(CallFault::Refused(refusal));
@@ -364,9 +377,9 @@ impl Engine {
         keep(
             &mut self.history,
             &self.recoveries,
-            Record::Resume {
-                run,
-                answer: Ok(()),
+            Record::Called {
+                answer: CallAnswer::Ok,
+                call: Call::Resume { run },
             },
         );
         Ok(again)
@@ -376,21 +389,21 @@ impl Engine {
     /// the queue has 255 freezes, the ledger 1024, or the numbers up to 4,294,967,295 are used up. Both are
     /// recorded and change nothing else.
     pub fn guest_freeze(&mut self, queue: QueueId, guest: u32) -> Result<FreezeToken, CallFault>
-        ensures taken { IfOk result (λ token. Records self.old self.new (GuestFreeze queue guest (Ok token.number))) }
-        ensures token { IfOk result (λ token. GuestHolds self.new.world token × (token.queue ≡ queue) × (token.holder ≡ Guest guest)) }
-        ensures fault { IfErr result (λ fault. FaultIs fault (self.new ≡ self.old) (λ refusal. Records self.old self.new (GuestFreeze queue guest (Err refusal)))) }
+        ensures taken { IfOk result (λ token. Records self.old self.new (Called (answers.Freeze token.number) (GuestFreeze (Device queue) guest))) }
+        ensures token { IfOk result (λ token. GuestHolds self.new.world token × (token.place ≡ Device queue) × (token.holder ≡ Guest guest)) }
+        ensures fault { IfErr result (λ fault. FaultIs fault (self.new ≡ self.old) (λ refusal. Records self.old self.new (Called (answers.Refused refusal) (GuestFreeze (Device queue) guest)))) }
         ensures run { IsRun self.new }
     {
         self.history.reserve(ROOM)?;
-        match self.recoveries.guest_freeze(queue, guest) {
+        let place = Place::Device(queue);
+        match self.recoveries.guest_freeze(place, guest) {
             Ok(token) => {
                 keep(
                     &mut self.history,
                     &self.recoveries,
-                    Record::GuestFreeze {
-                        queue,
-                        guest,
-                        answer: Ok(token.number()),
+                    Record::Called {
+                        answer: CallAnswer::Freeze(token.number()),
+                        call: Call::GuestFreeze { place, guest },
                     },
                 );
                 Ok(token)
@@ -399,10 +412,9 @@ impl Engine {
                 keep(
                     &mut self.history,
                     &self.recoveries,
-                    Record::GuestFreeze {
-                        queue,
-                        guest,
-                        answer: Err(refusal),
+                    Record::Called {
+                        answer: CallAnswer::Refused(refusal),
+                        call: Call::GuestFreeze { place, guest },
                     },
                 );
                 Err(CallFault::Refused(refusal))
@@ -413,7 +425,7 @@ impl Engine {
     /// Gives a guest's freeze back: how many freezes its queue has then. C6, which is not recorded, exactly
     /// where no guest's freeze is the token's. Every fault hands the token back and changes nothing.
     pub fn guest_release(&mut self, token: FreezeToken) -> Result<u32, (ReleaseFault, FreezeToken)>
-        ensures released { IfOk result (λ count. Records self.old self.new (GuestRelease token.number count)) }
+        ensures released { IfOk result (λ count. Records self.old self.new (Called (answers.Left count) (GuestRelease token.number))) }
         ensures held { MatchResult result (λ _. GuestHolds self.old.world token) (λ fault. HoldsUnlessTold fault.0 (GuestHolds self.old.world token)) }
         ensures back { IfErr result (λ fault. (fault.1 ≡ token) × (self.new ≡ self.old)) }
         ensures run { IsRun self.new }
@@ -429,7 +441,10 @@ impl Engine {
         keep(
             &mut self.history,
             &self.recoveries,
-            Record::GuestRelease { freeze, count },
+            Record::Called {
+                answer: CallAnswer::Left(count),
+                call: Call::GuestRelease { freeze },
+            },
         );
         Ok(count)
     }
@@ -438,8 +453,8 @@ impl Engine {
     /// answer is how many these were, at most 1024. C2 above 2^62; C5 below the last reading, which is 0 before the
     /// first. Both are recorded and change nothing else.
     pub fn clock(&mut self, reading: u64) -> Result<u32, CallFault>
-        ensures answered { IfOk result (λ count. Records self.old self.new (Clock reading (Ok count))) }
-        ensures fault { IfErr result (λ fault. FaultIs fault (self.new ≡ self.old) (λ refusal. Records self.old self.new (Clock reading (Err refusal)))) }
+        ensures answered { IfOk result (λ count. Records self.old self.new (Called (answers.Removed count) (Clock reading))) }
+        ensures fault { IfErr result (λ fault. FaultIs fault (self.new ≡ self.old) (λ refusal. Records self.old self.new (Called (answers.Refused refusal) (Clock reading)))) }
         ensures run { IsRun self.new }
     {
         self.history.reserve(ROOM)?;
@@ -447,7 +462,10 @@ impl Engine {
         keep(
             &mut self.history,
             &self.recoveries,
-            Record::Clock { reading, answer },
+            Record::Called {
+                answer: told_removed(answer),
+                call: Call::Clock { reading },
+            },
         );
         match answer {
             Ok(count) => Ok(count),

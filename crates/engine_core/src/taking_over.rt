@@ -8,13 +8,13 @@ ghost use Rattle.engine_core.specs.Answers.{stopped_at, NamesCode, StopsByCode};
 ghost use Rattle.engine_core.specs.TakingOver.{IsAdmitted, LeadsBy, Does, GoesOn, GoesBy};
 
 use bpf_semantics::Stop;
+use calls::{StoppedAt, TracedBytes};
 use ccb::QueueId;
 use ccb_table::CcbTable;
 use helpers::{Answer, Deed, Request, Tells, Written};
 use interpreter::Segment;
 use recoveries::Recoveries;
 use std::alloc::{AllocError, Global};
-use world::{StoppedAt, TracedBytes};
 
 /// What is recorded of a stop. Only bytes that a call tells take memory.
 pub(crate) fn recorded(alloc: Global, stop: &Stop) -> Result<StoppedAt, AllocError>

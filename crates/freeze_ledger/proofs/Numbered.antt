@@ -6,6 +6,7 @@ use Rattle.ccb.specs.Rising.{AreRising}
 use Rattle.freeze_ledger.specs.declared.freeze.Freeze.{Freeze}
 use Rattle.freeze_ledger.specs.declared.freeze.Holder.{Holder}
 use Rattle.freeze_ledger.specs.declared.freeze.Holder.TheVariants.{Timer}
+use Rattle.freeze_ledger.specs.declared.place.Place.{Place}
 use Rattle.freeze_ledger.specs.Freezes.{entry_of, handed_over, holders_of, names, without}
 use Rattle.freeze_ledger.specs.Invariant.{AreNumbered}
 
@@ -92,12 +93,12 @@ rising_lower : (low lower : ℕ) (ns : List ℕ) (high : ℕ) → lower ≤ low 
 rising_lower low lower [] high le h = omega arith
 rising_lower low lower (n ∷ ns) high le h = (omega (arith, h.0), h.1)
 
--- the numbers of one queue's freezes rise as those of all do
-pub holders_rise : (queue low : ℕ) (fs : List Freeze) (high : ℕ) → AreNumbered low fs high → AreRising low (map (λ (holder : ℕ × Holder). holder.0) (holders_of queue fs)) high
-holders_rise queue low [] high h = h
-holders_rise queue low (g ∷ fs) high h =
-    let rest = holders_rise queue g.number fs high h.1 in
+-- the numbers of one place's freezes rise as those of all do
+pub holders_rise : (place : Place) (low : ℕ) (fs : List Freeze) (high : ℕ) → AreNumbered low fs high → AreRising low (map (λ (holder : ℕ × Holder). holder.0) (holders_of place fs)) high
+holders_rise place low [] high h = h
+holders_rise place low (g ∷ fs) high h =
+    let rest = holders_rise place g.number fs high h.1 in
     let told : Freeze → ℕ × Holder = λ freeze. (freeze.number, freeze.holder) in
-    cond_both (names queue g) _ _ (λ (gs : List Freeze). AreRising low (map (λ (holder : ℕ × Holder). holder.0) (map told gs)) high)
+    cond_both (names place g) _ _ (λ (gs : List Freeze). AreRising low (map (λ (holder : ℕ × Holder). holder.0) (map told gs)) high)
     (λ _. (h.0, rest))
-    (λ _. rising_lower g.number low (map (λ (holder : ℕ × Holder). holder.0) (holders_of queue fs)) high (omega (arith, h.0)) rest)
+    (λ _. rising_lower g.number low (map (λ (holder : ℕ × Holder). holder.0) (holders_of place fs)) high (omega (arith, h.0)) rest)

@@ -1,3 +1,4 @@
+pub mod Places
 pub mod Freezes
 pub mod State
 pub mod Invariant

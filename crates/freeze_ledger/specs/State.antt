@@ -1,6 +1,6 @@
 -- What contracts see of a ledger.
 use Rattle.std.specs.Prelude.{ℕ, ◌+◌, List, [], ◌∷◌, ◌++◌}
-use Rattle.ccb.specs.declared.QueueId.{QueueId}
+use Rattle.freeze_ledger.specs.declared.place.Place.{Place}
 use Rattle.freeze_ledger.specs.declared.freeze.Holder.{Holder}
 use Rattle.freeze_ledger.specs.declared.freeze.Freeze.{Freeze}
 
@@ -15,8 +15,8 @@ abbrev pub empty_ledger : ℕ → LedgerState
 empty_ledger queues = record { queues = queues; greatest = 0; freezes = [] }
 
 -- the freeze that is entered next: it bears the number after the greatest given
-abbrev pub next_freeze : LedgerState → QueueId → Holder → Freeze
-next_freeze state queue holder = record { number = state.greatest + 1; queue = queue; holder = holder }
+abbrev pub next_freeze : LedgerState → Place → Holder → Freeze
+next_freeze state place holder = record { number = state.greatest + 1; place = place; holder = holder }
 
 -- with one freeze more, whose number is now the greatest given
 abbrev pub with_entry : LedgerState → Freeze → LedgerState

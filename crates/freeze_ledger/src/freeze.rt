@@ -1,8 +1,8 @@
-// What one entry of the ledger is. It relies on the queue's name alone.
+// What one entry of the ledger is. It relies on `place` for what freezes.
 
-use ccb::QueueId;
+use crate::place::Place;
 
-/// Who keeps a queue frozen.
+/// Who keeps a place frozen.
 #[derive(Clone, Copy, Debug, PartialEq, Eq)]
 pub enum Holder {
     /// The run of that number.
@@ -13,11 +13,11 @@ pub enum Holder {
     Guest(u32),
 }
 
-/// One freeze of a device queue: an entry of the ledger.
+/// One freeze of a place: an entry of the ledger.
 #[derive(Clone, Copy, Debug, PartialEq, Eq)]
 pub struct Freeze {
     /// From 1 to 4,294,967,295, never used again.
     pub number: u32,
-    pub queue: QueueId,
+    pub place: Place,
     pub holder: Holder,
 }

@@ -3,7 +3,7 @@
 ghost use Rattle.std.specs.Prelude.{◌≡◌};
 
 use crate::freeze::{Freeze, Holder};
-use ccb::QueueId;
+use crate::place::Place;
 use std::marker::Model;
 
 /// Stands for one freeze that was taken. It is neither copied nor dropped: it is given back to a
@@ -35,11 +35,11 @@ impl FreezeToken {
         self.freeze.number
     }
 
-    /// The queue that it freezes.
-    pub fn queue(&self) -> QueueId
-        ensures { result ≡ self.now.queue }
+    /// The place that it freezes.
+    pub fn place(&self) -> Place
+        ensures { result ≡ self.now.place }
     {
-        self.freeze.queue
+        self.freeze.place
     }
 
     /// Who held it when it was taken.
@@ -49,7 +49,7 @@ impl FreezeToken {
         self.freeze.holder
     }
 
-    /// Spends the token and leaves its entry where it is: the queue stays frozen.
+    /// Spends the token and leaves its entry where it is: the place stays frozen.
     pub fn forfeit(self) {
         let FreezeToken { freeze: _ } = self;
     }

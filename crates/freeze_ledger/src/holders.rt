@@ -1,14 +1,14 @@
-// The holders of one queue's freezes, one after another. It relies on `freeze`.
+// The holders of one place's freezes, one after another. It relies on `freeze`.
 
 use crate::freeze::{Freeze, Holder};
-use ccb::QueueId;
+use crate::place::Place;
 use std::marker::Model;
 
-/// The number and the holder of each freeze of one queue, by rising number, seen as the list of those
+/// The number and the holder of each freeze of one place, by rising number, seen as the list of those
 /// that are left.
 #[derive(Drop)]
 pub struct Holders<'a> {
-    pub(crate) queue: QueueId,
+    pub(crate) place: Place,
     pub(crate) freezes: &'a [Freeze],
 }
 
@@ -20,7 +20,7 @@ impl<'a> Model for Holders<'a> {
 
     ghost use Rattle.freeze_ledger.specs.Freezes.{holders_of};
 
-    ghost view = { λ h. holders_of h.queue.0 h.freezes.now };
+    ghost view = { λ h. holders_of h.place h.freezes.now };
 }
 
 impl<'a> Iterator for Holders<'a> {
@@ -35,7 +35,7 @@ impl<'a> Iterator for Holders<'a> {
     fn next(&mut self) -> Option<(u32, Holder)> {
         while let Some((first, others)) = self.freezes.split_first() {
             self.freezes = others;
-            if first.queue == self.queue {
+            if first.place == self.place {
                 return Some((first.number, first.holder));
             }
         }

@@ -1,23 +1,24 @@
-// The ledger as a plain list of entries in the order of their numbers, beside a stored count a queue.
+// The ledger as a plain list of entries in the order of their numbers, beside a stored count a place.
 // It relies on `freeze` for what an entry is and on `freeze_token` for the right to give one back.
 
 ghost use Rattle.std.specs.Prelude.{◌≡◌, ◌≢◌, ◌+◌, ◌<◌, ◌≤◌, ◌^◌, ◌++◌, ◌∷◌, ◌↔◌, [], length, map, IsTrue, IsSome, IsOk, Some, IsNone, IfSome, IfNone, IfOk, IfErr, OnOk, All, Contains, slice_index_or};
 ghost use Rattle.ccb.specs.Rising.{AreRising};
 ghost use Rattle.freeze_ledger.specs.Freezes.{frozen, meets_limit, entry_of, without, handed_over, HasTimer, holders_of};
+ghost use Rattle.freeze_ledger.specs.Places.{index_of};
 ghost use Rattle.freeze_ledger.specs.State.{LedgerState, empty_ledger, next_freeze, with_entry, with_freezes};
 
 use crate::freeze::{Freeze, Holder};
 use crate::freeze_token::FreezeToken;
 use crate::holders::Holders;
-use ccb::QueueId;
+use crate::place::Place;
 use std::alloc::{AllocError, Global};
 use std::marker::Model;
 
 /// How many freezes the ledger holds at most.
 pub const MAX_FREEZES: usize = 1024;
 
-/// How many freezes one queue has at most.
-pub const MAX_QUEUE_FREEZES: u8 = 255;
+/// How many freezes one place has at most.
+pub const MAX_PLACE_FREEZES: u8 = 255;
 
 /// The greatest number that a freeze bears.
 pub const MAX_FREEZE_NUMBER: u32 = 4_294_967_295;
@@ -77,19 +78,19 @@ impl Ledger {
         })
     }
 
-    /// Freezes a queue once more for this holder, under the number after the greatest given. `None`,
-    /// which changes nothing, exactly at a limit: the queue has 255 freezes, the ledger 1024, or the
+    /// Freezes a place once more for this holder, under the number after the greatest given. `None`,
+    /// which changes nothing, exactly at a limit: the place has 255 freezes, the ledger 1024, or the
     /// numbers up to 4,294,967,295 are used up.
-    pub fn take(&mut self, queue: QueueId, holder: Holder) -> Option<FreezeToken>
-        requires { queue.0 < self.old.queues }
-        ensures limit { IsNone result ↔ IsTrue (meets_limit queue.0 self.old.freezes self.old.greatest) }
-        ensures token { IfSome result (λ token. token ≡ next_freeze self.old queue holder) }
+    pub fn take(&mut self, place: Place, holder: Holder) -> Option<FreezeToken>
+        requires { index_of place < self.old.queues }
+        ensures limit { IsNone result ↔ IsTrue (meets_limit place self.old.freezes self.old.greatest) }
+        ensures token { IfSome result (λ token. token ≡ next_freeze self.old place holder) }
         ensures entered { IfSome result (λ token. self.new ≡ with_entry self.old token) }
         ensures none { IfNone result (self.new ≡ self.old) }
     {
-        let place = queue.0 as usize;
-        let count = self.counts[place];
-        if count == MAX_QUEUE_FREEZES
+        let at = place.index();
+        let count = self.counts[at];
+        if count == MAX_PLACE_FREEZES
             || self.freezes.len() == MAX_FREEZES
             || self.greatest == MAX_FREEZE_NUMBER
         {
@@ -97,22 +98,22 @@ impl Ledger {
         }
         let freeze = Freeze {
             number: self.greatest + 1,
-            queue,
+            place,
             holder,
         };
         self.freezes.push_reserved(freeze);
-        self.counts[place] = count + 1;
+        self.counts[at] = count + 1;
         self.greatest = freeze.number;
         Some(FreezeToken::new(freeze))
     }
 
-    /// Removes the token's entry, and answers how many freezes its queue has left, at most 254. The
-    /// token comes back, and nothing changes, exactly where no entry has its number, queue and holder.
+    /// Removes the token's entry, and answers how many freezes its place has left, at most 254. The
+    /// token comes back, and nothing changes, exactly where no entry has its number, place and holder.
     pub fn give_back(&mut self, token: FreezeToken) -> Result<u32, FreezeToken>
         ensures held { IsOk result ↔ Contains self.old.freezes token }
         ensures number { OnOk result (entry_of token.number self.old.freezes ≡ Some token) }
         ensures removed { OnOk result (self.new ≡ with_freezes self.old (without token.number self.old.freezes)) }
-        ensures count { IfOk result (λ count. count ≡ frozen token.queue.0 self.new.freezes) }
+        ensures count { IfOk result (λ count. count ≡ frozen token.place self.new.freezes) }
         ensures refused { IfErr result (λ back. (back ≡ token) × (self.new ≡ self.old)) }
     {
         let freeze = token.freeze();
@@ -121,12 +122,12 @@ impl Ledger {
         };
         token.forfeit();
         self.remove_at(entry);
-        Ok(self.count(freeze.queue))
+        Ok(self.count(freeze.place))
     }
 
     /// Makes a timer the holder of the token's entry, due at the clock reading `due`, any number of milliseconds, and
     /// spends the token. No other entry changes, and no count. The token comes back, and nothing changes, exactly
-    /// where no entry has its number, queue and holder.
+    /// where no entry has its number, place and holder.
     pub fn hand_over(&mut self, token: FreezeToken, due: u64) -> Result<(), FreezeToken>
         ensures held { IsOk result ↔ Contains self.old.freezes token }
         ensures number { OnOk result (entry_of token.number self.old.freezes ≡ Some token) }
@@ -143,7 +144,7 @@ impl Ledger {
         Ok(())
     }
 
-    /// Removes the entry of this number, and one from its queue's count. It asks for an entry of that number that a
+    /// Removes the entry of this number, and one from its place's count. It asks for an entry of that number that a
     /// timer holds. No other entry changes.
     pub fn expire(&mut self, number: u32)
         requires { HasTimer number self.old.freezes }
@@ -155,31 +156,31 @@ impl Ledger {
         self.remove_at(entry);
     }
 
-    // Removes the entry that stands there: its queue has one freeze fewer.
+    // Removes the entry that stands there: its place has one freeze fewer.
     fn remove_at(&mut self, entry: usize)
         requires { entry < length self.old.freezes }
         ensures { (other : Freeze) → self.new ≡ with_freezes self.old (without (slice_index_or self.old.freezes entry other).number self.old.freezes) }
     {
         let freeze = self.freezes.remove(entry);
-        let place = freeze.queue.0 as usize;
-        let count = self.counts[place] - 1;
-        self.counts[place] = count;
+        let at = freeze.place.index();
+        let count = self.counts[at] - 1;
+        self.counts[at] = count;
     }
 
-    /// Whether an entry has the token's number, queue and holder.
+    /// Whether an entry has the token's number, place and holder.
     pub fn holds(&self, token: &FreezeToken) -> bool
         ensures { IsTrue result ↔ Contains self.now.freezes token.now }
     {
         self.freezes.contains(&token.freeze())
     }
 
-    /// How many freezes the queue has, at most 255. It is a stored number.
-    pub fn count(&self, queue: QueueId) -> u32
-        requires { queue.0 < self.now.queues }
-        ensures entries { result ≡ frozen queue.0 self.now.freezes }
-        ensures bound { result ≤ MAX_QUEUE_FREEZES }
+    /// How many freezes the place has, at most 255. It is a stored number.
+    pub fn count(&self, place: Place) -> u32
+        requires { index_of place < self.now.queues }
+        ensures entries { result ≡ frozen place self.now.freezes }
+        ensures bound { result ≤ MAX_PLACE_FREEZES }
     {
-        u32::from(self.counts[queue.0 as usize])
+        u32::from(self.counts[place.index()])
     }
 
     /// How many freezes there are in all, at most 1024.
@@ -190,7 +191,7 @@ impl Ledger {
         self.freezes.len()
     }
 
-    /// Whether no queue is frozen.
+    /// Whether no place is frozen.
     pub fn is_empty(&self) -> bool
         ensures { IsTrue result ↔ (self.now.freezes ≡ []) }
     {
@@ -213,14 +214,14 @@ impl Ledger {
         &self.freezes
     }
 
-    /// The number and the holder of each freeze of the queue, by rising number.
-    pub fn holders(&self, queue: QueueId) -> Holders<'_>
-        requires { queue.0 < self.now.queues }
-        ensures entries { result ≡ holders_of queue.0 self.now.freezes }
+    /// The number and the holder of each freeze of the place, by rising number.
+    pub fn holders(&self, place: Place) -> Holders<'_>
+        requires { index_of place < self.now.queues }
+        ensures entries { result ≡ holders_of place self.now.freezes }
         ensures rising { AreRising 0 (map (λ holder. holder.0) result) self.now.greatest }
     {
         Holders {
-            queue,
+            place,
             freezes: &self.freezes,
         }
     }

@@ -4,7 +4,8 @@ use Rattle.std.specs.Prelude.{IsTrue, IsNone, IfSome, IfNone, ◌↔◌}
 use Rattle.std.specs.Option.{is_some}
 use Rattle.std.proofs.lemmas.Bool.{cases_Bool, cond-true, cond-false, or_parts, leb-false}
 use Rattle.std.proofs.lemmas.List.{map_push}
-use Rattle.ccb.specs.declared.QueueId.{QueueId}
+use Rattle.freeze_ledger.specs.declared.place.Place.{Place}
+use Rattle.freeze_ledger.specs.declared.place.Place.TheVariants.{Device}
 use Rattle.ccb.specs.declared.ccb.Ccb.{Ccb}
 use Rattle.ccb.specs.Completion.{Outcome}
 use Rattle.ccb.specs.Ccb.{completed}
@@ -19,7 +20,8 @@ use Rattle.world.specs.declared.ccb_state.CcbState.TheVariants.{InRecovery}
 use Rattle.world.specs.World.{Setup, queue_setup, LiveRun, World, opening}
 use Rattle.world.specs.Lookups.{with_ccb, run_of}
 use Rattle.ccb.specs.Rising.{AreRising}
-use Rattle.world.specs.Event.{run_started}
+use Rattle.calls.specs.declared.call_answer.CallAnswer.TheVariants as answers
+use Rattle.world.specs.Event.{replies}
 use Rattle.world.specs.CcbSteps.{recovers, run_meets_limit}
 use Rattle.world.proofs.Lists.Found.{missing_push, at_head}
 use Rattle.world.proofs.Lists.Rising.{missing_high}
@@ -42,9 +44,9 @@ pub took_is : (before after : LedgerState) (t : Option Freeze) → IfSome t (λ 
 took_is before after None some none = none
 took_is before after (Some f) some none = some
 
-pub is_for : (before : LedgerState) (queue : QueueId) (run : ℕ) (t : Option Freeze) → IfSome t (λ f. f ≡ next_freeze before queue (Run run)) → IsFor before run t
-is_for before queue run None h = tt
-is_for before queue run (Some f) h = (ap (λ (x : Freeze). x.number) h, ap (λ (x : Freeze). x.holder) h)
+pub is_for : (before : LedgerState) (place : Place) (run : ℕ) (t : Option Freeze) → IfSome t (λ f. f ≡ next_freeze before place (Run run)) → IsFor before run t
+is_for before place run None h = tt
+is_for before place run (Some f) h = (ap (λ (x : Freeze). x.number) h, ap (λ (x : Freeze). x.holder) h)
 
 -- the runs with a further one for this CCB
 abbrev pub with_started : List LiveRun → ℕ → Ccb → List Slot → MachineState → List LiveRun
@@ -58,19 +60,19 @@ started_world ledger runs greatest clock tables ccb outcome program t world =
     (state_of (took ledger t) (with_started runs (greatest + 1) ccb program (entry (context_of after) (told t))) (greatest + 1) clock tables)
     (record world { live = with_ccb (record { ccb = after; state = InRecovery }) world.live })
 
-pub starts_so : (setup : Setup) (world : World) (ledger : LedgerState) (runs : List LiveRun) (greatest clock : ℕ) (tables : List (List ℕ)) (ccb : Ccb) (outcome : Outcome) (program : List Slot) (t : Option Freeze) → (IsNone t ↔ IsTrue (meets_limit ccb.queue.0 ledger.freezes ledger.greatest)) → IfSome t (λ f. f ≡ next_freeze ledger ccb.queue (Run (greatest + 1))) → (queue_setup setup ccb.queue.0).program ≡ program → recovers setup (with_recoveries (state_of ledger runs greatest clock tables) world) ccb outcome ≡ (run_started (greatest + 1) (told t), started_world ledger runs greatest clock tables ccb outcome program t world)
+pub starts_so : (setup : Setup) (world : World) (ledger : LedgerState) (runs : List LiveRun) (greatest clock : ℕ) (tables : List (List ℕ)) (ccb : Ccb) (outcome : Outcome) (program : List Slot) (t : Option Freeze) → (IsNone t ↔ IsTrue (meets_limit (Device ccb.queue) ledger.freezes ledger.greatest)) → IfSome t (λ f. f ≡ next_freeze ledger (Device ccb.queue) (Run (greatest + 1))) → (queue_setup setup ccb.queue.0).program ≡ program → recovers setup (with_recoveries (state_of ledger runs greatest clock tables) world) ccb outcome ≡ (replies (answers.Started (greatest + 1) (told t)), started_world ledger runs greatest clock tables ccb outcome program t world)
 starts_so setup world ledger runs greatest clock tables ccb outcome program None limit next is =
-    cond-true (meets_limit ccb.queue.0 ledger.freezes ledger.greatest) _ _ (limit.0 refl)
-    ∙ ap (λ (p : List Slot). (run_started (greatest + 1) 0, started_world ledger runs greatest clock tables ccb outcome p None world)) is
+    cond-true (meets_limit (Device ccb.queue) ledger.freezes ledger.greatest) _ _ (limit.0 refl)
+    ∙ ap (λ (p : List Slot). (replies (answers.Started (greatest + 1) 0), started_world ledger runs greatest clock tables ccb outcome p None world)) is
 starts_so setup world ledger runs greatest clock tables ccb outcome program (Some f) limit next is =
-    let free : meets_limit ccb.queue.0 ledger.freezes ledger.greatest ≡ false =
-    elim (cases_Bool (meets_limit ccb.queue.0 ledger.freezes ledger.greatest)) [
+    let free : meets_limit (Device ccb.queue) ledger.freezes ledger.greatest ≡ false =
+    elim (cases_Bool (meets_limit (Device ccb.queue) ledger.freezes ledger.greatest)) [
       | inl met ↦ let bad = limit.1 met in absurd cc
       | inr free ↦ free
     ] in
-    cond-false (meets_limit ccb.queue.0 ledger.freezes ledger.greatest) _ _ free
-    ∙ (ap (λ (p : List Slot). (run_started (greatest + 1) (ledger.greatest + 1), started_world ledger runs greatest clock tables ccb outcome p (Some (next_freeze ledger ccb.queue (Run (greatest + 1)))) world)) is
-    ∙ ap (λ (g : Freeze). (run_started (greatest + 1) (told (Some g)), started_world ledger runs greatest clock tables ccb outcome program (Some g) world)) (sym next))
+    cond-false (meets_limit (Device ccb.queue) ledger.freezes ledger.greatest) _ _ free
+    ∙ (ap (λ (p : List Slot). (replies (answers.Started (greatest + 1) (ledger.greatest + 1)), started_world ledger runs greatest clock tables ccb outcome p (Some (next_freeze ledger (Device ccb.queue) (Run (greatest + 1)))) world)) is
+    ∙ ap (λ (g : Freeze). (replies (answers.Started (greatest + 1) (told (Some g))), started_world ledger runs greatest clock tables ccb outcome program (Some g) world)) (sym next))
 
 -- the run that was pushed is found by its number
 pub found_last : (rs items : List RunRecord) (r : RunRecord) (greatest : ℕ) → AreRising 0 (map number_of (lives_of rs)) greatest → items ≡ rs ++ r ∷ [] → r.number ≡ greatest + 1 → run_of (greatest + 1) (lives_of items) ≡ Some (live_of r)

@@ -1,23 +1,22 @@
 -- What contracts see of the freezes of all device queues, of the live runs that hold some of them, and of the tables and
 -- the clock that these ask for.
-use Rattle.std.specs.Prelude.{ℕ, ◌+◌, true, if◌then◌else◌, List, [], ◌∷◌, ◌++◌, map, Option, Some, None, Result, Ok, Err}
+use Rattle.std.specs.Prelude.{ℕ, ◌+◌, true, if◌then◌else◌, List, [], ◌∷◌, ◌++◌, map, Option, Some, None}
 use Rattle.ccb.specs.declared.ccb.Ccb.{Ccb}
 use Rattle.ccb.specs.declared.QueueId.{QueueId}
 use Rattle.freeze_ledger.specs.declared.freeze.Holder.TheVariants.{Run}
 use Rattle.freeze_ledger.specs.declared.freeze.Freeze.{Freeze}
+use Rattle.freeze_ledger.specs.declared.place.Place.TheVariants.{Device}
 use Rattle.freeze_ledger.specs.Freezes.{meets_limit}
 use Rattle.freeze_ledger.specs.State.{LedgerState}
 use Rattle.bpf_insn.specs.declared.program.Slot.{Slot}
 use Rattle.bpf_semantics.specs.MachineState.{MachineState}
 use Rattle.table_store.specs.Tables.{zero_table}
-use Rattle.world.specs.declared.call_refusal.CallRefusal.{CallRefusal}
 use Rattle.world.specs.World.{LiveRun, World}
-use Rattle.world.specs.Event.{Reply, freeze_given, refused}
 
 pub record RecoveryState : Type 0 where
   -- how many device queues there are
   pub queues : ℕ
-  -- each a number, a queue and a holder, in the order of their numbers
+  -- each a number, a place and a holder, in the order of their numbers
   pub freezes : List Freeze
   -- the runs that have not exited, in the order of their numbers
   pub runs : List LiveRun
@@ -67,11 +66,6 @@ state_of ledger runs greatest_run clock tables = record {
   tables = tables;
 }
 
--- what is answered where this was taken
-abbrev pub taken_reply : Result Freeze CallRefusal → Reply
-taken_reply (Ok freeze) = freeze_given freeze.number
-taken_reply (Err refusal) = refused refusal
-
 -- the number of its freeze that a run is told
 abbrev pub told : Option Freeze → ℕ
 told None = 0
@@ -86,11 +80,11 @@ tokens_of freezes = map (λ freeze. Some freeze) freezes
 abbrev pub taken_for : RecoveryState → ℕ → QueueId → ℕ × RecoveryState
 taken_for state run queue =
     let number = state.greatest_freeze + 1 in
-    if meets_limit queue.0 state.freezes state.greatest_freeze then (0, state)
+    if meets_limit (Device queue) state.freezes state.greatest_freeze then (0, state)
     else (
       number,
       record state {
-        freezes = state.freezes ++ record { number = number; queue = queue; holder = Run run } ∷ [];
+        freezes = state.freezes ++ record { number = number; place = Device queue; holder = Run run } ∷ [];
         greatest_freeze = number;
       },
     )

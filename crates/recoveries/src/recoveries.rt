@@ -16,12 +16,15 @@ ghost use Rattle.world.specs.declared.ccb_state.CcbState.TheVariants.{InRecovery
 ghost use Rattle.world.specs.World.{Setup, queue_count, queue_setup, LiveRun, World};
 ghost use Rattle.world.specs.Capacities.{most_runs, last_reading};
 ghost use Rattle.world.specs.Lookups.{run_of, with_run, with_ccb};
-ghost use Rattle.world.specs.Event.{run_started, count_left};
-ghost use Rattle.world.specs.FreezeSteps.{frozen_with, is_guest, step_guest_freeze, step_guest_release, step_clock_reads};
-ghost use Rattle.world.specs.Flat.{clock_reply};
+ghost use Rattle.calls.specs.declared.call.Call.TheVariants.{GuestFreeze, GuestRelease, Clock};
+ghost use Rattle.calls.specs.declared.call_answer.CallAnswer.TheVariants as answers;
+ghost use Rattle.calls.specs.Answered.{freeze_answer, removed_answer};
+ghost use Rattle.world.specs.Event.{replies};
+ghost use Rattle.world.specs.FreezeSteps.{frozen_with, is_guest};
+ghost use Rattle.world.specs.Step.{step_call};
 ghost use Rattle.world.specs.CcbSteps.{recovers, run_meets_limit};
 ghost use Rattle.world.specs.FreezeLaws.{entries_of};
-ghost use Rattle.recoveries.specs.RecoveryState.{no_recoveries, with_recoveries, ledger_of, taken_reply, taken_for, run_for};
+ghost use Rattle.recoveries.specs.RecoveryState.{no_recoveries, with_recoveries, ledger_of, taken_for, run_for};
 ghost use Rattle.table_store.specs.Tables.{HasWord, with_word, word_at};
 ghost use Rattle.recoveries.specs.Admits.{IsNextOut, IsOutAs, IsOutWith, IsRecorded};
 ghost use Rattle.recoveries.specs.LiveRuns.{live_of};
@@ -33,8 +36,9 @@ use crate::run_record::RunRecord;
 use crate::started::Started;
 use accepted::Accepted;
 use bpf_machine::Machine;
+use calls::CallRefusal;
 use ccb::{CONTEXT_BYTES, Ccb, CcbId, Completion, QueueId, context};
-use freeze_ledger::{FreezeToken, Holder, Ledger};
+use freeze_ledger::{FreezeToken, Holder, Ledger, Place};
 use helpers::{Answer, Request};
 use interpreter::{Segment, pass};
 use std::alloc::{AllocError, Global};
@@ -42,7 +46,6 @@ use std::marker::Model;
 use std::sync::Arc;
 use table_store::TableStore;
 use timer_events::expire_due;
-use world::CallRefusal;
 
 /// How many runs can be live at a time.
 pub const MAX_RUNS: usize = 256;
@@ -181,36 +184,36 @@ impl Recoveries {
         self.runs.len() as u32
     }
 
-    /// Freezes a queue once more for a guest, under the number that it chose. C1 where there is no such queue; C2 where
-    /// the queue has 255 freezes, there are 1024 in all, or the numbers up to 4,294,967,295 are used up. A refusal
+    /// Freezes a place once more for a guest, under the number that it chose. C1 where there is no such place; C2 where
+    /// the place has 255 freezes, there are 1024 in all, or the numbers up to 4,294,967,295 are used up. A refusal
     /// changes nothing.
-    pub fn guest_freeze(&mut self, queue: QueueId, guest: u32) -> Result<FreezeToken, CallRefusal>
+    pub fn guest_freeze(&mut self, place: Place, guest: u32) -> Result<FreezeToken, CallRefusal>
         ensures step { (setup : Setup) (world : World) → queue_count setup ≡ self.old.queues →
-            step_guest_freeze setup (with_recoveries self.old world) queue.0 guest ≡ (taken_reply result, with_recoveries self.new world) }
-        ensures token { IfOk result (λ token. (token.queue ≡ queue) × (token.holder ≡ Guest guest) × Contains self.new.freezes token) }
+            step_call setup (with_recoveries self.old world) (GuestFreeze place guest) ≡ Some (replies (freeze_answer result), with_recoveries self.new world) }
+        ensures token { IfOk result (λ token. (token.place ≡ place) × (token.holder ≡ Guest guest) × Contains self.new.freezes token) }
         ensures queues { self.new.queues ≡ self.old.queues }
     {
-        if queue.0 >= self.ledger.queues() {
+        if place.index() >= self.ledger.queues() as usize {
             return Err(CallRefusal::Unknown);
         }
         self.ledger
-            .take(queue, Holder::Guest(guest))
+            .take(place, Holder::Guest(guest))
             .ok_or(CallRefusal::Limit)
     }
 
-    /// Whether an entry has the token's number, queue and holder, and that is a guest.
+    /// Whether an entry has the token's number, place and holder, and that is a guest.
     pub fn is_guests(&self, token: &FreezeToken) -> bool
         ensures { IsTrue result ↔ (Contains self.now.freezes token.now × (is_guest token.now.holder ≡ true)) }
     {
         matches!(token.holder(), Holder::Guest(_)) && self.ledger.holds(token)
     }
 
-    /// Gives a guest's freeze back: how many freezes its queue has then, at most 254. It asks for a token that is a
+    /// Gives a guest's freeze back: how many freezes its place has then, at most 254. It asks for a token that is a
     /// guest's.
     pub fn guest_release(&mut self, token: FreezeToken) -> u32
         requires { Contains self.old.freezes token × (is_guest token.holder ≡ true) }
-        ensures step { (world : World) →
-            step_guest_release (with_recoveries self.old world) (entry_of token.number self.old.freezes) ≡ Some (count_left result, with_recoveries self.new world) }
+        ensures step { (setup : Setup) (world : World) →
+            step_call setup (with_recoveries self.old world) (GuestRelease token.number) ≡ Some (replies (answers.Left result), with_recoveries self.new world) }
         ensures queues { self.new.queues ≡ self.old.queues }
     {
         match self.ledger.give_back(token) {
@@ -226,8 +229,8 @@ impl Recoveries {
     /// answers how many these were, at most 1024. C2 above 2^62, and C5 below the last reading. A refusal changes
     /// nothing.
     pub fn read_clock(&mut self, reading: u64) -> Result<u32, CallRefusal>
-        ensures step { (world : World) →
-            step_clock_reads (with_recoveries self.old world) reading ≡ (clock_reply result, with_recoveries self.new world) }
+        ensures step { (setup : Setup) (world : World) →
+            step_call setup (with_recoveries self.old world) (Clock reading) ≡ Some (replies (removed_answer result), with_recoveries self.new world) }
         ensures queues { self.new.queues ≡ self.old.queues }
     {
         if reading > LAST_READING {
@@ -284,14 +287,16 @@ impl Recoveries {
         requires room { (world : World) → run_meets_limit (with_recoveries self.old world) ≡ false }
         ensures step { (setup : Setup) (world : World) → (queue_setup setup ccb.old.queue.0).program ≡ (arc_value program).program →
             recovers setup (with_recoveries self.old world) ccb.old completion.now
-            ≡ (run_started result.run result.freeze, with_recoveries self.new (record world { live = with_ccb (record { ccb = ccb.new; state = InRecovery }) world.live })) }
+            ≡ (replies (answers.Started result.run result.freeze), with_recoveries self.new (record world { live = with_ccb (record { ccb = ccb.new; state = InRecovery }) world.live })) }
         ensures entry { IsEntry machine.new }
         ensures machine { run_of result.run self.new.runs ≡ Some (run_for result.run ccb.old (arc_value program).program machine.new) }
         ensures ccb { (taken : Bool) × (ccb.new ≡ completed ccb.old completion.now taken) }
         ensures queues { self.new.queues ≡ self.old.queues }
     {
         let number = self.greatest_run + 1;
-        let token = self.ledger.take(ccb.queue, Holder::Run(number));
+        let token = self
+            .ledger
+            .take(Place::Device(ccb.queue), Holder::Run(number));
         ccb.complete(completion, token.is_some());
         let (freeze, tokens) = taken_at_start(token);
         machine.begin(&context(ccb), freeze);
@@ -397,7 +402,7 @@ impl Recoveries {
         ensures { (it : LiveRun) → HasRunAt self.old.runs place it → (result, self.new) ≡ taken_for self.old it.number queue }
     {
         let holder = Holder::Run(self.runs[place].number);
-        let Some(token) = self.ledger.take(queue, holder) else {
+        let Some(token) = self.ledger.take(Place::Device(queue), holder) else {
             return 0;
         };
         hold(&mut self.runs[place].tokens, token)

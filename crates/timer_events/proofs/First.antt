@@ -39,13 +39,13 @@ behind_self : (due number : ℕ) → (nat_lt due due || (due == due && nat_le nu
 behind_self due number = grind arith
 
 -- one freeze more, whose timer is due and goes before those of the others
-pub first_last : (reading : ℕ) (fs : List Freeze) (f : Freeze) (timer : DueTimer) → f ≡ record { number = timer.number; queue = f.queue; holder = Timer timer.due } → timer.due ≤ reading → all_behind timer.due timer.number fs ≡ true → IsFirstDue reading (fs ++ f ∷ []) timer
+pub first_last : (reading : ℕ) (fs : List Freeze) (f : Freeze) (timer : DueTimer) → f ≡ record { number = timer.number; place = f.place; holder = Timer timer.due } → timer.due ≤ reading → all_behind timer.due timer.number fs ≡ true → IsFirstDue reading (fs ++ f ∷ []) timer
 first_last reading fs f timer held reached behind =
-    let it : Freeze = record { number = timer.number; queue = f.queue; holder = Timer timer.due } in
+    let it : Freeze = record { number = timer.number; place = f.place; holder = Timer timer.due } in
     let itself : all_behind timer.due timer.number (it ∷ []) ≡ true = and_from _ _ (behind_self timer.due timer.number) refl in
     let whole : all_behind timer.due timer.number (fs ++ it ∷ []) ≡ true = list_all-append _ fs (it ∷ []) ∙ and_from _ _ behind itself in
     record {
-      queue = f.queue;
+      place = f.place;
       held = subst (λ (x : Freeze). Contains (fs ++ x ∷ []) it) (sym held) (Contains-append_right fs (it ∷ []) it (zero, omega arith, refl));
       reached = reached;
       first = subst (λ (x : Freeze). all_behind timer.due timer.number (fs ++ x ∷ []) ≡ true) (sym held) whole;

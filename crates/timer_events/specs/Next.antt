@@ -2,7 +2,7 @@
 -- Times and readings are in milliseconds.
 use Rattle.std.specs.Prelude.{◌≡◌, ℕ, ◌≤◌, Bool, true, ◌==◌, ◌||◌, ◌&&◌, nat_lt, nat_le, List, Some}
 use Rattle.std.specs.List.{list_all, list_any}
-use Rattle.ccb.specs.declared.QueueId.{QueueId}
+use Rattle.freeze_ledger.specs.declared.place.Place.{Place}
 use Rattle.freeze_ledger.specs.declared.freeze.Holder.{Holder}
 use Rattle.freeze_ledger.specs.declared.freeze.Holder.TheVariants.{Run, Timer, Guest}
 use Rattle.freeze_ledger.specs.declared.freeze.Freeze.{Freeze}
@@ -25,9 +25,9 @@ all_behind due number freezes = list_all (λ other. goes_behind due number other
 
 -- the freeze of this number is next: a timer holds it, is due, and no other freeze goes before it
 pub record IsNext (reading : ℕ) (freezes : List Freeze) (number : ℕ) : Type 0 where
-  pub queue : QueueId
+  pub place : Place
   pub due : ℕ
-  pub held : entry_of number freezes ≡ Some (record { number = number; queue = queue; holder = Timer due })
+  pub held : entry_of number freezes ≡ Some (record { number = number; place = place; holder = Timer due })
   pub reached : due ≤ reading
   pub first : all_behind due number freezes ≡ true
 

@@ -20,7 +20,7 @@ impl DueTimer {
     // The timer that holds the freeze, where it is due at this clock reading.
     fn of(freeze: Freeze, reading: u64) -> Option<Self>
         ensures due { IsSome result ↔ IsTrue (is_due reading freeze.holder) }
-        ensures held { IfSome result (λ timer. freeze ≡ record { number = timer.number; queue = freeze.queue; holder = Timer timer.due }) }
+        ensures held { IfSome result (λ timer. freeze ≡ record { number = timer.number; place = freeze.place; holder = Timer timer.due }) }
         ensures reached { IfSome result (λ timer. timer.due ≤ reading) }
     {
         let number = freeze.number;

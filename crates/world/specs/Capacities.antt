@@ -1,6 +1,6 @@
 -- How much there is at most at a time, and the last number that is given.
 use Rattle.std.specs.Prelude.{ℕ, ◌^◌}
-use Rattle.freeze_ledger.specs.declared.ledger.TheConstants.{MAX_FREEZES, MAX_FREEZE_NUMBER, MAX_QUEUE_FREEZES}
+use Rattle.freeze_ledger.specs.declared.ledger.TheConstants.{MAX_FREEZES, MAX_FREEZE_NUMBER, MAX_PLACE_FREEZES}
 
 abbrev pub most_queues : ℕ
 most_queues = 64
@@ -27,12 +27,12 @@ most_ccbs_of_queue = 256
 abbrev pub most_runs : ℕ
 most_runs = 256
 
--- freezes, in all and of one queue
+-- freezes, in all and of one place
 abbrev pub most_freezes : ℕ
 most_freezes = MAX_FREEZES
 
-abbrev pub most_freezes_of_queue : ℕ
-most_freezes_of_queue = MAX_QUEUE_FREEZES
+abbrev pub most_freezes_of_place : ℕ
+most_freezes_of_place = MAX_PLACE_FREEZES
 
 -- of CCBs, freezes and runs
 abbrev pub last_number : ℕ

@@ -2,10 +2,12 @@
 -- more start than there are openings.
 use Rattle.std.specs.Prelude.{◌≡◌, ℕ, ◌<◌, ◌≤◌, ◌==◌, List, [], ◌∷◌, ◌++◌, Option, Some, None, ◌⊎◌, count_by, slice_index}
 use Rattle.ccb.specs.Status.{code_of}
+use Rattle.calls.specs.declared.call.Call.TheVariants.{Complete}
+use Rattle.calls.specs.declared.call_answer.CallAnswer.TheVariants as answers
 use Rattle.world.specs.World.{Setup, LiveCcb, EndedCcb, LiveRun, World, opening}
 use Rattle.world.specs.Lookups.{active_count, ccb_of, run_of}
 use Rattle.world.specs.Told.{finishes}
-use Rattle.world.specs.Event.{call, Event, complete, executes, Reply, done}
+use Rattle.world.specs.Event.{call, Event, called, executes, Reply, replies}
 use Rattle.world.specs.Step.{WorldStep}
 use Rattle.world.specs.WorldRun.{Leads, WorldRun}
 
@@ -34,7 +36,7 @@ finished_by_run code (Some run) = record { number = run.ccb; code = code } ∷ [
 -- the CCB that an event finishes in this world: that of a completion which is done, with the code of its status, and that
 -- of a run whose call is told to finish it, with the code that is told
 abbrev pub finished_by : World → Event → Reply → List EndedCcb
-finished_by before (complete outcome) done = record { number = outcome.ccb.0; code = code_of outcome.status } ∷ []
+finished_by before (called (Complete outcome)) (replies answers.Done) = record { number = outcome.ccb.0; code = code_of outcome.status } ∷ []
 finished_by before (executes run (call (finishes helper code))) reply = finished_by_run code (run_of run before.runs)
 finished_by before event reply = []
 

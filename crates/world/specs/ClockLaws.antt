@@ -3,9 +3,11 @@ use Rattle.std.specs.Prelude.{◌≡◌, ℕ, ◌≤◌, Bool, false, nat_le, if
 use Rattle.freeze_ledger.specs.declared.freeze.Holder.TheVariants.{Timer}
 use Rattle.freeze_ledger.specs.declared.freeze.Freeze.{Freeze}
 use Rattle.freeze_ledger.specs.Freezes.{entry_of}
+use Rattle.calls.specs.declared.call.Call.TheVariants.{Clock}
+use Rattle.calls.specs.declared.call_answer.CallAnswer.TheVariants as answers
 use Rattle.world.specs.Capacities.{last_reading}
 use Rattle.world.specs.World.{Setup, World}
-use Rattle.world.specs.Event.{Event, clock_reads, Reply, expired}
+use Rattle.world.specs.Event.{Event, called, Reply, replies}
 use Rattle.world.specs.Step.{WorldStep}
 use Rattle.world.specs.WorldRun.{Leads, WorldRun}
 
@@ -17,7 +19,7 @@ ClockGoesOn =
 
 -- the event lets go what is due at this time: it is a clock reading that is not refused and not before that time
 abbrev pub lets_go : ℕ → Reply → Event → Bool
-lets_go due (expired count) (clock_reads reading) = nat_le due reading
+lets_go due (replies (answers.Removed count)) (called (Clock reading)) = nat_le due reading
 lets_go due reply event = false
 
 -- what a step makes of a freeze that a timer holds: it is gone where the event lets it go, and else it is as it was

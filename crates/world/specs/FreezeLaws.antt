@@ -1,6 +1,9 @@
 -- The laws of frozen counts and freezes: what holds in every run of the world.
 use Rattle.std.specs.Prelude.{◌≡◌, ℕ, ◌+◌, ◌==◌, true, false, if◌then◌else◌, List, ◌∷◌, ◌++◌, map, filter, length, IsSome, Some}
 use Rattle.freeze_ledger.specs.declared.freeze.Freeze.{Freeze}
+use Rattle.freeze_ledger.specs.declared.place.Place.{Place}
+use Rattle.freeze_ledger.specs.declared.place.Place.TheVariants.{Device}
+use Rattle.freeze_ledger.specs.Places.{is_place, device}
 use Rattle.freeze_ledger.specs.Freezes.{names, frozen, entry_of, due_at}
 use Rattle.ccb.specs.Completion.{Outcome}
 use Rattle.helpers.specs.declared.table.Deed.{Deed}
@@ -8,11 +11,13 @@ use Rattle.helpers.specs.declared.table.Deed.TheVariants as deeds
 use Rattle.helpers.specs.declared.request.Request.{Request}
 use Rattle.helpers.specs.Table.{row_of}
 use Rattle.bpf_semantics.specs.Step.{request_at}
+use Rattle.calls.specs.declared.call.Call.TheVariants.{Complete, GuestFreeze, GuestRelease, Clock}
+use Rattle.calls.specs.declared.call_answer.CallAnswer.TheVariants as answers
 use Rattle.world.specs.World.{Setup, LiveCcb, LiveRun, World}
 use Rattle.world.specs.Lawful.{IsLawful}
 use Rattle.world.specs.Lookups.{ccb_of, run_of}
 use Rattle.world.specs.Told.{Told, helper_in}
-use Rattle.world.specs.Event.{call, Event, complete, guest_freeze, guest_release, clock_reads, executes, Reply, done, run_started, freeze_given, count_left, expired, result, refused}
+use Rattle.world.specs.Event.{call, Event, called, executes, Reply, replies, result}
 use Rattle.world.specs.FreezeSteps.{frozen_with, is_timer}
 use Rattle.world.specs.RunSteps.{is_run}
 use Rattle.world.specs.Step.{WorldStep}
@@ -26,45 +31,45 @@ IsHeld number world = IsSome (entry_of number world.freezes)
 abbrev pub KeepsFreezes : World → World → Type 0
 KeepsFreezes before after = after.freezes ≡ before.freezes
 
--- one freeze more, of that queue, and of any other as many as before
-abbrev pub OneMore : World → ℕ → World → Type 0
-OneMore before queue after =
-    (other : ℕ) → frozen other after.freezes ≡ frozen other before.freezes + (if queue == other then 1 else 0)
+-- one freeze more, of that place, and of any other as many as before
+abbrev pub OneMore : World → Place → World → Type 0
+OneMore before place after =
+    (other : Place) → frozen other after.freezes ≡ frozen other before.freezes + (if is_place place other then 1 else 0)
 
--- The freeze of that number went: one fewer of its queue, of any other as many as before, and `count` is how many
--- entries name its queue now.
+-- The freeze of that number went: one fewer of its place, of any other as many as before, and `count` is how many
+-- entries name its place now.
 pub record OneFewer (before : World) (number count : ℕ) (after : World) : Type 0 where
   pub freeze : Freeze
   pub entry : entry_of number before.freezes ≡ Some freeze
   pub count_is : count ≡ frozen_with freeze after.freezes
-  pub fewer : (other : ℕ) → frozen other after.freezes + (if names other freeze then 1 else 0) ≡ frozen other before.freezes
+  pub fewer : (other : Place) → frozen other after.freezes + (if names other freeze then 1 else 0) ≡ frozen other before.freezes
 
--- The freezes whose timers are due went, `count` in all: of each queue as many as were its own.
+-- The freezes whose timers are due went, `count` in all: of each place as many as were its own.
 pub record DueGone (before : World) (reading count : ℕ) (after : World) : Type 0 where
   pub count_is : count ≡ length (due_at reading before.freezes)
-  pub fewer : (other : ℕ) → frozen other after.freezes + frozen other (due_at reading before.freezes) ≡ frozen other before.freezes
+  pub fewer : (other : Place) → frozen other after.freezes + frozen other (due_at reading before.freezes) ≡ frozen other before.freezes
 
 -- a clock reading, by its reply
 abbrev pub MovesByClock : World → ℕ → Reply → World → Type 0
-MovesByClock before reading (expired count) after = DueGone before reading count after
-MovesByClock before reading (refused refusal) after = after ≡ before
+MovesByClock before reading (replies (answers.Removed count)) after = DueGone before reading count after
+MovesByClock before reading (replies (answers.Refused refusal)) after = after ≡ before
 MovesByClock before reading reply after = ⊥
 
 -- a guest's freeze, by its reply
-abbrev pub MovesByFreeze : World → ℕ → Reply → World → Type 0
-MovesByFreeze before queue (freeze_given number) after = OneMore before queue after
-MovesByFreeze before queue (refused refusal) after = after ≡ before
-MovesByFreeze before queue reply after = ⊥
+abbrev pub MovesByFreeze : World → Place → Reply → World → Type 0
+MovesByFreeze before place (replies (answers.Freeze number)) after = OneMore before place after
+MovesByFreeze before place (replies (answers.Refused refusal)) after = after ≡ before
+MovesByFreeze before place reply after = ⊥
 
 -- a completion, by its reply: one more of the CCB's queue where a run started with a freeze, which has a number above 0
 abbrev pub MovesByCompletion : World → Outcome → Reply → World → Type 0
-MovesByCompletion before outcome (run_started run freeze) after =
+MovesByCompletion before outcome (replies (answers.Started run freeze)) after =
     (live : LiveCcb) × (ccb_of outcome.ccb.0 before.live ≡ Some live)
-    × ((other : ℕ) →
+    × ((other : Place) →
     frozen other after.freezes
-    ≡ frozen other before.freezes + (if freeze == 0 then 0 else if live.ccb.queue.0 == other then 1 else 0))
-MovesByCompletion before outcome done after = KeepsFreezes before after
-MovesByCompletion before outcome (refused refusal) after = after ≡ before
+    ≡ frozen other before.freezes + (if freeze == 0 then 0 else if is_place (Device live.ccb.queue) other then 1 else 0))
+MovesByCompletion before outcome (replies answers.Done) after = KeepsFreezes before after
+MovesByCompletion before outcome (replies (answers.Refused refusal)) after = after ≡ before
 MovesByCompletion before outcome reply after = ⊥
 
 -- the run stands at this call
@@ -93,9 +98,9 @@ pub record MovesByTaking (before : World) (run : ℕ) (reply : Reply) (after : W
   pub freeze : ℕ
   pub asks : CallsTo deeds.Freeze before run queue
   pub reply_is : reply ≡ result freeze
-  pub more : (other : ℕ) → frozen other after.freezes ≡ frozen other before.freezes + (if freeze == 0 then 0 else if queue == other then 1 else 0)
+  pub more : (other : Place) → frozen other after.freezes ≡ frozen other before.freezes + (if freeze == 0 then 0 else if is_place (device queue) other then 1 else 0)
 
--- A run's call that gives a freeze back: one fewer of its queue, and the reply is how many there are then.
+-- A run's call that gives a freeze back: one fewer of its place, and the reply is how many there are then.
 pub record MovesByGiving (before : World) (run : ℕ) (reply : Reply) (after : World) : Type 0 where
   pub number : ℕ
   pub count : ℕ
@@ -103,26 +108,26 @@ pub record MovesByGiving (before : World) (run : ℕ) (reply : Reply) (after : W
   pub reply_is : reply ≡ result count
   pub fewer : OneFewer before number count after
 
--- no queue's count changed: a freeze may have another holder
+-- no place's count changed: a freeze may have another holder
 abbrev pub KeepsCounts : World → World → Type 0
-KeepsCounts before after = (other : ℕ) → frozen other after.freezes ≡ frozen other before.freezes
+KeepsCounts before after = (other : Place) → frozen other after.freezes ≡ frozen other before.freezes
 
--- what a run's call does to each queue's frozen count, by its deed
+-- what a run's call does to each place's frozen count, by its deed
 abbrev pub MovesByDeed : Deed → World → ℕ → Reply → World → Type 0
 MovesByDeed deeds.Freeze before run reply after = MovesByTaking before run reply after
 MovesByDeed deeds.GiveBack before run reply after = MovesByGiving before run reply after
 MovesByDeed deeds.HandOver before run reply after = KeepsCounts before after
 MovesByDeed deed before run reply after = KeepsFreezes before after
 
--- What a step does to each queue's frozen count: a freeze that was taken adds one to its queue's, by whomever it was
--- taken, and one that is given back takes one; the reply to that is the number of entries that name the queue now. One
+-- What a step does to each place's frozen count: a freeze that was taken adds one to its place's, by whomever it was
+-- taken, and one that is given back takes one; the reply to that is the number of entries that name the place now. One
 -- that is handed over stays. A clock reading takes those whose timers are due. Nothing else changes a count.
 abbrev pub MovesCounts : World → Event → Reply → World → Type 0
-MovesCounts before (guest_freeze queue guest) reply after = MovesByFreeze before queue reply after
-MovesCounts before (complete outcome) reply after = MovesByCompletion before outcome reply after
-MovesCounts before (guest_release number) reply after =
-    (count : ℕ) × (reply ≡ count_left count) × OneFewer before number count after
-MovesCounts before (clock_reads reading) reply after = MovesByClock before reading reply after
+MovesCounts before (called (GuestFreeze place guest)) reply after = MovesByFreeze before place reply after
+MovesCounts before (called (Complete outcome)) reply after = MovesByCompletion before outcome reply after
+MovesCounts before (called (GuestRelease number)) reply after =
+    (count : ℕ) × (reply ≡ replies (answers.Left count)) × OneFewer before number count after
+MovesCounts before (called (Clock reading)) reply after = MovesByClock before reading reply after
 MovesCounts before (executes run (call told)) reply after = MovesByDeed (row_of (helper_in told)).deed before run reply after
 MovesCounts before event reply after = KeepsFreezes before after
 
@@ -136,7 +141,7 @@ CountsAreEntries =
 abbrev pub GivenUpStaysGivenUp : Type 0
 GivenUpStaysGivenUp =
     (setup : Setup) (xs ys : List (Event × Reply)) (number : ℕ) (reply : Reply) (world : World) →
-    WorldRun setup (xs ++ (guest_release number, reply) ∷ ys) world → IsHeld number world → ⊥
+    WorldRun setup (xs ++ (called (GuestRelease number), reply) ∷ ys) world → IsHeld number world → ⊥
 
 -- nor is one that a run gave up
 abbrev pub GivenUpByRunStaysGivenUp : Type 0

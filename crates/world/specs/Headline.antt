@@ -11,11 +11,13 @@ use Rattle.helpers.specs.Table.{row_of}
 use Rattle.bpf_semantics.specs.Stuck.{is_stuck}
 use Rattle.bpf_semantics.specs.Reached.{Reached}
 use Rattle.world.specs.declared.ccb_state.CcbState.TheVariants.{Waiting, InRecovery}
+use Rattle.calls.specs.declared.call.Call.TheVariants.{Complete, Park, Resume}
+use Rattle.calls.specs.declared.call_answer.CallAnswer.TheVariants as answers
 use Rattle.world.specs.World.{Setup, queue_setup, LiveCcb, LiveRun, World}
 use Rattle.world.specs.Lawful.{IsLawful}
 use Rattle.world.specs.Lookups.{ccb_of, run_of}
 use Rattle.world.specs.Told.{Told, plain, finishes, helper_in}
-use Rattle.world.specs.Event.{Instruction, private, call, exit, Event, complete, parks, resumes, executes, instruction_of, Reply, run_started}
+use Rattle.world.specs.Event.{Instruction, private, call, exit, Event, called, executes, instruction_of, Reply, replies}
 use Rattle.world.specs.Step.{WorldStep}
 use Rattle.world.specs.WorldRun.{Leads, WorldRun}
 use Rattle.world.specs.TookGave.{took, gave}
@@ -27,8 +29,8 @@ is_step_of run event = is_some (instruction_of run event)
 
 -- the event parks this run or resumes it
 abbrev pub is_turn_of : ℕ → Event → Bool
-is_turn_of run (parks number) = number == run
-is_turn_of run (resumes number) = number == run
+is_turn_of run (called (Park number)) = number == run
+is_turn_of run (called (Resume number)) = number == run
 is_turn_of run event = false
 
 -- the event is this run's own: its step, its park or its resume
@@ -108,7 +110,7 @@ pub record StartedRun (setup : Setup) (outcome : Outcome) (run : ℕ) (ys : List
   pub run_before : WorldRun setup xs before
   pub freeze : ℕ
   pub started : World
-  pub step : WorldStep setup before (complete outcome) (run_started run freeze) started
+  pub step : WorldStep setup before (called (Complete outcome)) (replies (answers.Started run freeze)) started
   pub goes_on : Leads setup started ys world
 
 -- It was started as this one: its steps are within the budget of the queue's program, and as long as it is live its
@@ -213,7 +215,7 @@ abbrev pub ExactFreezes : Type 0
 ExactFreezes =
     (setup : Setup) → IsLawful setup → (outcome : Outcome) (run : ℕ) (ys : List (Event × Reply)) (world : World) →
     (it : StartedRun setup outcome run ys world) →
-    HoldsExactly run (took run ((complete outcome, run_started run it.freeze) ∷ ys)) (gave run setup it.started ys world it.goes_on) world
+    HoldsExactly run (took run ((called (Complete outcome), replies (answers.Started run it.freeze)) ∷ ys)) (gave run setup it.started ys world it.goes_on) world
 
 -- An event that is not a run's own leaves it as it is; and one that is no step of it, as its park, leaves the entries that
 -- name it as they are.

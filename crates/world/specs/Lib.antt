@@ -10,10 +10,10 @@ pub mod FreezeSteps
 pub mod CcbSteps
 pub mod RunSteps
 pub mod ParkSteps
+pub mod Refusals
 pub mod Step
 pub mod WorldRun
 pub mod TookGave
-pub mod Kept
 pub mod Flat
 pub mod TotalsOf
 pub mod Limits
@@ -23,4 +23,3 @@ pub mod Headline
 pub mod ParkLaws
 pub mod Moved
 pub mod CcbLaws
-pub mod CallRefusalText

@@ -1,11 +1,13 @@
 -- The limits that every world keeps.
-use Rattle.std.specs.Prelude.{◌≡◌, ℕ, ◌<◌, ◌≤◌, ◌^◌, List, length, map, All}
+use Rattle.std.specs.Prelude.{◌≡◌, ℕ, ◌<◌, ◌≤◌, ◌^◌, false, List, length, map, All}
 use Rattle.ccb.specs.Rising.{AreRising}
+use Rattle.freeze_ledger.specs.declared.place.Place.{Place}
 use Rattle.freeze_ledger.specs.Freezes.{frozen}
-use Rattle.world.specs.Capacities.{most_openings, most_ccbs, most_ccbs_of_queue, most_runs, most_freezes, most_freezes_of_queue, last_number, last_reading}
+use Rattle.world.specs.Capacities.{most_openings, most_ccbs, most_ccbs_of_queue, most_runs, most_freezes, most_freezes_of_place, last_number, last_reading}
 use Rattle.world.specs.World.{Setup, queue_count, queue_setup, World}
 use Rattle.world.specs.Lookups.{live_count}
 use Rattle.world.specs.Lawful.{IsLawful}
+use Rattle.world.specs.Refusals.{is_unknown}
 use Rattle.world.specs.Event.{Event, Reply}
 use Rattle.world.specs.WorldRun.{WorldRun}
 
@@ -13,11 +15,11 @@ use Rattle.world.specs.WorldRun.{WorldRun}
 abbrev pub NamesNoOther : Setup → Type 0
 NamesNoOther setup = setup.limits.queues ≤ queue_count setup
 
--- Each freeze is of a queue that exists, where calls name no other; no queue has too many, nor has the ledger, and
+-- Each freeze is of a place that exists, where calls name no other; no place has too many, nor has the ledger, and
 -- numbers rise.
 pub record FreezeLimits (setup : Setup) (world : World) : Type 0 where
-  pub queues : NamesNoOther setup → All (λ freeze. freeze.queue.0 < queue_count setup) world.freezes
-  pub a_queue : (queue : ℕ) → frozen queue world.freezes ≤ most_freezes_of_queue
+  pub places : NamesNoOther setup → All (λ freeze. is_unknown setup freeze.place ≡ false) world.freezes
+  pub a_place : (place : Place) → frozen place world.freezes ≤ most_freezes_of_place
   pub ledger : length world.freezes ≤ most_freezes
   pub numbered : AreRising 0 (map (λ freeze. freeze.number) world.freezes) world.greatest_freeze
   pub numbers : world.greatest_freeze ≤ last_number

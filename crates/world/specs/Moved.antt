@@ -1,14 +1,15 @@
 -- The law that private instructions move: where a run executes them, among the events of others, nobody can tell.
 use Rattle.std.specs.Prelude.{◌≡◌, ℕ, ◌==◌, ◌||◌, Bool, true, false, not, List, ◌∷◌, ◌++◌}
 use Rattle.std.specs.List.{list_all}
+use Rattle.calls.specs.declared.call_answer.CallAnswer.TheVariants as answers
 use Rattle.world.specs.World.{Setup, World}
-use Rattle.world.specs.Event.{private, Event, executes, Reply, run_started}
+use Rattle.world.specs.Event.{private, Event, executes, Reply, replies}
 use Rattle.world.specs.WorldRun.{Leads}
 use Rattle.world.specs.Headline.{is_own_of}
 
 -- the reply tells that this run starts
 abbrev pub is_start_of : ℕ → Reply → Bool
-is_start_of run (run_started number freeze) = number == run
+is_start_of run (replies (answers.Started number freeze)) = number == run
 is_start_of run reply = false
 
 -- the event is none of this run's: neither its start, nor a step, a park or a resume of it

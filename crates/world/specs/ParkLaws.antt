@@ -1,9 +1,11 @@
 -- The law of parked runs: what holds in every run of the world.
 use Rattle.std.specs.Prelude.{◌≡◌, ℕ, ◌==◌, Bool, false, List, Some, count_by}
+use Rattle.calls.specs.declared.call.Call.TheVariants.{Park, Resume}
+use Rattle.calls.specs.declared.call_answer.CallAnswer.TheVariants as answers
 use Rattle.world.specs.World.{Setup, LiveRun, World}
 use Rattle.world.specs.Lawful.{IsLawful}
 use Rattle.world.specs.Lookups.{ccb_of, run_of}
-use Rattle.world.specs.Event.{Event, parks, resumes, Reply, ok}
+use Rattle.world.specs.Event.{Event, called, Reply, replies}
 use Rattle.world.specs.Step.{WorldStep}
 use Rattle.world.specs.WorldRun.{Leads, WorldRun}
 use Rattle.world.specs.FreezeLaws.{entries_of}
@@ -11,7 +13,7 @@ use Rattle.world.specs.Headline.{steps_of}
 
 -- the event resumes this run
 abbrev pub is_resume_of : ℕ → Event → Bool
-is_resume_of run (resumes number) = number == run
+is_resume_of run (called (Resume number)) = number == run
 is_resume_of run event = false
 
 -- how many resumes of this run there are in a list of events
@@ -24,12 +26,12 @@ pub record StaysParked (setup : Setup) (number : ℕ) (run : LiveRun) (before la
   pub still : run_of number later.runs ≡ Some (record run { out = false })
   pub freezes : entries_of number later.freezes ≡ entries_of number before.freezes
   pub ccb : IsLawful setup → run.machine.disposed ≡ false → ccb_of run.ccb later.live ≡ ccb_of run.ccb before.live
-  pub resumed : (after : World) × WorldStep setup later (resumes number) ok after × (run_of number after.runs ≡ Some run)
+  pub resumed : (after : World) × WorldStep setup later (called (Resume number)) (replies answers.Ok) after × (run_of number after.runs ≡ Some run)
 
 -- From its park on, up to its resume, a run takes no step and stays as it was.
 abbrev pub ParkedStaysAsItIs : Type 0
 ParkedStaysAsItIs =
     (setup : Setup) (xs ys : List (Event × Reply)) (number : ℕ) (run : LiveRun) (reply : Reply) (before parked later : World) →
-    WorldRun setup xs before → run_of number before.runs ≡ Some run → WorldStep setup before (parks number) reply parked →
+    WorldRun setup xs before → run_of number before.runs ≡ Some run → WorldStep setup before (called (Park number)) reply parked →
     Leads setup parked ys later → resumes_of number ys ≡ 0 →
     (steps_of number ys ≡ 0) × StaysParked setup number run before later

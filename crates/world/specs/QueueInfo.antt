@@ -2,6 +2,7 @@
 use Rattle.std.specs.Prelude.{ℕ, List, [], ◌∷◌, slice_index}
 use Rattle.std.specs.List.{flat_map}
 use Rattle.byteorder.specs.Endian.{little_bytes}
+use Rattle.freeze_ledger.specs.Places.{device}
 use Rattle.freeze_ledger.specs.Freezes.{frozen}
 use Rattle.world.specs.declared.queue_info.QueueInfo.{QueueInfo}
 use Rattle.world.specs.World.{World}
@@ -10,7 +11,7 @@ use Rattle.world.specs.Lookups.{active_count, waiting_count}
 -- how many freezes, active CCBs, waiting CCBs and openings the queue has
 abbrev pub queue_info : World → ℕ → QueueInfo
 queue_info world queue = record {
-  frozen = frozen queue world.freezes;
+  frozen = frozen (device queue) world.freezes;
   active = active_count queue world.live;
   waiting = waiting_count queue world.live;
   openings = slice_index world.openings queue;

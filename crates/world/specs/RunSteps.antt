@@ -5,6 +5,7 @@ use Rattle.ccb.specs.Ccb.{requeued}
 use Rattle.freeze_ledger.specs.declared.freeze.Holder.{Holder}
 use Rattle.freeze_ledger.specs.declared.freeze.Holder.TheVariants.{Run, Timer, Guest}
 use Rattle.freeze_ledger.specs.declared.freeze.Freeze.{Freeze}
+use Rattle.freeze_ledger.specs.Places.{device}
 use Rattle.freeze_ledger.specs.Freezes.{entry_of, meets_limit}
 use Rattle.helpers.specs.declared.limits.HelperLimits.{HelperLimits}
 use Rattle.helpers.specs.declared.table.Deed.{Deed}
@@ -44,12 +45,12 @@ answers world run request answer = (result answer.r0, goes_on world run (answere
 -- the run freezes a queue, and the answer is the new freeze's number, or 0 where a further freeze meets a limit
 abbrev pub takes : World → LiveRun → Request → Reply × World
 takes world run request =
-    let queue = request.arguments.first in
-    if meets_limit queue world.freezes world.greatest_freeze
+    let place = device request.arguments.first in
+    if meets_limit place world.freezes world.greatest_freeze
     then answers world run request (answer_number 0)
-    else answers (froze world queue (Run run.number)) run request (answer_number (world.greatest_freeze + 1))
+    else answers (froze world place (Run run.number)) run request (answer_number (world.greatest_freeze + 1))
 
--- no event unless the run holds the freeze; it goes, and the answer is how many its queue has then
+-- no event unless the run holds the freeze; it goes, and the answer is how many its place has then
 abbrev pub releases : World → LiveRun → Request → Option Freeze → Option (Reply × World)
 releases world run request None = None
 releases world run request (Some freeze) =
@@ -137,8 +138,8 @@ abbrev pub may_call : HelperLimits → LiveRun → Told → Request → Bool
 may_call limits run told request = is_told told (told_of request) && meets_rule limits run.machine request
 
 -- and else no event
-abbrev pub step_call : HelperLimits → World → LiveRun → Told → Request → Option (Reply × World)
-step_call limits world run told request = if may_call limits run told request then step_request world run request else None
+abbrev pub step_helper : HelperLimits → World → LiveRun → Told → Request → Option (Reply × World)
+step_helper limits world run told request = if may_call limits run told request then step_request world run request else None
 
 -- the run is gone
 abbrev pub ends : World → LiveRun → World
@@ -147,7 +148,7 @@ ends world run = record world { runs = filter (λ other. not (other.number == ru
 -- no event unless the machine stands at such an instruction
 abbrev pub step_run : HelperLimits → World → LiveRun → Instruction → Option (Reply × World)
 step_run limits world run private = option_map (λ machine. (went_on, goes_on world run machine)) (private_step run.program run.machine)
-step_run limits world run (call told) = option_and_then (step_call limits world run told) (request_at run.program run.machine)
+step_run limits world run (call told) = option_and_then (step_helper limits world run told) (request_at run.program run.machine)
 step_run limits world run exit = option_map (λ r0. (result r0, ends world run)) (exit_at run.program run.machine)
 
 -- no event unless the run is live and out

@@ -1,25 +1,42 @@
--- The steps of the world, one event at a time. Where several refusals hold the first of the step's rule is the reply,
--- and a refusal leaves the world as it was.
-use Rattle.std.specs.Prelude.{◌≡◌, Option, Some}
+-- The steps of the world, one event at a time.
+use Rattle.std.specs.Prelude.{◌≡◌, Bool, true, if◌then◌else◌, Option, Some, None}
+use Rattle.std.specs.Option.{option_map}
 use Rattle.freeze_ledger.specs.Freezes.{entry_of}
+use Rattle.calls.specs.declared.call.Call.{Call}
+use Rattle.calls.specs.declared.call.Call.TheVariants.{Submit, Dispatch, Complete, GuestFreeze, GuestRelease, Clock, Park, Resume}
 use Rattle.world.specs.World.{Setup, World}
-use Rattle.world.specs.Lookups.{run_of}
-use Rattle.world.specs.Event.{Event, submit, dispatch, complete, guest_freeze, guest_release, clock_reads, parks, resumes, executes, Reply}
-use Rattle.world.specs.FreezeSteps.{step_guest_freeze, step_guest_release, step_clock_reads}
-use Rattle.world.specs.CcbSteps.{step_submit, step_dispatch, step_complete}
+use Rattle.world.specs.Lookups.{ccb_of, next_waiting, run_of}
+use Rattle.world.specs.Event.{Event, called, executes, Reply}
+use Rattle.world.specs.FreezeSteps.{guest_freezes, guest_releases, reads_clock}
+use Rattle.world.specs.CcbSteps.{submits, starts, completes, is_completion}
 use Rattle.world.specs.RunSteps.{step_executes}
-use Rattle.world.specs.ParkSteps.{step_parks, step_resumes}
+use Rattle.world.specs.ParkSteps.{parks, resumes}
+use Rattle.world.specs.Refusals.{refusals_of, unless_refused}
+
+-- what a call does that is not refused, or `None` where it is no event in this world
+abbrev pub performs : Setup → World → Call → Option (Reply × World)
+performs setup world (Submit queue priority retries) = Some (submits world queue priority retries)
+performs setup world (Dispatch queue) = option_map (starts world) (next_waiting queue.0 world.live)
+performs setup world (Complete outcome) = option_map (completes setup world outcome) (ccb_of outcome.ccb.0 world.live)
+performs setup world (GuestFreeze place guest) = Some (guest_freezes world place guest)
+performs setup world (GuestRelease freeze) = guest_releases world (entry_of freeze world.freezes)
+performs setup world (Clock reading) = Some (reads_clock world reading)
+performs setup world (Park run) = parks world (run_of run world.runs)
+performs setup world (Resume run) = option_map (resumes world) (run_of run world.runs)
+
+-- it can be asked: of a completion, that a device can report it
+abbrev pub is_call : Call → Bool
+is_call (Complete outcome) = is_completion outcome
+is_call call = true
+
+-- a call: the first of its refusals that holds, or else what it does
+abbrev pub step_call : Setup → World → Call → Option (Reply × World)
+step_call setup world call =
+    if is_call call then unless_refused (refusals_of setup world call) world (performs setup world call) else None
 
 -- what an event is answered and leads to, or `None` where it is no event in this world
 abbrev pub step : Setup → World → Event → Option (Reply × World)
-step setup world (submit queue priority retries) = Some (step_submit setup world queue priority retries)
-step setup world (dispatch queue) = Some (step_dispatch setup world queue)
-step setup world (complete outcome) = step_complete setup world outcome
-step setup world (guest_freeze queue guest) = Some (step_guest_freeze setup world queue guest)
-step setup world (guest_release number) = step_guest_release world (entry_of number world.freezes)
-step setup world (clock_reads reading) = Some (step_clock_reads world reading)
-step setup world (parks run) = step_parks world (run_of run world.runs)
-step setup world (resumes run) = Some (step_resumes world (run_of run world.runs))
+step setup world (called call) = step_call setup world call
 step setup world (executes run instruction) = step_executes setup.limits world instruction (run_of run world.runs)
 
 -- the event with this reply leads from one world to the other

@@ -7,10 +7,12 @@ use Rattle.helpers.specs.declared.columns.Change.TheVariants as changes
 use Rattle.helpers.specs.declared.request.Request.{Request}
 use Rattle.helpers.specs.Table.{row_of}
 use Rattle.bpf_semantics.specs.Step.{request_at}
+use Rattle.calls.specs.declared.call.Call.TheVariants.{Complete}
+use Rattle.calls.specs.declared.call_answer.CallAnswer.TheVariants as answers
 use Rattle.world.specs.World.{Setup, LiveRun, World}
 use Rattle.world.specs.Lookups.{run_of}
 use Rattle.world.specs.Told.{helper_in}
-use Rattle.world.specs.Event.{Instruction, private, call, exit, Event, complete, executes, instruction_of, Reply, run_started, result}
+use Rattle.world.specs.Event.{Instruction, private, call, exit, Event, called, executes, instruction_of, Reply, replies, result}
 use Rattle.world.specs.WorldRun.{Leads}
 
 -- a freeze of that number was given to that run, if it is this one; 0 is none
@@ -24,7 +26,7 @@ taken_as NewFreeze run number freeze = given_to run number freeze
 
 -- the freeze that an event gives to this run by its reply: that of its start, and that which its call takes
 abbrev pub taken_by : ℕ → Event → Reply → List ℕ
-taken_by run (complete outcome) (run_started number freeze) = given_to run number freeze
+taken_by run (called (Complete outcome)) (replies (answers.Started number freeze)) = given_to run number freeze
 taken_by run (executes number (call told)) (result r0) = taken_as (row_of (helper_in told)).gives run number r0
 taken_by run event reply = []
 

@@ -41,8 +41,9 @@ module _ (r : ℕ) (c : LiveRun) (named : c.number ≡ r) (w : World) where
   one_of true x x' y y' first second = first
   one_of false x x' y y' first second = second
 
-  pub one_of_two : (b b' : Bool) → b' ≡ b → (x x' y y' : Reply × World) → Alike x x' → Alike y y' → Alike (cond b x y) (cond b' x' y')
-  one_of_two b b' same x x' y y' first second = subst (λ (a : Bool). Alike (cond b x y) (cond a x' y')) (sym same) (one_of b x x' y y' first second)
+  pub either : (b : Bool) (x x' y y' : Option (Reply × World)) → AlikeOr x x' → AlikeOr y y' → AlikeOr (cond b x y) (cond b x' y')
+  either true x x' y y' first second = first
+  either false x x' y y' first second = second
 
   pub if_so : (b : Bool) (x x' : Option (Reply × World)) → AlikeOr x x' → AlikeOr (cond b x None) (cond b x' None)
   if_so true x x' it = it

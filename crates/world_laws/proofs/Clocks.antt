@@ -7,7 +7,8 @@ use Rattle.freeze_ledger.specs.declared.freeze.Freeze.{Freeze}
 use Rattle.freeze_ledger.specs.Freezes.{entry_of, without, is_due, due_at, not_due_at}
 use Rattle.world.specs.Capacities.{last_reading}
 use Rattle.world.specs.World.{Setup, World, opening}
-use Rattle.world.specs.Event.{Event, Reply, expired}
+use Rattle.calls.specs.declared.call_answer.CallAnswer.TheVariants as answers
+use Rattle.world.specs.Event.{Event, Reply, replies}
 use Rattle.world.specs.FreezeSteps.{is_guest}
 use Rattle.world.specs.RunSteps.{is_run}
 use Rattle.world.specs.WorldRun.{Leads}
@@ -83,7 +84,7 @@ runs_no_timer run holder held due timer = let bad : false ≡ true = sym (ap (is
 -- a clock reading lets go what is due
 by_the_clock : (setup : Setup) (before : World) (event : Event) (reply : Reply) (after : World) → KeepsLists setup before → ReadsClock before event reply after → KeepsTime before event reply after
 by_the_clock setup before event reply after kept it = λ freeze due found timer.
-    let tests : lets_go due reply event ≡ leb due it.reading = ap (λ (r : Reply). lets_go due r event) it.reply_is ∙ ap (lets_go due (expired (length (due_at it.reading before.freezes)))) it.event_is in
+    let tests : lets_go due reply event ≡ leb due it.reading = ap (λ (r : Reply). lets_go due r event) it.reply_is ∙ ap (lets_go due (replies (answers.Removed (length (due_at it.reading before.freezes))))) it.event_is in
     let is : is_due it.reading freeze.holder ≡ leb due it.reading = ap (is_due it.reading) timer in
     let rest : entry_of freeze.number after.freezes ≡ entry_of freeze.number (not_due_at it.reading before.freezes) = ap (λ (w : World). entry_of freeze.number w.freezes) it.after_is in
     elim (cases_Bool (leb due it.reading)) [

@@ -3,13 +3,15 @@ use Rattle.std.proofs.Common.{◌≡◌, ℕ, ◌+◌, List, false, cond, eqb, S
 use Rattle.std.proofs.lemmas.Bool.{ne_eqb}
 use Rattle.freeze_ledger.specs.declared.freeze.Freeze.{Freeze}
 use Rattle.freeze_ledger.specs.Freezes.{frozen, entry_of, without, due_at}
+use Rattle.freeze_ledger.specs.Places.{is_place}
+use Rattle.calls.specs.declared.call_answer.CallAnswer.TheVariants as answers
 use Rattle.world.specs.FreezeSteps.{frozen_with}
 use Rattle.helpers.specs.declared.request.Request.{Request}
 use Rattle.helpers.specs.declared.table.Deed.TheVariants as deeds
 use Rattle.helpers.specs.declared.request.Answer.{Answer}
 use Rattle.world.specs.World.{Setup, LiveRun, World}
 use Rattle.world.specs.Told.{told_of}
-use Rattle.world.specs.Event.{call, Event, executes, Reply, run_started, result}
+use Rattle.world.specs.Event.{call, Event, executes, Reply, replies, result}
 use Rattle.world.specs.FreezeLaws.{OneFewer, Calls, MovesCounts, CountsAreEntries}
 use Rattle.world.proofs.Lists.Entries.{frozen_push, frozen_without, frozen_handed_over, frozen_due}
 use Rattle.world_laws.proofs.Steps.Does.{FreezeDeed, leaves_freezes, takes_one, gives_one_back, hands_one_over, moves_by}
@@ -25,7 +27,7 @@ goes setup before after number freeze kept entry e =
       entry = entry;
       count_is = sym (ap (frozen_with freeze) e);
       fewer = λ other.
-          ap (λ (fs : List Freeze). frozen other fs + cond {A = ℕ} (eqb freeze.queue.0 other) 1 0) e
+          ap (λ (fs : List Freeze). frozen other fs + cond {A = ℕ} (is_place freeze.place other) 1 0) e
           ∙ frozen_without other 0 before.freezes before.greatest_freeze number freeze kept.freezes.numbered entry;
     }
 
@@ -59,7 +61,7 @@ case_moves setup before event reply after kept (submits it) = rw it.event_is (ap
 case_moves setup before event reply after kept (dispatches it) = rw it.event_is (ap (λ (w : World). w.freezes) it.after_is)
 case_moves setup before event reply after kept (finishes_one it) = rw (it.event_is, it.reply_is) (ap (λ (w : World). w.freezes) it.after_is)
 case_moves setup before event reply after kept (recovers_one it) =
-    let reply_is : reply ≡ run_started (before.greatest_run + 1) (before.greatest_freeze + 1) = ap (λ (x : Reply × World). x.0) it.starts_is in
+    let reply_is : reply ≡ replies (answers.Started (before.greatest_run + 1) (before.greatest_freeze + 1)) = ap (λ (x : Reply × World). x.0) it.starts_is in
     let is = ap (λ (x : Reply × World). x.1.freezes) it.starts_is in
     let above : eqb (before.greatest_freeze + 1) 0 ≡ false = ne_eqb _ _ (λ e. omega (arith, e)) in
     rw (it.fails.event_is, reply_is) (
@@ -68,7 +70,7 @@ case_moves setup before event reply after kept (recovers_one it) =
       rw above (λ other. ap (frozen other) is ∙ frozen_push other before.freezes _),
     )
 case_moves setup before event reply after kept (recovers_unfrozen it) =
-    let reply_is : reply ≡ run_started (before.greatest_run + 1) 0 = ap (λ (x : Reply × World). x.0) it.starts_is in
+    let reply_is : reply ≡ replies (answers.Started (before.greatest_run + 1) 0) = ap (λ (x : Reply × World). x.0) it.starts_is in
     rw (it.fails.event_is, reply_is) (it.fails.live, it.fails.found, λ other. omega (arith, ap (λ (x : Reply × World). frozen other x.1.freezes) it.starts_is))
 case_moves setup before event reply after kept (freezes_one it) =
     rw (it.event_is, it.reply_is) (λ other. ap (λ (w : World). frozen other w.freezes) it.after_is ∙ frozen_push other before.freezes _)

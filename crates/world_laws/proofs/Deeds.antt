@@ -30,6 +30,8 @@ use Rattle.bpf_semantics.specs.Step.{IsGiven, IsWritten, changed_by, after_call}
 use Rattle.table_store.specs.Tables.{HasWord}
 use Rattle.world.specs.declared.ccb_state.CcbState.TheVariants.{Waiting}
 use Rattle.world.specs.Capacities.{most_openings}
+use Rattle.freeze_ledger.specs.declared.place.Place.{Place}
+use Rattle.freeze_ledger.specs.Places.{device}
 use Rattle.world.specs.World.{Setup, queue_count, LiveCcb, LiveRun, World}
 use Rattle.world.specs.Lookups.{ccb_of, with_ccb}
 use Rattle.world.specs.QueueInfo.{queue_info}
@@ -283,17 +285,17 @@ freeze = record {
   leads = λ limits world run request is own rule. (_, refl);
   alike = λ r c named w run apart request.
       an_event r c named w _ _
-      (one_of r c named w (meets_limit request.arguments.first w.freezes w.greatest_freeze) _ _ _ _ (both_change r c named w _ w _ refl apart)
-      (both_change r c named w _ (froze w request.arguments.first (Run run.number)) _ refl apart));
+      (one_of r c named w (meets_limit (device request.arguments.first) w.freezes w.greatest_freeze) _ _ _ _ (both_change r c named w _ w _ refl apart)
+      (both_change r c named w _ (froze w (device request.arguments.first) (Run run.number)) _ refl apart));
   does = does;
 }
   where
     does : (setup : Setup) (before : World) (run : LiveRun) (request : Request) → (row_of request.helper).deed ≡ deeds.Freeze → meets_rule setup.limits run.machine request ≡ true → (p : Reply × World) → by_deed deeds.Freeze before run request ≡ Some p → Does setup before run request p
     does setup before run request is rule p e =
         let columns = suits deeds.Freeze request is in
-        let queue : ℕ = request.arguments.first in
+        let place : Place = device request.arguments.first in
         let no_code = named_alone request columns.tells_is in
-        elim (cases_Bool (meets_limit queue before.freezes before.greatest_freeze)) [
+        elim (cases_Bool (meets_limit place before.freezes before.greatest_freeze)) [
           | inl full ↦
               calmly setup before run request (answer_number 0) before
               (staying setup before run request (answer_number 0) before deeds.Freeze NewFreeze changes.Holds (record {
@@ -306,7 +308,7 @@ freeze = record {
                 written = tt;
                 taken = λ other number. ap (λ (b : Bool). cond b (0 ∷ []) []) (and_right (eqb number other) false refl);
                 moves = λ number after calls same. record {
-                  queue = queue;
+                  queue = request.arguments.first;
                   freeze = 0;
                   asks = record { request = request; calls = calls; deed_is = is; number_is = refl };
                   reply_is = refl;
@@ -315,11 +317,11 @@ freeze = record {
               }) refl refl)
               (calm before run request (answer_number 0) before changes.Holds columns.machine_is no_code refl refl refl refl refl)
               (nothing_set before before refl refl refl refl refl) p
-              (sym (ap Some (cond-true (meets_limit queue before.freezes before.greatest_freeze) _ _ full)) ∙ e)
+              (sym (ap Some (cond-true (meets_limit place before.freezes before.greatest_freeze) _ _ full)) ∙ e)
           | inr room ↦ record {
             given = answer_number (before.greatest_freeze + 1);
-            between = froze before queue (Run run.number);
-            answer = some_is _ _ e ∙ cond-false (meets_limit queue before.freezes before.greatest_freeze) _ _ room;
+            between = froze before place (Run run.number);
+            answer = some_is _ _ e ∙ cond-false (meets_limit place before.freezes before.greatest_freeze) _ _ room;
             freezes = takes_one (record {
               deed_is = is;
               machine_is = columns.machine_is;

@@ -10,7 +10,7 @@ use Rattle.world.specs.declared.ccb_state.CcbState.TheVariants.{Waiting}
 use Rattle.world.specs.World.{Setup, LiveCcb, LiveRun, World}
 use Rattle.world.specs.Lookups.{ccb_of, with_ccb, run_of}
 use Rattle.world.specs.Told.{Told, told_of}
-use Rattle.world.specs.Event.{Instruction, private, call, exit, Event, submit, dispatch, complete, guest_freeze, guest_release, clock_reads, parks, resumes, executes, Reply}
+use Rattle.world.specs.Event.{Instruction, private, call, exit, Event, called, executes, Reply}
 use Rattle.world.specs.CcbSteps.{ended_with}
 use Rattle.world.specs.Step.{WorldStep}
 use Rattle.world.specs.Headline.{is_disposing, is_disposal, is_disposal_of, InRecoveryBy, IsRequeued, IsFinished, DisposesByDeed, DisposesBy, DisposesOfIt}
@@ -154,14 +154,7 @@ told_disposal setup before number told reply after ccb recovering its_ccb dispos
     (subst (λ (n : ℕ). DisposesOfIt it.it.number n before (executes number (call told)) after) (its_ccb it.it.run found) disposes)
 
 pub disposal_of : (setup : Setup) (before : World) (event : Event) (reply : Reply) (after : World) (number ccb : ℕ) → Recovering before → ((now : LiveRun) → run_of number before.runs ≡ Some now → now.ccb ≡ ccb) → WorldStep setup before event reply after → is_disposal_of number event ≡ true → DisposesOfIt number ccb before event after
-disposal_of setup before (submit queue priority retries) reply after number ccb recovering its_ccb step disposal = absurd (let bad : false ≡ true = disposal in cc)
-disposal_of setup before (dispatch queue) reply after number ccb recovering its_ccb step disposal = absurd (let bad : false ≡ true = disposal in cc)
-disposal_of setup before (complete outcome) reply after number ccb recovering its_ccb step disposal = absurd (let bad : false ≡ true = disposal in cc)
-disposal_of setup before (guest_freeze queue guest) reply after number ccb recovering its_ccb step disposal = absurd (let bad : false ≡ true = disposal in cc)
-disposal_of setup before (guest_release freeze) reply after number ccb recovering its_ccb step disposal = absurd (let bad : false ≡ true = disposal in cc)
-disposal_of setup before (clock_reads reading) reply after number ccb recovering its_ccb step disposal = absurd (let bad : false ≡ true = disposal in cc)
-disposal_of setup before (parks run) reply after number ccb recovering its_ccb step disposal = absurd (let bad : false ≡ true = disposal in cc)
-disposal_of setup before (resumes run) reply after number ccb recovering its_ccb step disposal = absurd (let bad : false ≡ true = disposal in cc)
+disposal_of setup before (called its) reply after number ccb recovering its_ccb step disposal = absurd (let bad : false ≡ true = disposal in cc)
 disposal_of setup before (executes other private) reply after number ccb recovering its_ccb step disposal =
     absurd (let bad : false ≡ true = (own_disposal number other private disposal).1 in cc)
 disposal_of setup before (executes other exit) reply after number ccb recovering its_ccb step disposal =

@@ -15,7 +15,8 @@ use Rattle.bpf_semantics.specs.Step.{request_at}
 use Rattle.world.specs.World.{Setup, LiveRun, World, opening}
 use Rattle.world.specs.Lookups.{run_of}
 use Rattle.world.specs.Told.{Told, told_of}
-use Rattle.world.specs.Event.{call, Event, Reply, guest_release, executes}
+use Rattle.calls.specs.declared.call.Call.TheVariants.{GuestRelease}
+use Rattle.world.specs.Event.{call, Event, called, executes, Reply}
 use Rattle.world.specs.FreezeSteps.{is_timer}
 use Rattle.world.specs.Step.{WorldStep}
 use Rattle.world.specs.WorldRun.{Leads}
@@ -87,15 +88,15 @@ removed_past setup before after number freeze kept entry e g =
 
 pub given_up_stays_given_up : GivenUpStaysGivenUp
 given_up_stays_given_up setup xs ys number reply world run held =
-    let parts = leads_split setup (opening setup) xs ((guest_release number, reply) ∷ ys) world run in
+    let parts = leads_split setup (opening setup) xs ((called (GuestRelease number), reply) ∷ ys) world run in
     let before : World = parts.0 in
     let after : World = parts.2.0 in
     let kept = lists_are_kept setup xs before parts.1 in
     let it = guest_release_parts setup before number reply after parts.2.1 in
-    let same : it.number ≡ number = let e : guest_release number ≡ guest_release it.number = it.event_is in cc in
+    let same : it.number ≡ number = let e : called (GuestRelease number) ≡ called (GuestRelease it.number) = it.event_is in cc in
     let past = removed_past setup before after number it.freeze kept (subst (λ (n : ℕ). entry_of n before.freezes ≡ Some it.freeze) same it.entry)
     (ap (λ (w : World). w.freezes) it.after_is ∙ ap (λ (n : ℕ). without n before.freezes) same) (ap (λ (w : World). w.greatest_freeze) it.after_is) in
-    none_held number world (leads_past setup after ys world number (step_keeps setup before (guest_release number) reply after parts.2.1 kept) parts.2.2 past).none held
+    none_held number world (leads_past setup after ys world number (step_keeps setup before (called (GuestRelease number)) reply after parts.2.1 kept) parts.2.2 past).none held
 
 -- the call that is an event is the one at which the run stands
 the_call : (setup : Setup) (before : World) (run : ℕ) (told : Told) (reply : Reply) (after : World) (request : Request) → Calls before run request → (it : Asks setup before (executes run (call told)) reply after) → it.request ≡ request

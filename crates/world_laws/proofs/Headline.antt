@@ -7,7 +7,9 @@ use Rattle.bpf_semantics.specs.Reached.{Reached}
 use Rattle.world.specs.World.{Setup, queue_setup, LiveRun, World}
 use Rattle.world.specs.Lawful.{IsLawful}
 use Rattle.world.specs.Lookups.{run_of}
-use Rattle.world.specs.Event.{complete, Event, Reply, run_started}
+use Rattle.calls.specs.declared.call.Call.TheVariants.{Complete}
+use Rattle.calls.specs.declared.call_answer.CallAnswer.TheVariants as answers
+use Rattle.world.specs.Event.{Event, called, Reply, replies}
 use Rattle.world.specs.WorldRun.{Leads}
 use Rattle.world.specs.Headline.{is_own_of, steps_of, disposals_of, exits_of, StartedRun, KeepsWithin, WithinBudget, InRecoveryBy, DisposedOnce, OthersLeaveIt, GoneRunStaysGone, times_in, ExactFreezes}
 use Rattle.world.proofs.Lists.Found.{found_key, found_push, put_other, leave_other}
@@ -39,17 +41,17 @@ story setup lawful outcome run ys world it =
     let before : World = it.before in
     let started : World = it.started in
     let sound = run_sound setup it.xs before lawful it.run_before in
-    let begun = started_begins setup before outcome run it.freeze started (effect_of setup before (complete outcome) (run_started run it.freeze) started (lists_of sound.kept) (case_of setup before (complete outcome) (run_started run it.freeze) started it.step)).runs in
+    let begun = started_begins setup before outcome run it.freeze started (effect_of setup before (called (Complete outcome)) (replies (answers.Started run it.freeze)) started (lists_of sound.kept) (case_of setup before (called (Complete outcome)) (replies (answers.Started run it.freeze)) started it.step)).runs in
     let begins = begun.1 in
-    let same_event : complete begins.outcome ≡ complete outcome = sym begins.event_is in
+    let same_event : called (Complete begins.outcome) ≡ called (Complete outcome) = sym begins.event_is in
     let same_outcome : begins.outcome ≡ outcome = cc in
-    let same_reply : run_started run it.freeze ≡ run_started (before.greatest_run + 1) begins.freeze = begins.reply_is in
+    let same_reply : replies (answers.Started run it.freeze) ≡ replies (answers.Started (before.greatest_run + 1) begins.freeze) = begins.reply_is in
     let named : before.greatest_run + 1 ≡ run = cc in
-    let there = subst (λ (n : ℕ). run_of n started.runs ≡ Some begun.0) named (begun_found setup before (complete outcome) (run_started run it.freeze) started begun.0 sound.kept.runs begins) in
+    let there = subst (λ (n : ℕ). run_of n started.runs ≡ Some begun.0) named (begun_found setup before (called (Complete outcome)) (replies (answers.Started run it.freeze)) started begun.0 sound.kept.runs begins) in
     let began : Life setup begun.0 run 0 0 0 started =
-    alive begun.0 there refl refl (begins_at_entry setup before (complete outcome) (run_started run it.freeze) started begun.0 begins)
+    alive begun.0 there refl refl (begins_at_entry setup before (called (Complete outcome)) (replies (answers.Started run it.freeze)) started begun.0 begins)
     (inl (ap (λ (r : LiveRun). r.machine.disposed) begins.run_is, refl)) refl in
-    let after_start = step_sound setup before (complete outcome) (run_started run it.freeze) started lawful it.step sound in
+    let after_start = step_sound setup before (called (Complete outcome)) (replies (answers.Started run it.freeze)) started lawful it.step sound in
     record {
       start = begun.0;
       found = there;
@@ -148,11 +150,11 @@ pub exact_freezes : ExactFreezes
 exact_freezes setup lawful outcome run ys world it =
     let before : World = it.before in
     let started : World = it.started in
-    let event : Event = complete outcome in
-    let reply : Reply = run_started run it.freeze in
+    let event : Event = called (Complete outcome) in
+    let reply : Reply = replies (answers.Started run it.freeze) in
     let sound = run_sound setup it.xs before lawful it.run_before in
     let begun = started_begins setup before outcome run it.freeze started (effect_of setup before event reply started (lists_of sound.kept) (case_of setup before event reply started it.step)).runs in
-    let same_reply : run_started run it.freeze ≡ run_started (before.greatest_run + 1) begun.1.freeze = begun.1.reply_is in
+    let same_reply : replies (answers.Started run it.freeze) ≡ replies (answers.Started (before.greatest_run + 1) begun.1.freeze) = begun.1.reply_is in
     let named : before.greatest_run + 1 ≡ run = cc in
     let there = subst (λ (n : ℕ). run_of n started.runs ≡ Some begun.0) named (begun_found setup before event reply started begun.0 sound.kept.runs begun.1) in
     let after_start = step_sound setup before event reply started lawful it.step sound in

@@ -1,11 +1,12 @@
 -- Each step keeps the limits.
 use Rattle.std.proofs.Common.{◌≡◌, ℕ, ◌+◌, ◌<◌, ◌≤◌, List, [], ◌∷◌, ◌++◌, length, length-append, Bool, false, not, cond, eqb, inl, inr, refl, ap, sym, subst, ◌∙◌, arith}
 use Rattle.std.specs.List.{count_by, filter}
-use Rattle.std.proofs.lemmas.Bool.{leb-false, or_parts, cases_eq, eq-eqb, ne_eqb}
+use Rattle.std.proofs.lemmas.Bool.{cases_Bool, leb-false, or_parts, cases_eq, eq-eqb, ne_eqb}
 use Rattle.std.proofs.lemmas.List.Elements.{All-push, All-filter}
 use Rattle.std.proofs.lemmas.List.Sums.{sum_by_push, length-filter, count_by-le-length}
 use Rattle.ccb.specs.Ccb.{submitted}
-use Rattle.ccb.specs.declared.QueueId.{QueueId}
+use Rattle.freeze_ledger.specs.declared.place.Place.{Place}
+use Rattle.freeze_ledger.specs.Places.{is_place}
 use Rattle.freeze_ledger.specs.declared.freeze.Freeze.{Freeze}
 use Rattle.freeze_ledger.specs.Freezes.{frozen, names, meets_limit}
 use Rattle.world.specs.declared.ccb_state.CcbState.TheVariants.{Waiting}
@@ -13,29 +14,34 @@ use Rattle.world.specs.World.{Setup, queue_count, queue_setup, LiveCcb, LiveRun,
 use Rattle.world.specs.Lookups.{is_of, live_count, with_ccb}
 use Rattle.world.specs.Event.{Event, Reply}
 use Rattle.world.specs.CcbSteps.{ccb_meets_limit}
+use Rattle.world.specs.Refusals.{is_unknown}
 use Rattle.world.specs.Step.{WorldStep}
 use Rattle.world.specs.Lawful.{IsLawful}
 use Rattle.world.specs.Limits.{FreezeLimits, CcbLimits, RunLimits, KeepsLimits}
 use Rattle.world.proofs.Lists.Found.{put, leave, put_keys}
 use Rattle.world.proofs.Lists.Rising.{rising_push, rising_filter, rising_leave, count_put, count_filter, count_leave}
 use Rattle.world.proofs.Lists.Each.{all_found, all_put, put_length}
-use Rattle.world.proofs.Lists.Entries.{freeze_key, frozen_push}
+use Rattle.world.proofs.Lists.Entries.{freeze_key, same_frozen, frozen_push}
 use Rattle.world.proofs.Steps.Answering.{answers_kept, opening_answers}
 use Rattle.world_laws.proofs.Steps.Cases.{Case, case_of}
 use Rattle.world.proofs.Steps.Moves.{KeepsLists, lists_of, ccb_key, run_key, CcbMove, ccbs_stay, ccb_enters, ccb_changes, ccb_leaves, FreezeMove, freezes_stay, freeze_enters, freezes_leave, freeze_changes, RunMove, runs_stay, run_enters, run_changes, run_leaves}
 use Rattle.world_laws.proofs.Steps.Effects.{effect_of}
 
 -- below every limit of freezes
-pub record HasRoom (queue : ℕ) (freezes : List Freeze) (greatest : ℕ) : Type 0 where
-  pub a_queue : frozen queue freezes < 255
+pub record HasRoom (place : Place) (freezes : List Freeze) (greatest : ℕ) : Type 0 where
+  pub a_place : frozen place freezes < 255
   pub ledger : length freezes < 1024
   pub numbers : greatest < 4294967295
 
-pub room_from : (queue : ℕ) (freezes : List Freeze) (greatest : ℕ) → meets_limit queue freezes greatest ≡ false → HasRoom queue freezes greatest
-room_from queue freezes greatest e =
+pub room_from : (place : Place) (freezes : List Freeze) (greatest : ℕ) → meets_limit place freezes greatest ≡ false → HasRoom place freezes greatest
+room_from place freezes greatest e =
     let outer = or_parts _ _ e in
     let inner = or_parts _ _ outer.0 in
-    record { a_queue = leb-false _ _ inner.0; ledger = leb-false _ _ inner.1; numbers = leb-false _ _ outer.1 }
+    record { a_place = leb-false _ _ inner.0; ledger = leb-false _ _ inner.1; numbers = leb-false _ _ outer.1 }
+
+-- what a freeze names is there
+abbrev IsThere : Setup → Freeze → Type 0
+IsThere setup freeze = is_unknown setup freeze.place ≡ false
 
 -- what the limits of freezes speak of
 abbrev FreezesWithin : Setup → List Freeze → ℕ → Type 0
@@ -44,8 +50,8 @@ FreezesWithin setup freezes greatest = FreezeLimits setup (record (opening setup
 freezes_from : (setup : Setup) (world : World) (freezes : List Freeze) (greatest : ℕ) → world.freezes ≡ freezes → world.greatest_freeze ≡ greatest → FreezesWithin setup freezes greatest → FreezeLimits setup world
 freezes_from setup world freezes greatest e g kept =
     record {
-      queues = λ agreed. rw e (kept.queues agreed);
-      a_queue = λ q. rw e (kept.a_queue q);
+      places = λ agreed. rw e (kept.places agreed);
+      a_place = λ q. rw e (kept.a_place q);
       ledger = rw e kept.ledger;
       numbered = rw (e, g) kept.numbered;
       numbers = rw g kept.numbers;
@@ -53,17 +59,17 @@ freezes_from setup world freezes greatest e g kept =
 
 pub freezes_kept : (setup : Setup) (before : World) (event : Event) (after : World) → FreezeMove setup before event after → FreezeLimits setup before → FreezeLimits setup after
 freezes_kept setup before event after (freezes_stay e g) kept =
-    freezes_from setup after before.freezes before.greatest_freeze e g (record { queues = kept.queues; a_queue = kept.a_queue; ledger = kept.ledger; numbered = kept.numbered; numbers = kept.numbers })
-freezes_kept setup before event after (freeze_enters queue holder known full e g comes) kept =
-    let f : Freeze = record { number = before.greatest_freeze + 1; queue = record { 0 = queue }; holder = holder } in
-    let room = room_from queue before.freezes before.greatest_freeze full in
-    let one_more : (q : ℕ) → frozen q before.freezes + cond {A = ℕ} (eqb queue q) 1 0 ≤ 255 = λ q. elim (cases_eq queue q) [
-      | inl same ↦ let here : frozen q before.freezes < 255 = subst (λ (x : ℕ). frozen x before.freezes < 255) same room.a_queue in rw (eq-eqb queue q same) (omega arith)
-      | inr apart ↦ rw (ne_eqb queue q apart) (omega (arith, kept.a_queue q))
+    freezes_from setup after before.freezes before.greatest_freeze e g (record { places = kept.places; a_place = kept.a_place; ledger = kept.ledger; numbered = kept.numbered; numbers = kept.numbers })
+freezes_kept setup before event after (freeze_enters place holder known full e g comes) kept =
+    let f : Freeze = record { number = before.greatest_freeze + 1; place = place; holder = holder } in
+    let room = room_from place before.freezes before.greatest_freeze full in
+    let one_more : (q : Place) → frozen q before.freezes + cond {A = ℕ} (is_place place q) 1 0 ≤ 255 = λ q. elim (cases_Bool (is_place place q)) [
+      | inl same ↦ let here = same_frozen place q before.freezes same in rw same (omega (arith, here, room.a_place))
+      | inr apart ↦ rw apart (omega (arith, kept.a_place q))
     ] in
     freezes_from setup after (before.freezes ++ f ∷ []) (before.greatest_freeze + 1) e g (record {
-      queues = λ agreed. All-push (λ (x : Freeze). x.queue.0 < queue_count setup) before.freezes f (kept.queues agreed) (known agreed);
-      a_queue = λ q. omega (arith, frozen_push q before.freezes f, one_more q);
+      places = λ agreed. All-push (IsThere setup) before.freezes f (kept.places agreed) (known agreed);
+      a_place = λ q. omega (arith, frozen_push q before.freezes f, one_more q);
       ledger = omega (arith, room.ledger, length-append before.freezes (f ∷ []));
       numbered = rising_push freeze_key 0 before.freezes before.greatest_freeze f kept.numbered refl;
       numbers = omega (arith, room.numbers);
@@ -71,19 +77,19 @@ freezes_kept setup before event after (freeze_enters queue holder known full e g
 freezes_kept setup before event after (freezes_leave gone e g from) kept =
     let stays : Freeze → Bool = λ x. not (gone x) in
     freezes_from setup after (filter stays before.freezes) before.greatest_freeze e g (record {
-      queues = λ agreed. All-filter stays (λ (x : Freeze). x.queue.0 < queue_count setup) before.freezes (kept.queues agreed);
-      a_queue = λ q. omega (arith, kept.a_queue q, count_filter freeze_key (names q) stays before.freezes);
+      places = λ agreed. All-filter stays (IsThere setup) before.freezes (kept.places agreed);
+      a_place = λ q. omega (arith, kept.a_place q, count_filter freeze_key (names q) stays before.freezes);
       ledger = omega (arith, kept.ledger, length-filter stays before.freezes, count_by-le-length stays before.freezes);
       numbered = rising_filter freeze_key stays 0 before.freezes before.greatest_freeze kept.numbered;
       numbers = kept.numbers;
     })
-freezes_kept setup before event after (freeze_changes old new found queue_is e g hands) kept =
-    let named : (q : ℕ) → names q new ≡ names q old = λ q. ap (λ (x : QueueId). eqb x.0 q) queue_is in
+freezes_kept setup before event after (freeze_changes old new found place_is e g hands) kept =
+    let named : (q : Place) → names q new ≡ names q old = λ q. ap (λ (x : Place). is_place x q) place_is in
     freezes_from setup after (put freeze_key new before.freezes) before.greatest_freeze e g (record {
-      queues = λ agreed.
-          let known : new.queue.0 < queue_count setup = rw queue_is (all_found freeze_key (λ (x : Freeze). x.queue.0 < queue_count setup) new.number before.freezes old (kept.queues agreed) found) in
-          all_put freeze_key (λ (x : Freeze). x.queue.0 < queue_count setup) new before.freezes known (kept.queues agreed);
-      a_queue = λ q. omega (arith, kept.a_queue q, count_put freeze_key (names q) 0 before.freezes before.greatest_freeze new old kept.numbered found, ap (λ (b : Bool). cond {A = ℕ} b 1 0) (named q));
+      places = λ agreed.
+          let known : IsThere setup new = rw place_is (all_found freeze_key (IsThere setup) new.number before.freezes old (kept.places agreed) found) in
+          all_put freeze_key (IsThere setup) new before.freezes known (kept.places agreed);
+      a_place = λ q. omega (arith, kept.a_place q, count_put freeze_key (names q) 0 before.freezes before.greatest_freeze new old kept.numbered found, ap (λ (b : Bool). cond {A = ℕ} b 1 0) (named q));
       ledger = omega (arith, kept.ledger, put_length freeze_key new before.freezes);
       numbered = rw (put_keys freeze_key new before.freezes) kept.numbered;
       numbers = kept.numbers;
@@ -119,11 +125,11 @@ pub ccbs_kept : (setup : Setup) (before : World) (event : Event) (reply : Reply)
 ccbs_kept setup before event reply after (ccbs_stay e g unended) kept =
     ccbs_from setup after before.live before.greatest_ccb e g (record { queues = kept.queues; a_queue = kept.a_queue; all = kept.all; rising = kept.rising; numbers = kept.numbers })
 ccbs_kept setup before event reply after (ccb_enters queue priority retries known full e g unended) kept =
-    let c : LiveCcb = record { ccb = submitted (record { 0 = before.greatest_ccb + 1 }) (record { 0 = queue }) priority retries; state = Waiting } in
-    let room = ccb_room queue before full in
-    let one_more : (q : ℕ) → live_count q before.live + cond {A = ℕ} (eqb queue q) 1 0 ≤ 256 = λ q. elim (cases_eq queue q) [
-      | inl same ↦ let here : live_count q before.live < 256 = subst (λ (x : ℕ). live_count x before.live < 256) same room.a_queue in rw (eq-eqb queue q same) (omega arith)
-      | inr apart ↦ rw (ne_eqb queue q apart) (omega (arith, kept.a_queue q))
+    let c : LiveCcb = record { ccb = submitted (record { 0 = before.greatest_ccb + 1 }) queue priority retries; state = Waiting } in
+    let room = ccb_room queue.0 before full in
+    let one_more : (q : ℕ) → live_count q before.live + cond {A = ℕ} (eqb queue.0 q) 1 0 ≤ 256 = λ q. elim (cases_eq queue.0 q) [
+      | inl same ↦ let here : live_count q before.live < 256 = subst (λ (x : ℕ). live_count x before.live < 256) same room.a_queue in rw (eq-eqb queue.0 q same) (omega arith)
+      | inr apart ↦ rw (ne_eqb queue.0 q apart) (omega (arith, kept.a_queue q))
     ] in
     ccbs_from setup after (before.live ++ c ∷ []) (before.greatest_ccb + 1) e g (record {
       queues = All-push (λ (x : LiveCcb). x.ccb.queue.0 < queue_count setup) before.live c kept.queues known;
@@ -231,7 +237,7 @@ case_keeps_limits setup before event reply after it kept =
 pub opening_keeps : (setup : Setup) → KeepsLists setup (opening setup)
 opening_keeps setup =
     record {
-      freezes = record { queues = λ agreed k d below. absurd (omega arith); a_queue = λ q. omega arith; ledger = omega arith; numbered = omega arith; numbers = omega arith };
+      freezes = record { places = λ agreed k d below. absurd (omega arith); a_place = λ q. omega arith; ledger = omega arith; numbered = omega arith; numbers = omega arith };
       ccbs = record { queues = λ k d below. absurd (omega arith); a_queue = λ q. omega arith; all = omega arith; rising = omega arith; numbers = omega arith };
       runs = record { queues = λ k d below. absurd (omega arith); programs = λ k d below. absurd (omega arith); all = omega arith; rising = omega arith; numbers = omega arith };
     }

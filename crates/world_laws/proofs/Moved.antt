@@ -1,38 +1,44 @@
 -- Private instructions move: a change of one run's machine and an event that is none of that run's do not mind each other.
 use Rattle.std.proofs.Common.{◌≡◌, ℕ, ◌+◌, List, [], ◌∷◌, ◌++◌, Bool, true, false, cond, eqb, Option, Some, None, refl, ap, sym, subst, ◌∙◌}
-use Rattle.std.specs.Prelude.{not, ◌||◌, ◌&&◌, nat_lt, nat_le, length, slice_index}
-use Rattle.std.specs.Option.{is_some, option_map, option_and_then}
+use Rattle.std.specs.Prelude.{not, ◌||◌, ◌&&◌, nat_le}
+use Rattle.std.specs.Option.{is_some, is_none, option_map, option_and_then}
 use Rattle.std.specs.List.{list_all}
 use Rattle.std.proofs.lemmas.Bool.{cond-true, eq-eqb, and_parts, or_parts, not-true}
+use Rattle.ccb.specs.declared.QueueId.{QueueId}
 use Rattle.ccb.specs.declared.ccb.Ccb.{Ccb}
 use Rattle.ccb.specs.Completion.{Outcome}
 use Rattle.ccb.specs.Ccb.{completed}
 use Rattle.helpers.specs.declared.limits.HelperLimits.{HelperLimits}
 use Rattle.helpers.specs.declared.request.Request.{Request}
 use Rattle.freeze_ledger.specs.declared.freeze.Freeze.{Freeze}
-use Rattle.freeze_ledger.specs.declared.freeze.Holder.TheVariants.{Run, Guest}
-use Rattle.freeze_ledger.specs.Freezes.{frozen, meets_limit, entry_of, due_at}
+use Rattle.freeze_ledger.specs.declared.freeze.Holder.TheVariants.{Run}
+use Rattle.freeze_ledger.specs.declared.place.Place.TheVariants.{Device}
+use Rattle.freeze_ledger.specs.Freezes.{meets_limit, entry_of}
 use Rattle.bpf_semantics.specs.MachineState.{MachineState}
 use Rattle.bpf_semantics.specs.Step.{private_step, request_at, exit_at}
-use Rattle.world.specs.Capacities.{most_runs, last_number, last_reading}
-use Rattle.world.specs.World.{Setup, queue_count, LiveCcb, LiveRun, World}
-use Rattle.world.specs.declared.call_refusal.CallRefusal.TheVariants.{Unknown, Limit, NotActive, GoesBack, Frozen, NoOpening, NothingWaits}
-use Rattle.world.specs.declared.call_refusal.CallRefusal.{CallRefusal}
-use Rattle.world.specs.Lookups.{is_active, active_count, ccb_of, next_waiting, run_of}
+use Rattle.calls.specs.declared.call.Call.{Call}
+use Rattle.calls.specs.declared.call.Call.TheVariants.{Submit, Dispatch, Complete, GuestFreeze, GuestRelease, Clock, Park, Resume}
+use Rattle.calls.specs.declared.call_answer.CallAnswer.TheVariants as answers
+use Rattle.calls.specs.declared.call_refusal.CallRefusal.{CallRefusal}
+use Rattle.calls.specs.declared.call_refusal.CallRefusal.TheVariants.{Unknown, Limit, NotActive}
+use Rattle.world.specs.Capacities.{most_runs, last_number}
+use Rattle.world.specs.World.{Setup, LiveCcb, LiveRun, World}
+use Rattle.world.specs.Lookups.{ccb_of, next_waiting, run_of}
 use Rattle.world.specs.Told.{Told}
-use Rattle.world.specs.Event.{Instruction, private, call, exit, Event, submit, dispatch, complete, guest_freeze, guest_release, clock_reads, parks, resumes, executes, Reply, ccb_given, done, freeze_given, expired, ok, went_on, result, refused}
-use Rattle.world.specs.FreezeSteps.{froze, step_guest_freeze, step_guest_release, clock_at, step_clock_reads}
-use Rattle.world.specs.CcbSteps.{ccb_meets_limit, step_submit, starts, step_dispatch, is_success, run_meets_limit, finishes as finishes_done, run_starts, recovers, completes}
-use Rattle.world.specs.RunSteps.{goes_on, step_call, ends, step_run, step_executes}
-use Rattle.world.specs.ParkSteps.{step_parks, step_resumes}
-use Rattle.world.specs.Step.{step, WorldStep}
+use Rattle.world.specs.Event.{Instruction, private, call, exit, Event, called, executes, Reply, replies, went_on, result, refused}
+use Rattle.world.specs.FreezeSteps.{froze, guest_releases}
+use Rattle.world.specs.CcbSteps.{starts, is_success, run_meets_limit, finishes as finishes_done, run_starts, recovers, completes, is_completion}
+use Rattle.world.specs.RunSteps.{goes_on, step_helper, ends, step_run, step_executes}
+use Rattle.world.specs.ParkSteps.{parks, resumes}
+use Rattle.world.specs.Refusals.{works, is_parked, refusals_of, unless_refused}
+use Rattle.world.specs.Step.{performs, step_call, step, WorldStep}
 use Rattle.world.specs.WorldRun.{Leads}
 use Rattle.world.specs.Headline.{is_own_of}
 use Rattle.world.specs.Moved.{is_start_of, is_of_another, Moved}
 use Rattle.world.proofs.Lists.Found.{found_key, put_other, leave_other}
 use Rattle.world.proofs.Lists.Each.{put_length}
 use Rattle.world_laws.proofs.Apart.{leave_swap, push_swap, push_other}
-use Rattle.world_laws.proofs.Alike.{changed, Alike, AlikeOr, neither, an_event, one_of, one_of_two, if_so, stays, changes}
+use Rattle.world_laws.proofs.Alike.{changed, Alike, AlikeOr, neither, an_event, one_of, either, if_so, stays, changes}
 use Rattle.world.proofs.Steps.Moves.{run_key}
 use Rattle.world_laws.proofs.Steps.Running.{private_parts}
 use Rattle.world_laws.proofs.Deeds.{requests_alike}
@@ -59,60 +65,82 @@ module _ (r : ℕ) (c : LiveRun) (named : c.number ≡ r) (w : World) where
         );
   }
 
-  -- it is refused
-  refuses : (refusal : CallRefusal) → Alike r c named w (refused refusal, w) (refused refusal, changed c w)
-  refuses refusal = stays r c named w (refused refusal) w refl
+  -- refused alike, where the tests answer alike
+  unless_alike : (tests others : List (Bool × CallRefusal)) → others ≡ tests → (one other : Option (Reply × World)) → AlikeOr r c named w one other → AlikeOr r c named w (unless_refused tests w one) (unless_refused others (changed c w) other)
+  unless_alike tests others same one other alike =
+      subst (λ (xs : List (Bool × CallRefusal)). AlikeOr r c named w (unless_refused tests w one) (unless_refused xs (changed c w) other)) (sym same) (both_refuse tests)
+    where
+      both_refuse : (xs : List (Bool × CallRefusal)) → AlikeOr r c named w (unless_refused xs w one) (unless_refused xs (changed c w) other)
+      both_refuse [] = alike
+      both_refuse (x ∷ xs) = either r c named w x.0 _ _ _ _ (an_event r c named w _ _ (stays r c named w (refused x.1) w refl)) (both_refuse xs)
 
-  -- The events, one by one.
+  -- The calls, one by one.
 
-  submits : (setup : Setup) (queue priority retries : ℕ) → Alike r c named w (step_submit setup w queue priority retries) (step_submit setup (changed c w) queue priority retries)
-  submits setup queue priority retries =
-      one_of r c named w (nat_le (queue_count setup) queue) _ _ _ _ (refuses Unknown)
-      (one_of r c named w (ccb_meets_limit queue w) _ _ _ _ (refuses Limit) (stays r c named w (ccb_given (w.greatest_ccb + 1)) (record w { live = _; greatest_ccb = _ }) refl))
-
-  freezes : (setup : Setup) (queue guest : ℕ) → Alike r c named w (step_guest_freeze setup w queue guest) (step_guest_freeze setup (changed c w) queue guest)
-  freezes setup queue guest =
-      one_of r c named w (nat_le (queue_count setup) queue) _ _ _ _ (refuses Unknown)
-      (one_of r c named w (meets_limit queue w.freezes w.greatest_freeze) _ _ _ _ (refuses Limit) (stays r c named w (freeze_given (w.greatest_freeze + 1)) (froze w queue (Guest guest)) refl))
-
-  reads : (reading : ℕ) → Alike r c named w (step_clock_reads w reading) (step_clock_reads (changed c w) reading)
-  reads reading =
-      one_of r c named w (nat_lt last_reading reading) _ _ _ _ (refuses Limit)
-      (one_of r c named w (nat_lt reading w.clock) _ _ _ _ (refuses GoesBack) (stays r c named w (expired (length (due_at reading w.freezes))) (clock_at w reading) refl))
-
-  starts_next : (o : Option LiveCcb) → Alike r c named w (starts w o) (starts (changed c w) o)
-  starts_next None = refuses NothingWaits
-  starts_next (Some next) = stays r c named w _ _ refl
-
-  dispatches : (setup : Setup) (queue : ℕ) → Alike r c named w (step_dispatch setup w queue) (step_dispatch setup (changed c w) queue)
-  dispatches setup queue =
-      one_of r c named w (nat_le (queue_count setup) queue) _ _ _ _ (refuses Unknown)
-      (one_of r c named w (nat_lt 0 (frozen queue w.freezes)) _ _ _ _ (refuses Frozen)
-      (one_of r c named w (nat_le (slice_index w.openings queue) (active_count queue w.live)) _ _ _ _ (refuses NoOpening) (starts_next (next_waiting queue w.live))))
+  starts_next : (o : Option LiveCcb) → AlikeOr r c named w (option_map (starts w) o) (option_map (starts (changed c w)) o)
+  starts_next None = neither r c named w
+  starts_next (Some next) = an_event r c named w _ _ (stays r c named w _ _ refl)
 
   same_limit : run_meets_limit (changed c w) ≡ run_meets_limit w
   same_limit = ap (λ (n : ℕ). nat_le most_runs n || nat_le last_number w.greatest_run) (put_length run_key c w.runs)
 
   recovers_alike : (setup : Setup) (ccb : Ccb) (outcome : Outcome) → Alike r c named w (recovers setup w ccb outcome) (recovers setup (changed c w) ccb outcome)
   recovers_alike setup ccb outcome =
-      one_of r c named w (meets_limit ccb.queue.0 w.freezes w.greatest_freeze) _ _ _ _ (begins setup w (completed ccb outcome false) 0 refl)
-      (begins setup (froze w ccb.queue.0 (Run (w.greatest_run + 1))) (completed ccb outcome true) (w.greatest_freeze + 1) refl)
+      one_of r c named w (meets_limit (Device ccb.queue) w.freezes w.greatest_freeze) _ _ _ _ (begins setup w (completed ccb outcome false) 0 refl)
+      (begins setup (froze w (Device ccb.queue) (Run (w.greatest_run + 1))) (completed ccb outcome true) (w.greatest_freeze + 1) refl)
 
-  completes_alike : (setup : Setup) (outcome : Outcome) (o : Option LiveCcb) → Alike r c named w (completes setup w outcome o) (completes setup (changed c w) outcome o)
-  completes_alike setup outcome None = refuses Unknown
+  completes_alike : (setup : Setup) (outcome : Outcome) (o : Option LiveCcb) → AlikeOr r c named w (option_map (completes setup w outcome) o) (option_map (completes setup (changed c w) outcome) o)
+  completes_alike setup outcome None = neither r c named w
   completes_alike setup outcome (Some live) =
-      one_of_two r c named w (not (is_success outcome.status) && run_meets_limit w) (not (is_success outcome.status) && run_meets_limit (changed c w)) (ap (λ (full : Bool). not (is_success outcome.status) && full) same_limit)
-      _ _ _ _ (refuses Limit)
-      (one_of r c named w (not (is_active live.state)) _ _ _ _ (refuses NotActive)
-      (one_of r c named w (is_success outcome.status) _ _ _ _ (stays r c named w done (finishes_done w live.ccb outcome.status) refl) (recovers_alike setup live.ccb outcome)))
+      an_event r c named w _ _ (one_of r c named w (is_success outcome.status) _ _ _ _ (stays r c named w (replies answers.Done) (finishes_done w live.ccb outcome.status) refl) (recovers_alike setup live.ccb outcome))
 
-  released : (o : Option Freeze) → AlikeOr r c named w (step_guest_release w o) (step_guest_release (changed c w) o)
+  released : (o : Option Freeze) → AlikeOr r c named w (guest_releases w o) (guest_releases (changed c w) o)
   released None = neither r c named w
   released (Some freeze) = if_so r c named w _ _ _ (an_event r c named w _ _ (stays r c named w _ _ refl))
 
-  -- an event of another run
+  parks_alike : (number : ℕ) → (number ≡ r → ⊥) → (o : Option LiveRun) → run_of number w.runs ≡ o → AlikeOr r c named w (parks w o) (parks (changed c w) o)
+  parks_alike number apart None found = neither r c named w
+  parks_alike number apart (Some run) found =
+      if_so r c named w _ _ _ (an_event r c named w _ _ (changes r c named w (replies answers.Ok) w (record run { out = false }) refl (λ same. apart (sym (found_key run_key number w.runs run found) ∙ same))))
 
-  calls : (limits : HelperLimits) (run : LiveRun) → (run.number ≡ r → ⊥) → (told : Told) (o : Option Request) → AlikeOr r c named w (option_and_then (step_call limits w run told) o) (option_and_then (step_call limits (changed c w) run told) o)
+  resumes_alike : (number : ℕ) → (number ≡ r → ⊥) → (o : Option LiveRun) → run_of number w.runs ≡ o → AlikeOr r c named w (option_map (resumes w) o) (option_map (resumes (changed c w)) o)
+  resumes_alike number apart None found = neither r c named w
+  resumes_alike number apart (Some run) found =
+      an_event r c named w _ _ (changes r c named w (replies answers.Ok) w (record run { out = true }) refl (λ same. apart (sym (found_key run_key number w.runs run found) ∙ same)))
+
+  -- the number of another run is of the same run in the changed world
+  same_run : (number : ℕ) → (number ≡ r → ⊥) → run_of number (changed c w).runs ≡ run_of number w.runs
+  same_run number apart = put_other run_key c number w.runs (λ same. apart (sym same ∙ named))
+
+  not_its : (number : ℕ) → eqb number r ≡ false → number ≡ r → ⊥
+  not_its number other same = let bad : true ≡ false = sym (eq-eqb number r same) ∙ other in cc
+
+  call_alike : (setup : Setup) (its : Call) → is_own_of r (called its) ≡ false → AlikeOr r c named w (step_call setup w its) (step_call setup (changed c w) its)
+  call_alike setup (Submit queue priority retries) other =
+      unless_alike (refusals_of setup w (Submit queue priority retries)) _ refl _ _ (an_event r c named w _ _ (stays r c named w _ _ refl))
+  call_alike setup (Dispatch queue) other = unless_alike (refusals_of setup w (Dispatch queue)) _ refl _ _ (starts_next (next_waiting queue.0 w.live))
+  call_alike setup (Complete outcome) other =
+      if_so r c named w (is_completion outcome) _ _
+      (unless_alike (refusals_of setup w (Complete outcome)) _
+      (ap (λ (full : Bool). (is_none (ccb_of outcome.ccb.0 w.live), Unknown) ∷ (not (is_success outcome.status) && full, Limit) ∷ (not (works (ccb_of outcome.ccb.0 w.live)), NotActive) ∷ []) same_limit) _ _
+      (completes_alike setup outcome (ccb_of outcome.ccb.0 w.live)))
+  call_alike setup (GuestFreeze place guest) other =
+      unless_alike (refusals_of setup w (GuestFreeze place guest)) _ refl _ _ (an_event r c named w _ _ (stays r c named w _ _ refl))
+  call_alike setup (GuestRelease freeze) other = released (entry_of freeze w.freezes)
+  call_alike setup (Clock reading) other =
+      unless_alike (refusals_of setup w (Clock reading)) _ refl _ _ (an_event r c named w _ _ (stays r c named w _ _ refl))
+  call_alike setup (Park number) other =
+      let apart = not_its number other in
+      subst (λ (o : Option LiveRun). AlikeOr r c named w (parks w (run_of number w.runs)) (parks (changed c w) o)) (sym (same_run number apart))
+      (parks_alike number apart (run_of number w.runs) refl)
+  call_alike setup (Resume number) other =
+      let apart = not_its number other in
+      unless_alike (refusals_of setup w (Resume number)) _ (ap (λ (o : Option LiveRun). (not (is_parked o), Unknown) ∷ []) (same_run number apart)) _ _
+      (subst (λ (o : Option LiveRun). AlikeOr r c named w (option_map (resumes w) (run_of number w.runs)) (option_map (resumes (changed c w)) o)) (sym (same_run number apart))
+      (resumes_alike number apart (run_of number w.runs) refl))
+
+  -- an instruction of another run
+
+  calls : (limits : HelperLimits) (run : LiveRun) → (run.number ≡ r → ⊥) → (told : Told) (o : Option Request) → AlikeOr r c named w (option_and_then (step_helper limits w run told) o) (option_and_then (step_helper limits (changed c w) run told) o)
   calls limits run apart told None = neither r c named w
   calls limits run apart told (Some request) = if_so r c named w _ _ _ (requests_alike r c named w run apart request)
 
@@ -134,42 +162,12 @@ module _ (r : ℕ) (c : LiveRun) (named : c.number ≡ r) (w : World) where
   executes_alike limits number apart instruction (Some run) found =
       if_so r c named w _ _ _ (runs_alike limits run (λ same. apart (sym (found_key run_key number w.runs run found) ∙ same)) instruction)
 
-  parks_alike : (number : ℕ) → (number ≡ r → ⊥) → (o : Option LiveRun) → run_of number w.runs ≡ o → AlikeOr r c named w (step_parks w o) (step_parks (changed c w) o)
-  parks_alike number apart None found = neither r c named w
-  parks_alike number apart (Some run) found =
-      if_so r c named w _ _ _ (an_event r c named w _ _ (changes r c named w ok w (record run { out = false }) refl (λ same. apart (sym (found_key run_key number w.runs run found) ∙ same))))
-
-  resumes_alike : (number : ℕ) → (number ≡ r → ⊥) → (o : Option LiveRun) → run_of number w.runs ≡ o → Alike r c named w (step_resumes w o) (step_resumes (changed c w) o)
-  resumes_alike number apart None found = refuses Unknown
-  resumes_alike number apart (Some run) found =
-      one_of r c named w run.out _ _ _ _ (refuses Unknown) (changes r c named w ok w (record run { out = true }) refl (λ same. apart (sym (found_key run_key number w.runs run found) ∙ same)))
-
-  -- the number of another run is of the same run in the changed world
-  same_run : (number : ℕ) → (number ≡ r → ⊥) → run_of number (changed c w).runs ≡ run_of number w.runs
-  same_run number apart = put_other run_key c number w.runs (λ same. apart (sym same ∙ named))
-
-  not_its : (number : ℕ) → eqb number r ≡ false → number ≡ r → ⊥
-  not_its number other same = let bad : true ≡ false = sym (eq-eqb number r same) ∙ other in cc
-
   executes_other : (number : ℕ) (instruction : Instruction) → is_own_of r (executes number instruction) ≡ false → number ≡ r → ⊥
   executes_other number instruction other same =
       let bad : true ≡ false = sym (ap (λ (b : Bool). is_some (cond b (Some instruction) None) || false) (eq-eqb number r same)) ∙ other in cc
 
   step_alike : (setup : Setup) (event : Event) → is_own_of r event ≡ false → AlikeOr r c named w (step setup w event) (step setup (changed c w) event)
-  step_alike setup (submit queue priority retries) other = an_event r c named w _ _ (submits setup queue priority retries)
-  step_alike setup (dispatch queue) other = an_event r c named w _ _ (dispatches setup queue)
-  step_alike setup (complete outcome) other = if_so r c named w _ _ _ (an_event r c named w _ _ (completes_alike setup outcome (ccb_of outcome.ccb.0 w.live)))
-  step_alike setup (guest_freeze queue guest) other = an_event r c named w _ _ (freezes setup queue guest)
-  step_alike setup (guest_release number) other = released (entry_of number w.freezes)
-  step_alike setup (clock_reads reading) other = an_event r c named w _ _ (reads reading)
-  step_alike setup (parks number) other =
-      let apart = not_its number other in
-      subst (λ (o : Option LiveRun). AlikeOr r c named w (step_parks w (run_of number w.runs)) (step_parks (changed c w) o)) (sym (same_run number apart))
-      (parks_alike number apart (run_of number w.runs) refl)
-  step_alike setup (resumes number) other =
-      let apart = not_its number other in
-      an_event r c named w _ _ (subst (λ (o : Option LiveRun). Alike r c named w (step_resumes w (run_of number w.runs)) (step_resumes (changed c w) o)) (sym (same_run number apart))
-      (resumes_alike number apart (run_of number w.runs) refl))
+  step_alike setup (called its) other = call_alike setup its other
   step_alike setup (executes number instruction) other =
       let apart = executes_other number instruction other in
       subst (λ (o : Option LiveRun). AlikeOr r c named w (step_executes setup.limits w instruction (run_of number w.runs)) (step_executes setup.limits (changed c w) instruction o)) (sym (same_run number apart))

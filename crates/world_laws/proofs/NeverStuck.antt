@@ -15,7 +15,7 @@ use Rattle.world.specs.World.{Setup, LiveRun, World}
 use Rattle.world.specs.Lookups.{run_of}
 use Rattle.world.specs.Told.{told_of}
 use Rattle.world.specs.Event.{Instruction, private, call, exit, executes, Reply}
-use Rattle.world.specs.RunSteps.{is_run, may_call, step_request, step_call, step_run, step_executes}
+use Rattle.world.specs.RunSteps.{is_run, may_call, step_request, step_helper, step_run, step_executes}
 use Rattle.world.specs.Step.{WorldStep}
 use Rattle.world.specs.Headline.{HasOneStep, NeverStuck}
 use Rattle.world.proofs.Lists.Found.{found_key}
@@ -88,7 +88,7 @@ same_call a b e = cc
 at_this_call : (setup : Setup) (world : World) (number : ℕ) (run : LiveRun) → run_of number world.runs ≡ Some run → run.out ≡ true → (request : Request) → request_at run.program run.machine ≡ Some request → meets_rule setup.limits run.machine request ≡ true → private_step run.program run.machine ≡ None → exit_at run.program run.machine ≡ None → (p : Reply × World) → step_request world run request ≡ Some p → HasOneStep setup world number
 at_this_call setup world number run found out request call_is rule no_step no_exit p leads =
     one_step setup world number run found out (call (told_of request)) p
-    (ap (option_and_then (step_call setup.limits world run (told_of request))) call_is
+    (ap (option_and_then (step_helper setup.limits world run (told_of request))) call_is
     ∙ (cond-true (may_call setup.limits run (told_of request) request) (step_request world run request) None (and_from _ _ (told_itself (told_of request)) rule) ∙ leads))
     only
   where

@@ -1,14 +1,18 @@
 -- A run that is parked stays as it is until it is resumed.
 use Rattle.std.proofs.Common.{◌≡◌, ℕ, List, [], ◌∷◌, Bool, true, false, cond, Option, Some, None, inl, inr, refl, ap, sym, subst, ◌∙◌, arith}
-use Rattle.std.specs.Prelude.{◌||◌}
-use Rattle.std.specs.Option.{is_some}
+use Rattle.std.specs.Prelude.{not, ◌||◌}
+use Rattle.calls.specs.declared.call_refusal.CallRefusal.TheVariants.{Unknown}
+use Rattle.std.specs.Option.{is_some, option_map}
 use Rattle.std.proofs.lemmas.Bool.{cases_Bool, cases_eq, cond-true, cond-false, ne_eqb, or_parts}
 use Rattle.std.proofs.lemmas.List.Sums.{sum_by-cons}
 use Rattle.world.specs.World.{Setup, LiveRun, World}
 use Rattle.world.specs.Lawful.{IsLawful}
 use Rattle.world.specs.Lookups.{ccb_of, run_of}
-use Rattle.world.specs.Event.{Instruction, Event, submit, dispatch, complete, guest_freeze, guest_release, clock_reads, parks, resumes, executes, Reply, ok}
-use Rattle.world.specs.ParkSteps.{with_out, step_parks, step_resumes}
+use Rattle.calls.specs.declared.call.Call.TheVariants.{Submit, Dispatch, Complete, GuestFreeze, GuestRelease, Clock, Park, Resume}
+use Rattle.calls.specs.declared.call_answer.CallAnswer.TheVariants as answers
+use Rattle.world.specs.Event.{Instruction, Event, called, executes, Reply, replies}
+use Rattle.world.specs.ParkSteps.{with_out, parks, resumes}
+use Rattle.world.specs.Refusals.{is_parked, unless_refused}
 use Rattle.world.specs.Step.{WorldStep}
 use Rattle.world.specs.WorldRun.{Leads}
 use Rattle.world.specs.FreezeLaws.{entries_of}
@@ -39,23 +43,23 @@ takes_none setup before number other instruction reply after run found parked st
     let bad : true ≡ false = sym it.out ∙ (ap (λ (r : LiveRun). r.out) one_run ∙ parked) in cc
 
 -- nor is it parked again
-parks_none : (before : World) (run : LiveRun) (reply : Reply) (after : World) → run.out ≡ false → step_parks before (Some run) ≡ Some (reply, after) → ⊥
+parks_none : (before : World) (run : LiveRun) (reply : Reply) (after : World) → run.out ≡ false → parks before (Some run) ≡ Some (reply, after) → ⊥
 parks_none before run reply after parked step = let none = sym (cond-false run.out _ _ parked) ∙ step in cc
 
 -- so no event is its own but its resume
 not_own : (setup : Setup) (before : World) (number : ℕ) (run : LiveRun) (event : Event) (reply : Reply) (after : World) → run_of number before.runs ≡ Some run → run.out ≡ false → is_resume_of number event ≡ false → WorldStep setup before event reply after → is_own_of number event ≡ false
-not_own setup before number run (submit queue priority retries) reply after found parked other step = refl
-not_own setup before number run (dispatch queue) reply after found parked other step = refl
-not_own setup before number run (complete outcome) reply after found parked other step = refl
-not_own setup before number run (guest_freeze queue guest) reply after found parked other step = refl
-not_own setup before number run (guest_release freeze) reply after found parked other step = refl
-not_own setup before number run (clock_reads reading) reply after found parked other step = refl
-not_own setup before number run (parks another) reply after found parked other step =
+not_own setup before number run (called (Submit queue priority retries)) reply after found parked other step = refl
+not_own setup before number run (called (Dispatch queue)) reply after found parked other step = refl
+not_own setup before number run (called (Complete outcome)) reply after found parked other step = refl
+not_own setup before number run (called (GuestFreeze place guest)) reply after found parked other step = refl
+not_own setup before number run (called (GuestRelease freeze)) reply after found parked other step = refl
+not_own setup before number run (called (Clock reading)) reply after found parked other step = refl
+not_own setup before number run (called (Park another)) reply after found parked other step =
     elim (cases_eq another number) [
-      | inl same ↦ absurd (parks_none before run reply after parked (sym (ap (step_parks before) (ap (λ (n : ℕ). run_of n before.runs) same ∙ found)) ∙ step))
+      | inl same ↦ absurd (parks_none before run reply after parked (sym (ap (parks before) (ap (λ (n : ℕ). run_of n before.runs) same ∙ found)) ∙ step))
       | inr apart ↦ ne_eqb _ _ apart
     ]
-not_own setup before number run (resumes another) reply after found parked other step = other
+not_own setup before number run (called (Resume another)) reply after found parked other step = other
 not_own setup before number run (executes another instruction) reply after found parked other step =
     elim (cases_eq another number) [
       | inl same ↦ absurd (takes_none setup before number another instruction reply after run found parked step same)
@@ -104,7 +108,7 @@ record Parks (number : ℕ) (run : LiveRun) (before after : World) : Type 0 wher
   out : run.out ≡ true
   after_is : after ≡ with_out before run false
 
-park_parts : (before : World) (number : ℕ) (run : LiveRun) (reply : Reply) (after : World) → step_parks before (Some run) ≡ Some (reply, after) → Parks number run before after
+park_parts : (before : World) (number : ℕ) (run : LiveRun) (reply : Reply) (after : World) → parks before (Some run) ≡ Some (reply, after) → Parks number run before after
 park_parts before number run reply after step =
     elim (cases_Bool run.out) [
       | inl out ↦ record { out = out; after_is = ap (λ (x : Reply × World). x.1) (some_is _ _ (sym (cond-true run.out _ _ out) ∙ step)) }
@@ -112,25 +116,25 @@ park_parts before number run reply after step =
     ]
 
 -- and a resume gives it back
-gives_back : (setup : Setup) (number : ℕ) (run : LiveRun) (later : World) → run.out ≡ true → run_of number later.runs ≡ Some (turned run false) → (after : World) × WorldStep setup later (resumes number) ok after × (run_of number after.runs ≡ Some run)
+gives_back : (setup : Setup) (number : ℕ) (run : LiveRun) (later : World) → run.out ≡ true → run_of number later.runs ≡ Some (turned run false) → (after : World) × WorldStep setup later (called (Resume number)) (replies answers.Ok) after × (run_of number after.runs ≡ Some run)
 gives_back setup number run later out found = (
   with_out later (turned run false) true,
-  ap (λ (o : Option LiveRun). let x : Option (Reply × World) = Some (step_resumes later o) in x) found,
+  ap (λ (o : Option LiveRun). unless_refused ((not (is_parked o), Unknown) ∷ []) later (option_map (resumes later) o)) found,
   changed_same later.runs _ number (turned run false) (turned run true) refl found refl ∙ ap (λ (b : Bool). Some (turned run b)) (sym out),
 )
 
 pub parked_stays_as_it_is : ParkedStaysAsItIs
 parked_stays_as_it_is setup xs ys number run reply before parked later first found park leads none =
-    let it = park_parts before number run reply parked (sym (ap (step_parks before) found) ∙ park) in
+    let it = park_parts before number run reply parked (sym (ap (parks before) found) ∙ park) in
     let kept = lists_are_kept setup xs before first in
     let there = changed_same before.runs parked.runs number run (turned run false) refl found (ap (λ (w : World). w.runs) it.after_is) in
-    let stands = stands_along setup number (turned run false) parked ys later (step_keeps setup before (parks number) reply parked park kept) refl there leads none in (
+    let stands = stands_along setup number (turned run false) parked ys later (step_keeps setup before (called (Park number)) reply parked park kept) refl there leads none in (
       stands.no_step,
       record {
         still = stands.still;
         freezes = stands.freezes ∙ ap (λ (w : World). entries_of number w.freezes) it.after_is;
         ccb = λ lawful fresh.
-            stands.ccb lawful (step_sound setup before (parks number) reply parked lawful park (run_sound setup xs before lawful first)) fresh
+            stands.ccb lawful (step_sound setup before (called (Park number)) reply parked lawful park (run_sound setup xs before lawful first)) fresh
             ∙ ap (λ (w : World). ccb_of run.ccb w.live) it.after_is;
         resumed = gives_back setup number run later it.out stands.still;
       },

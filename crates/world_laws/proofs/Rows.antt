@@ -1,4 +1,5 @@
 -- Rows worked by hand, computed by the definitions themselves.
+pub mod Words
 pub mod Worked
 pub mod Guests
 pub mod Clock

@@ -34,7 +34,7 @@ not_counted b e = ap (λ (x : Bool). cond {A = ℕ} x 1 0) e
 move_starts : (setup : Setup) (before : World) (event : Event) (reply : Reply) (after : World) (queue : ℕ) → CcbLimits setup before → CcbMove setup before event reply after → Keeps queue before after
 move_starts setup before event reply after queue kept (ccbs_stay e g unended) = inl (rw e (omega arith))
 move_starts setup before event reply after queue kept (ccb_enters its priority retries known full e g unended) =
-    let c : LiveCcb = record { ccb = submitted (record { 0 = before.greatest_ccb + 1 }) (record { 0 = its }) priority retries; state = Waiting } in
+    let c : LiveCcb = record { ccb = submitted (record { 0 = before.greatest_ccb + 1 }) its priority retries; state = Waiting } in
     let none = not_counted (works queue c) (and_right (is_of queue c) false refl) in
     inl (rw e (omega (arith, sum_by_push (λ (x : LiveCcb). cond (works queue x) 1 0) before.live c, none)))
 move_starts setup before event reply after queue kept (ccb_changes old new found queue_is active_or_not may e g unended) =

@@ -3,6 +3,7 @@ pub mod Running
 pub mod Rules
 pub mod Does
 pub mod Calls
+pub mod Refusing
 pub mod Cases
 pub mod Effects
 pub mod Private

@@ -1,12 +1,17 @@
 -- Lists of freezes: what one more at the end, one fewer by its number, and one that is handed over leave.
-use Rattle.std.proofs.Common.{◌≡◌, ℕ, ◌+◌, ◌<◌, ◌≤◌, List, [], ◌∷◌, ◌++◌, map, Bool, true, false, cond, eqb, Option, Some, None, IsSome, not, inl, inr, refl, ap, sym, ◌∙◌, arith}
-use Rattle.std.proofs.lemmas.Bool.{cases_eq, cond-true, cond-false, eq-eqb, ne_eqb}
+use Rattle.std.proofs.Common.{◌≡◌, ℕ, ◌+◌, ◌<◌, ◌≤◌, List, [], ◌∷◌, ◌++◌, map, Bool, true, false, cond, eqb, leb, Option, Some, None, IsSome, not, inl, inr, refl, ap, sym, ◌∙◌, arith}
+use Rattle.std.proofs.lemmas.Bool.{cases_eq, cond-true, cond-false, eq-eqb, ne_eqb, eqb-true}
 use Rattle.std.proofs.lemmas.List.Sums.{sum_by_push, sum_by-cons}
 use Rattle.std.proofs.lemmas.List.Filters.{sum_by-filter_both}
 use Rattle.ccb.specs.Rising.{AreRising}
 use Rattle.freeze_ledger.specs.declared.freeze.Holder.TheVariants.{Timer}
 use Rattle.freeze_ledger.specs.declared.freeze.Freeze.{Freeze}
+use Rattle.freeze_ledger.specs.declared.place.Place.{Place}
+use Rattle.freeze_ledger.specs.declared.place.Place.TheVariants.{Device}
+use Rattle.freeze_ledger.specs.Places.{index_of, is_place, device}
 use Rattle.freeze_ledger.specs.Freezes.{names, frozen, entry_of, without, handed_over, is_due, due_at, not_due_at}
+use Rattle.world.specs.World.{Setup, queue_count}
+use Rattle.world.specs.Refusals.{is_unknown}
 use Rattle.world.proofs.Lists.Found.{put, at_head, at_tail, put_tail, found_key, missing_push, leave_same}
 use Rattle.world.proofs.Lists.Rising.{put_here, found_bounds, count_gone}
 
@@ -17,7 +22,15 @@ freeze_key freeze = freeze.number
 abbrev pub FreezesRise : ℕ → List Freeze → ℕ → Type 0
 FreezesRise low freezes high = AreRising low (map freeze_key freezes) high
 
-pub frozen_push : (q : ℕ) (fs : List Freeze) (f : Freeze) → frozen q (fs ++ f ∷ []) ≡ frozen q fs + cond (names q f) 1 0
+-- a place is itself
+pub place_itself : (place : Place) → is_place place place ≡ true
+place_itself (Device queue) = eq-eqb queue.0 queue.0 refl
+
+-- what freezes one place freezes it under each of its names
+pub same_frozen : (one other : Place) (fs : List Freeze) → is_place one other ≡ true → frozen one fs ≡ frozen other fs
+same_frozen (Device one) (Device other) fs same = ap (λ (n : ℕ). frozen (device n) fs) (eqb-true one.0 other.0 same)
+
+pub frozen_push : (q : Place) (fs : List Freeze) (f : Freeze) → frozen q (fs ++ f ∷ []) ≡ frozen q fs + cond (names q f) 1 0
 frozen_push q fs f = sum_by_push (λ (x : Freeze). cond (names q x) 1 0) fs f
 
 -- where no freeze has the number, one of another number changes nothing of that
@@ -35,7 +48,7 @@ entry_bounds low fs high n f h e =
     (found_key freeze_key n fs f e, bounds.0, bounds.1)
 
 -- a removal takes one from the count of what the freeze names
-pub frozen_without : (q low : ℕ) (fs : List Freeze) (high n : ℕ) (f : Freeze) → FreezesRise low fs high → entry_of n fs ≡ Some f → frozen q (without n fs) + cond (names q f) 1 0 ≡ frozen q fs
+pub frozen_without : (q : Place) (low : ℕ) (fs : List Freeze) (high n : ℕ) (f : Freeze) → FreezesRise low fs high → entry_of n fs ≡ Some f → frozen q (without n fs) + cond (names q f) 1 0 ≡ frozen q fs
 frozen_without q low fs high n f h e = count_gone freeze_key (names q) low fs high n f h e
 
 -- a number that all are above is handed over nowhere
@@ -66,8 +79,8 @@ handed_is_put n due low (g ∷ fs) high f h e =
           (λ i. kept i ∷ rest i) ∙ sym (put_tail freeze_key (record f { holder = Timer due }) g fs (λ same. apart (same ∙ named)))
     ]
 
--- it moves no count, since the queue stays
-pub frozen_handed_over : (q n due : ℕ) (fs : List Freeze) → frozen q (handed_over n due fs) ≡ frozen q fs
+-- it moves no count, since the place stays
+pub frozen_handed_over : (q : Place) (n due : ℕ) (fs : List Freeze) → frozen q (handed_over n due fs) ≡ frozen q fs
 frozen_handed_over q n due [] = refl
 frozen_handed_over q n due (g ∷ fs) =
     let now : Freeze = cond {A = Freeze} (eqb g.number n) (record g { holder = Timer due }) g in
@@ -85,7 +98,7 @@ frozen_handed_over q n due (g ∷ fs) =
     either false = refl
 
 -- the freezes whose timers are due are as many fewer
-pub frozen_due : (q reading : ℕ) (fs : List Freeze) → frozen q (not_due_at reading fs) + frozen q (due_at reading fs) ≡ frozen q fs
+pub frozen_due : (q : Place) (reading : ℕ) (fs : List Freeze) → frozen q (not_due_at reading fs) + frozen q (due_at reading fs) ≡ frozen q fs
 frozen_due q reading fs =
     omega (arith, sum_by-filter_both (λ (f : Freeze). is_due reading f.holder) (λ (f : Freeze). not (is_due reading f.holder)) (λ f. refl) (λ (f : Freeze). cond (names q f) 1 0) fs)
 
@@ -93,3 +106,7 @@ frozen_due q reading fs =
 pub none_since : (o : Option Freeze) → (IsSome o → ⊥) → o ≡ None
 none_since None h = refl
 none_since (Some f) h = absurd (h refl)
+
+-- which places there are goes by their numbers
+pub unknown_is : (setup : Setup) (place : Place) → is_unknown setup place ≡ leb (queue_count setup) (index_of place)
+unknown_is setup (Device queue) = refl

@@ -4,20 +4,26 @@ use Rattle.std.specs.Prelude.{◌&&◌}
 use Rattle.std.specs.List.{filter}
 use Rattle.std.proofs.lemmas.Bool.{and_parts, eqb-true}
 use Rattle.ccb.specs.Rising.{AreRising}
+use Rattle.ccb.specs.declared.QueueId.{QueueId}
 use Rattle.ccb.specs.Completion.{Outcome}
 use Rattle.ccb.specs.Ccb.{submitted, completed}
 use Rattle.ccb.specs.Context.{context_of}
 use Rattle.freeze_ledger.specs.declared.freeze.Holder.{Holder}
 use Rattle.freeze_ledger.specs.declared.freeze.Holder.TheVariants.{Run}
 use Rattle.freeze_ledger.specs.declared.freeze.Freeze.{Freeze}
+use Rattle.freeze_ledger.specs.declared.place.Place.{Place}
+use Rattle.freeze_ledger.specs.declared.place.Place.TheVariants.{Device}
 use Rattle.freeze_ledger.specs.Freezes.{meets_limit, entry_of}
 use Rattle.bpf_semantics.specs.MachineState.{entry}
+use Rattle.calls.specs.declared.call.Call.TheVariants.{Complete}
+use Rattle.calls.specs.declared.call_answer.CallAnswer.TheVariants as answers
 use Rattle.world.specs.declared.ccb_state.CcbState.TheVariants.{Waiting, InRecovery}
 use Rattle.world.specs.World.{Setup, queue_count, queue_setup, LiveCcb, LiveRun, World}
 use Rattle.world.specs.Lookups.{is_active, is_waiting, is_of, active_count, ccb_of, with_ccb, next_waiting, run_of, with_run}
-use Rattle.world.specs.Event.{Instruction, Event, complete, instruction_of, Reply, ccb_given, done, run_started, freeze_given, count_left, expired, ok, went_on, result, refused}
+use Rattle.world.specs.Event.{Instruction, Event, called, instruction_of, Reply, replies}
 use Rattle.world.specs.CcbSteps.{ccb_meets_limit, run_meets_limit, is_completion}
 use Rattle.world.specs.FreezeSteps.{is_timer}
+use Rattle.world.specs.Refusals.{is_unknown}
 use Rattle.world.specs.RunSteps.{is_run}
 use Rattle.world.specs.TookGave.{taken_by}
 use Rattle.world.specs.CcbLaws.{finished_by}
@@ -80,7 +86,7 @@ MayTouch before event old = (old.state ≡ InRecovery → ⊥) ⊎ DisposesOf be
 
 pub data CcbMove (setup : Setup) (before : World) (event : Event) (reply : Reply) (after : World) : Type 0 where
   ccbs_stay : after.live ≡ before.live → after.greatest_ccb ≡ before.greatest_ccb → finished_by before event reply ≡ [] → CcbMove setup before event reply after
-  ccb_enters : (queue priority retries : ℕ) → queue < queue_count setup → ccb_meets_limit queue before ≡ false → after.live ≡ before.live ++ record { ccb = submitted (record { 0 = before.greatest_ccb + 1 }) (record { 0 = queue }) priority retries; state = Waiting } ∷ [] → after.greatest_ccb ≡ before.greatest_ccb + 1 → finished_by before event reply ≡ [] → CcbMove setup before event reply after
+  ccb_enters : (queue : QueueId) (priority retries : ℕ) → queue.0 < queue_count setup → ccb_meets_limit queue.0 before ≡ false → after.live ≡ before.live ++ record { ccb = submitted (record { 0 = before.greatest_ccb + 1 }) queue priority retries; state = Waiting } ∷ [] → after.greatest_ccb ≡ before.greatest_ccb + 1 → finished_by before event reply ≡ [] → CcbMove setup before event reply after
   ccb_changes : (old new : LiveCcb) → ccb_of new.ccb.number.0 before.live ≡ Some old → new.ccb.queue.0 ≡ old.ccb.queue.0 → (is_active new.state ≡ false) ⊎ (active_count new.ccb.queue.0 before.live < slice_index before.openings new.ccb.queue.0) → MayTouch before event old → after.live ≡ with_ccb new before.live → after.greatest_ccb ≡ before.greatest_ccb → finished_by before event reply ≡ [] → CcbMove setup before event reply after
   ccb_leaves : (number code : ℕ) (old : LiveCcb) → ccb_of number before.live ≡ Some old → MayTouch before event old → after.live ≡ leave ccb_key number before.live → after.greatest_ccb ≡ before.greatest_ccb → finished_by before event reply ≡ record { number = number; code = code } ∷ [] → CcbMove setup before event reply after
 
@@ -103,16 +109,16 @@ pub record ChangesHands (event : Event) (old new : Holder) : Type 0 where
 
 pub data FreezeMove (setup : Setup) (before : World) (event : Event) (after : World) : Type 0 where
   freezes_stay : after.freezes ≡ before.freezes → after.greatest_freeze ≡ before.greatest_freeze → FreezeMove setup before event after
-  freeze_enters : (queue : ℕ) (holder : Holder) → (NamesNoOther setup → queue < queue_count setup) → meets_limit queue before.freezes before.greatest_freeze ≡ false → after.freezes ≡ before.freezes ++ record { number = before.greatest_freeze + 1; queue = record { 0 = queue }; holder = holder } ∷ [] → after.greatest_freeze ≡ before.greatest_freeze + 1 → Comes before event after holder → FreezeMove setup before event after
+  freeze_enters : (place : Place) (holder : Holder) → (NamesNoOther setup → is_unknown setup place ≡ false) → meets_limit place before.freezes before.greatest_freeze ≡ false → after.freezes ≡ before.freezes ++ record { number = before.greatest_freeze + 1; place = place; holder = holder } ∷ [] → after.greatest_freeze ≡ before.greatest_freeze + 1 → Comes before event after holder → FreezeMove setup before event after
   freezes_leave : (gone : Freeze → Bool) → after.freezes ≡ filter (λ f. not (gone f)) before.freezes → after.greatest_freeze ≡ before.greatest_freeze → GoesFrom before event gone → FreezeMove setup before event after
-  freeze_changes : (old new : Freeze) → entry_of new.number before.freezes ≡ Some old → new.queue ≡ old.queue → after.freezes ≡ put freeze_key new before.freezes → after.greatest_freeze ≡ before.greatest_freeze → ChangesHands event old.holder new.holder → FreezeMove setup before event after
+  freeze_changes : (old new : Freeze) → entry_of new.number before.freezes ≡ Some old → new.place ≡ old.place → after.freezes ≡ put freeze_key new before.freezes → after.greatest_freeze ≡ before.greatest_freeze → ChangesHands event old.holder new.holder → FreezeMove setup before event after
 
 -- the runs
 
 -- a run begins
 pub record Begins (setup : Setup) (before : World) (event : Event) (reply : Reply) (after : World) (run : LiveRun) : Type 0 where
   pub outcome : Outcome
-  pub event_is : event ≡ complete outcome
+  pub event_is : event ≡ called (Complete outcome)
   pub completion : is_completion outcome ≡ true
   pub live : LiveCcb
   pub found : ccb_of outcome.ccb.0 before.live ≡ Some live
@@ -127,26 +133,18 @@ pub record Begins (setup : Setup) (before : World) (event : Event) (reply : Repl
     machine = entry (context_of (completed live.ccb outcome taken)) freeze;
     out = true;
   }
-  pub reply_is : reply ≡ run_started (before.greatest_run + 1) freeze
+  pub reply_is : reply ≡ replies (answers.Started (before.greatest_run + 1) freeze)
   pub live_is : after.live ≡ with_ccb (record { ccb = completed live.ccb outcome taken; state = InRecovery }) before.live
   pub runs_is : after.runs ≡ before.runs ++ run ∷ []
   pub freezes_is :
       ((freeze ≡ 0) × (after.freezes ≡ before.freezes))
-      ⊎ ((freeze ≡ before.greatest_freeze + 1) × (meets_limit live.ccb.queue.0 before.freezes before.greatest_freeze ≡ false)
-      × (after.freezes ≡ before.freezes ++ record { number = freeze; queue = record { 0 = live.ccb.queue.0 }; holder = Run (before.greatest_run + 1) } ∷ []))
+      ⊎ ((freeze ≡ before.greatest_freeze + 1) × (meets_limit (Device live.ccb.queue) before.freezes before.greatest_freeze ≡ false)
+      × (after.freezes ≡ before.freezes ++ record { number = freeze; place = Device live.ccb.queue; holder = Run (before.greatest_run + 1) } ∷ []))
 
 -- the reply tells of a run that starts
 abbrev pub tells_start : Reply → Bool
-tells_start (ccb_given ccb) = false
-tells_start done = false
-tells_start (run_started run freeze) = true
-tells_start (freeze_given freeze) = false
-tells_start (count_left count) = false
-tells_start (expired count) = false
-tells_start ok = false
-tells_start went_on = false
-tells_start (result r0) = false
-tells_start (refused refusal) = false
+tells_start (replies (answers.Started run freeze)) = true
+tells_start reply = false
 
 pub data RunMove (setup : Setup) (before : World) (event : Event) (reply : Reply) (after : World) : Type 0 where
   runs_stay : after.runs ≡ before.runs → after.greatest_run ≡ before.greatest_run → tells_start reply ≡ false → RunMove setup before event reply after

@@ -11,12 +11,14 @@ use Rattle.freeze_ledger.specs.declared.freeze.Freeze.{Freeze}
 use Rattle.helpers.specs.declared.table.Helper.TheVariants as helpers
 use Rattle.helpers.specs.Table.{row_of}
 use Rattle.helpers.specs.declared.limits.HelperLimits.{HelperLimits}
-use Rattle.world.specs.declared.record.StoppedAt.TheVariants.{Helper as AtHelper, Finish}
-use Rattle.world.specs.declared.record.Record.TheVariants.{Advance}
+use Rattle.calls.specs.declared.record.StoppedAt.TheVariants.{Helper as AtHelper, Finish}
+use Rattle.calls.specs.declared.record.Record.TheVariants.{Advance}
 use Rattle.world.specs.declared.ccb_state.CcbState.TheVariants.{InRecovery}
+use Rattle.freeze_ledger.specs.Places.{device}
 use Rattle.world.specs.World.{Setup, LiveRun, World}
 use Rattle.world.specs.Told.{plain, traces, finishes}
-use Rattle.world.specs.Event.{call, Event, executes, clock_reads, result, expired}
+use Rattle.world.specs.Event.{call, Event, executes, result}
+use Rattle.world_laws.proofs.Rows.Words.{clock_reads, expired}
 use Rattle.world.specs.Step.{step}
 use Rattle.world.specs.Flat.{flat}
 use Rattle.world_laws.proofs.Rows.Worked.{two_queues, with_freezes, ccb_in, next, answer}
@@ -57,7 +59,7 @@ with_run run freezes greatest = record (with_freezes freezes greatest) {
 }
 
 abbrev freeze_by : ℕ → ℕ → Holder → Freeze
-freeze_by number queue holder = record { number = number; queue = record { 0 = queue }; holder = holder }
+freeze_by number queue holder = record { number = number; place = device queue; holder = holder }
 
 abbrev held_in : World → List (List ℕ)
 held_in world = map (λ run. run.machine.held) world.runs

@@ -4,11 +4,13 @@ use Rattle.ccb.specs.declared.cam_status.CamStatus.TheVariants.{RequestInProgres
 use Rattle.freeze_ledger.specs.declared.freeze.Holder.TheVariants.{Guest}
 use Rattle.helpers.specs.declared.limits.HelperLimits.{HelperLimits}
 use Rattle.bpf_semantics.specs.MachineState.{entry}
-use Rattle.world.specs.declared.call_refusal.CallRefusal.TheVariants.{Unknown, Limit, NotActive, Frozen, NoOpening, NothingWaits}
+use Rattle.calls.specs.declared.call_refusal.CallRefusal.TheVariants.{Unknown, Limit, NotActive, Frozen, NoOpening, NothingWaits}
 use Rattle.world.specs.declared.ccb_state.CcbState.TheVariants.{Waiting, Active, InRecovery}
+use Rattle.freeze_ledger.specs.Places.{device}
 use Rattle.world.specs.World.{World, opening}
 use Rattle.world.specs.Lookups.{active_count}
-use Rattle.world.specs.Event.{private, submit, dispatch, complete, guest_freeze, executes, ccb_given, done, run_started, refused}
+use Rattle.world.specs.Event.{private, executes, refused}
+use Rattle.world_laws.proofs.Rows.Words.{submit, dispatch, complete, guest_freeze, ccb_given, done, run_started}
 use Rattle.world.specs.Step.{step}
 use Rattle.world_laws.proofs.Rows.Worked.{program, one_queue, two_queues, with_freezes, with_ccbs, ccb_in, outcome_of, next, answer}
 
@@ -51,7 +53,7 @@ opening_first : (l : HelperLimits) → step (one_queue l) one_active (dispatch 0
 opening_first l = refl
 
 -- there is no queue 1, and that comes first
-unknown_dispatch : (l : HelperLimits) → answer (one_queue l) (with_freezes (record { number = 1; queue = record { 0 = 1 }; holder = Guest 7 } ∷ []) 1) (dispatch 1) ≡ Some (refused Unknown)
+unknown_dispatch : (l : HelperLimits) → answer (one_queue l) (with_freezes (record { number = 1; place = device 1; holder = Guest 7 } ∷ []) 1) (dispatch 1) ≡ Some (refused Unknown)
 unknown_dispatch l = refl
 
 unknown_submit : (l : HelperLimits) → answer (one_queue l) (with_ccbs [] 4294967295) (submit 1 5 0) ≡ Some (refused Unknown)

@@ -3,17 +3,21 @@ use Rattle.std.proofs.Common.{◌≡◌, ℕ, [], ◌∷◌, Some, Ok, refl}
 use Rattle.freeze_ledger.specs.declared.freeze.Holder.TheVariants.{Timer}
 use Rattle.freeze_ledger.specs.declared.freeze.Freeze.{Freeze}
 use Rattle.helpers.specs.declared.limits.HelperLimits.{HelperLimits}
-use Rattle.world.specs.declared.call_refusal.CallRefusal.TheVariants.{Limit, GoesBack}
-use Rattle.world.specs.declared.record.Record.TheVariants.{Clock}
+use Rattle.calls.specs.declared.call_refusal.CallRefusal.TheVariants.{Limit, GoesBack}
+use Rattle.calls.specs.declared.call.Call.TheVariants.{Clock}
+use Rattle.calls.specs.declared.call_answer.CallAnswer.TheVariants as answers
+use Rattle.calls.specs.declared.record.Record.TheVariants.{Called}
+use Rattle.freeze_ledger.specs.Places.{device}
 use Rattle.world.specs.World.{World}
-use Rattle.world.specs.Event.{clock_reads, expired, refused}
+use Rattle.world.specs.Event.{refused}
+use Rattle.world_laws.proofs.Rows.Words.{clock_reads, expired}
 use Rattle.world.specs.Step.{step}
 use Rattle.world.specs.Flat.{flat}
 use Rattle.world_laws.proofs.Rows.Worked.{one_queue, with_freezes, freeze_of}
 
 -- a timer's freeze of queue 0
 abbrev timed : ℕ → ℕ → Freeze
-timed number due = record { number = number; queue = record { 0 = 0 }; holder = Timer due }
+timed number due = record { number = number; place = device 0; holder = Timer due }
 
 -- a guest's freeze between those of timers, and the clock at 1000
 abbrev three : World
@@ -46,5 +50,5 @@ no_later : (l : HelperLimits) → step (one_queue l) three (clock_reads 46116860
 no_later l = refl
 
 -- one record is one event
-one_record : flat (Clock 1500 (Ok 1) ∷ []) ≡ (clock_reads 1500, expired 1) ∷ []
+one_record : flat (Called (answers.Removed 1) (Clock 1500) ∷ []) ≡ (clock_reads 1500, expired 1) ∷ []
 one_record = refl

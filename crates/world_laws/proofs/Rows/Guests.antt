@@ -2,10 +2,14 @@
 use Rattle.std.proofs.Common.{◌≡◌, [], ◌∷◌, Some, None, Ok, refl, replicate}
 use Rattle.freeze_ledger.specs.declared.freeze.Holder.TheVariants.{Run, Timer, Guest}
 use Rattle.helpers.specs.declared.limits.HelperLimits.{HelperLimits}
-use Rattle.world.specs.declared.call_refusal.CallRefusal.TheVariants.{Unknown, Limit}
-use Rattle.world.specs.declared.record.Record.TheVariants.{GuestFreeze, GuestRelease}
+use Rattle.calls.specs.declared.call_refusal.CallRefusal.TheVariants.{Unknown, Limit}
+use Rattle.calls.specs.declared.call.Call.TheVariants.{GuestFreeze, GuestRelease}
+use Rattle.calls.specs.declared.call_answer.CallAnswer.TheVariants as answers
+use Rattle.calls.specs.declared.record.Record.TheVariants.{Called}
+use Rattle.freeze_ledger.specs.Places.{device}
 use Rattle.world.specs.World.{World, opening}
-use Rattle.world.specs.Event.{guest_freeze, guest_release, freeze_given, count_left, refused}
+use Rattle.world.specs.Event.{refused}
+use Rattle.world_laws.proofs.Rows.Words.{guest_freeze, guest_release, freeze_given, count_left}
 use Rattle.world.specs.Step.{step}
 use Rattle.world.specs.WorldRun.{WorldRun}
 use Rattle.world.specs.Flat.{flat}
@@ -17,10 +21,10 @@ two_lines : (l : HelperLimits) → WorldRun (one_queue l) ((guest_freeze 0 7, fr
 two_lines l = (zero_tables l (with_freezes (freeze_of 1 7 ∷ []) 1), refl, (zero_tables l (with_freezes [] 1), refl, refl))
 
 -- which is what its two records stand for, and their totals
-two_records : flat (GuestFreeze (record { 0 = 0 }) 7 (Ok 1) ∷ GuestRelease 1 0 ∷ []) ≡ (guest_freeze 0 7, freeze_given 1) ∷ (guest_release 1, count_left 0) ∷ []
+two_records : flat (Called (answers.Freeze 1) (GuestFreeze (device 0) 7) ∷ Called (answers.Left 0) (GuestRelease 1) ∷ []) ≡ (guest_freeze 0 7, freeze_given 1) ∷ (guest_release 1, count_left 0) ∷ []
 two_records = refl
 
-two_totals : (l : HelperLimits) → TotalsOf (one_queue l) (GuestFreeze (record { 0 = 0 }) 7 (Ok 1) ∷ GuestRelease 1 0 ∷ []) (record { history = 2; frozen = 0; active = 0; runs = 0 })
+two_totals : (l : HelperLimits) → TotalsOf (one_queue l) (Called (answers.Freeze 1) (GuestFreeze (device 0) 7) ∷ Called (answers.Left 0) (GuestRelease 1) ∷ []) (record { history = 2; frozen = 0; active = 0; runs = 0 })
 two_totals l = (zero_tables l (with_freezes [] 1), two_lines l, refl)
 
 -- there is no queue 1
@@ -33,7 +37,7 @@ nothing_held l = refl
 
 -- what a run or a timer holds is no guest's to give back
 abbrev held_by_others : World
-held_by_others = with_freezes (record { number = 1; queue = record { 0 = 0 }; holder = Run 1 } ∷ record { number = 2; queue = record { 0 = 0 }; holder = Timer 1500 } ∷ []) 2
+held_by_others = with_freezes (record { number = 1; place = device 0; holder = Run 1 } ∷ record { number = 2; place = device 0; holder = Timer 1500 } ∷ []) 2
 
 not_the_runs : (l : HelperLimits) → step (one_queue l) held_by_others (guest_release 1) ≡ None
 not_the_runs l = refl
@@ -58,7 +62,7 @@ queue_limit l = refl
 
 -- the ledger takes 1024, here all of another queue
 abbrev full_ledger : World
-full_ledger = with_freezes (replicate 1024 (record { number = 1; queue = record { 0 = 1 }; holder = Guest 7 })) 1024
+full_ledger = with_freezes (replicate 1024 (record { number = 1; place = device 1; holder = Guest 7 })) 1024
 
 ledger_limit : (l : HelperLimits) → step (one_queue l) full_ledger (guest_freeze 0 7) ≡ Some (refused Limit, full_ledger)
 ledger_limit l = refl

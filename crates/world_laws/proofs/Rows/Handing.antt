@@ -14,13 +14,16 @@ use Rattle.bpf_insn.specs.Program.{layout}
 use Rattle.freeze_ledger.specs.declared.freeze.Holder.TheVariants.{Timer}
 use Rattle.helpers.specs.declared.table.Helper.TheVariants as helpers
 use Rattle.helpers.specs.Table.{row_of}
-use Rattle.world.specs.declared.record.Completed.TheVariants.{Started}
-use Rattle.world.specs.declared.record.StoppedAt.TheVariants.{Helper as AtHelper, Finish, Exit as AtExit}
-use Rattle.world.specs.declared.record.Record.{Record}
-use Rattle.world.specs.declared.record.Record.TheVariants.{Submit, Dispatch, Complete, Advance, Clock}
+use Rattle.calls.specs.declared.record.StoppedAt.TheVariants.{Helper as AtHelper, Finish, Exit as AtExit}
+use Rattle.calls.specs.declared.record.Record.{Record}
+use Rattle.calls.specs.declared.call.Call.TheVariants.{Submit, Dispatch, Complete, Clock}
+use Rattle.calls.specs.declared.call_answer.CallAnswer.TheVariants as answers
+use Rattle.calls.specs.declared.record.Record.TheVariants.{Called, Advance}
+use Rattle.freeze_ledger.specs.Places.{device}
 use Rattle.world.specs.World.{QueueSetup, Setup, World, opening}
 use Rattle.world.specs.Told.{plain, finishes}
-use Rattle.world.specs.Event.{private, call, exit, Event, submit, dispatch, complete, clock_reads, executes, Reply, ccb_given, run_started, expired, went_on, result}
+use Rattle.world.specs.Event.{private, call, exit, Event, executes, Reply, went_on, result}
+use Rattle.world_laws.proofs.Rows.Words.{submit, dispatch, complete, clock_reads, ccb_given, run_started, expired}
 use Rattle.world.specs.WorldRun.{WorldRun}
 use Rattle.world.specs.TookGave.{took, gave}
 use Rattle.world.specs.CcbLaws.{finished_in}
@@ -58,10 +61,10 @@ setup = record { limits = record { queues = 2; table_lengths = [] }; queues = qu
 -- the records that a transport makes of it
 abbrev records : List Record
 records =
-    Clock 1000 (Ok 0)
-    ∷ Submit (record { 0 = 0 }) 10 3 (Ok (record { 0 = 1 }))
-    ∷ Dispatch (record { 0 = 0 }) (Ok (record { 0 = 1 }))
-    ∷ Complete (outcome_of 1 CommandTimeout) (Ok (Started 1 1))
+    Called (answers.Removed 0) (Clock 1000)
+    ∷ Called (answers.Ccb (record { 0 = 1 })) (Submit (record { 0 = 0 }) 10 3)
+    ∷ Called (answers.Ccb (record { 0 = 1 })) (Dispatch (record { 0 = 0 }))
+    ∷ Called (answers.Started 1 1) (Complete (outcome_of 1 CommandTimeout))
     ∷ Advance 1 3 (AtHelper helpers.Freeze) 2
     ∷ Advance 1 3 (AtHelper helpers.ReleaseAfter) 0
     ∷ Advance 1 2 (AtHelper helpers.Release) 0
@@ -88,7 +91,7 @@ abbrev at_end : World
 at_end = record {
   live = [];
   ended = record { number = 1; code = 11 } ∷ [];
-  freezes = record { number = 2; queue = record { 0 = 1 }; holder = Timer 1500 } ∷ [];
+  freezes = record { number = 2; place = device 1; holder = Timer 1500 } ∷ [];
   runs = [];
   openings = 1 ∷ 1 ∷ [];
   tables = [];

@@ -3,10 +3,13 @@ use Rattle.std.proofs.Common.{◌≡◌, true, false, [], ◌∷◌, Some, None,
 use Rattle.ccb.specs.Completion.{Outcome}
 use Rattle.ccb.specs.declared.cam_status.CamStatus.TheVariants.{CommandTimeout}
 use Rattle.helpers.specs.declared.limits.HelperLimits.{HelperLimits}
-use Rattle.world.specs.declared.call_refusal.CallRefusal.TheVariants.{Unknown}
-use Rattle.world.specs.declared.record.Record.TheVariants.{Park, Resume}
+use Rattle.calls.specs.declared.call_refusal.CallRefusal.TheVariants.{Unknown}
+use Rattle.calls.specs.declared.call.Call.TheVariants.{Park, Resume}
+use Rattle.calls.specs.declared.call_answer.CallAnswer.TheVariants as answers
+use Rattle.calls.specs.declared.record.Record.TheVariants.{Called}
 use Rattle.world.specs.World.{World, opening}
-use Rattle.world.specs.Event.{private, exit, submit, dispatch, complete, parks, resumes, executes, run_started, ok, result, refused, went_on}
+use Rattle.world.specs.Event.{private, exit, executes, result, refused, went_on}
+use Rattle.world_laws.proofs.Rows.Words.{submit, dispatch, complete, parks, resumes, run_started, ok}
 use Rattle.world.specs.Step.{step}
 use Rattle.world.specs.Flat.{flat}
 use Rattle.world.specs.Headline.{steps_of}
@@ -79,5 +82,5 @@ not_past_its_resume : is_of_another 1 (resumes 1, ok) ≡ false
 not_past_its_resume = refl
 
 -- one record is one event
-records : flat (Park 1 ∷ Resume 2 (Err Unknown) ∷ Resume 1 (Ok _) ∷ []) ≡ (parks 1, ok) ∷ (resumes 2, refused Unknown) ∷ (resumes 1, ok) ∷ []
+records : flat (Called answers.Ok (Park 1) ∷ Called (answers.Refused Unknown) (Resume 2) ∷ Called answers.Ok (Resume 1) ∷ []) ≡ (parks 1, ok) ∷ (resumes 2, refused Unknown) ∷ (resumes 1, ok) ∷ []
 records = refl

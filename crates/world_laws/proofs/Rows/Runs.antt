@@ -7,15 +7,18 @@ use Rattle.helpers.specs.Table.{row_of}
 use Rattle.freeze_ledger.specs.declared.freeze.Holder.TheVariants.{Run}
 use Rattle.helpers.specs.declared.limits.HelperLimits.{HelperLimits}
 use Rattle.table_store.specs.Tables.{zero_table}
-use Rattle.world.specs.declared.record.Completed.TheVariants.{Started}
-use Rattle.world.specs.declared.record.StoppedAt.TheVariants.{Helper, Exit}
-use Rattle.world.specs.declared.record.Record.{Record}
-use Rattle.world.specs.declared.record.Record.TheVariants.{Submit, Dispatch, Complete, Advance}
-use Rattle.world.specs.declared.call_refusal.CallRefusal.TheVariants.{NotActive, Frozen}
+use Rattle.calls.specs.declared.record.StoppedAt.TheVariants.{Helper, Exit}
+use Rattle.calls.specs.declared.record.Record.{Record}
+use Rattle.calls.specs.declared.call.Call.TheVariants.{Submit, Dispatch, Complete}
+use Rattle.calls.specs.declared.call_answer.CallAnswer.TheVariants as answers
+use Rattle.calls.specs.declared.record.Record.TheVariants.{Called, Advance}
+use Rattle.calls.specs.declared.call_refusal.CallRefusal.TheVariants.{NotActive, Frozen}
 use Rattle.world.specs.declared.ccb_state.CcbState.TheVariants.{Waiting}
+use Rattle.freeze_ledger.specs.Places.{device}
 use Rattle.world.specs.World.{LiveRun, World, opening}
 use Rattle.world.specs.Told.{plain}
-use Rattle.world.specs.Event.{private, call, exit, Event, submit, dispatch, complete, executes, Reply, ccb_given, run_started, went_on, result, refused}
+use Rattle.world.specs.Event.{private, call, exit, Event, executes, Reply, went_on, result, refused}
+use Rattle.world_laws.proofs.Rows.Words.{submit, dispatch, complete, ccb_given, run_started}
 use Rattle.world.specs.Step.{step}
 use Rattle.world.specs.WorldRun.{WorldRun, world_after}
 use Rattle.world.specs.TookGave.{took, gave}
@@ -80,9 +83,9 @@ at_end l = record {
 -- the six records that a transport makes of it
 abbrev records : List Record
 records =
-    Submit (record { 0 = 0 }) 10 3 (Ok (record { 0 = 1 }))
-    ∷ Dispatch (record { 0 = 0 }) (Ok (record { 0 = 1 }))
-    ∷ Complete (outcome_of 1 CommandTimeout) (Ok (Started 1 1))
+    Called (answers.Ccb (record { 0 = 1 })) (Submit (record { 0 = 0 }) 10 3)
+    ∷ Called (answers.Ccb (record { 0 = 1 })) (Dispatch (record { 0 = 0 }))
+    ∷ Called (answers.Started 1 1) (Complete (outcome_of 1 CommandTimeout))
     ∷ Advance 1 3 (Helper helpers.Release) 0
     ∷ Advance 1 2 (Helper helpers.Requeue) 0
     ∷ Advance 1 2 Exit 0 ∷ []
@@ -156,7 +159,7 @@ unfolding it_runs
 it_gave l = refl
 
 -- in between the queue was frozen by the run, and its CCB was in recovery
-its_freeze : (l : HelperLimits) → (failed l).freezes ≡ record { number = 1; queue = record { 0 = 0 }; holder = Run 1 } ∷ []
+its_freeze : (l : HelperLimits) → (failed l).freezes ≡ record { number = 1; place = device 0; holder = Run 1 } ∷ []
 its_freeze l = refl
 
 -- the run is that of the CCB that failed, at its start and at its exit

@@ -7,11 +7,12 @@ use Rattle.bpf_semantics.specs.MachineState.{unwritten_frame}
 use Rattle.helpers.specs.declared.table.Helper.{Helper as HelperName}
 use Rattle.helpers.specs.declared.table.Helper.TheVariants as helpers
 use Rattle.helpers.specs.Table.{row_of}
-use Rattle.world.specs.declared.call_refusal.CallRefusal.TheVariants.{NoOpening, NothingWaits}
+use Rattle.calls.specs.declared.call_refusal.CallRefusal.TheVariants.{NoOpening, NothingWaits}
 use Rattle.world.specs.declared.ccb_state.CcbState.TheVariants.{Waiting, Active, InRecovery}
 use Rattle.world.specs.World.{Setup, LiveRun, World, opening}
 use Rattle.world.specs.Told.{plain}
-use Rattle.world.specs.Event.{call, Event, dispatch, executes, clock_reads, ccb_given, result, refused}
+use Rattle.world.specs.Event.{call, Event, executes, result, refused}
+use Rattle.world_laws.proofs.Rows.Words.{dispatch, clock_reads, ccb_given}
 use Rattle.world.specs.Step.{step}
 use Rattle.world_laws.proofs.Rows.Worked.{two_queues, with_freezes, ccb_in, next, answer}
 

@@ -17,6 +17,7 @@ use Rattle.bpf_insn.specs.declared.program.Slot.{Slot}
 use Rattle.bpf_insn.specs.declared.program.Slot.TheVariants.{First}
 use Rattle.table_store.specs.Tables.{zero_table}
 use Rattle.world.specs.declared.ccb_state.CcbState.{CcbState}
+use Rattle.freeze_ledger.specs.Places.{device}
 use Rattle.world.specs.World.{QueueSetup, Setup, LiveCcb, World}
 use Rattle.world.specs.Event.{Event, Reply}
 use Rattle.world.specs.Step.{step}
@@ -78,7 +79,7 @@ with_ccbs live greatest = record {
 
 -- a guest's freeze of queue 0
 abbrev pub freeze_of : ℕ → ℕ → Freeze
-freeze_of number guest = record { number = number; queue = record { 0 = 0 }; holder = Guest guest }
+freeze_of number guest = record { number = number; place = device 0; holder = Guest guest }
 
 -- a CCB of queue 0, as it was submitted, in this state
 abbrev pub ccb_in : ℕ → ℕ → CcbState → LiveCcb

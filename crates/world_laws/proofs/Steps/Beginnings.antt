@@ -12,10 +12,13 @@ use Rattle.ccb.specs.Completion.{Outcome}
 use Rattle.ccb.specs.Ccb.{completed}
 use Rattle.ccb.specs.Context.{context_of}
 use Rattle.ccb.proofs.Contexts.{is_context}
+use Rattle.freeze_ledger.specs.declared.place.Place.TheVariants.{Device}
 use Rattle.bpf_semantics.specs.Reached.{IsEntry}
+use Rattle.calls.specs.declared.call.Call.TheVariants.{Complete}
+use Rattle.calls.specs.declared.call_answer.CallAnswer.TheVariants as answers
 use Rattle.world.specs.World.{Setup, LiveRun, World}
 use Rattle.world.specs.Lookups.{run_of, with_run}
-use Rattle.world.specs.Event.{complete, Event, Reply, run_started}
+use Rattle.world.specs.Event.{Event, called, Reply, replies}
 use Rattle.world.specs.CcbSteps.{is_completion}
 use Rattle.world.proofs.Lists.Found.{leave, found_in_push, put_other, leave_same, leave_other}
 use Rattle.world_laws.proofs.Kept.{room_from}
@@ -59,7 +62,7 @@ new_run setup before event reply after number run (run_leaves other found e g qu
     ])
 
 -- a completion that is answered by the number of a run starts it
-pub started_begins : (setup : Setup) (before : World) (outcome : Outcome) (number freeze : ℕ) (after : World) → RunMove setup before (complete outcome) (run_started number freeze) after → (run : LiveRun) × Begins setup before (complete outcome) (run_started number freeze) after run
+pub started_begins : (setup : Setup) (before : World) (outcome : Outcome) (number freeze : ℕ) (after : World) → RunMove setup before (called (Complete outcome)) (replies (answers.Started number freeze)) after → (run : LiveRun) × Begins setup before (called (Complete outcome)) (replies (answers.Started number freeze)) after run
 started_begins setup before outcome number freeze after (runs_stay e g quiet) = absurd (let bad : true ≡ false = quiet in cc)
 started_begins setup before outcome number freeze after (run_enters fresh begins known room g) = (fresh, begins)
 started_begins setup before outcome number freeze after (run_changes old new found queue_is program_is e g quiet its) = absurd (let bad : true ≡ false = quiet in cc)
@@ -93,7 +96,7 @@ begins_at_entry setup before event reply after run it =
       bytes = (context.size, context.each);
       number = elim it.freezes_is [
         | inl none ↦ omega (arith, none.0)
-        | inr some_one ↦ let room = room_from it.live.ccb.queue.0 before.freezes before.greatest_freeze some_one.1 in omega (arith, some_one.0, room.numbers)
+        | inr some_one ↦ let room = room_from (Device it.live.ccb.queue) before.freezes before.greatest_freeze some_one.1 in omega (arith, some_one.0, room.numbers)
       ];
       is = ap (λ (r : LiveRun). r.machine) it.run_is;
     }

@@ -16,6 +16,7 @@ use Rattle.helpers.specs.declared.request.Answer.{Answer}
 use Rattle.helpers.specs.Table.{row_of, answer_number}
 use Rattle.bpf_semantics.specs.Step.{answered, IsAnswer}
 use Rattle.world.specs.declared.ccb_state.CcbState.TheVariants.{Waiting}
+use Rattle.freeze_ledger.specs.Places.{device}
 use Rattle.world.specs.World.{Setup, queue_count, LiveCcb, LiveRun, World}
 use Rattle.world.specs.Lookups.{ccb_of, with_ccb}
 use Rattle.world.specs.Told.{plain, finishes, told_of}
@@ -49,9 +50,9 @@ pub record TakesOne (setup : Setup) (before : World) (run : LiveRun) (request : 
   pub machine_is : (row_of request.helper).machine ≡ changes.Holds
   pub gives_is : (row_of request.helper).gives ≡ NewFreeze
   pub known : request.arguments.first < setup.limits.queues
-  pub room : meets_limit request.arguments.first before.freezes before.greatest_freeze ≡ false
+  pub room : meets_limit (device request.arguments.first) before.freezes before.greatest_freeze ≡ false
   pub given_is : given ≡ answer_number (before.greatest_freeze + 1)
-  pub freezes_is : between.freezes ≡ (froze before request.arguments.first (Run run.number)).freezes
+  pub freezes_is : between.freezes ≡ (froze before (device request.arguments.first) (Run run.number)).freezes
   pub greatest_is : between.greatest_freeze ≡ before.greatest_freeze + 1
 
 -- one that the run holds goes

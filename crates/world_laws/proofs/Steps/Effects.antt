@@ -8,20 +8,24 @@ use Rattle.ccb.specs.Ccb.{started, completed, requeued}
 use Rattle.freeze_ledger.specs.declared.freeze.Holder.{Holder}
 use Rattle.freeze_ledger.specs.declared.freeze.Holder.TheVariants.{Run, Timer, Guest}
 use Rattle.freeze_ledger.specs.declared.freeze.Freeze.{Freeze}
+use Rattle.freeze_ledger.specs.declared.place.Place.TheVariants.{Device}
+use Rattle.freeze_ledger.specs.Places.{device}
 use Rattle.freeze_ledger.specs.Freezes.{entry_of, is_due}
 use Rattle.helpers.specs.declared.columns.Gives.{Gives}
 use Rattle.helpers.specs.declared.columns.Gives.TheVariants.{Number, NewFreeze}
 use Rattle.helpers.specs.Table.{row_of}
 use Rattle.helpers.specs.declared.request.Answer.{Answer}
 use Rattle.bpf_semantics.specs.Step.{answered}
+use Rattle.calls.specs.declared.call.Call.TheVariants.{Complete}
 use Rattle.world.specs.declared.ccb_state.CcbState.{CcbState}
 use Rattle.world.specs.declared.ccb_state.CcbState.TheVariants.{Waiting, Active, InRecovery}
 use Rattle.world.specs.World.{Setup, queue_count, LiveCcb, EndedCcb, LiveRun, World}
 use Rattle.world.specs.Lookups.{is_waiting, is_active, active_count, ccb_of, with_ccb, run_of, with_run}
 use Rattle.world.specs.Told.{Told, plain, finishes, told_of}
-use Rattle.world.specs.Event.{Instruction, call, Event, complete, executes, instruction_of, Reply, result}
+use Rattle.world.specs.Event.{Instruction, call, Event, called, executes, instruction_of, Reply, result}
 use Rattle.world.specs.FreezeSteps.{is_guest, is_timer}
 use Rattle.world.specs.RunSteps.{is_run}
+use Rattle.world.specs.Refusals.{is_unknown}
 use Rattle.world.specs.TookGave.{given_to, taken_as, taken_by}
 use Rattle.world.specs.CcbLaws.{finished_by_run, finished_by}
 use Rattle.world.specs.Headline.{is_step_of, is_turn_of, is_own_of}
@@ -36,6 +40,10 @@ use Rattle.world_laws.proofs.Steps.Does.{FreezeDeed, leaves_freezes, takes_one, 
 use Rattle.world_laws.proofs.Steps.Calls.{Asks}
 use Rattle.world_laws.proofs.Steps.Cases.{Recovers, RecoversUnfrozen, Case, refuses, submits, dispatches, finishes_one, recovers_one, recovers_unfrozen, freezes_one, releases_one, reads_clock, Turns, turns_one, goes_on_one, asks_one, exits}
 use Rattle.world.proofs.Steps.Moves.{KeepsLists, ccb_key, run_key, ccb_found, run_found, next_found, MayTouch, CcbMove, ccbs_stay, ccb_enters, ccb_changes, ccb_leaves, Comes, FreezeMove, freezes_stay, freeze_enters, freezes_leave, freeze_changes, Begins, tells_start, runs_stay, run_enters, run_changes, run_leaves, Effect}
+
+-- a queue that exists is a place that does
+pub device_known : (setup : Setup) (queue : ℕ) → queue < queue_count setup → is_unknown setup (device queue) ≡ false
+device_known setup queue below = grind (arith, below)
 
 -- the queue of a live CCB exists
 pub known_queue : (setup : Setup) (world : World) → CcbLimits setup world → (number : ℕ) (live : LiveCcb) → ccb_of number world.live ≡ Some live → live.ccb.queue.0 < queue_count setup
@@ -259,7 +267,7 @@ call_freezes setup before event reply after kept it (leaves_freezes deed) =
     freezes_stay (ap (λ (x : Reply × World). x.1.freezes) it.answer ∙ deed.freezes_is) (ap (λ (x : Reply × World). x.1.greatest_freeze) it.answer ∙ deed.greatest_is)
 call_freezes setup before event reply after kept it (takes_one deed) =
     let named : it.it.run.number ≡ it.it.number = found_key run_key it.it.number before.runs it.it.run it.it.found in
-    freeze_enters it.request.arguments.first (Run it.it.run.number) (λ agreed. omega (arith, deed.known, agreed)) deed.room
+    freeze_enters (device it.request.arguments.first) (Run it.it.run.number) (λ agreed. device_known setup it.request.arguments.first (omega (arith, deed.known, agreed))) deed.room
     (ap (λ (x : Reply × World). x.1.freezes) it.answer ∙ deed.freezes_is) (ap (λ (x : Reply × World). x.1.greatest_freeze) it.answer ∙ deed.greatest_is)
     (record {
       whose = λ run its. inr (subst (λ (k : ℕ). is_step_of k event ≡ true) (eqb-true _ _ its) (its_own_step before event _ it.it));
@@ -339,7 +347,7 @@ effect_of setup before event reply after kept (submits it) =
     }
 effect_of setup before event reply after kept (dispatches it) =
     let none : finished_by before event reply ≡ [] = ap (λ (x : Event). finished_by before x reply) it.event_is in
-    let next = next_found it.queue before.live before.greatest_ccb it.next kept.ccbs.rising it.next_is in
+    let next = next_found it.queue.0 before.live before.greatest_ccb it.next kept.ccbs.rising it.next_is in
     record {
       ccbs = ccb_changes it.next (record { ccb = started it.next.ccb; state = Active }) next.found refl
           (inr (subst (λ (q : ℕ). active_count q before.live < slice_index before.openings q) (sym next.queue_is) it.opening))
@@ -354,7 +362,7 @@ effect_of setup before event reply after kept (dispatches it) =
 effect_of setup before event reply after kept (finishes_one it) =
     let named : it.live.ccb.number.0 ≡ it.outcome.ccb.0 = found_key ccb_key it.outcome.ccb.0 before.live it.live it.found in
     let by : finished_by before event reply ≡ one_ended it.outcome.ccb.0 (code_of it.outcome.status) =
-    ap (λ (x : Event). finished_by before x reply) it.event_is ∙ ap (finished_by before (complete it.outcome)) it.reply_is in
+    ap (λ (x : Event). finished_by before x reply) it.event_is ∙ ap (finished_by before (called (Complete it.outcome))) it.reply_is in
     let one : finished_by before event reply ≡ one_ended it.live.ccb.number.0 (code_of it.outcome.status) = by ∙ ap (λ (n : ℕ). one_ended n (code_of it.outcome.status)) (sym named) in
     record {
       ccbs = ccb_leaves it.live.ccb.number.0 (code_of it.outcome.status) it.live (ccb_found _ before.live it.live it.found) (inl (idle_works it.live.state it.is_active)) (ap (λ (w : World). w.live) it.after_is) (ap (λ (w : World). w.greatest_ccb) it.after_is) one;
@@ -370,13 +378,13 @@ effect_of setup before event reply after kept (recovers_one it) =
     let begun = begins_frozen setup before event reply after it in
     let known = known_queue setup before kept.ccbs _ it.fails.live it.fails.found in
     let none : finished_by before event reply ≡ [] =
-    ap (λ (x : Event). finished_by before x reply) it.fails.event_is ∙ ap (finished_by before (complete it.fails.outcome)) parts.0 in
+    ap (λ (x : Event). finished_by before x reply) it.fails.event_is ∙ ap (finished_by before (called (Complete it.fails.outcome))) parts.0 in
     record {
       ccbs = ccb_changes it.fails.live (record { ccb = completed it.fails.live.ccb it.fails.outcome true; state = InRecovery })
           (ccb_found _ before.live it.fails.live it.fails.found) refl (inl refl) (inl (idle_works it.fails.live.state it.fails.is_active))
           (ap (λ (w : World). w.live) parts.1) (ap (λ (w : World). w.greatest_ccb) parts.1) none;
       ended = none_ended before after event reply none (ap (λ (w : World). w.ended) parts.1);
-      freezes = freeze_enters it.fails.live.ccb.queue.0 (Run (before.greatest_run + 1)) (λ agreed. known) it.free (ap (λ (w : World). w.freezes) parts.1) (ap (λ (w : World). w.greatest_freeze) parts.1) (comes_begun setup before event reply after begun.0 kept.runs begun.1);
+      freezes = freeze_enters (Device it.fails.live.ccb.queue) (Run (before.greatest_run + 1)) (λ agreed. device_known setup it.fails.live.ccb.queue.0 known) it.free (ap (λ (w : World). w.freezes) parts.1) (ap (λ (w : World). w.greatest_freeze) parts.1) (comes_begun setup before event reply after begun.0 kept.runs begun.1);
       runs = run_enters begun.0 begun.1 (known_begun setup before event reply after begun.0 kept.ccbs begun.1) it.fails.room (ap (λ (w : World). w.greatest_run) parts.1);
       answers = answers_stay before after (ap (λ (w : World). w.openings) parts.1) (ap (λ (w : World). w.tables) parts.1) (ap (λ (w : World). w.clock) parts.1);
       taken = λ run given idle. (λ i. taken_by run (it.fails.event_is i) (parts.0 i)) ∙ given_to_other run (before.greatest_run + 1) (before.greatest_freeze + 1) (λ e. omega (arith, e, given));
@@ -387,7 +395,7 @@ effect_of setup before event reply after kept (recovers_unfrozen it) =
     let begun = begins_unfrozen setup before event reply after it in
     let known = known_queue setup before kept.ccbs _ it.fails.live it.fails.found in
     let none : finished_by before event reply ≡ [] =
-    ap (λ (x : Event). finished_by before x reply) it.fails.event_is ∙ ap (finished_by before (complete it.fails.outcome)) parts.0 in
+    ap (λ (x : Event). finished_by before x reply) it.fails.event_is ∙ ap (finished_by before (called (Complete it.fails.outcome))) parts.0 in
     record {
       ccbs = ccb_changes it.fails.live (record { ccb = completed it.fails.live.ccb it.fails.outcome false; state = InRecovery })
           (ccb_found _ before.live it.fails.live it.fails.found) refl (inl refl) (inl (idle_works it.fails.live.state it.fails.is_active))
@@ -404,7 +412,7 @@ effect_of setup before event reply after kept (freezes_one it) =
     record {
       ccbs = ccbs_stay (ap (λ (w : World). w.live) it.after_is) (ap (λ (w : World). w.greatest_ccb) it.after_is) none;
       ended = none_ended before after event reply none (ap (λ (w : World). w.ended) it.after_is);
-      freezes = freeze_enters it.queue (Guest it.guest) (λ agreed. it.known) it.room (ap (λ (w : World). w.freezes) it.after_is) (ap (λ (w : World). w.greatest_freeze) it.after_is)
+      freezes = freeze_enters it.place (Guest it.guest) (λ agreed. it.known) it.room (ap (λ (w : World). w.freezes) it.after_is) (ap (λ (w : World). w.greatest_freeze) it.after_is)
           (record { whose = λ run its. absurd (let bad : false ≡ true = its in cc); live = λ run its. absurd (let bad : false ≡ true = its in cc) });
       runs = runs_stay (ap (λ (w : World). w.runs) it.after_is) (ap (λ (w : World). w.greatest_run) it.after_is) (ap tells_start it.reply_is);
       answers = answers_stay before after (ap (λ (w : World). w.openings) it.after_is) (ap (λ (w : World). w.tables) it.after_is) (ap (λ (w : World). w.clock) it.after_is);

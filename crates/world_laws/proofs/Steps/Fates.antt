@@ -18,6 +18,7 @@ use Rattle.bpf_semantics.specs.Calls.{is_held}
 use Rattle.bpf_semantics.specs.Step.{request_at, exit_at, IsAnswer, held_without, answered, changed_by, after_call}
 use Rattle.bpf_semantics.specs.Reached.{Steps}
 use Rattle.world.specs.FreezeSteps.{frozen_with}
+use Rattle.freeze_ledger.specs.Places.{is_place, device}
 use Rattle.world.specs.World.{Setup, queue_count, LiveRun, World}
 use Rattle.world.specs.Lookups.{run_of, with_run}
 use Rattle.world.specs.Told.{told_of}
@@ -29,7 +30,7 @@ use Rattle.world.specs.Headline.{is_disposal, is_exit}
 use Rattle.world.specs.Limits.{FreezeLimits, AnswerLimits, KeepsLimits}
 use Rattle.world.proofs.Lists.Found.{leave, found_key, found_push, put_same, put_other, leave_same, leave_other}
 use Rattle.world.proofs.Lists.Each.{all_found}
-use Rattle.world.proofs.Lists.Entries.{freeze_key, frozen_without, entry_bounds, handed_is_put}
+use Rattle.world.proofs.Lists.Entries.{freeze_key, frozen_without, entry_bounds, handed_is_put, place_itself}
 use Rattle.world.proofs.Lists.HeldBy.{entries_put, none_above}
 use Rattle.world_laws.proofs.Kept.{room_from}
 use Rattle.world_laws.proofs.Steps.Running.{Executes}
@@ -85,9 +86,9 @@ changed_other runs later number new e apart = ap (run_of number) e ∙ put_other
 pub count_after : (setup : Setup) (before : World) (number : ℕ) (freeze : Freeze) → FreezeLimits setup before → entry_of number before.freezes ≡ Some freeze → frozen_with freeze (without freeze.number before.freezes) ≤ 254
 count_after setup before number freeze kept entry =
     let is = entry_bounds 0 before.freezes before.greatest_freeze number freeze kept.numbered entry in
-    let fewer = frozen_without freeze.queue.0 0 before.freezes before.greatest_freeze freeze.number freeze kept.numbered (subst (λ (n : ℕ). entry_of n before.freezes ≡ Some freeze) (sym is.0) entry) in
-    let one : cond {A = ℕ} (eqb freeze.queue.0 freeze.queue.0) 1 0 ≡ 1 = ap (λ (b : Bool). cond {A = ℕ} b 1 0) (eq-eqb freeze.queue.0 freeze.queue.0 refl) in
-    omega (arith, fewer, one, kept.a_queue freeze.queue.0)
+    let fewer = frozen_without freeze.place 0 before.freezes before.greatest_freeze freeze.number freeze kept.numbered (subst (λ (n : ℕ). entry_of n before.freezes ≡ Some freeze) (sym is.0) entry) in
+    let one : cond {A = ℕ} (is_place freeze.place freeze.place) 1 0 ≡ 1 = ap (λ (b : Bool). cond {A = ℕ} b 1 0) (place_itself freeze.place) in
+    omega (arith, fewer, one, kept.a_place freeze.place)
 
 -- the runs are as they were
 unchanged : (before : World) (event : Event) (reply : Reply) (after : World) (number : ℕ) (run : LiveRun) → run_of number before.runs ≡ Some run → instruction_of number event ≡ None → after.runs ≡ before.runs → Fate before event reply after number run
@@ -128,7 +129,7 @@ one_turns before event reply after it number run found =
 call_allowed : (setup : Setup) (before : World) (run : LiveRun) (request : Request) (given : Answer) (between : World) → FreezeLimits setup before → AnswerLimits setup before → run.queue < queue_count setup → run.machine.held ≡ held_by run.number before.freezes → FreezeDeed setup before run request given between → IsAnswer run.machine request given
 call_allowed setup before run request given between kept answers known held (leaves_freezes deed) = deed.allowed answers known
 call_allowed setup before run request given between kept answers known held (takes_one deed) =
-    let room = room_from request.arguments.first before.freezes before.greatest_freeze deed.room in
+    let room = room_from (device request.arguments.first) before.freezes before.greatest_freeze deed.room in
     let fresh : is_held run.machine.held (before.greatest_freeze + 1) ≡ false =
     ap (λ (ns : List ℕ). is_held ns (before.greatest_freeze + 1)) held ∙ none_above run.number (before.greatest_freeze + 1) before.freezes before.greatest_freeze kept.numbered (omega arith) in
     rw (deed.gives_is, deed.machine_is, deed.given_is) (inr (omega arith, omega (arith, room.numbers), fresh), tt)
@@ -173,7 +174,7 @@ call_holding setup before event reply after kept it = by_deed
     by_deed (takes_one deed) =
         let next : ℕ = before.greatest_freeze + 1 in
         let above : eqb next 0 ≡ false = ne_eqb _ _ (λ e. omega (arith, e)) in
-        holds_one_more (record { number = next; queue = record { 0 = number_in_R1 }; holder = Run run.number }) refl (eq-eqb _ _ named)
+        holds_one_more (record { number = next; place = device number_in_R1; holder = Run run.number }) refl (eq-eqb _ _ named)
         (held_as changes.Holds (answer_number next) deed.machine_is deed.given_is ∙ cond-false (eqb next 0) run.machine.held (run.machine.held ++ next ∷ []) above)
         (freezes_is ∙ deed.freezes_is) (ap (λ (x : Reply × World). x.1.greatest_freeze) it.answer ∙ deed.greatest_is) (given_as changes.Holds deed.machine_is)
         (takes NewFreeze (answer_number next) deed.gives_is deed.given_is

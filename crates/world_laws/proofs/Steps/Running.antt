@@ -11,7 +11,7 @@ use Rattle.world.specs.World.{Setup, LiveRun, World}
 use Rattle.world.specs.Lookups.{run_of}
 use Rattle.world.specs.Told.{Told, told_of, is_told}
 use Rattle.world.specs.Event.{Instruction, private, call, exit, Event, executes, Reply, went_on, result}
-use Rattle.world.specs.RunSteps.{goes_on, step_request, may_call, step_call, ends, step_run, step_executes}
+use Rattle.world.specs.RunSteps.{goes_on, step_request, may_call, step_helper, ends, step_run, step_executes}
 use Rattle.world.specs.Step.{WorldStep}
 use Rattle.world_laws.proofs.Telling.{same_told}
 
@@ -61,18 +61,18 @@ private_found before event reply after it (Some machine) step e =
     record { it = it; machine = machine; step = step; reply_is = ap (λ (x : Reply × World). x.0) last; after_is = ap (λ (x : Reply × World). x.1) last }
 
 -- a call that is an event is the one that is told, by its rule
-called : (limits : HelperLimits) (world : World) (run : LiveRun) (told : Told) (request : Request) (step : Reply × World) → step_call limits world run told request ≡ Some step → (told ≡ told_of request) × (meets_rule limits run.machine request ≡ true) × (step_request world run request ≡ Some step)
-called limits world run told request step e = elim (cases_Bool (may_call limits run told request)) [
+is_called : (limits : HelperLimits) (world : World) (run : LiveRun) (told : Told) (request : Request) (step : Reply × World) → step_helper limits world run told request ≡ Some step → (told ≡ told_of request) × (meets_rule limits run.machine request ≡ true) × (step_request world run request ≡ Some step)
+is_called limits world run told request step e = elim (cases_Bool (may_call limits run told request)) [
   | inl may ↦
       let parts = and_parts (is_told told (told_of request)) (meets_rule limits run.machine request) may in
       (same_told told (told_of request) parts.0, parts.1, sym (cond-true (may_call limits run told request) _ _ may) ∙ e)
   | inr broken ↦ let none = sym (cond-false (may_call limits run told request) _ _ broken) ∙ e in absurd cc
 ]
 
-call_found : (limits : HelperLimits) (before : World) (event : Event) (told : Told) (reply : Reply) (after : World) (it : Executes before event (call told)) (o : Option Request) → request_at it.run.program it.run.machine ≡ o → option_and_then (step_call limits before it.run told) o ≡ Some (reply, after) → IsCall limits before event told reply after
+call_found : (limits : HelperLimits) (before : World) (event : Event) (told : Told) (reply : Reply) (after : World) (it : Executes before event (call told)) (o : Option Request) → request_at it.run.program it.run.machine ≡ o → option_and_then (step_helper limits before it.run told) o ≡ Some (reply, after) → IsCall limits before event told reply after
 call_found limits before event told reply after it None call_is e = absurd cc
 call_found limits before event told reply after it (Some request) call_is e =
-    let may = called limits before it.run told request (reply, after) e in
+    let may = is_called limits before it.run told request (reply, after) e in
     record { it = it; request = request; call_is = call_is; told_is = may.0; rule = may.1; step = may.2 }
 
 exit_found : (before : World) (event : Event) (reply : Reply) (after : World) (it : Executes before event exit) (o : Option ℕ) → exit_at it.run.program it.run.machine ≡ o → option_map (λ (r0 : ℕ). let x : Reply × World = (result r0, ends before it.run) in x) o ≡ Some (reply, after) → Exits before event reply after

@@ -5,8 +5,11 @@ use Rattle.recoveries.specs.RecoveryState.{with_recoveries}
 use Rattle.world.specs.declared.ccb_state.CcbState.TheVariants.{Active}
 use Rattle.world.specs.World.{LiveCcb}
 use Rattle.world.specs.Lookups.{ccb_of}
-use Rattle.world.specs.Event.{done}
-use Rattle.world.specs.CcbSteps.{is_success, run_meets_limit, finishes, recovers, step_complete}
+use Rattle.calls.specs.declared.call.Call.TheVariants.{Complete}
+use Rattle.calls.specs.declared.call_answer.CallAnswer.TheVariants as answers
+use Rattle.world.specs.Event.{replies}
+use Rattle.world.specs.CcbSteps.{is_success, run_meets_limit, finishes, recovers}
+use Rattle.world.specs.Step.{step_call}
 use Rattle.engine_core.proofs.Deciding.{at_unknown, at_limit, at_idle, at_success, at_failure, state_is}
 use Rattle.engine_core.proofs.course.decide.Goals as goal
 use Rattle.engine_core.proofs.course.decide.Goals.{else-not-succeeded-via-then-not-succeeded+else-is_full, else-not-succeeded-via-else-not-succeeded}
@@ -31,7 +34,7 @@ returns-then-not-is_active-clause-step c setup world =
 
 pub returns-then-succeeded-clause-step : goal.returns-then-succeeded-clause-step
 returns-then-succeeded-clause-step c setup world =
-    subst (λ (x : Ccb). step_complete setup (with_ccbs c.args.ccbs.now (with_recoveries c.args.recoveries.now world)) c.args.completion.now ≡ Some (done, finishes (with_ccbs c.args.ccbs.now (with_recoveries c.args.recoveries.now world)) x c.args.completion.now.status))
+    subst (λ (x : Ccb). step_call setup (with_ccbs c.args.ccbs.now (with_recoveries c.args.recoveries.now world)) (Complete c.args.completion.now) ≡ Some (replies answers.Done, finishes (with_ccbs c.args.ccbs.now (with_recoveries c.args.recoveries.now world)) x c.args.completion.now.status))
     (sym c.ccb-then-succeeded.ensures)
     (at_success setup (with_ccbs c.args.ccbs.now (with_recoveries c.args.recoveries.now world)) c.args.completion.now c.in-Some.live c.has_succeeded-succeeded.ensures.reported (search rules) (search rules) (search rules))
 
@@ -41,7 +44,7 @@ returns-else-succeeded-clause-step c setup world =
       | else-not-succeeded-via-then-not-succeeded+else-is_full w ↦ sym (w.is_full.ensures (with_ccbs c.args.ccbs.now world)) ∙ w.if-is_full.false
       | else-not-succeeded-via-else-not-succeeded w ↦ absurd (let bad : true ≡ false = sym w.if-not-succeeded.false ∙ c.if-succeeded.false in cc)
     ] in
-    subst (λ (x : Ccb). step_complete setup (with_ccbs c.args.ccbs.now (with_recoveries c.args.recoveries.now world)) c.args.completion.now ≡ Some (recovers setup (with_ccbs c.args.ccbs.now (with_recoveries c.args.recoveries.now world)) x c.args.completion.now))
+    subst (λ (x : Ccb). step_call setup (with_ccbs c.args.ccbs.now (with_recoveries c.args.recoveries.now world)) (Complete c.args.completion.now) ≡ Some (recovers setup (with_ccbs c.args.ccbs.now (with_recoveries c.args.recoveries.now world)) x c.args.completion.now))
     (sym c.ccb-else-succeeded.ensures)
     (at_failure setup (with_ccbs c.args.ccbs.now (with_recoveries c.args.recoveries.now world)) c.args.completion.now c.in-Some.live c.has_succeeded-succeeded.ensures.reported (search rules) (search rules) (search rules) room)
 

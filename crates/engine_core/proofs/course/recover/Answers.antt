@@ -7,7 +7,8 @@ use Rattle.accepted.specs.Verdict.{Verdict}
 use Rattle.world.specs.declared.ccb_state.CcbState.TheVariants.{Active}
 use Rattle.world.specs.World.{LiveCcb, opening, queue_setup}
 use Rattle.world.specs.Lookups.{ccb_of}
-use Rattle.world.specs.Event.{run_started}
+use Rattle.calls.specs.declared.call_answer.CallAnswer.TheVariants as answers
+use Rattle.world.specs.Event.{replies}
 use Rattle.world.specs.CcbSteps.{recovers, run_meets_limit}
 use Rattle.world.proofs.Steps.Moves.{ccb_found}
 use Rattle.engine_core.specs.RunState.{RunState}
@@ -35,8 +36,8 @@ returns-clause-step c world =
     sym (ap (λ (v : Verdict). v.program) c.in_ok-recorded.ensures ∙ c.program-program.ensures.program) in
     ap (λ (recoveries : RecoveryState). recovers c.args.config.now (with_ccbs c.args.ccbs.now (with_recoveries recoveries world)) c.args.ccb c.args.completion.now) (sym (same_recoveries c))
     ∙ c.start-started.ensures.step c.args.config.now (with_ccbs c.args.ccbs.now world) same
-    ∙ (ap (λ (ccbs : CcbsState). (run_started c.start-started.result.run c.start-started.result.freeze, with_ccbs ccbs (with_recoveries c.start-started.new.self world))) (sym c.recover.ensures)
-    ∙ ap (λ (run : RunState). (run_started run.number c.start-started.result.freeze, with_ccbs c.recover.new.self (with_recoveries c.start-started.new.self world))) (sym c.new.ensures))
+    ∙ (ap (λ (ccbs : CcbsState). (replies (answers.Started c.start-started.result.run c.start-started.result.freeze), with_ccbs ccbs (with_recoveries c.start-started.new.self world))) (sym c.recover.ensures)
+    ∙ ap (λ (run : RunState). (replies (answers.Started run.number c.start-started.result.freeze), with_ccbs c.recover.new.self (with_recoveries c.start-started.new.self world))) (sym c.new.ensures))
 
 pub returns-clause-out : goal.returns-clause-out
 returns-clause-out c world =

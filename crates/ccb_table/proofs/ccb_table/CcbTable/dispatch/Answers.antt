@@ -2,12 +2,15 @@ use Rattle.std.proofs.Common.{◌≡◌, ◌<◌, length, Some, None, ap, sym, s
 use Rattle.std.specs.Result.{result_err}
 use Rattle.ccb.specs.Ccb.{started}
 use Rattle.dev_queue.specs.Faults.{start_fault}
+use Rattle.freeze_ledger.specs.declared.place.Place.TheVariants.{Device}
 use Rattle.freeze_ledger.specs.Freezes.{frozen}
 use Rattle.world.specs.declared.ccb_state.CcbState.{CcbState}
 use Rattle.world.specs.World.{queue_count, LiveCcb}
 use Rattle.world.specs.Lookups.{ccb_of, with_ccb}
-use Rattle.world.specs.Event.{ccb_given}
-use Rattle.world.specs.CcbSteps.{step_dispatch}
+use Rattle.calls.specs.declared.call.Call.TheVariants.{Dispatch}
+use Rattle.calls.specs.declared.call_answer.CallAnswer.TheVariants as answers
+use Rattle.world.specs.Event.{replies}
+use Rattle.world.specs.Step.{step_call}
 use Rattle.ccb_table.specs.CcbsState.{CcbsState, with_ccbs}
 use Rattle.ccb_table.specs.Queues.{queue_at}
 use Rattle.ccb_table.specs.Invariant.{seen}
@@ -48,8 +51,8 @@ returns-in-Some c = record {
       dispatched_after c.self.inside.ccbs c.change.new.self c.self.inside.queues c.start.new.self c.args.queue.0 c.in-Ok.number c.in-Some.next c.start-in-Ok.new.self.ccb c.self.invariant d ccb_is
       (c.change.ensures ∙ ap (λ (l : LiveCcb). listed_as c.self.inside.ccbs.greatest (with_ccb l c.self.inside.ccbs.live)) (ap (λ (s : CcbState). record { ccb = c.start-in-Ok.new.self.ccb; state = s }) (ap (λ (l : LiveCcb). l.state) c.start-in-Ok.ensures))) c.in-Ok.ensures.started in
       let fault : start_fault c.count-freezes.result (queue_at c.self.inside.queues c.args.queue.0) ≡ None = sym c.start.ensures.fault ∙ ap result_err c.in-Ok.is in
-      subst (λ (s : CcbsState). step_dispatch setup (with_ccbs s world) c.args.queue.0 ≡ (ccb_given c.in-Ok.number.0, with_ccbs (seen c.change.new.self c.start.new.self) world)) c.self.view_is
+      subst (λ (s : CcbsState). step_call setup (with_ccbs s world) (Dispatch c.args.queue) ≡ Some (replies (answers.Ccb c.in-Ok.number), with_ccbs (seen c.change.new.self c.start.new.self) world)) c.self.view_is
       (dispatch_reply setup world c.self.inside.ccbs c.change.new.self c.self.inside.queues c.start.new.self c.args.queue.0 c.count-freezes.result c.in-Ok.number c.in-Some.next c.start-in-Ok.new.self.ccb c.self.invariant known
       (subst (λ (s : CcbsState). queue_count setup ≡ length s.openings) (sym c.self.view_is) count)
-      (c.count-freezes.ensures.entries ∙ sym (ap (frozen c.args.queue.0) freezes)) fault d after.seen_is);
+      (c.count-freezes.ensures.entries ∙ sym (ap (frozen (Device c.args.queue)) freezes)) fault d after.seen_is);
 }

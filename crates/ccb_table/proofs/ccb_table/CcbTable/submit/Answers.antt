@@ -1,10 +1,12 @@
-use Rattle.std.proofs.Common.{◌≡◌, ◌+◌, ◌<◌, [], ◌∷◌, ◌++◌, length, refl, ap, sym, subst, ◌∙◌, arith}
+use Rattle.std.proofs.Common.{◌≡◌, ◌+◌, ◌<◌, [], ◌∷◌, ◌++◌, length, Some, refl, ap, sym, subst, ◌∙◌, arith}
 use Rattle.std.specs.Result.{result_err}
 use Rattle.ccb.specs.declared.ccb.Ccb.{Ccb}
 use Rattle.world.specs.declared.ccb_state.CcbState.TheVariants.{Waiting}
 use Rattle.world.specs.World.{queue_count, LiveCcb}
-use Rattle.world.specs.Event.{ccb_given, refused}
-use Rattle.world.specs.CcbSteps.{step_submit}
+use Rattle.calls.specs.declared.call.Call.TheVariants.{Submit}
+use Rattle.calls.specs.declared.call_answer.CallAnswer.TheVariants as answers
+use Rattle.world.specs.Event.{replies, refused}
+use Rattle.world.specs.Step.{step_call}
 use Rattle.ccb_table.specs.CcbsState.{CcbsState, with_ccbs}
 use Rattle.ccb_table.specs.Queues.{queue_at}
 use Rattle.ccb_table.specs.Invariant.{seen}
@@ -27,7 +29,7 @@ pub returns-in-Err : goal.returns-in-Err
 returns-in-Err c = record {
   step = λ setup world count.
       let known : c.args.queue.0 < length c.self.inside.queues = omega (arith, c.if-queue-len.false, c.len.ensures) in
-      subst (λ (s : CcbsState). step_submit setup (with_ccbs s world) c.args.queue.0 c.args.priority c.args.retries ≡ (refused c.refusal.result, with_ccbs (seen c.self.inside.ccbs c.insert.new.self) world)) c.self.view_is
+      subst (λ (s : CcbsState). step_call setup (with_ccbs s world) (Submit c.args.queue c.args.priority c.args.retries) ≡ Some (refused c.refusal.result, with_ccbs (seen c.self.inside.ccbs c.insert.new.self) world)) c.self.view_is
       (crowded_reply setup world c.self.inside.ccbs c.self.inside.queues c.insert.new.self c.args.queue.0 c.args.priority c.args.retries c.in-Err.fault c.refusal.result c.self.invariant known
       (subst (λ (s : CcbsState). queue_count setup ≡ length s.openings) (sym c.self.view_is) count)
       (sym c.insert.ensures.fault ∙ ap result_err c.in-Err.is) c.refusal.ensures c.in-Err.ensures.refused);
@@ -50,7 +52,7 @@ returns-in-Ok c = record {
       entered_one c.self.inside.ccbs c.enter.new.self c.self.inside.queues c.insert.new.self c.args.queue.0 (new_ccb (c.greatest.result + 1) c.args.queue.0 c.args.priority c.args.retries) c.self.invariant
       (omega (arith, c.greatest.ensures)) known refl
       (c.enter.ensures ∙ ap (λ (l : LiveCcb). listed_as l.ccb.number.0 (c.self.inside.ccbs.live ++ l ∷ [])) it_is) c.in-Ok.ensures.waits refl in
-      subst (λ (s : CcbsState). step_submit setup (with_ccbs s world) c.args.queue.0 c.args.priority c.args.retries ≡ (ccb_given (c.greatest.result + 1), with_ccbs (seen c.enter.new.self c.insert.new.self) world)) c.self.view_is
+      subst (λ (s : CcbsState). step_call setup (with_ccbs s world) (Submit c.args.queue c.args.priority c.args.retries) ≡ Some (replies (answers.Ccb (record { 0 = c.greatest.result + 1 })), with_ccbs (seen c.enter.new.self c.insert.new.self) world)) c.self.view_is
       (submit_reply setup world c.self.inside.ccbs c.enter.new.self c.self.inside.queues c.insert.new.self c.args.queue.0 c.args.priority c.args.retries (c.greatest.result + 1) c.self.invariant known
       (subst (λ (s : CcbsState). queue_count setup ≡ length s.openings) (sym c.self.view_is) count)
       (roomy_by (queue_at c.self.inside.queues c.args.queue.0) (sym c.insert.ensures.fault ∙ ap result_err c.in-Ok.is)) (sym c.is_full.ensures ∙ c.if-is_full.false) (omega (arith, c.greatest.ensures)) after.seen_is);

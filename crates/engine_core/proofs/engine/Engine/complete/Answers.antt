@@ -1,7 +1,8 @@
-use Rattle.std.proofs.Common.{Ok, Err, Some, refl, ap, ◌∙◌, arith, rules}
+use Rattle.std.proofs.Common.{Some, refl, ap, ◌∙◌, arith, rules}
 use Rattle.ccb_table.specs.CcbsState.{with_ccbs}
 use Rattle.recoveries.specs.RecoveryState.{with_recoveries}
-use Rattle.world.specs.declared.record.Completed.TheVariants.{Started}
+use Rattle.calls.specs.declared.call.Call.TheVariants.{Complete}
+use Rattle.calls.specs.declared.call_answer.CallAnswer.TheVariants as answers
 use Rattle.world.specs.declared.ccb_state.CcbState.TheVariants.{Active}
 use Rattle.world.specs.World.{LiveCcb, World}
 use Rattle.world.specs.Event.{Reply}
@@ -10,28 +11,28 @@ use Rattle.world.proofs.Steps.Moves.{ccb_found}
 use Rattle.engine_core.specs.EngineState.{world_of}
 use Rattle.engine_core.specs.Courses.{IsActive}
 use Rattle.engine_core.proofs.Recording.{kept_sound}
-use Rattle.engine_core.proofs.OneMore.{completes, completes_finally}
+use Rattle.engine_core.proofs.OneMore.{calls_once, completes_finally}
 use Rattle.engine_core.proofs.engine.Engine.complete.Goals as goal
 
 -- a refusal
 
 pub invariant_of-self-in-Refuse : goal.invariant_of-self-in-Refuse
 invariant_of-self-in-Refuse c = (
-  (completes c.self.inside.config c.self.inside.history.items c.keep.new.history.items c.self.inside.ccbs c.self.inside.ccbs c.self.inside.recoveries c.self.inside.recoveries
-      c.args.completion (Err c.in-Refuse.refusal) (world_of c.self.inside.config c.self.inside.history.items c.self.inside.ccbs c.self.inside.recoveries) c.self.invariant.0 (search rules) refl (c.in-Refuse.ensures.step c.self.inside.config (world_of c.self.inside.config c.self.inside.history.items c.self.inside.ccbs c.self.inside.recoveries)) refl).kept,
+  (calls_once c.self.inside.config c.self.inside.history.items c.keep.new.history.items c.self.inside.ccbs c.self.inside.ccbs c.self.inside.recoveries c.self.inside.recoveries
+      (Complete c.args.completion) (answers.Refused c.in-Refuse.refusal) (world_of c.self.inside.config c.self.inside.history.items c.self.inside.ccbs c.self.inside.recoveries) c.self.invariant.0 (search rules) refl (c.in-Refuse.ensures.step c.self.inside.config (world_of c.self.inside.config c.self.inside.history.items c.self.inside.ccbs c.self.inside.recoveries)) refl).kept,
   c.keep.ensures.room,
 )
 
 pub returns-in-Refuse-clause-fault : goal.returns-in-Refuse-clause-fault
 returns-in-Refuse-clause-fault c =
-    let it = completes c.self.inside.config c.self.inside.history.items c.keep.new.history.items c.self.inside.ccbs c.self.inside.ccbs c.self.inside.recoveries c.self.inside.recoveries
-    c.args.completion (Err c.in-Refuse.refusal) (world_of c.self.inside.config c.self.inside.history.items c.self.inside.ccbs c.self.inside.recoveries) c.self.invariant.0 (search rules) refl (c.in-Refuse.ensures.step c.self.inside.config (world_of c.self.inside.config c.self.inside.history.items c.self.inside.ccbs c.self.inside.recoveries)) refl in
+    let it = calls_once c.self.inside.config c.self.inside.history.items c.keep.new.history.items c.self.inside.ccbs c.self.inside.ccbs c.self.inside.recoveries c.self.inside.recoveries
+    (Complete c.args.completion) (answers.Refused c.in-Refuse.refusal) (world_of c.self.inside.config c.self.inside.history.items c.self.inside.ccbs c.self.inside.recoveries) c.self.invariant.0 (search rules) refl (c.in-Refuse.ensures.step c.self.inside.config (world_of c.self.inside.config c.self.inside.history.items c.self.inside.ccbs c.self.inside.recoveries)) refl in
     rw (← c.self.view_is) (record { history = search rules; setup = refl; step = it.leads })
 
 pub returns-in-Refuse-clause-run : goal.returns-in-Refuse-clause-run
 returns-in-Refuse-clause-run c =
-    (completes c.self.inside.config c.self.inside.history.items c.keep.new.history.items c.self.inside.ccbs c.self.inside.ccbs c.self.inside.recoveries c.self.inside.recoveries
-    c.args.completion (Err c.in-Refuse.refusal) (world_of c.self.inside.config c.self.inside.history.items c.self.inside.ccbs c.self.inside.recoveries) c.self.invariant.0 (search rules) refl (c.in-Refuse.ensures.step c.self.inside.config (world_of c.self.inside.config c.self.inside.history.items c.self.inside.ccbs c.self.inside.recoveries)) refl).kept.run
+    (calls_once c.self.inside.config c.self.inside.history.items c.keep.new.history.items c.self.inside.ccbs c.self.inside.ccbs c.self.inside.recoveries c.self.inside.recoveries
+    (Complete c.args.completion) (answers.Refused c.in-Refuse.refusal) (world_of c.self.inside.config c.self.inside.history.items c.self.inside.ccbs c.self.inside.recoveries) c.self.invariant.0 (search rules) refl (c.in-Refuse.ensures.step c.self.inside.config (world_of c.self.inside.config c.self.inside.history.items c.self.inside.ccbs c.self.inside.recoveries)) refl).kept.run
 
 -- a CCB that is finished
 
@@ -77,23 +78,23 @@ recover-requires-clause-room c world =
 
 pub invariant_of-self-in-Ok-recover : goal.invariant_of-self-in-Ok-recover
 invariant_of-self-in-Ok-recover c = (
-  (completes c.self.inside.config c.self.inside.history.items c.keep-in-Ok-recover.new.history.items c.self.inside.ccbs c.recover.new.ccbs c.self.inside.recoveries c.recover.new.recoveries
-      c.args.completion (Ok (Started c.in-Ok-recover.run'.number c.in-Ok-recover.freeze)) (with_ccbs c.recover.new.ccbs (with_recoveries c.recover.new.recoveries (world_of c.self.inside.config c.self.inside.history.items c.self.inside.ccbs c.self.inside.recoveries))) c.self.invariant.0 (search rules) c.recover.ensures.queues
+  (calls_once c.self.inside.config c.self.inside.history.items c.keep-in-Ok-recover.new.history.items c.self.inside.ccbs c.recover.new.ccbs c.self.inside.recoveries c.recover.new.recoveries
+      (Complete c.args.completion) (answers.Started c.in-Ok-recover.run'.number c.in-Ok-recover.freeze) (with_ccbs c.recover.new.ccbs (with_recoveries c.recover.new.recoveries (world_of c.self.inside.config c.self.inside.history.items c.self.inside.ccbs c.self.inside.recoveries))) c.self.invariant.0 (search rules) c.recover.ensures.queues
       (c.in-Recover.ensures.step c.self.inside.config (world_of c.self.inside.config c.self.inside.history.items c.self.inside.ccbs c.self.inside.recoveries) ∙ ap (λ (p : Reply × World). Some p) (c.in-Ok-recover.ensures.step (world_of c.self.inside.config c.self.inside.history.items c.self.inside.ccbs c.self.inside.recoveries))) refl).kept,
   c.keep-in-Ok-recover.ensures.room,
 )
 
 pub returns-in-Ok-recover-clause-answered : goal.returns-in-Ok-recover-clause-answered
 returns-in-Ok-recover-clause-answered c =
-    let it = completes c.self.inside.config c.self.inside.history.items c.keep-in-Ok-recover.new.history.items c.self.inside.ccbs c.recover.new.ccbs c.self.inside.recoveries c.recover.new.recoveries
-    c.args.completion (Ok (Started c.in-Ok-recover.run'.number c.in-Ok-recover.freeze)) (with_ccbs c.recover.new.ccbs (with_recoveries c.recover.new.recoveries (world_of c.self.inside.config c.self.inside.history.items c.self.inside.ccbs c.self.inside.recoveries))) c.self.invariant.0 (search rules) c.recover.ensures.queues
+    let it = calls_once c.self.inside.config c.self.inside.history.items c.keep-in-Ok-recover.new.history.items c.self.inside.ccbs c.recover.new.ccbs c.self.inside.recoveries c.recover.new.recoveries
+    (Complete c.args.completion) (answers.Started c.in-Ok-recover.run'.number c.in-Ok-recover.freeze) (with_ccbs c.recover.new.ccbs (with_recoveries c.recover.new.recoveries (world_of c.self.inside.config c.self.inside.history.items c.self.inside.ccbs c.self.inside.recoveries))) c.self.invariant.0 (search rules) c.recover.ensures.queues
     (c.in-Recover.ensures.step c.self.inside.config (world_of c.self.inside.config c.self.inside.history.items c.self.inside.ccbs c.self.inside.recoveries) ∙ ap (λ (p : Reply × World). Some p) (c.in-Ok-recover.ensures.step (world_of c.self.inside.config c.self.inside.history.items c.self.inside.ccbs c.self.inside.recoveries))) refl in
     rw (← c.self.view_is) (record { history = search rules; setup = refl; step = it.leads })
 
 pub returns-in-Ok-recover-clause-run : goal.returns-in-Ok-recover-clause-run
 returns-in-Ok-recover-clause-run c =
-    (completes c.self.inside.config c.self.inside.history.items c.keep-in-Ok-recover.new.history.items c.self.inside.ccbs c.recover.new.ccbs c.self.inside.recoveries c.recover.new.recoveries
-    c.args.completion (Ok (Started c.in-Ok-recover.run'.number c.in-Ok-recover.freeze)) (with_ccbs c.recover.new.ccbs (with_recoveries c.recover.new.recoveries (world_of c.self.inside.config c.self.inside.history.items c.self.inside.ccbs c.self.inside.recoveries))) c.self.invariant.0 (search rules) c.recover.ensures.queues
+    (calls_once c.self.inside.config c.self.inside.history.items c.keep-in-Ok-recover.new.history.items c.self.inside.ccbs c.recover.new.ccbs c.self.inside.recoveries c.recover.new.recoveries
+    (Complete c.args.completion) (answers.Started c.in-Ok-recover.run'.number c.in-Ok-recover.freeze) (with_ccbs c.recover.new.ccbs (with_recoveries c.recover.new.recoveries (world_of c.self.inside.config c.self.inside.history.items c.self.inside.ccbs c.self.inside.recoveries))) c.self.invariant.0 (search rules) c.recover.ensures.queues
     (c.in-Recover.ensures.step c.self.inside.config (world_of c.self.inside.config c.self.inside.history.items c.self.inside.ccbs c.self.inside.recoveries) ∙ ap (λ (p : Reply × World). Some p) (c.in-Ok-recover.ensures.step (world_of c.self.inside.config c.self.inside.history.items c.self.inside.ccbs c.self.inside.recoveries))) refl).kept.run
 
 pub returns-in-Ok-recover-clause-started : goal.returns-in-Ok-recover-clause-started

@@ -8,7 +8,7 @@ use Rattle.freeze_ledger.proofs.ledger.Ledger.expire.Goals as goal
 
 pub returns : goal.returns
 returns c =
-    let held : Freeze = record { number = c.args.number; queue = c.requires.0; holder = Timer c.requires.1 } in
+    let held : Freeze = record { number = c.args.number; place = c.requires.0; holder = Timer c.requires.1 } in
     let same : (get_or c.deref.result.now c.in-Some.entry held).number ≡ c.args.number = search rules in
     let there : (get_or c.args.self.now.freezes c.in-Some.entry held).number ≡ c.args.number = rw (← c.self.view_is, ← c.deref.ensures.value) same in
     c.remove_at.ensures held ∙ ap (λ (n : ℕ). with_freezes c.args.self.now (without n c.args.self.now.freezes)) there

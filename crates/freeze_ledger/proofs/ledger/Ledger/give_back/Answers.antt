@@ -1,5 +1,6 @@
 use Rattle.std.proofs.Common.{◌≡◌, ◌<◌, ◌∙◌, length, get_or, ap, subst, refl, rules}
 use Rattle.freeze_ledger.specs.declared.freeze.Freeze.{Freeze}
+use Rattle.freeze_ledger.specs.Places.{index_of}
 use Rattle.freeze_ledger.specs.Freezes.{without}
 use Rattle.freeze_ledger.specs.State.{with_freezes}
 use Rattle.freeze_ledger.proofs.Numbered.{entry_at}
@@ -10,7 +11,7 @@ count-requires c =
     let f : Freeze = c.freeze-freeze.result in
     let within : c.in-Some.entry < length c.self.inside.freezes.items = search rules in
     let at : get_or c.self.inside.freezes.items c.in-Some.entry f ≡ f = search rules in
-    let known : f.queue.0 < length c.self.inside.counts.items = subst (λ (x : Freeze). x.queue.0 < length c.self.inside.counts.items) at (c.self.invariant.known c.in-Some.entry f within) in
+    let known : index_of f.place < length c.self.inside.counts.items = subst (λ (x : Freeze). index_of x.place < length c.self.inside.counts.items) at (c.self.invariant.known c.in-Some.entry f within) in
     rw (c.remove_at.ensures f, ← c.self.view_is) known
 
 pub returns-clause-held : goal.returns-clause-held

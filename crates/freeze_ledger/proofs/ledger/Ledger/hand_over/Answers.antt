@@ -13,7 +13,7 @@ invariant_of-self c =
     let within : c.in-Some.entry < length c.self.inside.freezes.items = search rules in
     let at : get_or c.self.inside.freezes.items c.in-Some.entry g ≡ g = search rules in
     let there = get_or_default c.self.inside.freezes.items c.in-Some.entry f g within ∙ at in
-    kept_set c.self.inside.freezes _ c.self.inside.counts.items c.self.inside.greatest c.in-Some.entry f c.self.invariant within (ap (λ (x : Freeze). x.number) there) (ap (λ (x : Freeze). x.queue) there) refl refl
+    kept_set c.self.inside.freezes _ c.self.inside.counts.items c.self.inside.greatest c.in-Some.entry f c.self.invariant within (ap (λ (x : Freeze). x.number) there) (ap (λ (x : Freeze). x.place) there) refl refl
 
 pub returns-clause-number : goal.returns-clause-number
 returns-clause-number c =

@@ -6,11 +6,13 @@ use Rattle.ccb.specs.declared.ccb.Ccb.{Ccb}
 use Rattle.ccb.specs.Ccb.{completed}
 use Rattle.ccb.specs.Context.{context_of}
 use Rattle.bpf_semantics.specs.MachineState.{entry}
+use Rattle.freeze_ledger.specs.declared.place.Place.TheVariants.{Device}
 use Rattle.freeze_ledger.specs.State.{LedgerState}
 use Rattle.world.specs.declared.ccb_state.CcbState.TheVariants.{InRecovery}
 use Rattle.world.specs.World.{LiveRun, World}
 use Rattle.world.specs.Lookups.{with_ccb}
-use Rattle.world.specs.Event.{run_started}
+use Rattle.calls.specs.declared.call_answer.CallAnswer.TheVariants as answers
+use Rattle.world.specs.Event.{replies}
 use Rattle.world.specs.CcbSteps.{run_meets_limit}
 use Rattle.recoveries.specs.declared.run_record.RunRecord.{RunRecord}
 use Rattle.recoveries.specs.RecoveryState.{RecoveryState, state_of, with_recoveries, told, run_for}
@@ -56,7 +58,7 @@ invariant_of-self c =
     let few : length c.self.inside.runs.items < 256 = omega (arith, room.0, length-map c.self.inside.runs.items live_of) in
     rw (c.push_reserved.ensures.items, c.push_reserved.ensures.capacity, ledger_is c)
     (kept_started c.self.inside.runs.items _ c.self.inside.greatest_run c.self.inside.ledger (pushed c) c.take-token.result c.self.invariant few refl c.taken_at_start-freeze.ensures.tokens
-    (is_for c.self.inside.ledger c.args.ccb.now.queue (c.self.inside.greatest_run + 1) c.take-token.result c.take-token.ensures.token))
+    (is_for c.self.inside.ledger (Device c.args.ccb.now.queue) (c.self.inside.greatest_run + 1) c.take-token.result c.take-token.ensures.token))
 
 -- the CCB afterwards
 ccb_is : (c : goal.After-self-1) → c.complete.new.self ≡ completed c.args.ccb.now c.args.completion.now (is_some c.take-token.result)
@@ -85,10 +87,10 @@ returns-clause-step c =
     rw (← c.self.view_is) (λ setup world is.
     starts_so setup world c.self.inside.ledger (lives_of c.self.inside.runs.items) c.self.inside.greatest_run c.self.inside.clock c.self.inside.tables c.args.ccb.now c.args.completion.now (arc_value c.args.program).program c.take-token.result c.take-token.ensures.limit c.take-token.ensures.token is
     ∙ sym (
-    ap (λ (n : ℕ). (run_started number n, with_recoveries (state_of c.take-token.new.self (lives_of c.push_reserved.new.self.items) number c.self.inside.clock c.self.inside.tables) (record world { live = with_ccb (record { ccb = c.complete.new.self; state = InRecovery }) world.live }))) c.taken_at_start-freeze.ensures.number
-    ∙ (ap (λ (l : LedgerState). (run_started number (told c.take-token.result), with_recoveries (state_of l (lives_of c.push_reserved.new.self.items) number c.self.inside.clock c.self.inside.tables) (record world { live = with_ccb (record { ccb = c.complete.new.self; state = InRecovery }) world.live }))) (ledger_is c)
-    ∙ (ap (λ (ls : List LiveRun). (run_started number (told c.take-token.result), with_recoveries (state_of after ls number c.self.inside.clock c.self.inside.tables) (record world { live = with_ccb (record { ccb = c.complete.new.self; state = InRecovery }) world.live }))) (runs_are c)
-    ∙ ap (λ (x : Ccb). (run_started number (told c.take-token.result), with_recoveries (state_of after (with_started (lives_of c.self.inside.runs.items) number c.args.ccb.now (arc_value c.args.program).program (entry (context_of (completed c.args.ccb.now c.args.completion.now (is_some c.take-token.result))) (told c.take-token.result))) number c.self.inside.clock c.self.inside.tables) (record world { live = with_ccb (record { ccb = x; state = InRecovery }) world.live }))) (ccb_is c)))))
+    ap (λ (n : ℕ). (replies (answers.Started number n), with_recoveries (state_of c.take-token.new.self (lives_of c.push_reserved.new.self.items) number c.self.inside.clock c.self.inside.tables) (record world { live = with_ccb (record { ccb = c.complete.new.self; state = InRecovery }) world.live }))) c.taken_at_start-freeze.ensures.number
+    ∙ (ap (λ (l : LedgerState). (replies (answers.Started number (told c.take-token.result)), with_recoveries (state_of l (lives_of c.push_reserved.new.self.items) number c.self.inside.clock c.self.inside.tables) (record world { live = with_ccb (record { ccb = c.complete.new.self; state = InRecovery }) world.live }))) (ledger_is c)
+    ∙ (ap (λ (ls : List LiveRun). (replies (answers.Started number (told c.take-token.result)), with_recoveries (state_of after ls number c.self.inside.clock c.self.inside.tables) (record world { live = with_ccb (record { ccb = c.complete.new.self; state = InRecovery }) world.live }))) (runs_are c)
+    ∙ ap (λ (x : Ccb). (replies (answers.Started number (told c.take-token.result)), with_recoveries (state_of after (with_started (lives_of c.self.inside.runs.items) number c.args.ccb.now (arc_value c.args.program).program (entry (context_of (completed c.args.ccb.now c.args.completion.now (is_some c.take-token.result))) (told c.take-token.result))) number c.self.inside.clock c.self.inside.tables) (record world { live = with_ccb (record { ccb = x; state = InRecovery }) world.live }))) (ccb_is c)))))
 
 pub returns-clause-machine : goal.returns-clause-machine
 returns-clause-machine c =

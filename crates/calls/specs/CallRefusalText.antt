@@ -1,7 +1,7 @@
 -- How a refusal is printed: by its code.
 use Rattle.std.specs.Prelude.{ℕ, List, codes}
-use Rattle.world.specs.declared.call_refusal.CallRefusal.{CallRefusal}
-use Rattle.world.specs.declared.call_refusal.CallRefusal.TheVariants.{Unknown, Limit, NotActive, GoesBack, Frozen, NoOpening, NothingWaits}
+use Rattle.calls.specs.declared.call_refusal.CallRefusal.{CallRefusal}
+use Rattle.calls.specs.declared.call_refusal.CallRefusal.TheVariants.{Unknown, Limit, NotActive, GoesBack, Frozen, NoOpening, NothingWaits}
 
 abbrev pub call_refusal_text : CallRefusal → List ℕ
 call_refusal_text Unknown = codes "C1"

@@ -27,7 +27,7 @@ enum Kept {
 
 impl Model for CompletionRecord {
     ghost use Rattle.ccb.specs.Completion.{Outcome};
-    ghost use Rattle.world.specs.Kept.{outcome_kept};
+    ghost use Rattle.calls.specs.Kept.{outcome_kept};
 
     ghost Value = { Outcome };
 

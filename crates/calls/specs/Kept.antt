@@ -1,8 +1,8 @@
 -- What the record of a completion says.
 use Rattle.std.specs.Prelude.{[]}
 use Rattle.ccb.specs.Completion.{Outcome}
-use Rattle.world.specs.declared.completion_record.Kept.{Kept}
-use Rattle.world.specs.declared.completion_record.Kept.TheVariants.{WithoutSense, Whole}
+use Rattle.calls.specs.declared.completion_record.Kept.{Kept}
+use Rattle.calls.specs.declared.completion_record.Kept.TheVariants.{WithoutSense, Whole}
 
 abbrev pub outcome_kept : Kept → Outcome
 outcome_kept (WithoutSense ccb status scsi) = record { ccb = ccb; status = status; scsi = scsi; sense = [] }

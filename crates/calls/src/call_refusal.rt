@@ -23,7 +23,7 @@ pub enum CallRefusal {
 
 impl fmt::Display for CallRefusal {
     ghost use Rattle.std.specs.Prelude.{Some};
-    ghost use Rattle.world.specs.CallRefusalText.{call_refusal_text};
+    ghost use Rattle.calls.specs.CallRefusalText.{call_refusal_text};
 
     ghost output = { λ refusal. Some (call_refusal_text refusal) };
 

@@ -1,0 +1,3 @@
+pub mod Kept
+pub mod CallRefusalText
+pub mod Answered

@@ -1,0 +1,21 @@
+// The vocabulary of the engine's calls: a call, what it is answered, and the record of both, for hosts, histories and texts.
+// It relies on `ccb` for what a call names, on `freeze_ledger` for what freezes, and on `helpers` for where a run stops.
+#![tactic(auto)]
+
+mod call;
+mod call_answer;
+mod call_refusal;
+mod completion_record;
+mod record;
+mod totals;
+mod trace;
+mod traced_bytes;
+
+pub use call::Call;
+pub use call_answer::CallAnswer;
+pub use call_refusal::CallRefusal;
+pub use completion_record::CompletionRecord;
+pub use record::{Record, StoppedAt};
+pub use totals::Totals;
+pub use trace::Trace;
+pub use traced_bytes::TracedBytes;

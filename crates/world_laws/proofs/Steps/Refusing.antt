@@ -1,0 +1,31 @@
+-- The refusals of a call: the first that holds is told, with the world as it was; where none holds, the call does what it does.
+use Rattle.std.proofs.Common.{◌≡◌, Bool, false, List, [], ◌∷◌, Option, Some, inl, inr, sym, ◌∙◌}
+use Rattle.std.specs.Prelude.{◌⊎◌}
+use Rattle.std.proofs.lemmas.Bool.{cases_Bool, cond-true, cond-false}
+use Rattle.calls.specs.declared.call_refusal.CallRefusal.{CallRefusal}
+use Rattle.world.specs.World.{World}
+use Rattle.world.specs.Event.{Reply, refused}
+use Rattle.world.specs.Refusals.{unless_refused}
+use Rattle.world_laws.proofs.Steps.Running.{some_is}
+
+-- none of them holds
+abbrev pub NoneHolds : List (Bool × CallRefusal) → Type 0
+NoneHolds [] = Unit {0}
+NoneHolds (x ∷ xs) = (x.0 ≡ false) × NoneHolds xs
+
+-- the call is refused
+pub record IsRefused (before : World) (reply : Reply) (after : World) : Type 0 where
+  pub refusal : CallRefusal
+  pub is : ◌≡◌ {A = Reply × World} (reply, after) (refused refusal, before)
+
+pub by_refusals : (xs : List (Bool × CallRefusal)) (world : World) (otherwise : Option (Reply × World)) (reply : Reply) (after : World) → unless_refused xs world otherwise ≡ Some (reply, after) → IsRefused world reply after ⊎ (NoneHolds xs × (otherwise ≡ Some (reply, after)))
+by_refusals [] world otherwise reply after e = inr (tt, e)
+by_refusals (x ∷ xs) world otherwise reply after e =
+    elim (cases_Bool x.0) [
+      | inl holds ↦ inl (record { refusal = x.1; is = some_is _ _ (sym (cond-true x.0 _ _ holds) ∙ e) })
+      | inr fails ↦
+          elim (by_refusals xs world otherwise reply after (sym (cond-false x.0 _ _ fails) ∙ e)) [
+            | inl it ↦ inl it
+            | inr goes ↦ inr ((fails, goes.0), goes.1)
+          ]
+    ]

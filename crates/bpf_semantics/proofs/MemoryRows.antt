@@ -11,13 +11,14 @@ use Rattle.bpf_insn.specs.declared.insn.Operand.TheVariants.{Immediate, Register
 use Rattle.bpf_insn.specs.declared.reg.Reg.{Reg}
 use Rattle.bpf_insn.specs.declared.reg.Reg.TheVariants.{R1, R2, R3, R10}
 use Rattle.helpers.specs.declared.limits.HelperLimits.{HelperLimits}
+use Rattle.helpers.specs.Table.{of_queues}
 use Rattle.stack_frame.specs.Frame.{written_at}
 use Rattle.bpf_semantics.specs.MachineState.{MachineState, entry, register}
 use Rattle.bpf_semantics.specs.Step.{does}
 use Rattle.bpf_semantics.specs.Stuck.{insn_is_stuck}
 
 abbrev limits : HelperLimits
-limits = record { queues = 1; table_lengths = [] }
+limits = of_queues 1 []
 
 -- a context whose last four bytes are 80 ff 01 02
 abbrev context : List ℕ

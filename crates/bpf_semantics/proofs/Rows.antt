@@ -21,7 +21,7 @@ use Rattle.helpers.specs.declared.table.Helper.{Helper as TheHelper}
 use Rattle.helpers.specs.declared.table.Helper.TheVariants as helpers
 use Rattle.helpers.specs.declared.request.Answer.{Answer}
 use Rattle.helpers.specs.declared.request.Request.{Request}
-use Rattle.helpers.specs.Table.{answer_number, asking, row_of, telling}
+use Rattle.helpers.specs.Table.{answer_number, asking, of_queues, row_of, telling}
 use Rattle.stack_frame.specs.Frame.{written_at}
 use Rattle.bpf_semantics.specs.declared.stop.Stop.TheVariants.{Helper as AtHelper, Exit as AtExit}
 use Rattle.bpf_semantics.specs.MachineState.{OpenCall, MachineState, entry, register, unwritten_frame, with_register, moved_to}
@@ -53,7 +53,7 @@ abbrev zeros : List ℕ
 zeros = replicate 96 0
 
 abbrev limits : HelperLimits
-limits = record { queues = 1; table_lengths = [] }
+limits = of_queues 1 []
 
 -- a run with freeze 7, and one without
 abbrev with_freeze : MachineState
@@ -351,7 +351,7 @@ one_unwritten = refl
 
 -- by which rule a helper is called, under the limits of one queue and a table of ten words
 abbrev ten_words : HelperLimits
-ten_words = record { queues = 1; table_lengths = 10 ∷ [] }
+ten_words = of_queues 1 (10 ∷ [])
 
 abbrev obeys_with : MachineState → TheHelper → ℕ → ℕ → Bool
 obeys_with m helper first second = obeys ten_words m helper (record { first = first; second = second; third = 5 })

@@ -1,5 +1,5 @@
--- The call of a helper: with which arguments it is made, and by which rule. The rule is that each argument is as the
--- helper's row asks, and what the helper asks of the run.
+-- The call of a helper: with which arguments it is made, and by which rule. The rule is what the helper needs of the
+-- run, that each argument is as its row asks, and that there is such a helper.
 use Rattle.std.specs.Prelude.{ℕ, Bool, true, not, ◌&&◌, ◌==◌, nat_le, nat_lt, List, [], length, Option, Some, None, if◌then◌else◌, slice_index_or}
 use Rattle.std.specs.Option.{option_map, option_and_then}
 use Rattle.std.specs.List.{list_any}
@@ -15,7 +15,7 @@ use Rattle.helpers.specs.declared.columns.Tells.{Tells}
 use Rattle.helpers.specs.declared.columns.Tells.TheVariants as tells
 use Rattle.helpers.specs.declared.request.Arguments.{Arguments}
 use Rattle.helpers.specs.declared.request.Request.{Request}
-use Rattle.helpers.specs.Table.{asks, row_of}
+use Rattle.helpers.specs.Table.{asks, is_there, row_of}
 use Rattle.bpf_semantics.specs.declared.bounds.TheConstants.{MAX_HELD}
 use Rattle.bpf_semantics.specs.MachineState.{MachineState, register}
 use Rattle.stack_frame.specs.Frame.{all_written as written_bytes}
@@ -87,7 +87,8 @@ abbrev pub obeys : HelperLimits → MachineState → Helper → Arguments → Bo
 obeys limits m helper arguments =
     meets_need m (row_of helper).needs
     && (meets limits m arguments (asks helper).first arguments.first
-    && (meets limits m arguments (asks helper).second arguments.second && meets limits m arguments (asks helper).third arguments.third))
+    && (meets limits m arguments (asks helper).second arguments.second
+    && (meets limits m arguments (asks helper).third arguments.third && is_there limits.helpers helper)))
 
 -- the rule of a call
 abbrev pub meets_rule : HelperLimits → MachineState → Request → Bool

@@ -1,5 +1,5 @@
 -- The table of the helper functions, by its rows: the number of each is its row's place, from 1.
-use Rattle.std.specs.Prelude.{ℕ, ℤ, pos, ◌+◌, ◌==◌, Bool, Option, Some, None, List, [], length, find, slice_index_or}
+use Rattle.std.specs.Prelude.{ℕ, ℤ, pos, ◌+◌, ◌==◌, nat_le, Bool, Option, Some, None, List, [], length, find, slice_index_or}
 use Rattle.std.specs.Option.{option_map}
 use Rattle.std.specs.Ordering.{int_eq}
 use Rattle.helpers.specs.declared.table.Helper.{Helper}
@@ -14,6 +14,9 @@ use Rattle.helpers.specs.declared.columns.Tells.TheVariants as tells
 use Rattle.helpers.specs.declared.table.Deed.TheVariants as deeds
 use Rattle.helpers.specs.declared.table.Row.{Row}
 use Rattle.helpers.specs.declared.table.TheConstants.{HELPERS}
+use Rattle.helpers.specs.declared.limits.HelperLimits.{HelperLimits}
+use Rattle.helpers.specs.declared.limits.HelperSet.{HelperSet}
+use Rattle.helpers.specs.declared.limits.HelperSet.TheVariants.{Queues}
 use Rattle.helpers.specs.declared.request.Arguments.{Arguments}
 use Rattle.helpers.specs.declared.request.Request.{Request}
 use Rattle.helpers.specs.declared.request.Answer.{Answer}
@@ -52,6 +55,18 @@ arity name = counted (asks name).first + counted (asks name).second + counted (a
 -- the helper of a number, if there is one
 abbrev pub helper_of : ℤ → Option Helper
 helper_of number = option_map (λ row. row.helper) (find (λ row. int_eq (pos (number_of row.helper)) number) HELPERS)
+
+-- how many helpers there are, where what freezes is a queue
+abbrev pub helper_count : HelperSet → ℕ
+helper_count Queues = 12
+
+-- the helper is one of those
+abbrev pub is_there : HelperSet → Helper → Bool
+is_there set helper = nat_le (number_of helper) (helper_count set)
+
+-- the limits of a transport with so many queues and tables of these lengths
+abbrev pub of_queues : ℕ → List ℕ → HelperLimits
+of_queues queues table_lengths = record { helpers = Queues; queues = queues; table_lengths = table_lengths }
 
 -- both are one helper
 abbrev pub is_helper : Helper → Helper → Bool

@@ -8,6 +8,6 @@ mod request;
 mod table;
 
 pub use columns::{Asked, Asks, Change, Gives, Needs, Tells};
-pub use limits::{HelperLimits, TableLengths};
+pub use limits::{HelperLimits, HelperSet, TableLengths};
 pub use request::{Answer, Arguments, Request, Written};
 pub use table::{Deed, HELPERS, Helper, Row};

@@ -1,9 +1,13 @@
-// What the rules of the helper calls depend on, beside the run.
+// What the rules of the helper calls depend on, beside the run: which helpers there are, and what a call may name. It relies
+// on `table` for the helpers.
 
 ghost use Rattle.std.specs.Prelude.{◌≡◌, ◌↔◌, nat_eq, IsTrue, IfOk};
 ghost use Rattle.std.specs.Cmp.Lexicographic.{pointwise, lists_per, lists_equiv, nat_list_eq_equiv};
 ghost use Rattle.std.specs.Cmp.{partial_equiv_from_equiv};
 
+ghost use Rattle.helpers.specs.Table.{helper_count, is_there};
+
+use crate::table::Helper;
 use std::alloc::AllocError;
 use std::marker::Model;
 
@@ -64,10 +68,37 @@ impl Eq for TableLengths {
     ghost laws = { nat_list_eq_equiv };
 }
 
-/// What there is to name in a helper call. A program is accepted under such limits, and runs only where
+/// Which helpers there are: those of the table with the numbers from 1 to some number.
+#[derive(Clone, Copy, Debug, PartialEq, Eq)]
+pub enum HelperSet {
+    /// Helpers 1 to 12: what freezes is a queue.
+    Queues,
+}
+
+impl HelperSet {
+    /// How many helpers there are, which is the greatest of their numbers.
+    pub fn count(self) -> u8
+        ensures { result ≡ helper_count self }
+    {
+        match self {
+            HelperSet::Queues => 12,
+        }
+    }
+
+    /// Whether that helper is there.
+    pub fn has(self, helper: Helper) -> bool
+        ensures { result ≡ is_there self helper }
+    {
+        helper.number() <= self.count()
+    }
+}
+
+/// Which helpers there are, and what there is to name in a call. A program is accepted under such limits, and runs only where
 /// they are the engine's.
 #[derive(Debug, Drop, PartialEq, Eq)]
 pub struct HelperLimits {
+    /// Which helpers there are.
+    pub helpers: HelperSet,
     /// How many device queues there are, 1 to 64.
     pub queues: u32,
     /// How many words each table has, 1 to 4096 each, of at most 16 tables.
@@ -80,6 +111,7 @@ impl HelperLimits {
         ensures { IfOk result (λ copy. copy ≡ self.now) }
     {
         Ok(HelperLimits {
+            helpers: self.helpers,
             queues: self.queues,
             table_lengths: self.table_lengths.try_clone()?,
         })

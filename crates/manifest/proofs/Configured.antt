@@ -6,6 +6,7 @@ use Rattle.std.proofs.lemmas.List.Elements.{All-nil, All-cons}
 use Rattle.toml.specs.Data.{Data, table, Members}
 use Rattle.toml.specs.Parse.{parse_document}
 use Rattle.helpers.specs.declared.limits.HelperLimits.{HelperLimits}
+use Rattle.helpers.specs.Table.{of_queues}
 use Rattle.engine_config.specs.Configured.{Given, IsConfigured, IsGivenUnder, queue_of as queue_given}
 use Rattle.accepted.specs.Verdict.{Verdict}
 use Rattle.world.specs.World.{QueueSetup}
@@ -216,10 +217,10 @@ queues_by plan queues programs named given queues_is named_is h = rw (← queues
 
 -- the limits, as they are made
 pub limits_by : (plan : Entries) (count : ℕ) (lent : List QueueEntry) (lengths : List ℕ) → lent ≡ plan.queues.items → count ≡ length lent → lengths ≡ plan.tables.items
-    → ◌≡◌ {A = HelperLimits} (record { queues = count; table_lengths = lengths }) (limits_of (plan_seen plan))
+    → ◌≡◌ {A = HelperLimits} (of_queues count lengths) (limits_of (plan_seen plan))
 limits_by plan count lent lengths same counted tables =
     let queues : count ≡ length (map queue_seen plan.queues.items) = counted ∙ ap length same ∙ sym (length-map plan.queues.items queue_seen) in
-    λ i. record { queues = queues i; table_lengths = tables i }
+    λ i. of_queues (queues i) (tables i)
 
 pub few_queues : (plan : Entries) (lent : List QueueEntry) → lent ≡ plan.queues.items → IsLawfulPlan (plan_seen plan) → length lent ≤ 64
 few_queues plan lent same lawful =

@@ -10,6 +10,7 @@ use Rattle.bpf_decode.specs.declared.fault.DecodeFault.{DecodeFault}
 use Rattle.bpf_asm.specs.Assembly.{Says, HasFault as HasAsmFault}
 use Rattle.bpf_asm.specs.declared.fault.AsmFault.{AsmFault}
 use Rattle.helpers.specs.declared.limits.HelperLimits.{HelperLimits}
+use Rattle.helpers.specs.Table.{of_queues}
 use Rattle.or_memory.specs.declared.OrMemory.TheVariants.{Fault}
 use Rattle.accepted.specs.Verdict.{Verdict}
 use Rattle.verifier.specs.Verdict.{IsVerdictOn, ToldOfShape}
@@ -45,7 +46,7 @@ pub record Writes (text : List ℕ) (plan : Plan) : Type 0 where
 
 -- there are as many queues as are written, and tables of the lengths that are
 abbrev pub limits_of : Plan → HelperLimits
-limits_of plan = record { queues = length plan.queues; table_lengths = plan.tables }
+limits_of plan = of_queues (length plan.queues) plan.tables
 
 -- the program that a source spells, or that it says
 abbrev pub IsReadAs : Source → List Slot → Type 0

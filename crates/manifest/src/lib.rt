@@ -17,7 +17,7 @@ mod setup;
 use bpf_asm::AsmFault;
 use bpf_decode::DecodeFault;
 use engine_config::Config;
-use helpers::{HelperLimits, TableLengths};
+use helpers::{HelperLimits, HelperSet, TableLengths};
 use manifest_form::{FormFault, Plan, QueueEntry, has_lawful_names, has_lawful_numbers};
 use or_memory::OrMemory;
 pub use programs::NamedProgram;
@@ -95,6 +95,7 @@ fn set_up(alloc: Global, plan: Plan<'_>) -> Result<Manifest, ManifestError>
         programs,
     } = plan;
     let limits = HelperLimits {
+        helpers: HelperSet::Queues,
         queues: count(&queues),
         table_lengths: TableLengths::new(tables),
     };

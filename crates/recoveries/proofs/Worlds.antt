@@ -11,6 +11,7 @@ use Rattle.ccb.specs.Completion.{Outcome}
 use Rattle.ccb.specs.Ccb.{completed}
 use Rattle.ccb.specs.Context.{context_of}
 use Rattle.bpf_insn.specs.declared.program.Slot.{Slot}
+use Rattle.helpers.specs.Table.{of_queues}
 use Rattle.bpf_semantics.specs.MachineState.{MachineState, entry}
 use Rattle.freeze_ledger.specs.declared.freeze.Holder.TheVariants.{Run}
 use Rattle.freeze_ledger.specs.declared.freeze.Freeze.{Freeze}
@@ -31,7 +32,7 @@ use Rattle.recoveries.specs.LiveRuns.{live_of, lives_of, number_of}
 use Rattle.recoveries.proofs.Kept.{took, IsFor}
 
 some_setup : Setup
-some_setup = record { limits = record { queues = 0; table_lengths = [] }; queues = [] }
+some_setup = record { limits = of_queues 0 []; queues = [] }
 
 -- where no limit is met there is room, and a further number
 pub has_room : (state : RecoveryState) → ((world : World) → run_meets_limit (with_recoveries state world) ≡ false) → (length state.runs < 256) × (state.greatest_run < 4294967295)

@@ -23,7 +23,7 @@ use Rattle.helpers.specs.declared.request.Request.{Request}
 use Rattle.helpers.specs.declared.request.Written.{Written}
 use Rattle.helpers.specs.declared.table.Helper.{Helper}
 use Rattle.helpers.specs.declared.table.Row.{Row}
-use Rattle.helpers.specs.Table.{asks, helper_of, row_of}
+use Rattle.helpers.specs.Table.{asks, helper_of, is_there, row_of}
 use Rattle.helpers.proofs.Together.{IsRange, Wants, told, wanted}
 use Rattle.bpf_semantics.specs.Calls.{all_written, argument, arguments_at, meets, meets_need, named_bytes, request_by, request_with}
 use Rattle.bpf_semantics.specs.Frames.{frames_with}
@@ -139,8 +139,8 @@ pub record HoldsArguments (numbers : FreezeNumbers) (m : MachineState) (asks : A
   pub third : HoldsKind numbers known.third (argument m asks.third R3)
 
 pub lawful : (limits : HelperLimits) (d : Description) (numbers : FreezeNumbers) (callers : List SavedRegisters) (m : MachineState) (helper : Helper) (known : Known) → DescribesWith numbers callers d m → HoldsArguments numbers m (asks helper) known → AllFit limits d (asks helper) known → meets_need m (row_of helper).needs ≡ true
-    → IsLawfulCall limits m helper
-lawful limits d numbers callers m helper known is holds fit may =
+    → is_there limits.helpers helper ≡ true → IsLawfulCall limits m helper
+lawful limits d numbers callers m helper known is holds fit may there =
     let first = value_of numbers known.first (argument m (asks helper).first R1) fit.first_written holds.first in
     let second = value_of numbers known.second (argument m (asks helper).second R2) fit.second_written holds.second in
     let third = value_of numbers known.third (argument m (asks helper).third R3) fit.third_written holds.third in
@@ -156,7 +156,7 @@ lawful limits d numbers callers m helper known is holds fit may =
           and_from (meets_need m (row_of helper).needs) _ may
           (and_from _ _ (meets_asked limits d numbers callers m known arguments (asks helper).first known.first first.0 is are first.2 fit.first)
           (and_from _ _ (meets_asked limits d numbers callers m known arguments (asks helper).second known.second second.0 is are second.2 fit.second)
-          (meets_asked limits d numbers callers m known arguments (asks helper).third known.third third.0 is are third.2 fit.third)));
+          (and_from _ _ (meets_asked limits d numbers callers m known arguments (asks helper).third known.third third.0 is are third.2 fit.third) there)));
     }
 
 -- what a helper needs of the run
@@ -169,13 +169,13 @@ needs_met numbers saved callers d m name needs.Room is may =
 needs_met numbers saved callers d m name needs.Undisposed is may = ap not (is.disposal ∙ may)
 
 -- a check that passes
-pub obeys_ok : (r : Result (Unit {0}) Cause) (limits : HelperLimits) (saved : List SavedRegisters) (d : Description) (name : FreezeName) (helper : Helper) (row : Row) (known : Known) → row ≡ row_of helper
+pub obeys_ok : (r : Result (Unit {0}) Cause) (limits : HelperLimits) (saved : List SavedRegisters) (d : Description) (name : FreezeName) (helper : Helper) (row : Row) (known : Known) → is_there limits.helpers helper ≡ true → row ≡ row_of helper
     → ((numbers : FreezeNumbers) (callers : List SavedRegisters) (m : MachineState) → DescribesWith numbers callers d m → HoldsArguments numbers m row.asks known) → AllFit limits d row.asks known → (IsOk r → MeetsNeed saved d name row.needs)
     → IfOk r (λ x. Obeys limits d helper)
-obeys_ok (Err cause) limits saved d name helper row known same holds fit may = tt
-obeys_ok (Ok x) limits saved d name helper row known same holds fit may = λ callers m (numbers, is).
+obeys_ok (Err cause) limits saved d name helper row known there same holds fit may = tt
+obeys_ok (Ok x) limits saved d name helper row known there same holds fit may = λ callers m (numbers, is).
     lawful limits d numbers callers m helper known is (subst (λ (r : Row). HoldsArguments numbers m r.asks known) same (holds numbers callers m is)) (subst (λ (r : Row). AllFit limits d r.asks known) same fit)
-    (needs_met numbers saved callers d m name (row_of helper).needs is (subst (λ (r : Row). MeetsNeed saved d name r.needs) same (may refl)))
+    (needs_met numbers saved callers d m name (row_of helper).needs is (subst (λ (r : Row). MeetsNeed saved d name r.needs) same (may refl))) there
 
 -- the call of a helper, by its parts
 pub record IsCall (m : MachineState) (helper : Helper) (request : Request) : Type 0 where

@@ -9,7 +9,7 @@ use Rattle.helpers.specs.declared.columns.Needs.TheVariants as needs
 use Rattle.helpers.specs.declared.limits.HelperLimits.{HelperLimits}
 use Rattle.helpers.specs.declared.request.Arguments.{Arguments}
 use Rattle.helpers.specs.declared.table.Helper.{Helper}
-use Rattle.helpers.specs.Table.{asks, row_of}
+use Rattle.helpers.specs.Table.{asks, is_there, row_of}
 use Rattle.bpf_semantics.specs.declared.bounds.TheConstants.{MAX_HELD}
 use Rattle.bpf_semantics.specs.Calls.{is_as_asked}
 use Rattle.bpf_semantics.specs.Frames.{has_room, has_written}
@@ -145,7 +145,8 @@ MeetsNeed callers d name needs.Nothing = Unit {0}
 MeetsNeed callers d name needs.Room = (length d.held < MAX_HELD) × (certainty_of d.held name ≡ None) × IsFresh name callers
 MeetsNeed callers d name needs.Undisposed = d.disposed ≡ false
 
--- a call of the helper may pass: by its arguments, and by what it needs
+-- a call of the helper may pass: it is there, by its arguments, and by what it needs
 pub record MayCall (limits : HelperLimits) (callers : List SavedRegisters) (d : Description) (name : FreezeName) (helper : Helper) : Type 0 where
+  pub there : is_there limits.helpers helper ≡ true
   pub suit : RegistersSuit limits d (asks helper)
   pub run : MeetsNeed callers d name (row_of helper).needs

@@ -66,6 +66,9 @@ impl Description {
         ensures fresh { IfOk result (λ _. (row_of helper).machine ≡ Holds → IsFresh name callers.now) }
         ensures suits { MayCall limits.now callers.now self.now name helper → IsOk result }
     {
+        if !limits.helpers.has(helper) {
+            return Err(Cause::UnknownHelper);
+        }
         let row = helper.row();
         let known = self.arguments(row.asks);
         self.check_arguments(limits, row.asks, &known)?;

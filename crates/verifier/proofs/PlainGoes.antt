@@ -20,7 +20,9 @@ use Rattle.bpf_insn.specs.Program.{insn_at}
 use Rattle.bpf_insn.specs.Target.{target}
 use Rattle.call_shape.specs.StaticPath.{outermost}
 use Rattle.helpers.specs.declared.table.Helper.TheVariants as helpers
-use Rattle.helpers.specs.Table.{row_of}
+use Rattle.helpers.specs.declared.limits.HelperSet.{HelperSet}
+use Rattle.helpers.specs.declared.limits.HelperSet.TheVariants.{Queues}
+use Rattle.helpers.specs.Table.{is_there, row_of}
 use Rattle.reg_domain.specs.declared.description.Description.{Description}
 use Rattle.reg_domain.specs.declared.following.Way.{Way}
 use Rattle.reg_domain.specs.declared.following.Way.TheVariants.{FallThrough, Taken}
@@ -115,11 +117,15 @@ load_follows program place to Exit way d there load at goes leaves is = absurd l
 tests_freeze : (program : List Slot) (place : ℕ) (d : Description) → AtLoad program place d → TestsFreeze d Bits64 Equal R2 (Immediate (pos 0))
 tests_freeze program place d is = record { all = refl; equal = refl; zero_constant = refl; name = Start; freeze = is.freeze }
 
+are_there : (set : HelperSet) → (is_there set helpers.Release ≡ true) × (is_there set helpers.Requeue ≡ true)
+unfolding row_of
+are_there Queues = (refl, refl)
+
 gives_back_freeze : (program : List Slot) (place : ℕ) (d : Description) → AtRelease program place d → EnoughToCall (pos 2) d
 unfolding row_of
 gives_back_freeze program place d is = λ limits callers name.
     let sure = ap (λ (held : List HeldFreeze). certainty_of held Start) is.held in
-    (helpers.Release, refl, record { suit = λ known are. record { first = (Start, are.first ∙ is.freeze, sure); second = are.second; third = are.third }; run = tt })
+    (helpers.Release, refl, record { there = (are_there limits.helpers).0; suit = λ known are. record { first = (Start, are.first ∙ is.freeze, sure); second = are.second; third = are.third }; run = tt })
 
 freeze_gone : (name : FreezeName) (d there : Description) → kind_at d R1 ≡ Freeze Start → LeavesOver name helpers.Release d there → (there.held ≡ without d.held Start) × (there.disposed ≡ d.disposed)
 unfolding row_of
@@ -210,7 +216,7 @@ requeues_ccb : (d : Description) → AtRequeue d → EnoughToCall (pos 4) d
 unfolding row_of
 requeues_ccb d is = λ limits callers name.
     let few = at_most_between 1 (kind_at d R1) is.few in
-    (helpers.Requeue, refl, record { suit = λ known are. record { first = subst (IsBetween 0 1) (sym are.first) few; second = are.second; third = are.third }; run = is.waits })
+    (helpers.Requeue, refl, record { there = (are_there limits.helpers).1; suit = λ known are. record { first = subst (IsBetween 0 1) (sym are.first) few; second = are.second; third = are.third }; run = is.waits })
 
 ccb_requeued : (name : FreezeName) (d there : Description) → LeavesOver name helpers.Requeue d there → (there.held ≡ d.held) × (there.disposed ≡ true)
 unfolding row_of

@@ -1,6 +1,7 @@
 use Rattle.std.proofs.Common.{◌≡◌, ◌⊎◌, map, ap, ◌∙◌}
 use Rattle.std.proofs.lemmas.Result.{err_from_is_err_and}
 use Rattle.helpers.specs.declared.limits.HelperLimits.{HelperLimits}
+use Rattle.helpers.specs.Table.{of_queues}
 use Rattle.manifest.specs.declared.ManifestFault.{ManifestFault}
 use Rattle.manifest.specs.Meaning.{limits_of, HasProgramFault, IsUnread, IsUnaccepted}
 use Rattle.manifest_form.specs.Seen.{plan_seen, queue_seen, program_seen}
@@ -15,7 +16,7 @@ count-requires c = few_queues c.args.plan c.deref.result.now c.deref.ensures.val
 pub returns-in_err-programs-clause-fault : goal.returns-in_err-programs-clause-fault
 returns-in_err-programs-clause-fault c =
     let plan = plan_seen c.args.plan in
-    let limits : HelperLimits = record { queues = c.count.result; table_lengths = c.new.result } in
+    let limits : HelperLimits = of_queues c.count.result c.new.result in
     let lines = map program_seen c.deref-2.result.now in
     let limits_is : limits ≡ limits_of plan = limits_by c.args.plan c.count.result c.deref.result.now c.new.result c.deref.ensures.value c.count.ensures c.new.ensures in
     let lines_is : lines ≡ plan.programs = ap (map program_seen) c.deref-2.ensures.value in
@@ -27,7 +28,7 @@ returns-in_err-programs-clause-fault c =
 pub config-requires : goal.config-requires
 config-requires c =
     let plan = plan_seen c.args.plan in
-    let limits : HelperLimits = record { queues = c.count.result; table_lengths = c.new.result } in
+    let limits : HelperLimits = of_queues c.count.result c.new.result in
     let limits_is : limits ≡ limits_of plan = limits_by c.args.plan c.count.result c.deref.result.now c.new.result c.deref.ensures.value c.count.ensures c.new.ensures in
     let programs = map named_seen c.in_ok-programs.programs.items in
     ready_by plan limits (map queue_seen c.deref-3.result.now) programs (map named_seen c.deref-4.result.now) c.requires limits_is
@@ -37,7 +38,7 @@ config-requires c =
 pub returns-clause-found : goal.returns-clause-found
 returns-clause-found c =
     let plan = plan_seen c.args.plan in
-    let limits : HelperLimits = record { queues = c.count.result; table_lengths = c.new.result } in
+    let limits : HelperLimits = of_queues c.count.result c.new.result in
     let limits_is : limits ≡ limits_of plan = limits_by c.args.plan c.count.result c.deref.result.now c.new.result c.deref.ensures.value c.count.ensures c.new.ensures in
     let programs = map named_seen c.in_ok-programs.programs.items in
     record {

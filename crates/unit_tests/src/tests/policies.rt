@@ -1,7 +1,7 @@
 // Programs as lists of instructions, and the limits under which they are verified.
 
 use bpf_insn::{AluOp, Callee, Condition, Insn, Operand, Reg, StoreSize, Width};
-use helpers::{HelperLimits, TableLengths};
+use helpers::{HelperLimits, HelperSet, TableLengths};
 use std::alloc::Global;
 
 pub const fn mov(dst: Reg, src: Operand) -> Insn {
@@ -93,6 +93,7 @@ pub fn limits(alloc: Global) -> HelperLimits {
 /// So many queues and no table.
 pub fn limits_of(alloc: Global, queues: u32) -> HelperLimits {
     HelperLimits {
+        helpers: HelperSet::Queues,
         queues,
         table_lengths: TableLengths::new(Vec::new(alloc)),
     }

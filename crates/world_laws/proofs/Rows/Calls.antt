@@ -9,7 +9,7 @@ use Rattle.freeze_ledger.specs.declared.freeze.Holder.{Holder}
 use Rattle.freeze_ledger.specs.declared.freeze.Holder.TheVariants.{Run, Timer, Guest}
 use Rattle.freeze_ledger.specs.declared.freeze.Freeze.{Freeze}
 use Rattle.helpers.specs.declared.table.Helper.TheVariants as helpers
-use Rattle.helpers.specs.Table.{row_of}
+use Rattle.helpers.specs.Table.{of_queues, row_of}
 use Rattle.helpers.specs.declared.limits.HelperLimits.{HelperLimits}
 use Rattle.calls.specs.declared.record.StoppedAt.TheVariants.{Helper as AtHelper, Finish}
 use Rattle.calls.specs.declared.record.Record.TheVariants.{Advance}
@@ -24,7 +24,7 @@ use Rattle.world.specs.Flat.{flat}
 use Rattle.world_laws.proofs.Rows.Worked.{two_queues, with_freezes, ccb_in, next, answer}
 
 abbrev pub limits : HelperLimits
-limits = record { queues = 2; table_lengths = [] }
+limits = of_queues 2 []
 
 abbrev pub setup : Setup
 setup = two_queues limits

@@ -13,7 +13,7 @@ use Rattle.bpf_insn.specs.declared.reg.Reg.TheVariants.{R0, R1, R2, R6}
 use Rattle.bpf_insn.specs.Program.{layout}
 use Rattle.freeze_ledger.specs.declared.freeze.Holder.TheVariants.{Timer}
 use Rattle.helpers.specs.declared.table.Helper.TheVariants as helpers
-use Rattle.helpers.specs.Table.{row_of}
+use Rattle.helpers.specs.Table.{of_queues, row_of}
 use Rattle.calls.specs.declared.record.StoppedAt.TheVariants.{Helper as AtHelper, Finish, Exit as AtExit}
 use Rattle.calls.specs.declared.record.Record.{Record}
 use Rattle.calls.specs.declared.call.Call.TheVariants.{Submit, Dispatch, Complete, Clock}
@@ -56,7 +56,7 @@ queue = record {
 }
 
 abbrev setup : Setup
-setup = record { limits = record { queues = 2; table_lengths = [] }; queues = queue ∷ queue ∷ [] }
+setup = record { limits = of_queues 2 []; queues = queue ∷ queue ∷ [] }
 
 -- the records that a transport makes of it
 abbrev records : List Record

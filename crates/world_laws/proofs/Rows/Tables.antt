@@ -6,7 +6,7 @@ use Rattle.bpf_insn.specs.declared.program.Slot.TheVariants.{First}
 use Rattle.bpf_semantics.specs.MachineState.{unwritten_frame}
 use Rattle.helpers.specs.declared.table.Helper.{Helper as HelperName}
 use Rattle.helpers.specs.declared.table.Helper.TheVariants as helpers
-use Rattle.helpers.specs.Table.{row_of}
+use Rattle.helpers.specs.Table.{of_queues, row_of}
 use Rattle.calls.specs.declared.call_refusal.CallRefusal.TheVariants.{NoOpening, NothingWaits}
 use Rattle.world.specs.declared.ccb_state.CcbState.TheVariants.{Waiting, Active, InRecovery}
 use Rattle.world.specs.World.{Setup, LiveRun, World, opening}
@@ -18,7 +18,7 @@ use Rattle.world_laws.proofs.Rows.Worked.{two_queues, with_freezes, ccb_in, next
 
 -- two queues, a table of two words and one of three
 abbrev setup : Setup
-setup = two_queues (record { queues = 2; table_lengths = 2 ∷ 3 ∷ [] })
+setup = two_queues (of_queues 2 (2 ∷ 3 ∷ []))
 
 -- at the opening all words are 0
 all_zero : (opening setup).tables ≡ (0 ∷ 0 ∷ []) ∷ (0 ∷ 0 ∷ 0 ∷ []) ∷ []

@@ -13,7 +13,7 @@ use Rattle.table_store.specs.Tables.{HasWord}
 use Rattle.world.specs.World.{Setup, World}
 use Rattle.world.specs.Limits.{AnswerLimits}
 
--- what the rule of a call says of the run and of each argument
+-- what the rule of a call says of the run and of each argument (and, last, that there is the helper)
 pub record Obeyed (limits : HelperLimits) (m : MachineState) (request : Request) : Type 0 where
   pub need : meets_need m (row_of request.helper).needs ≡ true
   pub first : meets limits m request.arguments (asks request.helper).first request.arguments.first ≡ true
@@ -24,8 +24,9 @@ pub rule_parts : (limits : HelperLimits) (m : MachineState) (request : Request) 
 rule_parts limits m request rule =
     let all = and_parts (meets_need m (row_of request.helper).needs) _ rule in
     let those = and_parts (meets limits m request.arguments (asks request.helper).first request.arguments.first) _ all.1 in
-    let last = and_parts (meets limits m request.arguments (asks request.helper).second request.arguments.second) (meets limits m request.arguments (asks request.helper).third request.arguments.third) those.1 in
-    record { need = all.0; first = those.0; second = last.0; third = last.1 }
+    let seconds = and_parts (meets limits m request.arguments (asks request.helper).second request.arguments.second) _ those.1 in
+    let thirds = and_parts (meets limits m request.arguments (asks request.helper).third request.arguments.third) _ seconds.1 in
+    record { need = all.0; first = those.0; second = seconds.0; third = thirds.0 }
 
 -- the first argument, and the second, by what is asked of it
 pub first_as : (limits : HelperLimits) (m : MachineState) (request : Request) (o : Option Asked) → (asks request.helper).first ≡ o → meets_rule limits m request ≡ true → meets limits m request.arguments o request.arguments.first ≡ true

@@ -9,12 +9,12 @@ use crate::fault::Fault;
 use crate::verdicts;
 use bpf_asm::{assemble, disassemble};
 use bpf_decode::{decode, encode};
+use calls::Trace;
 use command_line::Plan;
 use manifest::Manifest;
 use std::alloc::Global;
 use std::io;
 use std::io::Write;
-use world::Trace;
 
 /// Carries a plan out over the bytes of its input files, in the order of the line, and answers the status:
 /// 0 done; 1 refused; 2 for a file that is to be text and is not UTF-8, for want of memory, or where a writer fails. What is to

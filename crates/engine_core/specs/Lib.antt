@@ -14,4 +14,3 @@ pub mod RunState
 pub mod Answers
 pub mod Courses
 pub mod TakingOver
-pub mod Replies

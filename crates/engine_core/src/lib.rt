@@ -3,20 +3,15 @@
 // `recoveries` for runs and freezes.
 #![tactic(auto)]
 
-mod answering;
 mod answers;
 mod course;
 mod engine;
-mod event;
 pub mod laws;
-mod reply;
 mod run;
 mod taking_over;
 
 pub use answers::{AdvanceAnswer, AdvanceFault, CallFault, CompleteAnswer, ReleaseFault};
 pub use calls::{Call, CallAnswer, CallRefusal, Record, StoppedAt, Totals, Trace};
 pub use engine::Engine;
-pub use event::Event;
 pub use engine_config::Config;
-pub use reply::{Back, Given, Reply};
 pub use run::Run;

@@ -1,6 +1,9 @@
 // What no command shows: writers that fail, memory that is refused, and records that no scenario makes yet.
 // Expected texts are worked out by hand.
 
+use calls::{
+    Call, CallAnswer, CompletionRecord, Record, StoppedAt, Totals, Trace, TracedBytes,
+};
 use ccb::{CamStatus, CcbId, Completion};
 use command_line::Plan;
 use commands::carry;
@@ -11,7 +14,6 @@ use std::io;
 use std::io::Write;
 use std::test::Fail;
 use trace::print;
-use world::{Completed, CompletionRecord, Record, StoppedAt, Totals, Trace, TracedBytes};
 
 // The two paths have 5 and 7 instructions: jeq r2, 0, +2; mov64 r1, r2; call 2; mov64 r1, 1; call 4;
 // mov64 r0, 0; exit.
@@ -149,9 +151,11 @@ fn records_of_no_scenario(rt: HostRuntime) -> Result<(), Fail> {
     let completion = Completion::new(CcbId(1), CamStatus::ScsiStatusError, 2, &sense);
     let completion = completion.ok_or("no completion")?;
     let bytes = ShortBytes::new(&[0, 255]).ok_or("no bytes")?;
-    let started = Record::Complete {
-        completion: CompletionRecord::new(alloc, &completion)?,
-        answer: Ok(Completed::Started { run: 1, freeze: 1 }),
+    let started = Record::Called {
+        call: Call::Complete {
+            completion: CompletionRecord::new(alloc, &completion)?,
+        },
+        answer: CallAnswer::Started { run: 1, freeze: 1 },
     };
     let ended = Record::Advance {
         run: 4294967295,

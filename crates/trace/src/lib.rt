@@ -1,4 +1,4 @@
-// The trace: an engine's whole history with its sums, as text. It relies on `world` for records.
+// The trace: an engine's whole history with its sums, as text. It relies on `calls` for records.
 #![tactic(auto)]
 
 mod printer;

@@ -1,9 +1,10 @@
-// The trace as text, version 1: a header, a line a record, and the sums. It relies on `world` for records.
+// The trace as text, version 1: a header, a line a record, and the sums. A call is spelled by one function, and an answer by
+// one, whatever the call. It relies on `calls` for records.
 
-use ccb::CcbId;
+use calls::{Call, CallAnswer, CompletionRecord, Record, StoppedAt, Trace};
+use freeze_ledger::Place;
 use std::io;
 use std::io::Write;
-use world::{CallRefusal, Completed, CompletionRecord, Record, StoppedAt, Trace};
 
 /// Writes the whole trace.
 pub fn print<W: Write>(trace: &Trace, out: &mut W) -> io::Result<()> {
@@ -21,20 +22,10 @@ pub fn print<W: Write>(trace: &Trace, out: &mut W) -> io::Result<()> {
 
 fn print_record<W: Write>(record: &Record, out: &mut W) -> io::Result<()> {
     match record {
-        Record::Submit {
-            queue,
-            priority,
-            retries,
-            answer,
-        } => {
-            write!(out, "submit {} {priority} {retries} = ", queue.0)?;
-            print_ccb(*answer, out)
+        Record::Called { call, answer } => {
+            print_call(call, out)?;
+            print_answer(*answer, out)
         }
-        Record::Dispatch { queue, answer } => {
-            write!(out, "dispatch {} = ", queue.0)?;
-            print_ccb(*answer, out)
-        }
-        Record::Complete { completion, answer } => print_completion(completion, *answer, out),
         Record::Advance {
             run,
             instructions,
@@ -45,18 +36,41 @@ fn print_record<W: Write>(record: &Record, out: &mut W) -> io::Result<()> {
             print_stop(stop, out)?;
             writeln!(out, " = {r0}")
         }
-        Record::GuestFreeze {
+    }
+}
+
+fn print_call<W: Write>(call: &Call, out: &mut W) -> io::Result<()> {
+    match call {
+        Call::Submit {
             queue,
-            guest,
-            answer,
-        } => {
-            write!(out, "gfreeze {} {guest} = ", queue.0)?;
-            print_freeze(*answer, out)
-        }
-        Record::GuestRelease { freeze, count } => writeln!(out, "grelease {freeze} = {count}"),
-        Record::Clock { reading, answer } => print_clock(*reading, *answer, out),
-        Record::Park { run } => writeln!(out, "park {run} = ok"),
-        Record::Resume { run, answer } => print_resume(*run, *answer, out),
+            priority,
+            retries,
+        } => write!(out, "submit {} {priority} {retries}", queue.0),
+        Call::Dispatch { queue } => write!(out, "dispatch {}", queue.0),
+        Call::Complete { completion } => print_completion(completion, out),
+        Call::GuestFreeze { place, guest } => print_guest_freeze(*place, *guest, out),
+        Call::GuestRelease { freeze } => write!(out, "grelease {freeze}"),
+        Call::Clock { reading } => write!(out, "clock {reading}"),
+        Call::Park { run } => write!(out, "park {run}"),
+        Call::Resume { run } => write!(out, "resume {run}"),
+    }
+}
+
+fn print_answer<W: Write>(answer: CallAnswer, out: &mut W) -> io::Result<()> {
+    match answer {
+        CallAnswer::Ccb(ccb) => writeln!(out, " = ccb {}", ccb.0),
+        CallAnswer::Done => writeln!(out, " = done"),
+        CallAnswer::Started { run, freeze } => writeln!(out, " = run {run} freeze {freeze}"),
+        CallAnswer::Freeze(freeze) => writeln!(out, " = freeze {freeze}"),
+        CallAnswer::Left(count) | CallAnswer::Removed(count) => writeln!(out, " = {count}"),
+        CallAnswer::Ok => writeln!(out, " = ok"),
+        CallAnswer::Refused(refusal) => writeln!(out, " = {refusal}"),
+    }
+}
+
+fn print_guest_freeze<W: Write>(place: Place, guest: u32, out: &mut W) -> io::Result<()> {
+    match place {
+        Place::Device(queue) => write!(out, "gfreeze {} {guest}", queue.0),
     }
 }
 
@@ -72,53 +86,6 @@ fn print_stop<W: Write>(stop: &StoppedAt, out: &mut W) -> io::Result<()> {
     }
 }
 
-fn print_ccb<W: Write>(answer: Result<CcbId, CallRefusal>, out: &mut W) -> io::Result<()> {
-    match answer {
-        Ok(ccb) => writeln!(out, "ccb {}", ccb.0),
-        Err(refusal) => writeln!(out, "{refusal}"),
-    }
-}
-
-fn print_freeze<W: Write>(answer: Result<u32, CallRefusal>, out: &mut W) -> io::Result<()> {
-    match answer {
-        Ok(freeze) => writeln!(out, "freeze {freeze}"),
-        Err(refusal) => writeln!(out, "{refusal}"),
-    }
-}
-
-fn print_clock<W: Write>(
-    reading: u64,
-    answer: Result<u32, CallRefusal>,
-    out: &mut W,
-) -> io::Result<()> {
-    match answer {
-        Ok(count) => writeln!(out, "clock {reading} = {count}"),
-        Err(refusal) => writeln!(out, "clock {reading} = {refusal}"),
-    }
-}
-
-fn print_resume<W: Write>(
-    run: u32,
-    answer: Result<(), CallRefusal>,
-    out: &mut W,
-) -> io::Result<()> {
-    match answer {
-        Ok(()) => writeln!(out, "resume {run} = ok"),
-        Err(refusal) => writeln!(out, "resume {run} = {refusal}"),
-    }
-}
-
-fn print_completed<W: Write>(
-    answer: Result<Completed, CallRefusal>,
-    out: &mut W,
-) -> io::Result<()> {
-    match answer {
-        Ok(Completed::Done) => writeln!(out, "done"),
-        Ok(Completed::Started { run, freeze }) => writeln!(out, "run {run} freeze {freeze}"),
-        Err(refusal) => writeln!(out, "{refusal}"),
-    }
-}
-
 // Each byte is a pair of lower-case hexadecimal digits.
 fn print_bytes<W: Write>(bytes: &[u8], out: &mut W) -> io::Result<()> {
     for byte in bytes {
@@ -128,11 +95,7 @@ fn print_bytes<W: Write>(bytes: &[u8], out: &mut W) -> io::Result<()> {
 }
 
 // The status, the SCSI status and the sense bytes are pairs of hexadecimal digits, and no bytes are `-`.
-fn print_completion<W: Write>(
-    completion: &CompletionRecord,
-    answer: Result<Completed, CallRefusal>,
-    out: &mut W,
-) -> io::Result<()> {
+fn print_completion<W: Write>(completion: &CompletionRecord, out: &mut W) -> io::Result<()> {
     let status = completion.status().code();
     let scsi = completion.scsi();
     write!(
@@ -144,7 +107,5 @@ fn print_completion<W: Write>(
     if sense.is_empty() {
         write!(out, "-")?;
     }
-    print_bytes(sense.as_slice(), out)?;
-    write!(out, " = ")?;
-    print_completed(answer, out)
+    print_bytes(sense.as_slice(), out)
 }

@@ -7,13 +7,14 @@ use super::recovery::{
     advance, advanced, completed, completion, dispatch, drive, fail, finish, going_on, is_unknown,
     park, refused, resume, submit, unstarted, with_segment,
 };
+use calls::{Call, CallAnswer, CallRefusal};
 use ccb::{CamStatus, CcbId, QueueId};
-use engine_core::{CallFault, Completed, Engine, Record, Run, StoppedAt};
+use engine_core::{CallFault, Engine, Record, Run, StoppedAt};
+use freeze_ledger::Place;
 use helpers::Helper;
 use std::alloc::Global;
 use std::process::Abort;
 use std::test::Fail;
-use world::CallRefusal;
 
 /// The other queue, and none.
 const NEIGHBOUR: QueueId = QueueId(1);
@@ -121,41 +122,42 @@ fn make_each_call(rt: &impl Abort, engine: &mut Engine) -> Result<(), Fail> {
     read_clock(rt, engine)
 }
 
-fn submitted(queue: QueueId, answer: Result<CcbId, CallRefusal>) -> Record {
-    Record::Submit {
+fn called(call: Call, answer: CallAnswer) -> Record {
+    Record::Called { call, answer }
+}
+
+fn submitted(queue: QueueId, answer: CallAnswer) -> Record {
+    let call = Call::Submit {
         queue,
         priority: 10,
         retries: 3,
-        answer,
-    }
+    };
+    called(call, answer)
 }
 
-fn started(queue: QueueId, answer: Result<CcbId, CallRefusal>) -> Record {
-    Record::Dispatch { queue, answer }
+fn started(queue: QueueId, answer: CallAnswer) -> Record {
+    called(Call::Dispatch { queue }, answer)
 }
 
-fn frozen(queue: QueueId, answer: Result<u32, CallRefusal>) -> Record {
-    Record::GuestFreeze {
-        queue,
+fn frozen(queue: QueueId, answer: CallAnswer) -> Record {
+    let call = Call::GuestFreeze {
+        place: Place::Device(queue),
         guest: 7,
-        answer,
-    }
+    };
+    called(call, answer)
 }
 
-fn ended(
-    alloc: Global,
-    ccb: u32,
-    status: CamStatus,
-    answer: Result<Completed, CallRefusal>,
-) -> Result<Record, Fail> {
-    Ok(Record::Complete {
-        completion: completed(alloc, &completion(ccb, status)?)?,
-        answer,
-    })
+fn ended(alloc: Global, ccb: u32, status: CamStatus, answer: CallAnswer) -> Result<Record, Fail> {
+    let completion = completed(alloc, &completion(ccb, status)?)?;
+    Ok(called(Call::Complete { completion }, answer))
 }
 
-fn clock_read(reading: u64, answer: Result<u32, CallRefusal>) -> Record {
-    Record::Clock { reading, answer }
+fn clock_read(reading: u64, answer: CallAnswer) -> Record {
+    called(Call::Clock { reading }, answer)
+}
+
+fn refused_as(refusal: CallRefusal) -> CallAnswer {
+    CallAnswer::Refused(refusal)
 }
 
 #[test]
@@ -165,48 +167,39 @@ fn each_call_and_memory_refused_once(rt: HostRuntime) -> Result<(), Fail> {
     let outcome = make_each_call(&rt, &mut engine);
     let trace = shut(engine);
     outcome?;
-    let begun = Completed::Started { run: 1, freeze: 2 };
+    let begun = CallAnswer::Started { run: 1, freeze: 2 };
     let records = [
-        submitted(QUEUE, Ok(CcbId(1))),
-        submitted(QUEUE, Ok(CcbId(2))),
-        submitted(QUEUE, Ok(CcbId(3))),
-        submitted(NOWHERE, Err(CallRefusal::Unknown)),
-        frozen(NOWHERE, Err(CallRefusal::Unknown)),
-        frozen(QUEUE, Ok(1)),
-        started(QUEUE, Err(CallRefusal::Frozen)),
-        Record::GuestRelease {
-            freeze: 1,
-            count: 0,
-        },
-        started(QUEUE, Ok(CcbId(1))),
-        started(QUEUE, Ok(CcbId(2))),
-        started(QUEUE, Err(CallRefusal::NoOpening)),
-        started(NEIGHBOUR, Err(CallRefusal::NothingWaits)),
-        started(NOWHERE, Err(CallRefusal::Unknown)),
-        ended(rt.alloc(), 7, CamStatus::Busy, Err(CallRefusal::Unknown))?,
-        ended(rt.alloc(), 3, CamStatus::Busy, Err(CallRefusal::NotActive))?,
+        submitted(QUEUE, CallAnswer::Ccb(CcbId(1))),
+        submitted(QUEUE, CallAnswer::Ccb(CcbId(2))),
+        submitted(QUEUE, CallAnswer::Ccb(CcbId(3))),
+        submitted(NOWHERE, refused_as(CallRefusal::Unknown)),
+        frozen(NOWHERE, refused_as(CallRefusal::Unknown)),
+        frozen(QUEUE, CallAnswer::Freeze(1)),
+        started(QUEUE, refused_as(CallRefusal::Frozen)),
+        called(Call::GuestRelease { freeze: 1 }, CallAnswer::Left(0)),
+        started(QUEUE, CallAnswer::Ccb(CcbId(1))),
+        started(QUEUE, CallAnswer::Ccb(CcbId(2))),
+        started(QUEUE, refused_as(CallRefusal::NoOpening)),
+        started(NEIGHBOUR, refused_as(CallRefusal::NothingWaits)),
+        started(NOWHERE, refused_as(CallRefusal::Unknown)),
+        ended(rt.alloc(), 7, CamStatus::Busy, refused_as(CallRefusal::Unknown))?,
+        ended(rt.alloc(), 3, CamStatus::Busy, refused_as(CallRefusal::NotActive))?,
         ended(
             rt.alloc(),
             2,
             CamStatus::RequestCompleted,
-            Ok(Completed::Done),
+            CallAnswer::Done,
         )?,
-        ended(rt.alloc(), 1, CamStatus::Busy, Ok(begun))?,
+        ended(rt.alloc(), 1, CamStatus::Busy, begun)?,
         advanced(3, StoppedAt::Helper(Helper::Release)),
-        Record::Park { run: 1 },
-        Record::Resume {
-            run: 2,
-            answer: Err(CallRefusal::Unknown),
-        },
-        Record::Resume {
-            run: 1,
-            answer: Ok(()),
-        },
+        called(Call::Park { run: 1 }, CallAnswer::Ok),
+        called(Call::Resume { run: 2 }, refused_as(CallRefusal::Unknown)),
+        called(Call::Resume { run: 1 }, CallAnswer::Ok),
         advanced(2, StoppedAt::Helper(Helper::Requeue)),
         advanced(2, StoppedAt::Exit),
-        clock_read(10, Ok(0)),
-        clock_read(9, Err(CallRefusal::GoesBack)),
-        clock_read(LATE, Err(CallRefusal::Limit)),
+        clock_read(10, CallAnswer::Removed(0)),
+        clock_read(9, refused_as(CallRefusal::GoesBack)),
+        clock_read(LATE, refused_as(CallRefusal::Limit)),
     ];
     assert!(rt; are_told(rt.alloc(), &trace.records, &records)?);
     assert_eq!(rt;

@@ -1,8 +1,8 @@
 // That a table can be made: its other calls take no memory, and scenarios show what they do.
 
+use calls::CallRefusal;
 use ccb_table::CcbTable;
 use std::test::Fail;
-use world::CallRefusal;
 
 fn submit(table: &mut CcbTable, queue: ccb::QueueId) -> Result<ccb::CcbId, CallRefusal> {
     table.submit(queue, 0, 0)

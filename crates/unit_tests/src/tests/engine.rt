@@ -4,9 +4,10 @@
 use super::policies::{limits_of, policy};
 use accepted::Accepted;
 use bpf_insn::{Insn, Program};
+use calls::{Call, CallAnswer};
 use ccb::QueueId;
 use engine_core::{CallFault, Config, Engine, Record, ReleaseFault, Totals, Trace};
-use freeze_ledger::FreezeToken;
+use freeze_ledger::{FreezeToken, Place};
 use or_memory::OrMemory;
 use std::alloc::{AllocError, Global};
 use std::process::Abort;
@@ -167,14 +168,16 @@ fn memory_refused_once(rt: HostRuntime) -> Result<(), Fail> {
     let count = freeze_and_release(&rt, &mut engine);
     let trace = shut(engine);
     assert_eq!(rt; count?, 0);
-    let frozen = Record::GuestFreeze {
-        queue: QUEUE,
-        guest: 7,
-        answer: Ok(1),
+    let frozen = Record::Called {
+        call: Call::GuestFreeze {
+            place: Place::Device(QUEUE),
+            guest: 7,
+        },
+        answer: CallAnswer::Freeze(1),
     };
-    let released = Record::GuestRelease {
-        freeze: 1,
-        count: 0,
+    let released = Record::Called {
+        call: Call::GuestRelease { freeze: 1 },
+        answer: CallAnswer::Left(0),
     };
     assert!(rt; are_told(rt.alloc(), &trace.records, &[frozen, released])?);
     let sums = Totals {

@@ -1,14 +1,14 @@
 // That there is room for freezes and runs: no other call takes memory. The engine's tests and scenarios show what the
 // calls do.
 
+use calls::CallRefusal;
 use ccb::QueueId;
-use freeze_ledger::FreezeToken;
+use freeze_ledger::{FreezeToken, Place};
 use recoveries::Recoveries;
 use std::test::Fail;
-use world::CallRefusal;
 
 fn freeze(recoveries: &mut Recoveries, guest: u32) -> Result<FreezeToken, CallRefusal> {
-    recoveries.guest_freeze(QueueId(0), guest)
+    recoveries.guest_freeze(Place::Device(QueueId(0)), guest)
 }
 
 // Where memory is refused the same call again succeeds.

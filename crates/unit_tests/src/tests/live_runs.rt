@@ -3,11 +3,11 @@
 use super::engine::{open, queues_with, shut, totals};
 use super::policies::policy;
 use super::recovery::{advance, begin, completion, dispatch, fail, going_on, submit, unstarted};
+use calls::CallRefusal;
 use ccb::{CamStatus, QueueId};
 use engine_core::{CallFault, Engine};
 use std::process::Abort;
 use std::test::Fail;
-use world::CallRefusal;
 
 /// How many runs may be live at a time.
 const MOST_RUNS: u32 = 256;

@@ -3,10 +3,10 @@
 
 use super::engine::{QUEUE, are_told, one_queue, open, queues_with, shut, totals};
 use super::policies::{freezing_policy, tracing_policy};
+use calls::{Call, CallAnswer, CallRefusal, CompletionRecord, TracedBytes};
 use ccb::{CamStatus, CcbId, Completion, QueueId};
 use engine_core::{
-    AdvanceAnswer, AdvanceFault, CallFault, CompleteAnswer, Completed, Engine, Record, Run,
-    StoppedAt,
+    AdvanceAnswer, AdvanceFault, CallFault, CompleteAnswer, Engine, Record, Run, StoppedAt,
 };
 use helpers::Helper;
 use interpreter::{Segment, to_stop};
@@ -15,7 +15,6 @@ use std::alloc::{AllocError, Global};
 use std::process::Abort;
 use std::sync::Arc;
 use std::test::Fail;
-use world::{CallRefusal, CompletionRecord, TracedBytes};
 
 pub fn completion(ccb: u32, status: CamStatus) -> Result<Completion, Fail> {
     Ok(Completion::new(CcbId(ccb), status, 0, &[]).ok_or("no completion")?)
@@ -276,6 +275,14 @@ pub fn completed(alloc: Global, completion: &Completion) -> Result<CompletionRec
     }
 }
 
+// Run 1 starts, and holds freeze 1.
+fn recovering(completion: CompletionRecord) -> Record {
+    Record::Called {
+        call: Call::Complete { completion },
+        answer: CallAnswer::Started { run: 1, freeze: 1 },
+    }
+}
+
 // The same of the bytes of a trace call.
 fn traced(alloc: Global, bytes: ShortBytes) -> Result<TracedBytes, AllocError> {
     match TracedBytes::new(alloc, bytes) {
@@ -292,20 +299,19 @@ fn failed_once_and_memory_refused_once(rt: HostRuntime) -> Result<(), Fail> {
     let trace = shut(engine);
     outcome?;
     let records = [
-        Record::Submit {
-            queue: QUEUE,
-            priority: 10,
-            retries: 3,
-            answer: Ok(CcbId(1)),
+        Record::Called {
+            call: Call::Submit {
+                queue: QUEUE,
+                priority: 10,
+                retries: 3,
+            },
+            answer: CallAnswer::Ccb(CcbId(1)),
         },
-        Record::Dispatch {
-            queue: QUEUE,
-            answer: Ok(CcbId(1)),
+        Record::Called {
+            call: Call::Dispatch { queue: QUEUE },
+            answer: CallAnswer::Ccb(CcbId(1)),
         },
-        Record::Complete {
-            completion: completed(rt.alloc(), &failed)?,
-            answer: Ok(Completed::Started { run: 1, freeze: 1 }),
-        },
+        recovering(completed(rt.alloc(), &failed)?),
         advanced(3, StoppedAt::Helper(Helper::Release)),
         advanced(2, StoppedAt::Helper(Helper::Requeue)),
         advanced(2, StoppedAt::Exit),
@@ -374,10 +380,7 @@ fn traced_once_and_memory_refused_once(rt: HostRuntime) -> Result<(), Fail> {
     outcome?;
     let seven = ShortBytes::new(&[7, 0, 0, 0, 0, 0, 0, 0]).ok_or("no bytes")?;
     let records = [
-        Record::Complete {
-            completion: completed(rt.alloc(), &failed)?,
-            answer: Ok(Completed::Started { run: 1, freeze: 1 }),
-        },
+        recovering(completed(rt.alloc(), &failed)?),
         advanced(
             6,
             StoppedAt::Trace(Helper::Trace, traced(rt.alloc(), seven)?),

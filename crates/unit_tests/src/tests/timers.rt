@@ -2,13 +2,13 @@
 // out by hand.
 
 use ccb::QueueId;
-use freeze_ledger::{FreezeToken, Holder, Ledger};
+use freeze_ledger::{FreezeToken, Holder, Ledger, Place};
 use std::alloc::{AllocError, Global};
 use std::process::Abort;
 use std::test::Fail;
 use timer_events::{expire_due, next_due};
 
-const QUEUE: QueueId = QueueId(0);
+const QUEUE: Place = Place::Device(QueueId(0));
 
 // The ledger's calls as they are: their clauses stay here, so that the tests below are checked without them.
 
@@ -16,11 +16,11 @@ fn with_room(alloc: Global, queues: u32) -> Result<Ledger, AllocError> {
     Ledger::with_room(alloc, queues)
 }
 
-fn take(ledger: &mut Ledger, queue: QueueId, guest: u32) -> Option<FreezeToken> {
-    if queue.0 >= ledger.queues() {
+fn take(ledger: &mut Ledger, place: Place, guest: u32) -> Option<FreezeToken> {
+    if place.index() >= ledger.queues() as usize {
         return None;
     }
-    ledger.take(queue, Holder::Guest(guest))
+    ledger.take(place, Holder::Guest(guest))
 }
 
 // Whether the token's entry is the timer's now; a token that comes back is forfeited.

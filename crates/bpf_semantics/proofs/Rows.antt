@@ -185,12 +185,12 @@ requeue_request : request_at (one (call (pos 4))) (with_register with_freeze R1 
 unfolding row_of
 requeue_request = refl
 
--- there is no helper 13
-no_helper : request_at (one (call (pos 13))) (with_register with_freeze R1 7) ≡ None
+-- there is no helper 200
+no_helper : request_at (one (call (pos 200))) (with_register with_freeze R1 7) ≡ None
 unfolding row_of
 no_helper = refl
 
-no_helper_stuck : is_stuck (one (call (pos 13))) limits (with_register with_freeze R1 7) ≡ true
+no_helper_stuck : is_stuck (one (call (pos 200))) limits (with_register with_freeze R1 7) ≡ true
 unfolding row_of
 no_helper_stuck = refl
 

@@ -13,7 +13,7 @@ use Rattle.helpers.specs.declared.columns.Change.TheVariants as changes
 use Rattle.helpers.specs.declared.columns.Tells.TheVariants as tells
 use Rattle.helpers.specs.declared.table.Deed.TheVariants as deeds
 use Rattle.helpers.specs.declared.table.Row.{Row}
-use Rattle.helpers.specs.declared.table.TheConstants.{HELPERS}
+use Rattle.helpers.specs.declared.table.TheConstants.{HELPERS, QUEUE_HELPERS}
 use Rattle.helpers.specs.declared.limits.HelperLimits.{HelperLimits}
 use Rattle.helpers.specs.declared.limits.HelperSet.{HelperSet}
 use Rattle.helpers.specs.declared.limits.HelperSet.TheVariants.{Queues}
@@ -58,7 +58,7 @@ helper_of number = option_map (λ row. row.helper) (find (λ row. int_eq (pos (n
 
 -- how many helpers there are, where what freezes is a queue
 abbrev pub helper_count : HelperSet → ℕ
-helper_count Queues = 12
+helper_count Queues = QUEUE_HELPERS
 
 -- the helper is one of those
 abbrev pub is_there : HelperSet → Helper → Bool

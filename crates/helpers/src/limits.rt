@@ -4,10 +4,9 @@
 ghost use Rattle.std.specs.Prelude.{◌≡◌, ◌↔◌, nat_eq, IsTrue, IfOk};
 ghost use Rattle.std.specs.Cmp.Lexicographic.{pointwise, lists_per, lists_equiv, nat_list_eq_equiv};
 ghost use Rattle.std.specs.Cmp.{partial_equiv_from_equiv};
-
 ghost use Rattle.helpers.specs.Table.{helper_count, is_there};
 
-use crate::table::Helper;
+use crate::table::{Helper, QUEUE_HELPERS};
 use std::alloc::AllocError;
 use std::marker::Model;
 
@@ -71,7 +70,7 @@ impl Eq for TableLengths {
 /// Which helpers there are: those of the table with the numbers from 1 to some number.
 #[derive(Clone, Copy, Debug, PartialEq, Eq)]
 pub enum HelperSet {
-    /// Helpers 1 to 12: what freezes is a queue.
+    /// What freezes is a queue.
     Queues,
 }
 
@@ -81,7 +80,7 @@ impl HelperSet {
         ensures { result ≡ helper_count self }
     {
         match self {
-            HelperSet::Queues => 12,
+            HelperSet::Queues => QUEUE_HELPERS,
         }
     }
 

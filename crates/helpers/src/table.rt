@@ -70,6 +70,9 @@ const GREATEST_WORD: u64 = u64::MAX;
 /// The last clock reading, in milliseconds: 2^62.
 const LAST_READING: u64 = 1 << 62;
 
+/// How many helpers there are where what freezes is a queue: the greatest of their numbers.
+pub const QUEUE_HELPERS: u8 = 12;
+
 /// The helpers, in the order of their numbers, which begin at 1. The comment of a row has its words for people.
 pub const HELPERS: [Row; 12] = [
     // 1 freeze(queue)

@@ -14,7 +14,7 @@ use Rattle.bpf_semantics.specs.Step.{private_step, request_at, Allowed}
 use Rattle.bpf_semantics.specs.Stuck.{is_stuck}
 use Rattle.bpf_semantics.specs.Reached.{Steps, Reached, Safe, Within}
 use Rattle.world.specs.Lawful.{IsLawfulQueue, IsLawful}
-use Rattle.world_laws.proofs.Rows.Worked.{program, queue_of, one_queue}
+use Rattle.world_laws.proofs.Rows.Worked.{of_helpers, program, queue_of, one_queue}
 
 -- a machine in the outermost function
 abbrev machine : ℕ → List (Option ℕ) → List ℕ → List ℕ → Bool → MachineState
@@ -102,18 +102,18 @@ known zero m it = at_jump it.context it.freeze refl it.is
 known (suc n) m it = onward n it.0 m (known n it.0 it.1) it.2
 
 -- what is known is not stuck
-goes : (limits : HelperLimits) (n : ℕ) (m : MachineState) → Known n m → is_stuck program limits m ≡ false
+goes : (limits : HelperLimits) (n : ℕ) (m : MachineState) → Known n m → is_stuck program (of_helpers limits) m ≡ false
 unfolding row_of
-goes limits n m (at_jump context freeze first is) = ap (is_stuck program limits) is
-goes limits n m (at_copy context freeze second is) = ap (is_stuck program limits) is
+goes limits n m (at_jump context freeze first is) = ap (is_stuck program (of_helpers limits)) is
+goes limits n m (at_copy context freeze second is) = ap (is_stuck program (of_helpers limits)) is
 goes limits n m (at_release context freeze third is) =
-    ap (is_stuck program limits) is ∙ ap (λ (b : Bool). not ((b || false) && true)) (eq-eqb freeze freeze refl)
-goes limits n m (at_constant context r0 r1 rest few is) = ap (is_stuck program limits) is
-goes limits n m (at_requeue context r0 rest few is) = ap (is_stuck program limits) is
-goes limits n m (at_result context r0 rest few is) = ap (is_stuck program limits) is
-goes limits n m (at_exit context rest few is) = ap (is_stuck program limits) is
+    ap (is_stuck program (of_helpers limits)) is ∙ ap (λ (b : Bool). not ((b || false) && (true && true))) (eq-eqb freeze freeze refl)
+goes limits n m (at_constant context r0 r1 rest few is) = ap (is_stuck program (of_helpers limits)) is
+goes limits n m (at_requeue context r0 rest few is) = ap (is_stuck program (of_helpers limits)) is
+goes limits n m (at_result context r0 rest few is) = ap (is_stuck program (of_helpers limits)) is
+goes limits n m (at_exit context rest few is) = ap (is_stuck program (of_helpers limits)) is
 
-is_safe : (limits : HelperLimits) → Safe program limits
+is_safe : (limits : HelperLimits) → Safe program (of_helpers limits)
 is_safe limits n m reached = goes limits n m (known n m reached)
 
 -- nor beyond 7 instructions, the exit included
@@ -135,7 +135,7 @@ is_lawful limits one =
     record {
       queue_number = (omega arith, omega arith);
       agreed = one;
-      queues = All-cons (IsLawfulQueue limits) (queue_of 2) []
+      queues = All-cons (IsLawfulQueue (of_helpers limits)) (queue_of 2) []
           (record { openings = (omega arith, omega arith); program = record { laid_out = refl; in_range = (omega arith, omega arith); spares = refl }; safe = is_safe limits; within = is_within })
-          (All-nil (IsLawfulQueue limits));
+          (All-nil (IsLawfulQueue (of_helpers limits)));
     }

@@ -6,6 +6,7 @@ use Rattle.ccb.specs.Ccb.{submitted}
 use Rattle.freeze_ledger.specs.declared.freeze.Holder.TheVariants.{Guest}
 use Rattle.freeze_ledger.specs.declared.freeze.Freeze.{Freeze}
 use Rattle.helpers.specs.declared.limits.HelperLimits.{HelperLimits}
+use Rattle.helpers.specs.declared.limits.HelperSet.TheVariants.{Queues}
 use Rattle.bpf_insn.specs.declared.insn.Insn.TheVariants.{Alu, JumpIf, Call, Exit}
 use Rattle.bpf_insn.specs.declared.insn.Operand.TheVariants.{Immediate, Register}
 use Rattle.bpf_insn.specs.declared.insn.Callee.TheVariants.{Helper}
@@ -37,11 +38,15 @@ program =
 abbrev pub queue_of : ℕ → QueueSetup
 queue_of openings = record { openings = openings; program = program; budget = 7 }
 
+-- these limits, where what freezes is a queue
+abbrev pub of_helpers : HelperLimits → HelperLimits
+of_helpers limits = record limits { helpers = Queues }
+
 abbrev pub one_queue : HelperLimits → Setup
-one_queue limits = record { limits = limits; queues = queue_of 2 ∷ [] }
+one_queue limits = record { limits = of_helpers limits; queues = queue_of 2 ∷ [] }
 
 abbrev pub two_queues : HelperLimits → Setup
-two_queues limits = record { limits = limits; queues = queue_of 1 ∷ queue_of 2 ∷ [] }
+two_queues limits = record { limits = of_helpers limits; queues = queue_of 1 ∷ queue_of 2 ∷ [] }
 
 -- with the tables as they are at the opening
 abbrev pub zero_tables : HelperLimits → World → World

@@ -1,3 +1,5 @@
+use Rattle.std.proofs.Common.{◌≡◌, true, rules}
+use Rattle.helpers.specs.Table.{is_there}
 use Rattle.reg_domain.proofs.Calling.{obeys_ok}
 use Rattle.reg_domain.proofs.Leaving.{fresh, may_pass}
 use Rattle.reg_domain.proofs.description.Description.check_call.Goals as goal
@@ -5,7 +7,8 @@ use Rattle.reg_domain.proofs.description.Description.check_call.Goals as goal
 pub returns-clause-obeys : goal.returns-clause-obeys
 returns-clause-obeys c =
     let known = c.arguments-known.ensures in
-    obeys_ok c.check_need.result c.args.limits.now c.args.callers.now c.args.self.now c.args.name c.args.helper c.row-row.result.now c.arguments-known.result c.row-row.ensures
+    let there : is_there c.args.limits.now.helpers c.args.helper ≡ true = search rules in
+    obeys_ok c.check_need.result c.args.limits.now c.args.callers.now c.args.self.now c.args.name c.args.helper c.row-row.result.now c.arguments-known.result there c.row-row.ensures
     (λ numbers callers m is. record { first = known.first numbers callers m is; second = known.second numbers callers m is; third = known.third numbers callers m is })
     c.in_ok-check_arguments.ensures.fit c.check_need.ensures.0
 

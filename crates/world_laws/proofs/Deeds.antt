@@ -1,6 +1,6 @@
 -- The deeds of the helpers: one entry a deed, with all that the laws want of it. A further deed is one entry here, and what
--- the other columns of its rows say.
-use Rattle.std.proofs.Common.{◌≡◌, ℕ, ◌+◌, ◌%◌, ◌^◌, ◌<◌, ◌≤◌, List, [], ◌∷◌, Bool, true, false, cond, eqb, slice_index, slice_set, Option, Some, None, inl, inr, refl, ap, sym, subst, ◌∙◌, rules, arith}
+-- the other columns of its rows are. What the entries go by is `Entries`.
+use Rattle.std.proofs.Common.{◌≡◌, ℕ, ◌+◌, ◌%◌, ◌^◌, ◌<◌, ◌≤◌, [], ◌∷◌, Bool, true, false, cond, eqb, slice_index, slice_set, Option, Some, None, inl, inr, refl, ap, sym, subst, ◌∙◌, rules, arith}
 use Rattle.std.proofs.lemmas.Bool.{cases_Bool, cond-true, cond-false, ltb-true, and_right, not-true}
 use Rattle.ccb.specs.Ccb.{requeued}
 use Rattle.freeze_ledger.specs.declared.freeze.Holder.TheVariants.{Run}
@@ -15,72 +15,45 @@ use Rattle.helpers.specs.declared.columns.Asked.{Asked}
 use Rattle.helpers.specs.declared.columns.Asked.TheVariants as asked_for
 use Rattle.helpers.specs.declared.columns.Needs.{Needs}
 use Rattle.helpers.specs.declared.columns.Needs.TheVariants as needs
-use Rattle.helpers.specs.declared.columns.Gives.{Gives}
 use Rattle.helpers.specs.declared.columns.Gives.TheVariants.{Number, NewFreeze}
-use Rattle.helpers.specs.declared.columns.Change.{Change}
 use Rattle.helpers.specs.declared.columns.Change.TheVariants as changes
 use Rattle.helpers.specs.declared.columns.Tells.{Tells}
 use Rattle.helpers.specs.declared.columns.Tells.TheVariants as tells
 use Rattle.helpers.specs.declared.request.Request.{Request}
-use Rattle.helpers.specs.declared.request.Answer.{Answer}
 use Rattle.helpers.specs.Table.{row_of, answer_number}
 use Rattle.bpf_semantics.specs.MachineState.{MachineState}
-use Rattle.bpf_semantics.specs.Calls.{is_held, meets_need, meets_rule}
-use Rattle.bpf_semantics.specs.Step.{IsGiven, IsWritten, changed_by, after_call}
+use Rattle.bpf_semantics.specs.Calls.{meets_need, meets_rule}
 use Rattle.table_store.specs.Tables.{HasWord}
 use Rattle.world.specs.declared.ccb_state.CcbState.TheVariants.{Waiting}
 use Rattle.world.specs.Capacities.{most_openings}
 use Rattle.freeze_ledger.specs.declared.place.Place.{Place}
 use Rattle.freeze_ledger.specs.Places.{device}
-use Rattle.world.specs.World.{Setup, queue_count, LiveCcb, LiveRun, World}
+use Rattle.world.specs.World.{Setup, LiveCcb, LiveRun, World}
 use Rattle.world.specs.Lookups.{ccb_of, with_ccb}
 use Rattle.world.specs.QueueInfo.{queue_info}
 use Rattle.world.specs.Told.{told_by}
-use Rattle.world.specs.Event.{call, executes, Reply, result}
+use Rattle.world.specs.Event.{Reply, result}
 use Rattle.world.specs.FreezeSteps.{frozen_with, froze, thawed, timed}
 use Rattle.world.specs.CcbSteps.{ended_with}
 use Rattle.world.specs.RunSteps.{is_run, answers, releases, hands_over, requeues, finishes, its_word, with_its_word, info_answer, by_deed, step_request}
-use Rattle.world.specs.FreezeLaws.{Calls, MovesByDeed}
-use Rattle.world.specs.CcbLaws.{finished_by}
-use Rattle.world.specs.TookGave.{taken_as, asked_by}
-use Rattle.world.specs.Headline.{disposes}
+use Rattle.world.specs.FreezeLaws.{MovesByDeed}
 use Rattle.world.specs.Limits.{AnswerLimits}
-use Rattle.world.proofs.Steps.Answering.{OpeningsMove, TablesMove, openings_stay, openings_change, tables_stay, word_changes, word_below, openings_within}
+use Rattle.world.proofs.Steps.Answering.{openings_stay, openings_change, tables_stay, word_changes, word_below, openings_within}
 use Rattle.world_laws.proofs.Telling.{info_wrote}
 use Rattle.world_laws.proofs.Alike.{changed, AlikeOr, neither, an_event, one_of, if_so, changes as both_change}
 use Rattle.world_laws.proofs.Steps.Running.{some_is}
 use Rattle.world_laws.proofs.Steps.Rules.{rule_parts, first_as, word_there, first_within}
-use Rattle.world_laws.proofs.Steps.Does.{LeavesFreezes, leaves_freezes, takes_one, gives_one_back, hands_one_over, LeavesCcbs, leaves_ccbs, requeues_one, ends_one, LeavesTheRest, Does, takes_by, moves_by, disposes_by}
+use Rattle.world_laws.proofs.Steps.Does.{AnswersFrom, leaves_freezes, takes_one, gives_one_back, hands_one_over, leaves_ccbs, requeues_one, ends_one, Does}
+use Rattle.world_laws.proofs.Entries.{Columns, OnlyAnswers, HasItsOwn, LeadsOn, Entry, Reads, reads, nothing_set, staying, calm, named_alone, calmly, plain_row}
 
 -- What the other columns of a row with a deed are.
-
-pub record Columns (one two three : Option Asked) (need : Needs) (give : Gives) (change : Change) (tell : Tells) (row : Row) : Type 0 where
-  pub first_is : row.asks.first ≡ one
-  pub second_is : row.asks.second ≡ two
-  pub third_is : row.asks.third ≡ three
-  pub needs_is : row.needs ≡ need
-  pub gives_is : row.gives ≡ give
-  pub machine_is : row.machine ≡ change
-  pub tells_is : row.tells ≡ tell
-
--- no code is told
-abbrev pub TellsNoCode : Tells → Type 0
-TellsNoCode tells.Name = Unit {0}
-TellsNoCode tells.Bytes = Unit {0}
-TellsNoCode tells.Code = ⊥
-
--- one that only answers 0
-pub record OnlyTells (row : Row) : Type 0 where
-  pub gives_is : row.gives ≡ Number 0 0
-  pub machine_is : row.machine ≡ changes.Nothing
-  pub no_code : TellsNoCode row.tells
 
 -- one that names a word of a table
 abbrev pub NamesWord : Option Asked → Row → Type 0
 NamesWord third row = Columns (Some asked_for.Table) (Some asked_for.Index) third needs.Nothing (Number 0 18446744073709551615) changes.Nothing tells.Name row
 
 abbrev pub Suits : Deed → Row → Type 0
-Suits deeds.Nothing row = OnlyTells row
+Suits deeds.Nothing row = OnlyAnswers 0 0 row
 Suits deeds.Freeze row = Columns (Some asked_for.Queue) None None needs.Room NewFreeze changes.Holds tells.Name row
 Suits deeds.GiveBack row = Columns (Some asked_for.HeldFreeze) None None needs.Nothing (Number 0 254) changes.GivesUp tells.Name row
 Suits deeds.HandOver row = Columns (Some asked_for.HeldFreeze) (Some (asked_for.Within 1 600000)) None needs.Nothing (Number 0 0) changes.GivesUp tells.Name row
@@ -90,7 +63,7 @@ Suits deeds.GetWord row = NamesWord None row
 Suits deeds.PutWord row = NamesWord (Some asked_for.Word) row
 Suits deeds.AddWord row = NamesWord (Some asked_for.Word) row
 Suits deeds.TellQueue row = Columns (Some (asked_for.Room 16)) None None needs.Nothing (Number 0 0) (changes.Writes 16) tells.Name row
-Suits deeds.TellClock row = Columns None None None needs.Nothing (Number 0 4611686018427387904) changes.Nothing tells.Name row
+Suits deeds.TellClock row = OnlyAnswers 0 4611686018427387904 row
 Suits deeds.SetOpenings row = Columns (Some (asked_for.Within 1 255)) None None needs.Nothing (Number 1 255) changes.Nothing tells.Name row
 
 pub suited : (name : Helper) → Suits (row_of name).deed (row_of name)
@@ -101,182 +74,20 @@ suited name = search rules
 pub suits : (deed : Deed) (request : Request) → (row_of request.helper).deed ≡ deed → Suits deed (row_of request.helper)
 suits deed request is = subst (λ (d : Deed). Suits d (row_of request.helper)) is (suited request.helper)
 
--- What a call may rely on: the freezes that its run holds are there and are the run's, and so is its CCB until it disposes
--- of that.
-pub record HasItsOwn (world : World) (run : LiveRun) : Type 0 where
-  pub freezes : (number : ℕ) → is_held run.machine.held number ≡ true → (freeze : Freeze) × (entry_of number world.freezes ≡ Some freeze) × (is_run run.number freeze.holder ≡ true)
-  pub ccb : run.machine.disposed ≡ false → (live : LiveCcb) × (ccb_of run.ccb world.live ≡ Some live)
-
--- A step leads somewhere.
-abbrev pub LeadsOn : Option (Reply × World) → Type 0
-LeadsOn o = (p : Reply × World) × (o ≡ Some p)
-
--- a deed, with all that the laws want of it
-record Entry (deed : Deed) : Type 0 where
-  -- by the rule of its call it leads on
-  leads : (limits : HelperLimits) (world : World) (run : LiveRun) (request : Request) → (row_of request.helper).deed ≡ deed → HasItsOwn world run → meets_rule limits run.machine request ≡ true → LeadsOn (by_deed deed world run request)
-  -- it does not mind a change of another run
-  alike : (r : ℕ) (c : LiveRun) (named : c.number ≡ r) (w : World) (run : LiveRun) → (run.number ≡ r → ⊥) → (request : Request) → AlikeOr r c named w (by_deed deed w run request) (by_deed deed (changed c w) run request)
-  -- what it does
-  does : (setup : Setup) (before : World) (run : LiveRun) (request : Request) → (row_of request.helper).deed ≡ deed → meets_rule setup.limits run.machine request ≡ true → (p : Reply × World) → by_deed deed before run request ≡ Some p → Does setup before run request p
-
 -- the run has not disposed of its CCB
 fresh_by : (limits : HelperLimits) (m : MachineState) (request : Request) → (row_of request.helper).needs ≡ needs.Undisposed → meets_rule limits m request ≡ true → m.disposed ≡ false
 fresh_by limits m request is rule =
     not-true m.disposed (subst (λ (n : Needs). meets_need m n ≡ true) is (rule_parts limits m request rule).need)
 
--- openings and tables stay
-nothing_set : (before between : World) → between.openings ≡ before.openings → between.tables ≡ before.tables → between.runs ≡ before.runs → between.greatest_run ≡ before.greatest_run → between.clock ≡ before.clock → LeavesTheRest before between
-nothing_set before between openings tables runs greatest clock = record { openings = openings_stay openings; tables = tables_stay tables; runs_is = runs; greatest_is = greatest; clock_is = clock }
-
--- Freezes that stay: by the columns the call gives up none and takes none, and what it answers and writes is allowed.
-record StayingBy (setup : Setup) (before : World) (run : LiveRun) (request : Request) (given : Answer) (deed : Deed) (give : Gives) (change : Change) : Type 0 where
-  deed_is : (row_of request.helper).deed ≡ deed
-  gives_is : (row_of request.helper).gives ≡ give
-  machine_is : (row_of request.helper).machine ≡ change
-  keeps : asked_by change request ≡ []
-  held : (changed_by change request.arguments given (after_call run.machine given.r0)).held ≡ run.machine.held
-  answer : AnswerLimits setup before → run.queue < queue_count setup → IsGiven run.machine.held give given.r0
-  written : IsWritten change request.arguments given.written
-  taken : (other number : ℕ) → taken_as give other number given.r0 ≡ []
-  moves : (number : ℕ) (after : World) → Calls before number request → after.freezes ≡ before.freezes → MovesByDeed deed before number (result given.r0) after
-
-staying : (setup : Setup) (before : World) (run : LiveRun) (request : Request) (given : Answer) (between : World) (deed : Deed) (give : Gives) (change : Change) → StayingBy setup before run request given deed give change → between.freezes ≡ before.freezes → between.greatest_freeze ≡ before.greatest_freeze → LeavesFreezes setup before run request given between
-staying setup before run request given between deed give change it freezes greatest = record {
-  keeps = ap (λ (c : Change). asked_by c request) it.machine_is ∙ it.keeps;
-  allowed = λ kept known. (
-    subst (λ (g : Gives). IsGiven run.machine.held g given.r0) (sym it.gives_is) (it.answer kept known),
-    subst (λ (c : Change). IsWritten c request.arguments given.written) (sym it.machine_is) it.written,
-  );
-  held = ap (λ (c : Change). (changed_by c request.arguments given (after_call run.machine given.r0)).held) it.machine_is ∙ it.held;
-  taken = λ other number. takes_by give request it.gives_is other number given.r0 ∙ it.taken other number;
-  moves = λ number after calls same. moves_by deed request it.deed_is before number (result given.r0) after (it.moves number after calls same);
-  freezes_is = freezes;
-  greatest_is = greatest;
-}
-
--- CCBs that stay: by the columns the call disposes of none, and tells no code.
-tells_none : (tell : Tells) → TellsNoCode tell → (request : Request) (before : World) (number : ℕ) (reply : Reply) → finished_by before (executes number (call (told_by tell request))) reply ≡ []
-tells_none tells.Name said request before number reply = refl
-tells_none tells.Bytes said request before number reply = refl
-tells_none tells.Code said request before number reply = absurd said
-
-calm : (before : World) (run : LiveRun) (request : Request) (given : Answer) (between : World) (change : Change) → (row_of request.helper).machine ≡ change → TellsNoCode (row_of request.helper).tells → disposes change ≡ false → (changed_by change request.arguments given (after_call run.machine given.r0)).disposed ≡ run.machine.disposed → between.live ≡ before.live → between.ended ≡ before.ended → between.greatest_ccb ≡ before.greatest_ccb → LeavesCcbs before run request given between
-calm before run request given between change is no_code calm_change disposed live ended greatest = record {
-  calm = disposes_by change request is ∙ calm_change;
-  ends_none = tells_none (row_of request.helper).tells no_code request before;
-  disposed = ap (λ (c : Change). (changed_by c request.arguments given (after_call run.machine given.r0)).disposed) is ∙ disposed;
-  live_is = live;
-  ended_is = ended;
-  greatest_is = greatest;
-}
-
--- a helper of which the name alone is told tells none
-named_alone : (request : Request) → (row_of request.helper).tells ≡ tells.Name → TellsNoCode (row_of request.helper).tells
-named_alone request is = subst TellsNoCode (sym is) tt
-
--- a call that leaves freezes and CCBs, and is always answered
-calmly : (setup : Setup) (before : World) (run : LiveRun) (request : Request) (given : Answer) (between : World) → LeavesFreezes setup before run request given between → LeavesCcbs before run request given between → LeavesTheRest before between → (p : Reply × World) → Some (answers between run request given) ≡ Some p → Does setup before run request p
-calmly setup before run request given between freezes ccbs rest p e = record {
-  given = given;
-  between = between;
-  answer = some_is _ _ e;
-  freezes = leaves_freezes freezes;
-  ccbs = leaves_ccbs ccbs;
-  rest = rest;
-}
-
--- A call that only answers, writes to its run's memory, or sets openings and words.
-
-abbrev IsCalm : Change → Type 0
-IsCalm changes.Nothing = Unit {0}
-IsCalm changes.Holds = ⊥
-IsCalm changes.GivesUp = ⊥
-IsCalm changes.Disposes = ⊥
-IsCalm (changes.Writes bytes) = Unit {0}
-
--- such a change leaves what is held, and whether the CCB is disposed of
-record LeavesHeld (change : Change) (request : Request) (given : Answer) (m : MachineState) : Type 0 where
-  keeps : asked_by change request ≡ []
-  held : (changed_by change request.arguments given (after_call m given.r0)).held ≡ m.held
-  calm : disposes change ≡ false
-  disposed : (changed_by change request.arguments given (after_call m given.r0)).disposed ≡ m.disposed
-
-leaves_held : (change : Change) → IsCalm change → (request : Request) (given : Answer) (m : MachineState) → LeavesHeld change request given m
-leaves_held changes.Nothing calm request given m = record { keeps = refl; held = refl; calm = refl; disposed = refl }
-leaves_held changes.Holds calm request given m = absurd calm
-leaves_held changes.GivesUp calm request given m = absurd calm
-leaves_held changes.Disposes calm request given m = absurd calm
-leaves_held (changes.Writes bytes) calm request given m = record { keeps = refl; held = refl; calm = refl; disposed = refl }
-
--- by the columns of its row it answers a number in its range and tells no code
-record Plain (setup : Setup) (before : World) (run : LiveRun) (request : Request) (given : Answer) (openings : List ℕ) (tables : List (List ℕ)) (deed : Deed) (least greatest : ℕ) (change : Change) : Type 0 where
-  deed_is : (row_of request.helper).deed ≡ deed
-  gives_is : (row_of request.helper).gives ≡ Number least greatest
-  machine_is : (row_of request.helper).machine ≡ change
-  no_code : TellsNoCode (row_of request.helper).tells
-  calm : IsCalm change
-  moves : (number : ℕ) (after : World) → after.freezes ≡ before.freezes → MovesByDeed deed before number (result given.r0) after
-  answer : AnswerLimits setup before → run.queue < queue_count setup → (least ≤ given.r0) × (given.r0 ≤ greatest)
-  written : IsWritten change request.arguments given.written
-  opens : OpeningsMove before.openings openings
-  sets : TablesMove before.tables tables
-
-plainly : (setup : Setup) (before : World) (run : LiveRun) (request : Request) (given : Answer) (openings : List ℕ) (tables : List (List ℕ)) (deed : Deed) (least greatest : ℕ) (change : Change) → Plain setup before run request given openings tables deed least greatest change → (p : Reply × World) → Some (answers (record before { openings = openings; tables = tables }) run request given) ≡ Some p → Does setup before run request p
-plainly setup before run request given openings tables deed least greatest change it =
-    let between : World = record before { openings = openings; tables = tables } in
-    let leaves = leaves_held change it.calm request given run.machine in
-    calmly setup before run request given between
-    (staying setup before run request given between deed (Number least greatest) change (record {
-      deed_is = it.deed_is;
-      gives_is = it.gives_is;
-      machine_is = it.machine_is;
-      keeps = leaves.keeps;
-      held = leaves.held;
-      answer = it.answer;
-      written = it.written;
-      taken = λ other number. refl;
-      moves = λ number after calls same. it.moves number after same;
-    }) refl refl)
-    (calm before run request given between change it.machine_is it.no_code leaves.calm leaves.disposed refl refl refl)
-    (record { openings = it.opens; tables = it.sets; runs_is = refl; greatest_is = refl; clock_is = refl })
-
--- where a row is such by its columns
-plain_row : (setup : Setup) (before : World) (run : LiveRun) (request : Request) (given : Answer) (openings : List ℕ) (tables : List (List ℕ)) (deed : Deed) (one two three : Option Asked) (least greatest : ℕ) (change : Change) → (row_of request.helper).deed ≡ deed → Columns one two three needs.Nothing (Number least greatest) change tells.Name (row_of request.helper) → IsCalm change → ((number : ℕ) (after : World) → after.freezes ≡ before.freezes → MovesByDeed deed before number (result given.r0) after) → (AnswerLimits setup before → run.queue < queue_count setup → (least ≤ given.r0) × (given.r0 ≤ greatest)) → IsWritten change request.arguments given.written → OpeningsMove before.openings openings → TablesMove before.tables tables → (p : Reply × World) → Some (answers (record before { openings = openings; tables = tables }) run request given) ≡ Some p → Does setup before run request p
-plain_row setup before run request given openings tables deed one two three least greatest change is columns calm moves answer written opens sets =
-    plainly setup before run request given openings tables deed least greatest change (record {
-      deed_is = is;
-      gives_is = columns.gives_is;
-      machine_is = columns.machine_is;
-      no_code = named_alone request columns.tells_is;
-      calm = calm;
-      moves = moves;
-      answer = answer;
-      written = written;
-      opens = opens;
-      sets = sets;
-    })
-
 -- The entries.
 
-nothing : Entry deeds.Nothing
+pub nothing : Reads deeds.Nothing (λ world run request. 0) 0 0
 nothing = record {
-  leads = λ limits world run request is own rule. (_, refl);
-  alike = λ r c named w run apart request. an_event r c named w _ _ (both_change r c named w _ w _ refl apart);
-  does = λ setup before run request is rule.
-      let columns = suits deeds.Nothing request is in
-      plainly setup before run request (answer_number 0) before.openings before.tables deeds.Nothing 0 0 changes.Nothing (record {
-        deed_is = is;
-        gives_is = columns.gives_is;
-        machine_is = columns.machine_is;
-        no_code = columns.no_code;
-        calm = tt;
-        moves = λ number after same. same;
-        answer = λ kept known. (omega arith, omega arith);
-        written = tt;
-        opens = openings_stay refl;
-        sets = tables_stay refl;
-      });
+  columns = suits deeds.Nothing;
+  step = λ world run request. refl;
+  apart = λ c world run request. refl;
+  within = λ setup world run request from. (omega arith, omega arith);
+  moves = λ before number reply after same. same;
 }
 
 -- a call for a freeze: it is taken, or the answer is 0
@@ -304,7 +115,7 @@ freeze = record {
                 machine_is = columns.machine_is;
                 keeps = refl;
                 held = refl;
-                answer = λ kept known. inl refl;
+                answer = λ from. inl refl;
                 written = tt;
                 taken = λ other number. ap (λ (b : Bool). cond b (0 ∷ []) []) (and_right (eqb number other) false refl);
                 moves = λ number after calls same. record {
@@ -431,7 +242,7 @@ requeue = record {
             machine_is = columns.machine_is;
             keeps = refl;
             held = refl;
-            answer = λ kept known. (omega arith, omega arith);
+            answer = λ from. (omega arith, omega arith);
             written = tt;
             taken = λ other number. refl;
             moves = λ number after calls same. same;
@@ -474,7 +285,7 @@ finish = record {
             machine_is = columns.machine_is;
             keeps = refl;
             held = refl;
-            answer = λ kept known. (omega arith, omega arith);
+            answer = λ from. (omega arith, omega arith);
             written = tt;
             taken = λ other number. refl;
             moves = λ number after calls same. same;
@@ -492,30 +303,31 @@ finish = record {
         }
 
 -- a word of a table is one of 64 bits
-its_word_below : (setup : Setup) (before : World) (request : Request) → AnswerLimits setup before → its_word before request ≤ 18446744073709551615
-its_word_below setup before request kept = omega (arith, word_below before.tables request.arguments.first request.arguments.second kept.words)
+its_word_below : (setup : Setup) (world : World) (run : LiveRun) (request : Request) → AnswersFrom setup world run → its_word world request ≤ 18446744073709551615
+its_word_below setup world run request from = omega (arith, word_below world.tables request.arguments.first request.arguments.second from.kept.answers.words)
 
--- and only that word changes
-word_set : (before : World) (request : Request) (word : ℕ) → word < 2 ^ 64 → TablesMove before.tables (with_its_word before request word).tables
-word_set before request word below = word_changes request.arguments.first request.arguments.second word below refl
-
-get_word : Entry deeds.GetWord
+pub get_word : Reads deeds.GetWord (λ world run request. its_word world request) 0 18446744073709551615
 get_word = record {
-  leads = λ limits world run request is own rule. (_, refl);
-  alike = λ r c named w run apart request. an_event r c named w _ _ (both_change r c named w _ w _ refl apart);
-  does = λ setup before run request is rule.
-      plain_row setup before run request (answer_number (its_word before request)) before.openings before.tables deeds.GetWord _ _ _ 0 18446744073709551615 changes.Nothing is (suits deeds.GetWord request is) tt (λ number after same. same)
-      (λ kept known. (omega arith, its_word_below setup before request kept)) tt (openings_stay refl) (tables_stay refl);
+  columns = λ request is. let columns = suits deeds.GetWord request is in record { gives_is = columns.gives_is; machine_is = columns.machine_is; no_code = named_alone request columns.tells_is };
+  step = λ world run request. refl;
+  apart = λ c world run request. refl;
+  within = λ setup world run request from. (omega arith, its_word_below setup world run request from);
+  moves = λ before number reply after same. same;
 }
+
+-- a call that writes the word that it names, and answers a word
+writes_word : (setup : Setup) (before : World) (run : LiveRun) (request : Request) (word given : ℕ) (deed : Deed) → (row_of request.helper).deed ≡ deed → NamesWord (Some asked_for.Word) (row_of request.helper) → ((number : ℕ) (after : World) → after.freezes ≡ before.freezes → MovesByDeed deed before number (result given) after) → word < 2 ^ 64 → (AnswersFrom setup before run → given ≤ 18446744073709551615) → (p : Reply × World) → Some (answers (with_its_word before request word) run request (answer_number given)) ≡ Some p → Does setup before run request p
+writes_word setup before run request word given deed is columns moves below most =
+    plain_row setup before run request (answer_number given) before.openings (with_its_word before request word).tables deed _ _ _ 0 18446744073709551615 changes.Nothing is columns tt moves
+    (λ from. (omega arith, most from)) tt (openings_stay refl) (word_changes request.arguments.first request.arguments.second word below refl)
 
 put_word : Entry deeds.PutWord
 put_word = record {
   leads = λ limits world run request is own rule. (_, refl);
   alike = λ r c named w run apart request. an_event r c named w _ _ (both_change r c named w _ (with_its_word w request _) _ refl apart);
   does = λ setup before run request is rule.
-      let word : ℕ = request.arguments.third % 2 ^ 64 in
-      plain_row setup before run request (answer_number (its_word before request)) before.openings (with_its_word before request word).tables deeds.PutWord _ _ _ 0 18446744073709551615 changes.Nothing is (suits deeds.PutWord request is) tt (λ number after same. same)
-      (λ kept known. (omega arith, its_word_below setup before request kept)) tt (openings_stay refl) (word_set before request word (omega arith));
+      writes_word setup before run request (request.arguments.third % 2 ^ 64) (its_word before request) deeds.PutWord is (suits deeds.PutWord request is) (λ number after same. same) (omega arith)
+      (its_word_below setup before run request);
 }
 
 add_word : Entry deeds.AddWord
@@ -524,8 +336,7 @@ add_word = record {
   alike = λ r c named w run apart request. an_event r c named w _ _ (both_change r c named w _ (with_its_word w request _) _ refl apart);
   does = λ setup before run request is rule.
       let sum : ℕ = (its_word before request + request.arguments.third) % 2 ^ 64 in
-      plain_row setup before run request (answer_number sum) before.openings (with_its_word before request sum).tables deeds.AddWord _ _ _ 0 18446744073709551615 changes.Nothing is (suits deeds.AddWord request is) tt (λ number after same. same)
-      (λ kept known. (omega arith, omega arith)) tt (openings_stay refl) (word_set before request sum (omega arith));
+      writes_word setup before run request sum sum deeds.AddWord is (suits deeds.AddWord request is) (λ number after same. same) (omega arith) (λ from. omega arith);
 }
 
 tell_queue : Entry deeds.TellQueue
@@ -534,16 +345,16 @@ tell_queue = record {
   alike = λ r c named w run apart request. an_event r c named w _ _ (both_change r c named w _ w _ refl apart);
   does = λ setup before run request is rule.
       plain_row setup before run request (info_answer before run request.arguments.first) before.openings before.tables deeds.TellQueue _ _ _ 0 0 (changes.Writes 16) is (suits deeds.TellQueue request is) tt (λ number after same. same)
-      (λ kept known. (omega arith, omega arith)) (info_wrote request.arguments.first (queue_info before run.queue)) (openings_stay refl) (tables_stay refl);
+      (λ from. (omega arith, omega arith)) (info_wrote request.arguments.first (queue_info before run.queue)) (openings_stay refl) (tables_stay refl);
 }
 
-tell_clock : Entry deeds.TellClock
+pub tell_clock : Reads deeds.TellClock (λ world run request. world.clock) 0 4611686018427387904
 tell_clock = record {
-  leads = λ limits world run request is own rule. (_, refl);
-  alike = λ r c named w run apart request. an_event r c named w _ _ (both_change r c named w _ w _ refl apart);
-  does = λ setup before run request is rule.
-      plain_row setup before run request (answer_number before.clock) before.openings before.tables deeds.TellClock _ _ _ 0 4611686018427387904 changes.Nothing is (suits deeds.TellClock request is) tt (λ number after same. same)
-      (λ kept known. (omega arith, kept.clock)) tt (openings_stay refl) (tables_stay refl);
+  columns = suits deeds.TellClock;
+  step = λ world run request. refl;
+  apart = λ c world run request. refl;
+  within = λ setup world run request from. (omega arith, from.kept.answers.clock);
+  moves = λ before number reply after same. same;
 }
 
 -- openings that a call sets are openings
@@ -557,21 +368,21 @@ set_openings = record {
   does = λ setup before run request is rule.
       let within = openings_to_set setup.limits run.machine request is rule in
       plain_row setup before run request (answer_number (slice_index before.openings run.queue)) (slice_set before.openings run.queue request.arguments.first) before.tables deeds.SetOpenings _ _ _ 1 255 changes.Nothing is (suits deeds.SetOpenings request is) tt (λ number after same. same)
-      (λ kept known. openings_within setup before run.queue kept known) tt (openings_change run.queue request.arguments.first within.0 within.1 refl) (tables_stay refl);
+      (λ from. openings_within setup before run.queue from.kept.answers from.queue) tt (openings_change run.queue request.arguments.first within.0 within.1 refl) (tables_stay refl);
 }
 
 entry_for : (deed : Deed) → Entry deed
-entry_for deeds.Nothing = nothing
+entry_for deeds.Nothing = reads _ _ _ _ nothing
 entry_for deeds.Freeze = freeze
 entry_for deeds.GiveBack = give_back
 entry_for deeds.HandOver = hand_over
 entry_for deeds.Requeue = requeue
 entry_for deeds.Finish = finish
-entry_for deeds.GetWord = get_word
+entry_for deeds.GetWord = reads _ _ _ _ get_word
 entry_for deeds.PutWord = put_word
 entry_for deeds.AddWord = add_word
 entry_for deeds.TellQueue = tell_queue
-entry_for deeds.TellClock = tell_clock
+entry_for deeds.TellClock = reads _ _ _ _ tell_clock
 entry_for deeds.SetOpenings = set_openings
 
 -- What they say of calls.
@@ -589,17 +400,5 @@ pub does_all : (setup : Setup) (before : World) (run : LiveRun) (request : Reque
 does_all setup before run request rule p e = (entry_for (row_of request.helper).deed).does setup before run request refl rule p e
 
 -- a word that a call names is there
-pub word_to_get : (setup : Setup) (world : World) (m : MachineState) (request : Request) → AnswerLimits setup world → (row_of request.helper).deed ≡ deeds.GetWord → meets_rule setup.limits m request ≡ true → HasWord world.tables request.arguments.first request.arguments.second
-word_to_get setup world m request kept is rule =
-    let columns = suits deeds.GetWord request is in
-    word_there setup world m request kept columns.first_is columns.second_is rule
-
-pub word_to_put : (setup : Setup) (world : World) (m : MachineState) (request : Request) → AnswerLimits setup world → (row_of request.helper).deed ≡ deeds.PutWord → meets_rule setup.limits m request ≡ true → HasWord world.tables request.arguments.first request.arguments.second
-word_to_put setup world m request kept is rule =
-    let columns = suits deeds.PutWord request is in
-    word_there setup world m request kept columns.first_is columns.second_is rule
-
-pub word_to_add : (setup : Setup) (world : World) (m : MachineState) (request : Request) → AnswerLimits setup world → (row_of request.helper).deed ≡ deeds.AddWord → meets_rule setup.limits m request ≡ true → HasWord world.tables request.arguments.first request.arguments.second
-word_to_add setup world m request kept is rule =
-    let columns = suits deeds.AddWord request is in
-    word_there setup world m request kept columns.first_is columns.second_is rule
+pub word_named : (setup : Setup) (world : World) (m : MachineState) (request : Request) (third : Option Asked) → AnswerLimits setup world → NamesWord third (row_of request.helper) → meets_rule setup.limits m request ≡ true → HasWord world.tables request.arguments.first request.arguments.second
+word_named setup world m request third kept columns rule = word_there setup world m request kept columns.first_is columns.second_is rule

@@ -182,7 +182,7 @@ balance_step setup n number got given before event reply after lawful sound got_
       balance = had still.0 still.1 (omega (arith, same, not_taken, not_given));
     }
 balance_step setup n number got given before event reply after lawful sound got_once it (has now found same) =
-    by_fate (fate_of setup before event reply after number now sound.kept sound.held found it)
+    by_fate (fate_of setup before event reply after number now lawful sound.kept sound.held found it)
   where
     effect : Effect setup before event reply after
     effect = effect_of setup before event reply after (lists_of sound.kept) it

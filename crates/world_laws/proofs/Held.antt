@@ -86,8 +86,8 @@ held_at_start setup before event reply after number run none number_is it =
           ∙ ap (λ (ns : List ℕ). ns ++ it.freeze ∷ []) none)))
     ]
 
-machines_hold : (setup : Setup) (before : World) (event : Event) (reply : Reply) (after : World) → KeepsLimits setup before → HoldsWhatEntriesSay before → Case setup before event reply after → (number : ℕ) (now : LiveRun) → run_of number after.runs ≡ Some now → now.machine.held ≡ held_by number after.freezes
-machines_hold setup before event reply after kept held it number now some = split (run_of number before.runs) refl
+machines_hold : (setup : Setup) (before : World) (event : Event) (reply : Reply) (after : World) → IsLawful setup → KeepsLimits setup before → HoldsWhatEntriesSay before → Case setup before event reply after → (number : ℕ) (now : LiveRun) → run_of number after.runs ≡ Some now → now.machine.held ≡ held_by number after.freezes
+machines_hold setup before event reply after lawful kept held it number now some = split (run_of number before.runs) refl
   where
     effect : Effect setup before event reply after
     effect = effect_of setup before event reply after (lists_of kept) it
@@ -116,7 +116,7 @@ machines_hold setup before event reply after kept held it number now some = spli
     split None none =
         let it_is = new_run setup before event reply after number now effect.runs none some in
         held_at_start setup before event reply after number now (nothing_held setup before number (lists_of kept) held none) it_is.number_is it_is.begins
-    split (Some run) found = by_fate run found (fate_of setup before event reply after number run kept held found it)
+    split (Some run) found = by_fate run found (fate_of setup before event reply after number run lawful kept held found it)
 
 -- where an entry that names a run comes from: it was there before, or it came for a run that is there
 entry_source : (setup : Setup) (before : World) (event : Event) (after : World) (n r : ℕ) (f : Freeze) → KeepsLists setup before → entry_of n after.freezes ≡ Some f → is_run r f.holder ≡ true → FreezeMove setup before event after → (entry_of n before.freezes ≡ Some f) ⊎ IsSome (run_of r after.runs)
@@ -158,11 +158,11 @@ entries_live setup before event reply after lawful kept reached held it n r f so
     split old None none =
         let live : IsSome (run_of r before.runs) = held.entries n r f old its in
         absurd (let bad : IsSome {T = LiveRun} None = subst (λ (o : Option LiveRun). IsSome o) none live in cc)
-    split old (Some run) found = by_fate old run found (fate_of setup before event reply after r run kept held found it)
+    split old (Some run) found = by_fate old run found (fate_of setup before event reply after r run lawful kept held found it)
 
 pub case_holds : (setup : Setup) (before : World) (event : Event) (reply : Reply) (after : World) → IsLawful setup → KeepsLimits setup before → AllReached before → HoldsWhatEntriesSay before → Case setup before event reply after → HoldsWhatEntriesSay after
 case_holds setup before event reply after lawful kept reached held it =
     record {
-      machines = machines_hold setup before event reply after kept held it;
+      machines = machines_hold setup before event reply after lawful kept held it;
       entries = entries_live setup before event reply after lawful kept reached held it;
     }

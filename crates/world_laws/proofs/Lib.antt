@@ -2,6 +2,7 @@ pub mod Telling
 pub mod Rows
 pub mod Apart
 pub mod Alike
+pub mod Entries
 pub mod Deeds
 pub mod Steps
 pub mod Kept

@@ -144,7 +144,7 @@ life_step : (setup : Setup) (start : LiveRun) (number k j e : ℕ) (before : Wor
 life_step setup start number k j e before event reply after lawful sound step (alive now found queue ccb reached disposed none_yet) =
     let it = case_of setup before event reply after step in
     alive_step setup start number k j e before event reply after lawful sound (effect_of setup before event reply after (lists_of sound.kept) it) now found queue ccb reached disposed none_yet
-    (fate_of setup before event reply after number now sound.kept sound.held found it)
+    (fate_of setup before event reply after number now lawful sound.kept sound.held found it)
 life_step setup start number k j e before event reply after lawful sound step (over none given most used gone) =
     let it = effect_of setup before event reply after (lists_of sound.kept) (case_of setup before event reply after step) in
     let still = stays_over setup before event reply after number none given it.runs in

@@ -23,7 +23,8 @@ use Rattle.world_laws.proofs.Telling.{told_itself}
 use Rattle.world_laws.proofs.Steps.Running.{some_is, Executes, private_parts, call_parts, exit_parts}
 use Rattle.world.proofs.Steps.Moves.{run_key}
 use Rattle.world_laws.proofs.Steps.Fates.{same_run}
-use Rattle.world_laws.proofs.Deeds.{HasItsOwn, leads_on}
+use Rattle.world_laws.proofs.Entries.{HasItsOwn}
+use Rattle.world_laws.proofs.Deeds.{leads_on}
 use Rattle.world_laws.proofs.Reaching.{reached_goes}
 use Rattle.world.proofs.Lists.HeldBy.{among_is}
 use Rattle.world_laws.proofs.Sound.{IsSound, run_sound}

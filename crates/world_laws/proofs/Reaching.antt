@@ -39,12 +39,12 @@ from_fate before event reply after number run now reached some (stands out idle 
 from_fate before event reply after number run now reached some (goes instruction machine event_is no_exit steps is holding disposing) = from_steps after number run now machine reached some steps is
 from_fate before event reply after number run now reached some (leaves_world r0 event_is exit_is none takes) = absurd (let bad : None ≡ Some now = sym none ∙ some in cc)
 
-pub case_reaches : (setup : Setup) (before : World) (event : Event) (reply : Reply) (after : World) → KeepsLimits setup before → HoldsWhatEntriesSay before → Case setup before event reply after → AllReached before → AllReached after
-case_reaches setup before event reply after kept held it reached number now some = split (run_of number before.runs) refl
+pub case_reaches : (setup : Setup) (before : World) (event : Event) (reply : Reply) (after : World) → IsLawful setup → KeepsLimits setup before → HoldsWhatEntriesSay before → Case setup before event reply after → AllReached before → AllReached after
+case_reaches setup before event reply after lawful kept held it reached number now some = split (run_of number before.runs) refl
   where
     split : (o : Option LiveRun) → run_of number before.runs ≡ o → (n : ℕ) × Reached now.program n now.machine
     split None none = (0, begins_at_entry setup before event reply after now (new_run setup before event reply after number now (effect_of setup before event reply after (lists_of kept) it).runs none some).begins)
-    split (Some run) found = from_fate before event reply after number run now (reached number run found) some (fate_of setup before event reply after number run kept held found it)
+    split (Some run) found = from_fate before event reply after number run now (reached number run found) some (fate_of setup before event reply after number run lawful kept held found it)
 
 -- the queue of a live run is lawful
 pub lawful_queue : (setup : Setup) → IsLawful setup → (queue : ℕ) → queue < queue_count setup → IsLawfulQueue setup.limits (queue_setup setup queue)

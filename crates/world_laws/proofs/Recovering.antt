@@ -8,6 +8,7 @@ use Rattle.world.specs.declared.ccb_state.CcbState.TheVariants.{InRecovery}
 use Rattle.world.specs.World.{Setup, LiveCcb, LiveRun, World}
 use Rattle.world.specs.Lookups.{is_active, ccb_of, run_of}
 use Rattle.world.specs.Event.{Instruction, Event, Reply}
+use Rattle.world.specs.Lawful.{IsLawful}
 use Rattle.world.specs.Limits.{KeepsLimits}
 use Rattle.world.specs.FreezeLaws.{HoldsWhatEntriesSay}
 use Rattle.world.specs.Headline.{is_step_of}
@@ -100,12 +101,12 @@ continues before event reply after number run now found some (goes instruction m
     record { run = run; found = found; ccb_is = sym (ap (λ (r : LiveRun). r.ccb) same); fresh = λ e. was_fresh before after run instruction machine disposing (ap (λ (r : LiveRun). r.machine.disposed) same ∙ e) }
 continues before event reply after number run now found some (leaves_world r0 event_is exit_is none takes) = absurd (no_some (run_of number after.runs) now none some)
 
-origin : (setup : Setup) (before : World) (event : Event) (reply : Reply) (after : World) (number : ℕ) (now : LiveRun) → KeepsLimits setup before → HoldsWhatEntriesSay before → Case setup before event reply after → run_of number after.runs ≡ Some now → Continues before number now ⊎ Newly setup before event reply after number now
-origin setup before event reply after number now kept held it some = split (run_of number before.runs) refl
+origin : (setup : Setup) (before : World) (event : Event) (reply : Reply) (after : World) (number : ℕ) (now : LiveRun) → IsLawful setup → KeepsLimits setup before → HoldsWhatEntriesSay before → Case setup before event reply after → run_of number after.runs ≡ Some now → Continues before number now ⊎ Newly setup before event reply after number now
+origin setup before event reply after number now lawful kept held it some = split (run_of number before.runs) refl
   where
     split : (o : Option LiveRun) → run_of number before.runs ≡ o → Continues before number now ⊎ Newly setup before event reply after number now
     split None none = inr (new_run setup before event reply after number now (effect_of setup before event reply after (lists_of kept) it).runs none some)
-    split (Some run) found = inl (continues before event reply after number run now found some (fate_of setup before event reply after number run kept held found it))
+    split (Some run) found = inl (continues before event reply after number run now found some (fate_of setup before event reply after number run lawful kept held found it))
 
 -- the CCB of a run that begins is in recovery
 pub begun_recovers : (setup : Setup) (before : World) (event : Event) (reply : Reply) (after : World) (run : LiveRun) → Begins setup before event reply after run → IsInRecovery run.ccb after
@@ -115,8 +116,8 @@ begun_recovers setup before event reply after run it =
     let there : ccb_of it.live.ccb.number.0 after.live ≡ Some new = ap (ccb_of it.live.ccb.number.0) it.live_is ∙ put_same ccb_key new before.live it.live (ccb_found it.outcome.ccb.0 before.live it.live it.found) in
     record { live = new; found = subst (λ (n : ℕ). ccb_of n after.live ≡ Some new) named there; state = refl }
 
-ccbs_recover : (setup : Setup) (before : World) (event : Event) (reply : Reply) (after : World) → KeepsLimits setup before → HoldsWhatEntriesSay before → Recovering before → Case setup before event reply after → (number : ℕ) (now : LiveRun) → run_of number after.runs ≡ Some now → now.machine.disposed ≡ false → IsInRecovery now.ccb after
-ccbs_recover setup before event reply after kept held recovering it number now some fresh_now = split (run_of number before.runs) refl
+ccbs_recover : (setup : Setup) (before : World) (event : Event) (reply : Reply) (after : World) → IsLawful setup → KeepsLimits setup before → HoldsWhatEntriesSay before → Recovering before → Case setup before event reply after → (number : ℕ) (now : LiveRun) → run_of number after.runs ≡ Some now → now.machine.disposed ≡ false → IsInRecovery now.ccb after
+ccbs_recover setup before event reply after lawful kept held recovering it number now some fresh_now = split (run_of number before.runs) refl
   where
     effect : Effect setup before event reply after
     effect = effect_of setup before event reply after (lists_of kept) it
@@ -138,18 +139,18 @@ ccbs_recover setup before event reply after kept held recovering it number now s
 
     split : (o : Option LiveRun) → run_of number before.runs ≡ o → IsInRecovery now.ccb after
     split None none = begun_recovers setup before event reply after now (new_run setup before event reply after number now effect.runs none some).begins
-    split (Some run) found = by_fate run found (fate_of setup before event reply after number run kept held found it)
+    split (Some run) found = by_fate run found (fate_of setup before event reply after number run lawful kept held found it)
 
-runs_alone : (setup : Setup) (before : World) (event : Event) (reply : Reply) (after : World) → KeepsLimits setup before → HoldsWhatEntriesSay before → Recovering before → Case setup before event reply after → (n m : ℕ) (a b : LiveRun) → run_of n after.runs ≡ Some a → run_of m after.runs ≡ Some b → a.ccb ≡ b.ccb → a.machine.disposed ≡ false → b.machine.disposed ≡ false → n ≡ m
-runs_alone setup before event reply after kept held recovering it n m a b first second same fresh fresh_too =
-    elim (origin setup before event reply after n a kept held it first) [
+runs_alone : (setup : Setup) (before : World) (event : Event) (reply : Reply) (after : World) → IsLawful setup → KeepsLimits setup before → HoldsWhatEntriesSay before → Recovering before → Case setup before event reply after → (n m : ℕ) (a b : LiveRun) → run_of n after.runs ≡ Some a → run_of m after.runs ≡ Some b → a.ccb ≡ b.ccb → a.machine.disposed ≡ false → b.machine.disposed ≡ false → n ≡ m
+runs_alone setup before event reply after lawful kept held recovering it n m a b first second same fresh fresh_too =
+    elim (origin setup before event reply after n a lawful kept held it first) [
       | inl old ↦
-          elim (origin setup before event reply after m b kept held it second) [
+          elim (origin setup before event reply after m b lawful kept held it second) [
             | inl older ↦ recovering.alone n m old.run older.run old.found older.found (sym old.ccb_is ∙ (same ∙ older.ccb_is)) (old.fresh fresh) (older.fresh fresh_too)
             | inr new ↦ absurd (not_new old.run n b new.begins old.found (old.fresh fresh) (sym old.ccb_is ∙ same))
           ]
       | inr new ↦
-          elim (origin setup before event reply after m b kept held it second) [
+          elim (origin setup before event reply after m b lawful kept held it second) [
             | inl old ↦ absurd (not_new old.run m a new.begins old.found (old.fresh fresh_too) (sym old.ccb_is ∙ sym same))
             | inr newer ↦ new.number_is ∙ sym newer.number_is
           ]
@@ -160,6 +161,6 @@ runs_alone setup before event reply after kept held recovering it n m a b first 
         not_active_one run.ccb begins.outcome.ccb.0 before begins.live (recovering.ccbs number run found unspent) begins.found begins.is_active
         (sym (ap (λ (r : LiveRun). r.ccb) begins.run_is) ∙ sym ccb_is)
 
-pub case_recovers : (setup : Setup) (before : World) (event : Event) (reply : Reply) (after : World) → KeepsLimits setup before → HoldsWhatEntriesSay before → Recovering before → Case setup before event reply after → Recovering after
-case_recovers setup before event reply after kept held recovering it =
-    record { ccbs = ccbs_recover setup before event reply after kept held recovering it; alone = runs_alone setup before event reply after kept held recovering it }
+pub case_recovers : (setup : Setup) (before : World) (event : Event) (reply : Reply) (after : World) → IsLawful setup → KeepsLimits setup before → HoldsWhatEntriesSay before → Recovering before → Case setup before event reply after → Recovering after
+case_recovers setup before event reply after lawful kept held recovering it =
+    record { ccbs = ccbs_recover setup before event reply after lawful kept held recovering it; alone = runs_alone setup before event reply after lawful kept held recovering it }

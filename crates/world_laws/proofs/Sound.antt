@@ -25,9 +25,9 @@ step_sound setup before event reply after lawful e sound =
     let it = case_of setup before event reply after e in
     record {
       kept = case_keeps_limits setup before event reply after it sound.kept;
-      reached = case_reaches setup before event reply after sound.kept sound.held it sound.reached;
+      reached = case_reaches setup before event reply after lawful sound.kept sound.held it sound.reached;
       held = case_holds setup before event reply after lawful sound.kept sound.reached sound.held it;
-      recovering = case_recovers setup before event reply after sound.kept sound.held sound.recovering it;
+      recovering = case_recovers setup before event reply after lawful sound.kept sound.held sound.recovering it;
     }
 
 pub leads_sound : (setup : Setup) (before : World) (xs : List (Event × Reply)) (after : World) → IsLawful setup → Leads setup before xs after → IsSound setup before → IsSound setup after

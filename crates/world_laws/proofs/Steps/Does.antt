@@ -28,16 +28,23 @@ use Rattle.world.specs.FreezeLaws.{Calls, MovesByDeed, MovesCounts}
 use Rattle.world.specs.CcbLaws.{finished_by}
 use Rattle.world.specs.TookGave.{taken_as, taken_by, asked}
 use Rattle.world.specs.Headline.{disposes, is_disposing}
-use Rattle.world.specs.Limits.{AnswerLimits}
+use Rattle.world.specs.Lawful.{IsLawful}
+use Rattle.world.specs.Limits.{KeepsLimits}
 use Rattle.world.proofs.Steps.Answering.{OpeningsMove, TablesMove}
 use Rattle.world_laws.proofs.Telling.{helper_told}
+
+-- what an answer may be taken from: a world that keeps the limits of a lawful setup, with the run's queue among its queues
+pub record AnswersFrom (setup : Setup) (before : World) (run : LiveRun) : Type 0 where
+  pub lawful : IsLawful setup
+  pub kept : KeepsLimits setup before
+  pub queue : run.queue < queue_count setup
 
 -- What a call of a helper does to the freezes, `between` being the world in which its answer comes.
 
 -- nothing, and the run holds what it held
 pub record LeavesFreezes (setup : Setup) (before : World) (run : LiveRun) (request : Request) (given : Answer) (between : World) : Type 0 where
   pub keeps : asked (Some request) ≡ []
-  pub allowed : AnswerLimits setup before → run.queue < queue_count setup → IsAnswer run.machine request given
+  pub allowed : AnswersFrom setup before run → IsAnswer run.machine request given
   pub held : (answered request given run.machine).held ≡ run.machine.held
   pub taken : (other number : ℕ) → taken_by other (executes number (call (told_of request))) (result given.r0) ≡ []
   pub moves : (number : ℕ) (after : World) → Calls before number request → after.freezes ≡ before.freezes → MovesCounts before (executes number (call (told_of request))) (result given.r0) after

@@ -27,14 +27,15 @@ use Rattle.world.specs.RunSteps.{is_run}
 use Rattle.world.specs.FreezeLaws.{entries_of, held_by, HoldsWhatEntriesSay}
 use Rattle.world.specs.TookGave.{taken_as, taken_by, asked_by, asked, given_up}
 use Rattle.world.specs.Headline.{is_disposal, is_exit}
-use Rattle.world.specs.Limits.{FreezeLimits, AnswerLimits, KeepsLimits}
+use Rattle.world.specs.Lawful.{IsLawful}
+use Rattle.world.specs.Limits.{FreezeLimits, KeepsLimits}
 use Rattle.world.proofs.Lists.Found.{leave, found_key, found_push, put_same, put_other, leave_same, leave_other}
 use Rattle.world.proofs.Lists.Each.{all_found}
 use Rattle.world.proofs.Lists.Entries.{freeze_key, frozen_without, entry_bounds, handed_is_put, place_itself}
 use Rattle.world.proofs.Lists.HeldBy.{entries_put, none_above}
 use Rattle.world_laws.proofs.Kept.{room_from}
 use Rattle.world_laws.proofs.Steps.Running.{Executes}
-use Rattle.world_laws.proofs.Steps.Does.{FreezeDeed, leaves_freezes, takes_one, gives_one_back, hands_one_over, CcbDeed, leaves_ccbs, requeues_one, ends_one, takes_by, disposes_by}
+use Rattle.world_laws.proofs.Steps.Does.{AnswersFrom, FreezeDeed, leaves_freezes, takes_one, gives_one_back, hands_one_over, CcbDeed, leaves_ccbs, requeues_one, ends_one, takes_by, disposes_by}
 use Rattle.world_laws.proofs.Steps.Calls.{Asks}
 use Rattle.world_laws.proofs.Steps.Cases.{Case, refuses, submits, dispatches, finishes_one, recovers_one, recovers_unfrozen, freezes_one, releases_one, reads_clock, Turns, turns_one, goes_on_one, asks_one, exits}
 use Rattle.world.proofs.Steps.Moves.{run_key, Begins}
@@ -126,19 +127,19 @@ one_turns before event reply after it number run found =
 -- Calls of helpers.
 
 -- the answer is one that the run may get
-call_allowed : (setup : Setup) (before : World) (run : LiveRun) (request : Request) (given : Answer) (between : World) → FreezeLimits setup before → AnswerLimits setup before → run.queue < queue_count setup → run.machine.held ≡ held_by run.number before.freezes → FreezeDeed setup before run request given between → IsAnswer run.machine request given
-call_allowed setup before run request given between kept answers known held (leaves_freezes deed) = deed.allowed answers known
-call_allowed setup before run request given between kept answers known held (takes_one deed) =
+call_allowed : (setup : Setup) (before : World) (run : LiveRun) (request : Request) (given : Answer) (between : World) → AnswersFrom setup before run → run.machine.held ≡ held_by run.number before.freezes → FreezeDeed setup before run request given between → IsAnswer run.machine request given
+call_allowed setup before run request given between from held (leaves_freezes deed) = deed.allowed from
+call_allowed setup before run request given between from held (takes_one deed) =
     let room = room_from (device request.arguments.first) before.freezes before.greatest_freeze deed.room in
     let fresh : is_held run.machine.held (before.greatest_freeze + 1) ≡ false =
-    ap (λ (ns : List ℕ). is_held ns (before.greatest_freeze + 1)) held ∙ none_above run.number (before.greatest_freeze + 1) before.freezes before.greatest_freeze kept.numbered (omega arith) in
+    ap (λ (ns : List ℕ). is_held ns (before.greatest_freeze + 1)) held ∙ none_above run.number (before.greatest_freeze + 1) before.freezes before.greatest_freeze from.kept.freezes.numbered (omega arith) in
     rw (deed.gives_is, deed.machine_is, deed.given_is) (inr (omega arith, omega (arith, room.numbers), fresh), tt)
-call_allowed setup before run request given between kept answers known held (gives_one_back deed) =
+call_allowed setup before run request given between from held (gives_one_back deed) =
     let number : ℕ = request.arguments.first in
     let named : deed.freeze.number ≡ number = found_key freeze_key number before.freezes deed.freeze deed.entry in
     rw (deed.gives_is, deed.machine_is, deed.given_is)
-    ((omega arith, subst (λ (n : ℕ). frozen_with deed.freeze (without n before.freezes) ≤ 254) named (count_after setup before number deed.freeze kept deed.entry)), tt)
-call_allowed setup before run request given between kept answers known held (hands_one_over deed) = rw (deed.gives_is, deed.machine_is, deed.given_is) ((omega arith, omega arith), tt)
+    ((omega arith, subst (λ (n : ℕ). frozen_with deed.freeze (without n before.freezes) ≤ 254) named (count_after setup before number deed.freeze from.kept.freezes deed.entry)), tt)
+call_allowed setup before run request given between from held (hands_one_over deed) = rw (deed.gives_is, deed.machine_is, deed.given_is) ((omega arith, omega arith), tt)
 
 -- what the run holds with the answer
 call_holding : (setup : Setup) (before : World) (event : Event) (reply : Reply) (after : World) → FreezeLimits setup before → (it : Asks setup before event reply after) → FreezeDeed setup before it.it.run it.request it.given it.between → Holding before event reply after it.it.number it.it.run (call (told_of it.request)) (answered it.request it.given it.it.run.machine)
@@ -204,34 +205,34 @@ call_disposing setup before event reply after it (leaves_ccbs deed) = leaves_its
 call_disposing setup before event reply after it (requeues_one deed) = disposes_of_it deed.its.fresh (disposed_by setup before event reply after it deed.machine_is) (disposes_by changes.Disposes it.request deed.machine_is)
 call_disposing setup before event reply after it (ends_one deed) = disposes_of_it deed.its.fresh (disposed_by setup before event reply after it deed.machine_is) (disposes_by changes.Disposes it.request deed.machine_is)
 
-pub fate_of : (setup : Setup) (before : World) (event : Event) (reply : Reply) (after : World) (number : ℕ) (run : LiveRun) → KeepsLimits setup before → HoldsWhatEntriesSay before → run_of number before.runs ≡ Some run → Case setup before event reply after → Fate before event reply after number run
-fate_of setup before event reply after number run kept held found (refuses it) = unchanged before event reply after number run found (it.idle number) (ap (λ (w : World). w.runs) it.after_is)
-fate_of setup before event reply after number run kept held found (submits it) = unchanged before event reply after number run found (ap (instruction_of number) it.event_is) (ap (λ (w : World). w.runs) it.after_is)
-fate_of setup before event reply after number run kept held found (dispatches it) = unchanged before event reply after number run found (ap (instruction_of number) it.event_is) (ap (λ (w : World). w.runs) it.after_is)
-fate_of setup before event reply after number run kept held found (finishes_one it) = unchanged before event reply after number run found (ap (instruction_of number) it.event_is) (ap (λ (w : World). w.runs) it.after_is)
-fate_of setup before event reply after number run kept held found (recovers_one it) =
+pub fate_of : (setup : Setup) (before : World) (event : Event) (reply : Reply) (after : World) (number : ℕ) (run : LiveRun) → IsLawful setup → KeepsLimits setup before → HoldsWhatEntriesSay before → run_of number before.runs ≡ Some run → Case setup before event reply after → Fate before event reply after number run
+fate_of setup before event reply after number run lawful kept held found (refuses it) = unchanged before event reply after number run found (it.idle number) (ap (λ (w : World). w.runs) it.after_is)
+fate_of setup before event reply after number run lawful kept held found (submits it) = unchanged before event reply after number run found (ap (instruction_of number) it.event_is) (ap (λ (w : World). w.runs) it.after_is)
+fate_of setup before event reply after number run lawful kept held found (dispatches it) = unchanged before event reply after number run found (ap (instruction_of number) it.event_is) (ap (λ (w : World). w.runs) it.after_is)
+fate_of setup before event reply after number run lawful kept held found (finishes_one it) = unchanged before event reply after number run found (ap (instruction_of number) it.event_is) (ap (λ (w : World). w.runs) it.after_is)
+fate_of setup before event reply after number run lawful kept held found (recovers_one it) =
     stands run.out (ap (instruction_of number) it.fails.event_is) (ap (λ (x : Reply × World). run_of number x.1.runs) it.starts_is ∙ found_push run_key number before.runs _ run found)
-fate_of setup before event reply after number run kept held found (recovers_unfrozen it) =
+fate_of setup before event reply after number run lawful kept held found (recovers_unfrozen it) =
     stands run.out (ap (instruction_of number) it.fails.event_is) (ap (λ (x : Reply × World). run_of number x.1.runs) it.starts_is ∙ found_push run_key number before.runs _ run found)
-fate_of setup before event reply after number run kept held found (freezes_one it) = unchanged before event reply after number run found (ap (instruction_of number) it.event_is) (ap (λ (w : World). w.runs) it.after_is)
-fate_of setup before event reply after number run kept held found (releases_one it) = unchanged before event reply after number run found (ap (instruction_of number) it.event_is) (ap (λ (w : World). w.runs) it.after_is)
-fate_of setup before event reply after number run kept held found (reads_clock it) = unchanged before event reply after number run found (ap (instruction_of number) it.event_is) (ap (λ (w : World). w.runs) it.after_is)
-fate_of setup before event reply after number run kept held found (turns_one it) = one_turns before event reply after it number run found
-fate_of setup before event reply after number run kept held found (goes_on_one it) =
+fate_of setup before event reply after number run lawful kept held found (freezes_one it) = unchanged before event reply after number run found (ap (instruction_of number) it.event_is) (ap (λ (w : World). w.runs) it.after_is)
+fate_of setup before event reply after number run lawful kept held found (releases_one it) = unchanged before event reply after number run found (ap (instruction_of number) it.event_is) (ap (λ (w : World). w.runs) it.after_is)
+fate_of setup before event reply after number run lawful kept held found (reads_clock it) = unchanged before event reply after number run found (ap (instruction_of number) it.event_is) (ap (λ (w : World). w.runs) it.after_is)
+fate_of setup before event reply after number run lawful kept held found (turns_one it) = one_turns before event reply after it number run found
+fate_of setup before event reply after number run lawful kept held found (goes_on_one it) =
     let same = private_keeps it.it.run.program it.it.run.machine it.machine it.step in
     one_goes before event reply after private it.it it.machine (ap (λ (w : World). w.runs) it.after_is) refl (inl it.step)
     (holds_the_same same.held (ap (λ (w : World). w.freezes) it.after_is) refl (λ i. taken_by it.it.number (it.it.event_is i) (it.reply_is i)))
     (leaves_its_ccb same.disposed (ap (λ (w : World). w.live) it.after_is) refl)
     number run found
-fate_of setup before event reply after number run kept held found (asks_one it) =
+fate_of setup before event reply after number run lawful kept held found (asks_one it) =
     let named : it.it.run.number ≡ it.it.number = found_key run_key it.it.number before.runs it.it.run it.it.found in
     let holds : it.it.run.machine.held ≡ held_by it.it.run.number before.freezes = held.machines it.it.number it.it.run it.it.found ∙ ap (λ (n : ℕ). held_by n before.freezes) (sym named) in
     let known : it.it.run.queue < queue_count setup = all_found run_key (λ (r : LiveRun). r.queue < queue_count setup) it.it.number before.runs it.it.run kept.runs.queues it.it.found in
     one_goes before event reply after (call (told_of it.request)) it.it (answered it.request it.given it.it.run.machine) (call_runs setup before event reply after it) refl
-    (inr (it.request, it.given, it.call_is, (call_allowed setup before it.it.run it.request it.given it.between kept.freezes kept.answers known holds it.freezes, refl)))
+    (inr (it.request, it.given, it.call_is, (call_allowed setup before it.it.run it.request it.given it.between (record { lawful = lawful; kept = kept; queue = known }) holds it.freezes, refl)))
     (call_holding setup before event reply after kept.freezes it it.freezes) (call_disposing setup before event reply after it it.ccbs)
     number run found
-fate_of setup before event reply after number run kept held found (exits it) =
+fate_of setup before event reply after number run lawful kept held found (exits it) =
     let named : it.it.run.number ≡ it.it.number = found_key run_key it.it.number before.runs it.it.run it.it.found in
     let runs_is : after.runs ≡ leave run_key it.it.run.number before.runs = ap (λ (w : World). w.runs) it.after_is in
     elim (cases_eq it.it.number number) [

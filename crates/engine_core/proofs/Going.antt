@@ -20,12 +20,8 @@ use Rattle.engine_core.specs.RunState.{RunState, IsOut, IsOutUnder, IsReached}
 use Rattle.engine_core.specs.Invariant.{KeepsEngine}
 use Rattle.engine_core.specs.TakingOver.{IsAdmitted, LeadsBy, GoesOn, GoesBy}
 use Rattle.engine_core.proofs.PrivateWays.{with_machine}
-use Rattle.engine_core.proofs.Recording.{Goes, kept_sound}
-use Rattle.engine_core.proofs.OneMore.{advances}
-
--- a run that is out, and where it was found
-abbrev pub IsPlaced : List LiveRun → ℕ → ℕ → Type 0
-IsPlaced runs number place = (it : LiveRun) × (run_of number runs ≡ Some it) × HasRunAt runs place it
+use Rattle.engine_core.specs.Performing.{IsPlaced}
+use Rattle.engine_core.proofs.Recording.{goes, kept_sound}
 
 there : (runs : List LiveRun) (number place : ℕ) (program : List Slot) (segment : SegmentState) → (out : IsOutAs runs number program segment) → IsPlaced runs number place → HasRunAt runs place out.it
 there runs number place program segment out at =
@@ -43,10 +39,11 @@ is_admitted setup history ccbs recoveries number place program segment kept out 
   there = there recoveries.runs number place program segment out at;
 }
 
-pub taken_over : (setup : Setup) (history later : List Record) (ccbs more : CcbsState) (recoveries after : RecoveryState) (number place : ℕ) (program : List Slot) (segment : SegmentState) (stop : StoppedAt) (r0 : ℕ) → KeepsEngine setup history ccbs recoveries → later ≡ history ++ Advance number segment.steps stop r0 ∷ [] → after.queues ≡ recoveries.queues → IsOutAs recoveries.runs number program segment → IsPlaced recoveries.runs number place → LeadsBy stop r0 place segment ccbs recoveries more after → Goes setup history later ccbs more recoveries after (Advance number segment.steps stop r0)
-taken_over setup history later ccbs more recoveries after number place program segment stop r0 kept is same out at leads =
-    advances setup history later ccbs more recoveries after number segment.steps stop r0 kept is same
-    (leads number (is_admitted setup history ccbs recoveries number place program segment kept out at) setup history kept)
+-- the engine is kept by one that is taken over
+pub taken_over : (setup : Setup) (history : List Record) (ccbs more : CcbsState) (recoveries after : RecoveryState) (number place : ℕ) (program : List Slot) (segment : SegmentState) (stop : StoppedAt) (r0 : ℕ) → KeepsEngine setup history ccbs recoveries → after.queues ≡ recoveries.queues → IsOutAs recoveries.runs number program segment → IsPlaced recoveries.runs number place → LeadsBy stop r0 place segment ccbs recoveries more after → KeepsEngine setup (history ++ Advance number segment.steps stop r0 ∷ []) more after
+taken_over setup history ccbs more recoveries after number place program segment stop r0 kept same out at leads =
+    let it = leads number (is_admitted setup history ccbs recoveries number place program segment kept out at) setup history kept in
+    (goes setup history _ ccbs more recoveries after (Advance number segment.steps stop r0) it.world kept refl same it.leads it.fields).kept
 
 -- it goes on unless it exited
 went_on : (stop : Stop) (r0 : ℕ) (recoveries after : RecoveryState) (place : ℕ) (request : Request) → stop ≡ Helper request → GoesBy stop r0 recoveries after place → GoesOn recoveries after place

@@ -1,11 +1,13 @@
 pub mod Recording
+pub mod OneMore
 pub mod Parking
 pub mod PrivateWays
 pub mod Standing
 pub mod Stops
 pub mod Reported
 pub mod Deciding
-pub mod OneMore
 pub mod StopEnds
 pub mod Calls
 pub mod Going
+pub mod Performing
+pub mod Answering

@@ -14,6 +14,7 @@ use Rattle.bpf_semantics.specs.Reached.{Reached}
 use Rattle.world.specs.World.{LiveRun, Setup, World, queue_count, queue_setup}
 use Rattle.world.specs.Lookups.{run_of, with_run}
 use Rattle.world.specs.Event.{Reply, replies, refused}
+use Rattle.world.specs.Flat.{events_of}
 use Rattle.world.specs.ParkSteps.{parks, resumes, with_out}
 use Rattle.world.specs.Refusals.{is_parked, unless_refused}
 use Rattle.world.proofs.Lists.Each.{all_found}
@@ -22,17 +23,18 @@ use Rattle.world.proofs.Lists.Rising.{count_put, found_counts}
 use Rattle.world.proofs.Steps.Moves.{run_key, run_found}
 use Rattle.engine_core.specs.EngineState.{world_of}
 use Rattle.engine_core.specs.Invariant.{HasRoom, KeepsEngine}
-use Rattle.engine_core.proofs.Recording.{Goes, kept_sound}
-use Rattle.engine_core.proofs.OneMore.{calls_once}
+use Rattle.engine_core.specs.TakingOver.{LeadsTo}
+use Rattle.engine_core.proofs.OneMore.{once}
+use Rattle.engine_core.proofs.Recording.{kept_sound}
 
 -- the runs where this one is out or parked
 abbrev pub with_out_run : LiveRun → Bool → RecoveryState → RecoveryState
 with_out_run it out recoveries = record recoveries { runs = with_run (record it { out = out }) recoveries.runs }
 
-pub parks_run : (setup : Setup) (history later : List Record) (ccbs : CcbsState) (recoveries after : RecoveryState) (number : ℕ) (it : LiveRun) → KeepsEngine setup history ccbs recoveries → later ≡ history ++ Called answers.Ok (Park number) ∷ [] → run_of number recoveries.runs ≡ Some it → it.out ≡ true → after ≡ with_out_run it false recoveries → Goes setup history later ccbs ccbs recoveries after (Called answers.Ok (Park number))
-parks_run setup history later ccbs recoveries after number it kept is found out same =
+pub parks_run : (setup : Setup) (history : List Record) (ccbs : CcbsState) (recoveries after : RecoveryState) (number : ℕ) (it : LiveRun) → run_of number recoveries.runs ≡ Some it → it.out ≡ true → after ≡ with_out_run it false recoveries → LeadsTo setup (world_of setup history ccbs recoveries) (events_of (Called answers.Ok (Park number))) ccbs after
+parks_run setup history ccbs recoveries after number it found out same =
     let before : World = world_of setup history ccbs recoveries in
-    calls_once setup history later ccbs ccbs recoveries after (Park number) answers.Ok (with_out before it false) kept is (ap (λ (r : RecoveryState). r.queues) same)
+    once setup before (with_out before it false) (Park number) answers.Ok ccbs after
     (ap (parks before) found ∙ cond-true it.out (Some (replies answers.Ok, with_out before it false)) None out)
     (sym (ap (λ (r : RecoveryState). with_ccbs ccbs (with_recoveries r (with_out before it false))) same))
 
@@ -40,10 +42,10 @@ parks_run setup history later ccbs recoveries after number it kept is found out 
 abbrev resumed : World → Option LiveRun → Option (Reply × World)
 resumed before it = unless_refused ((not (is_parked it), Unknown) ∷ []) before (option_map (resumes before) it)
 
-pub resumes_run : (setup : Setup) (history later : List Record) (ccbs : CcbsState) (recoveries after : RecoveryState) (number : ℕ) (it : LiveRun) → KeepsEngine setup history ccbs recoveries → later ≡ history ++ Called answers.Ok (Resume number) ∷ [] → run_of number recoveries.runs ≡ Some it → it.out ≡ false → after ≡ with_out_run it true recoveries → Goes setup history later ccbs ccbs recoveries after (Called answers.Ok (Resume number))
-resumes_run setup history later ccbs recoveries after number it kept is found out same =
+pub resumes_run : (setup : Setup) (history : List Record) (ccbs : CcbsState) (recoveries after : RecoveryState) (number : ℕ) (it : LiveRun) → run_of number recoveries.runs ≡ Some it → it.out ≡ false → after ≡ with_out_run it true recoveries → LeadsTo setup (world_of setup history ccbs recoveries) (events_of (Called answers.Ok (Resume number))) ccbs after
+resumes_run setup history ccbs recoveries after number it found out same =
     let before : World = world_of setup history ccbs recoveries in
-    calls_once setup history later ccbs ccbs recoveries after (Resume number) answers.Ok (with_out before it true) kept is (ap (λ (r : RecoveryState). r.queues) same)
+    once setup before (with_out before it true) (Resume number) answers.Ok ccbs after
     (ap (resumed before) found ∙ cond-false (not (not it.out)) _ _ (ap (λ (b : Bool). not (not b)) out))
     (sym (ap (λ (r : RecoveryState). with_ccbs ccbs (with_recoveries r (with_out before it true))) same))
 
@@ -52,10 +54,10 @@ none_resumes : (before : World) (o : Option LiveRun) → ((it : LiveRun) → o �
 none_resumes before None none = refl
 none_resumes before (Some it) none = cond-true (not (not it.out)) _ _ (ap (λ (b : Bool). not (not b)) (none it refl))
 
-pub resumes_none : (setup : Setup) (history later : List Record) (ccbs : CcbsState) (recoveries : RecoveryState) (number : ℕ) → KeepsEngine setup history ccbs recoveries → later ≡ history ++ Called (answers.Refused Unknown) (Resume number) ∷ [] → ((it : LiveRun) → run_of number recoveries.runs ≡ Some it → it.out ≡ true) → Goes setup history later ccbs ccbs recoveries recoveries (Called (answers.Refused Unknown) (Resume number))
-resumes_none setup history later ccbs recoveries number kept is none =
+pub resumes_none : (setup : Setup) (history : List Record) (ccbs : CcbsState) (recoveries : RecoveryState) (number : ℕ) → ((it : LiveRun) → run_of number recoveries.runs ≡ Some it → it.out ≡ true) → LeadsTo setup (world_of setup history ccbs recoveries) (events_of (Called (answers.Refused Unknown) (Resume number))) ccbs recoveries
+resumes_none setup history ccbs recoveries number none =
     let before : World = world_of setup history ccbs recoveries in
-    calls_once setup history later ccbs ccbs recoveries recoveries (Resume number) (answers.Refused Unknown) before kept is refl
+    once setup before before (Resume number) (answers.Refused Unknown) ccbs recoveries
     (none_resumes before (run_of number recoveries.runs) none) refl
 
 -- there is room for the record of the park of a run that is out

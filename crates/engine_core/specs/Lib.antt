@@ -14,3 +14,5 @@ pub mod RunState
 pub mod Answers
 pub mod Courses
 pub mod TakingOver
+pub mod Replies
+pub mod Performing

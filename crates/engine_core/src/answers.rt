@@ -1,12 +1,8 @@
 // What the engine's calls answer beside their values, and what is recorded of that. It relies on `calls` for answers and
 // refusals.
 
-ghost use Rattle.std.specs.Prelude.{◌≡◌};
-ghost use Rattle.calls.specs.Answered.{ccb_answer, removed_answer};
-
 use crate::run::Run;
-use calls::{CallAnswer, CallRefusal};
-use ccb::CcbId;
+use calls::CallRefusal;
 use std::alloc::AllocError;
 use thiserror::Error;
 
@@ -69,24 +65,4 @@ pub enum AdvanceAnswer {
     Goes(Run, u64),
     /// The run exited.
     Ended(u64),
-}
-
-/// What is recorded where a CCB was submitted or started, or why not.
-pub(crate) fn told_ccb(answer: Result<CcbId, CallRefusal>) -> CallAnswer
-    ensures { result ≡ ccb_answer answer }
-{
-    match answer {
-        Ok(ccb) => CallAnswer::Ccb(ccb),
-        Err(refusal) => CallAnswer::Refused(refusal),
-    }
-}
-
-/// What is recorded of a clock reading.
-pub(crate) fn told_removed(answer: Result<u32, CallRefusal>) -> CallAnswer
-    ensures { result ≡ removed_answer answer }
-{
-    match answer {
-        Ok(count) => CallAnswer::Removed(count),
-        Err(refusal) => CallAnswer::Refused(refusal),
-    }
 }

@@ -4,14 +4,24 @@
 #![tactic(auto)]
 
 mod answers;
+mod ccb_events;
 mod course;
 mod engine;
+mod event;
+mod freeze_events;
 pub mod laws;
+mod methods;
+mod parts;
+mod reply;
 mod run;
+mod run_events;
 mod taking_over;
+mod told;
 
 pub use answers::{AdvanceAnswer, AdvanceFault, CallFault, CompleteAnswer, ReleaseFault};
 pub use calls::{Call, CallAnswer, CallRefusal, Record, StoppedAt, Totals, Trace};
 pub use engine::Engine;
 pub use engine_config::Config;
+pub use event::Event;
+pub use reply::{Back, Given, Reply};
 pub use run::Run;

@@ -1,0 +1,104 @@
+-- An event's reply: what fits, the room for its record, and what the engine is behind it.
+use Rattle.std.proofs.Common.{◌≡◌, ℕ, ◌+◌, ◌<◌, ◌≤◌, Bool, true, false, List, [], ◌∷◌, ◌++◌, length, Result, Ok, Err, Option, Some, None, refl, ap, sym, subst, ◌∙◌, arith}
+use Rattle.std.specs.Prelude.{IfOk, IfNone, IsSome, OnErr}
+use Rattle.std.specs.Result.{is_err}
+use Rattle.std.proofs.lemmas.List.Sums.{count_by-le-length}
+use Rattle.ccb_table.specs.CcbsState.{CcbsState}
+use Rattle.recoveries.specs.RecoveryState.{RecoveryState}
+use Rattle.calls.specs.declared.record.Record.{Record}
+use Rattle.world.specs.World.{Setup, LiveRun, World}
+use Rattle.engine_core.specs.declared.event.Event.{Event}
+use Rattle.engine_core.specs.declared.event.Event.TheVariants.{Submit, Dispatch, Complete, Advance, Clock, GuestFreeze, GuestRelease, Park, Resume}
+use Rattle.engine_core.specs.declared.reply.Reply.{Reply}
+use Rattle.engine_core.specs.declared.reply.Reply.TheVariants.{Given, Refused, Unfit, OutOfMemory}
+use Rattle.engine_core.specs.Invariant.{HasRoom, KeepsEngine, outs}
+use Rattle.engine_core.specs.Performing.{FitsAt, IsRoomFor, LeavesRoom, Performs, world_with}
+use Rattle.engine_core.specs.Replies.{IsFit, IsUnfit, ToldFit, may_be_unfit, record_of}
+use Rattle.engine_core.proofs.Parking.{room_to_park}
+use Rattle.engine_core.proofs.Recording.{Goes, goes, kept_sound}
+
+-- what was not found does not fit
+pub none_fits : (o : Option ℕ) (fact : World → Type 0) → ((world : World) → fact world → IsSome o) → IfNone o ((world : World) → fact world → ⊥)
+none_fits None fact shows = λ world it. let bad : false ≡ true = shows world it in absurd cc
+none_fits (Some place) fact shows = tt
+
+pub for_these : {A B C : Type 0} (r : Result A B) (holds : C → A → Type 0) (these : C) → IfOk r (λ it. (c : C) → holds c it) → IfOk r (λ it. holds these it)
+for_these (Ok it) holds these all = all these
+for_these (Err fault) holds these all = tt
+
+pub on_err : {A B : Type 0} (r : Result A B) (fact : Type 0) → is_err r ≡ true → OnErr r fact → fact
+on_err (Ok it) fact failed holds = absurd (let bad : false ≡ true = failed in cc)
+on_err (Err fault) fact failed holds = holds
+
+pub unless_err : {A B : Type 0} (r : Result A B) (fact : Type 0) → is_err r ≡ false → IfOk r (λ it. fact) → fact
+unless_err (Ok it) fact failed holds = holds
+unless_err (Err fault) fact failed holds = absurd (let bad : true ≡ false = failed in cc)
+
+-- only what may be unfit is
+pub unfit_may : (event : Event) (world : World) → IsUnfit world event → may_be_unfit event ≡ true
+unfit_may (Submit queue priority retries) world unfit = absurd unfit
+unfit_may (Dispatch queue) world unfit = absurd unfit
+unfit_may (Complete completion) world unfit = absurd unfit
+unfit_may (Advance run segment) world unfit = refl
+unfit_may (Clock reading) world unfit = absurd unfit
+unfit_may (GuestFreeze place guest) world unfit = absurd unfit
+unfit_may (GuestRelease token) world unfit = refl
+unfit_may (Park run) world unfit = refl
+unfit_may (Resume run) world unfit = absurd unfit
+
+-- what was found fits
+pub fit_at : (event : Event) (place : ℕ) (ccbs : CcbsState) (recoveries : RecoveryState) (world : World) → FitsAt place recoveries event → IsFit (world_with ccbs recoveries world) event
+fit_at (Submit queue priority retries) place ccbs recoveries world fit = tt
+fit_at (Dispatch queue) place ccbs recoveries world fit = tt
+fit_at (Complete completion) place ccbs recoveries world fit = tt
+fit_at (Advance run segment) place ccbs recoveries world fit = fit.0
+fit_at (Clock reading) place ccbs recoveries world fit = tt
+fit_at (GuestFreeze its guest) place ccbs recoveries world fit = tt
+fit_at (GuestRelease token) place ccbs recoveries world fit = fit
+fit_at (Park run) place ccbs recoveries world fit = record { it = fit.0.it; found = fit.0.found; out = fit.0.recorded.0; program_is = sym fit.0.recorded.1; machine_is = sym fit.0.recorded.2 }
+fit_at (Resume run) place ccbs recoveries world fit = tt
+
+-- a reply that is recorded does not tell that the event is unfit
+pub told_fit : (event : Event) (reply : Reply) (told : Record) (world : World) → record_of event reply ≡ Some told → IsFit world event → ToldFit world event reply
+told_fit event (Given given) told world is fit = fit
+told_fit event (Refused refusal) told world is fit = fit
+told_fit event (Unfit back) told world is fit = absurd (let bad : None ≡ Some told = is in cc)
+told_fit event (OutOfMemory back) told world is fit = fit
+
+-- there is room for its record
+pub room_to_tell : (event : Event) (place : ℕ) (recoveries : RecoveryState) (records was capacity : ℕ) → FitsAt place recoveries event → HasRoom records was recoveries.runs → was ≤ capacity → IsRoomFor event records capacity → records < capacity
+room_to_tell (Submit queue priority retries) place recoveries records was capacity fit had more room = omega (arith, room)
+room_to_tell (Dispatch queue) place recoveries records was capacity fit had more room = omega (arith, room)
+room_to_tell (Complete completion) place recoveries records was capacity fit had more room = omega (arith, room)
+room_to_tell (Advance run segment) place recoveries records was capacity fit had more room = omega (arith, room)
+room_to_tell (Clock reading) place recoveries records was capacity fit had more room = omega (arith, room)
+room_to_tell (GuestFreeze its guest) place recoveries records was capacity fit had more room = omega (arith, room)
+room_to_tell (GuestRelease token) place recoveries records was capacity fit had more room = omega (arith, room)
+room_to_tell (Park run) place recoveries records was capacity fit had more room =
+    let one = room_to_park records was run.number recoveries.runs fit.0.it had fit.0.found fit.0.recorded.0 in
+    omega (arith, one, more)
+room_to_tell (Resume run) place recoveries records was capacity fit had more room = omega (arith, room)
+
+-- and behind it for that of a park of each run that is out
+few_out : (runs : List LiveRun) (records capacity : ℕ) → records + 257 ≤ capacity → length runs ≤ 256 → HasRoom (records + 1) capacity runs
+few_out runs records capacity room few = omega (arith, room, few, count_by-le-length (λ (run : LiveRun). run.out) runs)
+
+pub room_behind : (event : Event) (old new : RecoveryState) (records was capacity : ℕ) → LeavesRoom event old new → length new.runs ≤ 256 → HasRoom records was old.runs → was ≤ capacity → IsRoomFor event records capacity → HasRoom (records + 1) capacity new.runs
+room_behind (Submit queue priority retries) old new records was capacity leaves few had more room = few_out new.runs records capacity room few
+room_behind (Dispatch queue) old new records was capacity leaves few had more room = few_out new.runs records capacity room few
+room_behind (Complete completion) old new records was capacity leaves few had more room = few_out new.runs records capacity room few
+room_behind (Advance run segment) old new records was capacity leaves few had more room = few_out new.runs records capacity room few
+room_behind (Clock reading) old new records was capacity leaves few had more room = few_out new.runs records capacity room few
+room_behind (GuestFreeze its guest) old new records was capacity leaves few had more room = few_out new.runs records capacity room few
+room_behind (GuestRelease token) old new records was capacity leaves few had more room = few_out new.runs records capacity room few
+room_behind (Park run) old new records was capacity leaves few had more room = leaves records capacity (omega (arith, had, more))
+room_behind (Resume run) old new records was capacity leaves few had more room = few_out new.runs records capacity room few
+
+-- the engine behind an event that was performed
+pub performed : (setup : Setup) (history later : List Record) (event : Event) (ccbs : CcbsState) (old : RecoveryState) (more : CcbsState) (new : RecoveryState) (reply : Reply) (told : Record) → KeepsEngine setup history ccbs old → later ≡ history ++ told ∷ [] → Performs setup event ccbs old more new reply told → Goes setup history later ccbs more old new told
+performed setup history later event ccbs old more new reply told kept is it =
+    let leads = it.leads history kept in
+    goes setup history later ccbs more old new told leads.world kept is it.queues leads.leads leads.fields
+
+pub few_runs : (setup : Setup) (history : List Record) (ccbs : CcbsState) (recoveries : RecoveryState) → KeepsEngine setup history ccbs recoveries → length recoveries.runs ≤ 256
+few_runs setup history ccbs recoveries kept = (kept_sound setup history ccbs recoveries kept).kept.runs.all

@@ -1,0 +1,12 @@
+use Rattle.std.proofs.Common.{◌≡◌, true, ap, sym, ◌∙◌}
+use Rattle.world.specs.World.{LiveRun}
+use Rattle.engine_core.proofs.Parking.{is_same_run}
+use Rattle.engine_core.proofs.Performing.{parks_it}
+use Rattle.engine_core.proofs.run_events.park.Goals as goal
+
+pub returns : goal.returns
+returns c setup ccbs history kept =
+    let there = c.requires.place in
+    let same = is_same_run c.args.recoveries.now.runs c.args.run.number c.requires.out.it there.0 c.requires.out.found there.1 in
+    let out : there.0.out ≡ true = sym (ap (λ (r : LiveRun). r.out) same) ∙ c.requires.out.recorded.0 in
+    parks_it setup history ccbs c.args.recoveries.now c.set_out.new.self c.args.run there.0 c.number.result c.number.ensures kept there.1 out (c.set_out.ensures there.0 there.2)

@@ -1,0 +1,239 @@
+-- What the reply to a call says: which record it makes, what it gives, and what comes back.
+use Rattle.std.specs.Prelude.{◌≡◌, ℕ, Bool, true, false, Option, Some, None, MatchOption, Result, Ok, Err}
+use Rattle.std.specs.Option.{option_map}
+use Rattle.ccb.specs.declared.CcbId.{CcbId}
+use Rattle.freeze_ledger.specs.declared.freeze.Freeze.{Freeze as TheFreeze}
+use Rattle.freeze_ledger.specs.declared.freeze.Holder.TheVariants.{Guest}
+use Rattle.calls.specs.declared.call.Call.{Call}
+use Rattle.calls.specs.declared.call.Call.TheVariants as its
+use Rattle.calls.specs.declared.call_answer.CallAnswer.{CallAnswer}
+use Rattle.calls.specs.declared.call_answer.CallAnswer.TheVariants as answers
+use Rattle.calls.specs.declared.call_refusal.CallRefusal.{CallRefusal}
+use Rattle.calls.specs.declared.record.Record.{Record}
+use Rattle.calls.specs.declared.record.Record.TheVariants.{Called, Advance as advanced}
+use Rattle.recoveries.specs.Admits.{IsOutAs}
+use Rattle.world.specs.World.{Setup, World}
+use Rattle.engine_core.specs.declared.answers.CompleteAnswer.{CompleteAnswer}
+use Rattle.engine_core.specs.declared.answers.CompleteAnswer.TheVariants as completes
+use Rattle.engine_core.specs.declared.answers.AdvanceAnswer.{AdvanceAnswer}
+use Rattle.engine_core.specs.declared.answers.AdvanceAnswer.TheVariants as advances
+use Rattle.engine_core.specs.declared.event.Event.{Event}
+use Rattle.engine_core.specs.declared.event.Event.TheVariants.{Submit, Dispatch, Complete, Advance, Clock, GuestFreeze, GuestRelease, Park, Resume}
+use Rattle.engine_core.specs.declared.reply.Given.{Given}
+use Rattle.engine_core.specs.declared.reply.Given.TheVariants.{Ccb, Done, Started, Goes, Ended, Freeze, Left, Removed, Parked, Resumed}
+use Rattle.engine_core.specs.declared.reply.Back.{Back}
+use Rattle.engine_core.specs.declared.reply.Back.TheVariants as back
+use Rattle.engine_core.specs.declared.reply.Reply.{Reply}
+use Rattle.engine_core.specs.declared.reply.Reply.TheVariants as replied
+use Rattle.engine_core.specs.Answers.{stopped_at, GoesOrEnds}
+use Rattle.engine_core.specs.EngineState.{EngineState, Records, GuestHolds}
+use Rattle.engine_core.specs.RunState.{IsOut, IsOutUnder}
+
+-- What may be given, by the event.
+
+abbrev pub IsCcb : Given → Type 0
+IsCcb (Ccb ccb) = Unit {0}
+IsCcb given = ⊥
+
+abbrev pub IsCompleted : Given → Type 0
+IsCompleted Done = Unit {0}
+IsCompleted (Started run freeze) = Unit {0}
+IsCompleted given = ⊥
+
+abbrev pub IsAdvanced : Given → Type 0
+IsAdvanced (Goes run r0) = Unit {0}
+IsAdvanced (Ended r0) = Unit {0}
+IsAdvanced given = ⊥
+
+abbrev pub IsRemoved : Given → Type 0
+IsRemoved (Removed count) = Unit {0}
+IsRemoved given = ⊥
+
+abbrev pub IsFreeze : Given → Type 0
+IsFreeze (Freeze token) = Unit {0}
+IsFreeze given = ⊥
+
+abbrev pub IsLeft : Given → Type 0
+IsLeft (Left count) = Unit {0}
+IsLeft given = ⊥
+
+abbrev pub IsParked : Given → Type 0
+IsParked Parked = Unit {0}
+IsParked given = ⊥
+
+abbrev pub IsResumed : Given → Type 0
+IsResumed (Resumed run) = Unit {0}
+IsResumed given = ⊥
+
+abbrev pub Suits : Event → Given → Type 0
+Suits (Submit queue priority retries) given = IsCcb given
+Suits (Dispatch queue) given = IsCcb given
+Suits (Complete completion) given = IsCompleted given
+Suits (Advance run segment) given = IsAdvanced given
+Suits (Clock reading) given = IsRemoved given
+Suits (GuestFreeze place guest) given = IsFreeze given
+Suits (GuestRelease token) given = IsLeft given
+Suits (Park run) given = IsParked given
+Suits (Resume run) given = IsResumed given
+
+abbrev pub given_completed : CompleteAnswer → Given
+given_completed completes.Done = Done
+given_completed (completes.Started run freeze) = Started run freeze
+
+abbrev pub given_advanced : AdvanceAnswer → Given
+given_advanced (advances.Goes run r0) = Goes run r0
+given_advanced (advances.Ended r0) = Ended r0
+
+-- what the event owns
+abbrev pub owned : Event → Back
+owned (Advance run segment) = back.Run run
+owned (GuestRelease token) = back.Token token
+owned (Park run) = back.Run run
+owned event = back.Nothing
+
+abbrev pub IsRunBack : Back → Type 0
+IsRunBack (back.Run run) = Unit {0}
+IsRunBack other = ⊥
+
+abbrev pub IsTokenBack : Back → Type 0
+IsTokenBack (back.Token token) = Unit {0}
+IsTokenBack other = ⊥
+
+abbrev pub is_park : Event → Bool
+is_park (Park run) = true
+is_park event = false
+
+-- The record.
+
+-- the call that an event makes, but for an advance
+abbrev pub call_of : Event → Option Call
+call_of (Submit queue priority retries) = Some (its.Submit queue priority retries)
+call_of (Dispatch queue) = Some (its.Dispatch queue)
+call_of (Complete completion) = Some (its.Complete completion.now)
+call_of (Advance run segment) = None
+call_of (Clock reading) = Some (its.Clock reading)
+call_of (GuestFreeze place guest) = Some (its.GuestFreeze place guest)
+call_of (GuestRelease token) = Some (its.GuestRelease token.number)
+call_of (Park run) = Some (its.Park run.number)
+call_of (Resume run) = Some (its.Resume run)
+
+-- the answer to a call that is carried out
+abbrev pub answer_of : Given → CallAnswer
+answer_of (Ccb ccb) = answers.Ccb ccb
+answer_of Done = answers.Done
+answer_of (Started run freeze) = answers.Started run.number freeze
+answer_of (Freeze token) = answers.Freeze token.number
+answer_of (Left count) = answers.Left count
+answer_of (Removed count) = answers.Removed count
+answer_of given = answers.Ok
+
+-- R0 behind what an advance gives
+abbrev pub r0_given : Given → ℕ
+r0_given (Goes run r0) = r0
+r0_given (Ended r0) = r0
+r0_given given = 0
+
+-- the record of an event that is carried out, where this is what it gives
+abbrev pub record_given : Event → Given → Record
+record_given (Submit queue priority retries) given = Called (answer_of given) (its.Submit queue priority retries)
+record_given (Dispatch queue) given = Called (answer_of given) (its.Dispatch queue)
+record_given (Complete completion) given = Called (answer_of given) (its.Complete completion.now)
+record_given (Advance run segment) given = advanced run.number segment.now.steps (stopped_at segment.now.stop) (r0_given given)
+record_given (Clock reading) given = Called (answer_of given) (its.Clock reading)
+record_given (GuestFreeze place guest) given = Called (answer_of given) (its.GuestFreeze place guest)
+record_given (GuestRelease token) given = Called (answer_of given) (its.GuestRelease token.number)
+record_given (Park run) given = Called (answer_of given) (its.Park run.number)
+record_given (Resume run) given = Called (answer_of given) (its.Resume run)
+
+-- the one record that an event with this reply makes, or none
+abbrev pub record_of : Event → Reply → Option Record
+record_of event (replied.Given given) = Some (record_given event given)
+record_of event (replied.Refused refusal) = option_map (λ call. Called (answers.Refused refusal) call) (call_of event)
+record_of event (replied.Unfit back) = None
+record_of event (replied.OutOfMemory back) = None
+
+-- with a record one record more, and without one all is as it was
+abbrev pub IsRecorded : EngineState → Event → Reply → EngineState → Type 0
+IsRecorded old event reply new = MatchOption (record_of event reply) (new ≡ old) (λ told. Records old new told)
+
+-- an advance, a release and a park are carried out or unfit, and never refused
+abbrev pub may_be_refused : Event → Bool
+may_be_refused (Advance run segment) = false
+may_be_refused (GuestRelease token) = false
+may_be_refused (Park run) = false
+may_be_refused event = true
+
+-- what is unfit, or finds no memory, is of an event that may be so
+abbrev pub may_be_unfit : Event → Bool
+may_be_unfit (Advance run segment) = true
+may_be_unfit (GuestRelease token) = true
+may_be_unfit (Park run) = true
+may_be_unfit event = false
+
+-- The event can be replied to so: it gives what it may, and what it owned comes back where it is not carried out. A park
+-- takes no memory.
+abbrev pub Fits : Event → Reply → Type 0
+Fits event (replied.Given given) = Suits event given
+Fits event (replied.Refused refusal) = may_be_refused event ≡ true
+Fits event (replied.Unfit back) = (may_be_unfit event ≡ true) × (back ≡ owned event)
+Fits event (replied.OutOfMemory back) = (is_park event ≡ false) × (back ≡ owned event)
+
+-- C4 and C6: no such run is out with this program and in this machine, or no guest's freeze is the token's
+abbrev pub IsUnfit : World → Event → Type 0
+IsUnfit world (Advance run segment) = IsOutAs world.runs run.number run.program.program segment.now → ⊥
+IsUnfit world (GuestRelease token) = GuestHolds world token → ⊥
+IsUnfit world (Park run) = IsOut world run → ⊥
+IsUnfit world event = ⊥
+
+-- and that it is fit
+abbrev pub IsFit : World → Event → Type 0
+IsFit world (Advance run segment) = IsOutAs world.runs run.number run.program.program segment.now
+IsFit world (GuestRelease token) = GuestHolds world token
+IsFit world (Park run) = IsOut world run
+IsFit world event = Unit {0}
+
+-- it is told to be unfit exactly where it is
+abbrev pub ToldFit : World → Event → Reply → Type 0
+ToldFit world event (replied.Unfit back) = IsUnfit world event
+ToldFit world event reply = IsFit world event
+
+-- what is given is what the world has then: a run that is out, or a guest's freeze
+abbrev pub IsGiven : Setup → World → Event → World → Given → Type 0
+IsGiven setup before (Complete completion) after (Started run freeze) = IsOutUnder setup after run
+IsGiven setup before (Advance run segment) after (Goes again r0) = GoesOrEnds setup before after run segment.now (advances.Goes again r0)
+IsGiven setup before (Advance run segment) after (Ended r0) = GoesOrEnds setup before after run segment.now (advances.Ended r0)
+IsGiven setup before (GuestFreeze place guest) after (Freeze token) = GuestHolds after token × (token.place ≡ place) × (token.holder ≡ Guest guest)
+IsGiven setup before (Resume run) after (Resumed again) = (again.number ≡ run) × IsOutUnder setup after again
+IsGiven setup before event after given = Unit {0}
+
+abbrev pub Gives : Setup → World → Event → World → Reply → Type 0
+Gives setup before event after (replied.Given given) = IsGiven setup before event after given
+Gives setup before event after reply = Unit {0}
+
+-- why a call that owns nothing is not carried out
+abbrev pub IsFault : Reply → Type 0
+IsFault (replied.Refused refusal) = Unit {0}
+IsFault (replied.OutOfMemory back) = Unit {0}
+IsFault reply = ⊥
+
+abbrev pub IsMemory : Reply → Type 0
+IsMemory (replied.OutOfMemory back) = Unit {0}
+IsMemory reply = ⊥
+
+-- What is replied where the code gives a value or a refusal.
+
+abbrev pub ccb_reply : Result CcbId CallRefusal → Reply
+ccb_reply (Ok ccb) = replied.Given (Ccb ccb)
+ccb_reply (Err refusal) = replied.Refused refusal
+
+abbrev pub freeze_reply : Result TheFreeze CallRefusal → Reply
+freeze_reply (Ok token) = replied.Given (Freeze token)
+freeze_reply (Err refusal) = replied.Refused refusal
+
+abbrev pub removed_reply : Result ℕ CallRefusal → Reply
+removed_reply (Ok count) = replied.Given (Removed count)
+removed_reply (Err refusal) = replied.Refused refusal
+
+-- a call that is refused, as it is replied and recorded
+abbrev pub refused_as : CallRefusal → Call → Reply × Record
+refused_as refusal call = (replied.Refused refusal, Called (answers.Refused refusal) call)

@@ -1,0 +1,84 @@
+// A call of the engine as a value, with all that it owns or is lent. It relies on `run` for runs, on `interpreter` for what
+// a run did, and on `freeze_ledger` for tokens.
+
+ghost use Rattle.std.specs.Prelude.{◌≡◌};
+ghost use Rattle.engine_core.specs.Replies.{is_park, owned};
+
+use crate::reply::Back;
+use crate::run::Run;
+use ccb::{Completion, QueueId};
+use freeze_ledger::{FreezeToken, Place};
+use interpreter::Segment;
+
+/// A call of the engine. What it owns comes back where it is not carried out.
+pub enum Event<'a> {
+    /// A CCB is submitted to a queue, with a priority and how often it may be tried again.
+    Submit {
+        queue: QueueId,
+        priority: u32,
+        retries: u32,
+    },
+    /// A queue starts a CCB.
+    Dispatch {
+        queue: QueueId,
+    },
+    /// A device is done with a CCB.
+    Complete {
+        completion: &'a Completion,
+    },
+    /// A run went on up to the stop of its segment.
+    Advance {
+        run: Run,
+        segment: &'a Segment,
+    },
+    /// The clock is read, in milliseconds.
+    Clock {
+        reading: u64,
+    },
+    /// A guest, by the number that it chose, freezes a place.
+    GuestFreeze {
+        place: Place,
+        guest: u32,
+    },
+    /// A guest gives a freeze back.
+    GuestRelease {
+        token: FreezeToken,
+    },
+    /// A run is parked.
+    Park {
+        run: Run,
+    },
+    /// The run of that number, which is parked, goes on.
+    Resume {
+        run: u32,
+    },
+}
+
+impl Event<'_> {
+    /// What it owns.
+    pub(crate) fn owned(self) -> Back
+        ensures { result ≡ owned self.entry }
+    {
+        match self {
+            Event::Advance { run, segment: _ } | Event::Park { run } => Back::Run(run),
+            Event::GuestRelease { token } => Back::Token(token),
+            Event::Submit {
+                queue: _,
+                priority: _,
+                retries: _,
+            }
+            | Event::Dispatch { queue: _ }
+            | Event::Complete { completion: _ }
+            | Event::Clock { reading: _ }
+            | Event::GuestFreeze { place: _, guest: _ }
+            | Event::Resume { run: _ } => Back::Nothing,
+        }
+    }
+
+    /// Whether it parks a run: for the record of a park there is room.
+    pub(crate) fn is_park(&self) -> bool
+        ensures { result ≡ is_park self.now }
+    {
+        matches!(self, Event::Park { .. })
+    }
+}

@@ -1,0 +1,55 @@
+// The events that are about freezes and the clock. It relies on `recoveries` for both.
+
+ghost use Rattle.std.specs.Prelude.{◌≡◌, Contains, true};
+ghost use Rattle.ccb_table.specs.CcbsState.{CcbsState};
+ghost use Rattle.world.specs.World.{Setup};
+ghost use Rattle.world.specs.FreezeSteps.{is_guest};
+ghost use Rattle.engine_core.specs.declared.event.Event.TheVariants.{Clock, GuestFreeze, GuestRelease};
+ghost use Rattle.engine_core.specs.Performing.{Performs};
+
+use crate::reply::{Given, Reply};
+use crate::told::{refused, removed_told};
+use calls::{Call, CallAnswer, Record};
+use freeze_ledger::{FreezeToken, Place};
+use recoveries::Recoveries;
+
+/// A guest has a freeze more of the place, or C1, or C2.
+pub(crate) fn guest_freeze(recoveries: &mut Recoveries, place: Place, guest: u32) -> (Reply, Record)
+    ensures { (setup : Setup) (ccbs : CcbsState) → Performs setup (GuestFreeze place guest) ccbs recoveries.old ccbs recoveries.new result.0 result.1 }
+{
+    let call = Call::GuestFreeze { place, guest };
+    match recoveries.guest_freeze(place, guest) {
+        Ok(token) => {
+            let answer = CallAnswer::Freeze(token.number());
+            (
+                Reply::Given(Given::Freeze(token)),
+                Record::Called { answer, call },
+            )
+        }
+        Err(refusal) => refused(refusal, call),
+    }
+}
+
+/// A guest's freeze is given back.
+pub(crate) fn guest_release(recoveries: &mut Recoveries, token: FreezeToken) -> (Reply, Record)
+    requires { Contains recoveries.old.freezes token × (is_guest token.holder ≡ true) }
+    ensures { (setup : Setup) (ccbs : CcbsState) → Performs setup (GuestRelease token) ccbs recoveries.old ccbs recoveries.new result.0 result.1 }
+{
+    let call = Call::GuestRelease {
+        freeze: token.number(),
+    };
+    let count = recoveries.guest_release(token);
+    let answer = CallAnswer::Left(count);
+    (
+        Reply::Given(Given::Left(count)),
+        Record::Called { answer, call },
+    )
+}
+
+/// The freezes go whose timers are due, or C2, or C5.
+pub(crate) fn read_clock(recoveries: &mut Recoveries, reading: u64) -> (Reply, Record)
+    ensures { (setup : Setup) (ccbs : CcbsState) → Performs setup (Clock reading) ccbs recoveries.old ccbs recoveries.new result.0 result.1 }
+{
+    let answer = recoveries.read_clock(reading);
+    removed_told(answer, Call::Clock { reading })
+}

@@ -1,0 +1,220 @@
+// The engine's calls, each as a method: what is asked goes in as an event, and what is given, or comes back, out of the reply.
+// It relies on `Engine::answer` for what an event does.
+
+ghost use Rattle.std.specs.Prelude.{◌≡◌, IfOk, IfErr, MatchResult};
+ghost use Rattle.freeze_ledger.specs.declared.freeze.Holder.TheVariants.{Guest};
+ghost use Rattle.recoveries.specs.Admits.{IsOutAs};
+ghost use Rattle.freeze_ledger.specs.declared.place.Place.TheVariants.{Device};
+ghost use Rattle.calls.specs.declared.call.Call.TheVariants.{Submit, Dispatch, Complete, GuestFreeze, GuestRelease, Clock, Park, Resume};
+ghost use Rattle.calls.specs.declared.call_answer.CallAnswer.TheVariants as answers;
+ghost use Rattle.calls.specs.declared.record.Record.TheVariants.{Called, Advance};
+ghost use Rattle.engine_core.specs.EngineState.{IsRun, Records, GuestHolds};
+ghost use Rattle.engine_core.specs.RunState.{IsOut, IsOutUnder};
+ghost use Rattle.engine_core.specs.Answers.{completed_of, StartsOut, stopped_at, r0_of, GoesOrEnds};
+ghost use Rattle.engine_core.specs.Faults.{FaultIs, HoldsUnlessTold, AdmitsUnlessTold};
+
+use crate::answers::{AdvanceAnswer, AdvanceFault, CallFault, CompleteAnswer, ReleaseFault};
+use crate::engine::Engine;
+use crate::event::Event;
+use crate::reply::Reply;
+use crate::run::Run;
+use ccb::{CcbId, Completion, QueueId};
+use freeze_ledger::{FreezeToken, Place};
+use interpreter::Segment;
+
+impl Engine {
+    /// Submits a CCB to a queue, with a priority (the lowest number starts first) and how often it may be tried
+    /// again: its number. C1 where there is no such queue; C2 where the queue has 256 CCBs, the engine 4096, or the
+    /// numbers up to 4,294,967,295 are used up. Both are recorded and change nothing else.
+    pub fn submit(
+        &mut self,
+        queue: QueueId,
+        priority: u32,
+        retries: u32,
+    ) -> Result<CcbId, CallFault>
+        ensures answered { IfOk result (λ ccb. Records self.old self.new (Called (answers.Ccb ccb) (Submit queue priority retries))) }
+        ensures fault { IfErr result (λ fault. FaultIs fault (self.new ≡ self.old) (λ refusal. Records self.old self.new (Called (answers.Refused refusal) (Submit queue priority retries)))) }
+        ensures run { IsRun self.new }
+    {
+        match self.answer(Event::Submit {
+            queue,
+            priority,
+            retries,
+        }) {
+            Reply::Given(given) => Ok(given.ccb()),
+            fault => Err(fault.fault()),
+        }
+    }
+
+    /// Starts the waiting CCB of the queue that has the lowest priority number, and among these the lowest CCB
+    /// number: its number. C1 where there is no such queue; Q2 where it is frozen; Q3 where as many of its CCBs are
+    /// active as it has openings; Q4 where none waits. All are recorded and change nothing else.
+    pub fn dispatch(&mut self, queue: QueueId) -> Result<CcbId, CallFault>
+        ensures answered { IfOk result (λ ccb. Records self.old self.new (Called (answers.Ccb ccb) (Dispatch queue))) }
+        ensures fault { IfErr result (λ fault. FaultIs fault (self.new ≡ self.old) (λ refusal. Records self.old self.new (Called (answers.Refused refusal) (Dispatch queue)))) }
+        ensures run { IsRun self.new }
+    {
+        match self.answer(Event::Dispatch { queue }) {
+            Reply::Given(given) => Ok(given.ccb()),
+            fault => Err(fault.fault()),
+        }
+    }
+
+    /// Takes a completion of an active CCB. With REQ_CMP the CCB is finished and gone. With any other status the
+    /// queue is frozen once more, the CCB is in recovery, and a run of the queue's program starts, which holds the
+    /// freeze; where that freeze meets a limit the run starts without it and is told number 0. C1 where no such CCB
+    /// is live; C2 where a run is to start and there are 256, or their numbers up to 4,294,967,295 are used up; C3
+    /// where the CCB is not active. These are recorded and change nothing else. Every fault hands the completion
+    /// back.
+    pub fn complete(
+        &mut self,
+        completion: Completion,
+    ) -> Result<CompleteAnswer, (CallFault, Completion)>
+        ensures answered { IfOk result (λ answer. Records self.old self.new (Called (completed_of answer) (Complete completion))) }
+        ensures started { IfOk result (StartsOut self.new.setup self.new.world) }
+        ensures fault { IfErr result (λ fault. FaultIs fault.0 (self.new ≡ self.old) (λ refusal. Records self.old self.new (Called (answers.Refused refusal) (Complete completion)))) }
+        ensures back { IfErr result (λ fault. fault.1 ≡ completion) }
+        ensures run { IsRun self.new }
+    {
+        match self.answer(Event::Complete {
+            completion: &completion,
+        }) {
+            Reply::Given(given) => Ok(given.completed()),
+            fault => Err((fault.fault(), completion)),
+        }
+    }
+
+    /// Takes over what a run did: the private instructions of the segment, and the helper call or exit at its end,
+    /// with R0 after it. A run that goes on comes back with its next machine; one that exited is gone. What a call
+    /// does, by the number of its helper:
+    ///
+    /// 1. A queue is frozen once more, and the run holds the freeze: R0 is its number, or 0 exactly where that meets a
+    ///    limit, and then nothing is frozen.
+    /// 2. A freeze that the run holds is given back: R0 is how many freezes its queue has then.
+    /// 3. A timer has a freeze that the run holds from now on, due so many milliseconds after the last clock reading.
+    /// 4. The run's CCB waits again with so many retries fewer.
+    /// 5. The run's CCB is finished and gone, with the final code that the record tells.
+    /// 9. What the run's queue has is written to the run's stack.
+    /// 10. The call's bytes are in the record.
+    ///
+    /// R0 is 0 after helpers 3 to 10. C4, which is not recorded, exactly where no run of that number is out in this
+    /// engine, or the run's program, the segment's program or the segment's start is not the recorded one; programs are
+    /// compared by their instructions. Every fault hands the run and the segment back and changes nothing.
+    pub fn advance(
+        &mut self,
+        run: Run,
+        segment: Segment,
+    ) -> Result<AdvanceAnswer, (AdvanceFault, Run, Segment)>
+        ensures answered { IfOk result (λ answer. Records self.old self.new (Advance run.number segment.steps (stopped_at segment.stop) (r0_of answer))) }
+        ensures goes { IfOk result (GoesOrEnds self.old.setup self.old.world self.new.world run segment) }
+        ensures admitted { MatchResult result (λ _. IsOutAs self.old.world.runs run.number run.program.program segment)
+            (λ fault. AdmitsUnlessTold fault.0 (IsOutAs self.old.world.runs run.number run.program.program segment)) }
+        ensures back { IfErr result (λ fault. (fault.1 ≡ run) × (fault.2 ≡ segment) × (self.new ≡ self.old)) }
+        ensures run { IsRun self.new }
+    {
+        match self.advance_by(run, &segment) {
+            Ok(answer) => Ok(answer),
+            Err((fault, run)) => Err((fault, run, segment)),
+        }
+    }
+
+    /// The same of a segment that the caller keeps, to make the run's next stretch in its place.
+    pub fn advance_by(
+        &mut self,
+        run: Run,
+        segment: &Segment,
+    ) -> Result<AdvanceAnswer, (AdvanceFault, Run)>
+        ensures answered { IfOk result (λ answer. Records self.old self.new (Advance run.number segment.now.steps (stopped_at segment.now.stop) (r0_of answer))) }
+        ensures goes { IfOk result (GoesOrEnds self.old.setup self.old.world self.new.world run segment.now) }
+        ensures admitted { MatchResult result (λ _. IsOutAs self.old.world.runs run.number run.program.program segment.now)
+            (λ fault. AdmitsUnlessTold fault.0 (IsOutAs self.old.world.runs run.number run.program.program segment.now)) }
+        ensures back { IfErr result (λ fault. (fault.1 ≡ run) × (self.new ≡ self.old)) }
+        ensures run { IsRun self.new }
+    {
+        match self.answer(Event::Advance { run, segment }) {
+            Reply::Given(given) => Ok(given.advanced()),
+            Reply::Unfit(back) => Err((AdvanceFault::NotOut, back.run())),
+            Reply::OutOfMemory(back) => Err((AdvanceFault::OutOfMemory, back.run())),
+            Reply::Refused(_) => unreachable!(),
+        }
+    }
+
+    /// Parks a run that is out: it takes no step, and keeps its machine and its freezes, until it is resumed. It takes no
+    /// memory. C4, which is not recorded, exactly where no run of that number is out in this engine, or its program or its
+    /// machine is not the recorded one; programs are compared by their instructions. It hands the run back and changes
+    /// nothing.
+    pub fn park(&mut self, run: Run) -> Result<(), Run>
+        ensures parked { IfOk result (λ _. Records self.old self.new (Called answers.Ok (Park run.number))) }
+        ensures admitted { MatchResult result (λ _. IsOut self.old.world run) (λ _. IsOut self.old.world run → ⊥) }
+        ensures back { IfErr result (λ back. (back ≡ run) × (self.new ≡ self.old)) }
+        ensures run { IsRun self.new }
+    {
+        match self.answer(Event::Park { run }) {
+            Reply::Given(given) => Ok(given.parked()),
+            Reply::Unfit(back) => Err(back.run()),
+            other => {
+                other.forfeit();
+                unreachable!()
+            }
+        }
+    }
+
+    /// Lets a run that is parked go on: the run, with the machine that it had. C1 where no run of that number is parked; it
+    /// is recorded and changes nothing else.
+    pub fn resume(&mut self, run: u32) -> Result<Run, CallFault>
+        ensures resumed { IfOk result (λ again. Records self.old self.new (Called answers.Ok (Resume run)) × (again.number ≡ run) × IsOutUnder self.new.setup self.new.world again) }
+        ensures fault { IfErr result (λ fault. FaultIs fault (self.new ≡ self.old) (λ refusal. Records self.old self.new (Called (answers.Refused refusal) (Resume run)))) }
+        ensures run { IsRun self.new }
+    {
+        match self.answer(Event::Resume { run }) {
+            Reply::Given(given) => Ok(given.resumed()),
+            fault => Err(fault.fault()),
+        }
+    }
+
+    /// Freezes a queue for a guest: the token of the new freeze. C1 where there is no such queue; C2 where
+    /// the queue has 255 freezes, the ledger 1024, or the numbers up to 4,294,967,295 are used up. Both are
+    /// recorded and change nothing else.
+    pub fn guest_freeze(&mut self, queue: QueueId, guest: u32) -> Result<FreezeToken, CallFault>
+        ensures taken { IfOk result (λ token. Records self.old self.new (Called (answers.Freeze token.number) (GuestFreeze (Device queue) guest))) }
+        ensures token { IfOk result (λ token. GuestHolds self.new.world token × (token.place ≡ Device queue) × (token.holder ≡ Guest guest)) }
+        ensures fault { IfErr result (λ fault. FaultIs fault (self.new ≡ self.old) (λ refusal. Records self.old self.new (Called (answers.Refused refusal) (GuestFreeze (Device queue) guest)))) }
+        ensures run { IsRun self.new }
+    {
+        let place = Place::Device(queue);
+        match self.answer(Event::GuestFreeze { place, guest }) {
+            Reply::Given(given) => Ok(given.token()),
+            fault => Err(fault.fault()),
+        }
+    }
+
+    /// Gives a guest's freeze back: how many freezes its queue has then. C6, which is not recorded, exactly
+    /// where no guest's freeze is the token's. Every fault hands the token back and changes nothing.
+    pub fn guest_release(&mut self, token: FreezeToken) -> Result<u32, (ReleaseFault, FreezeToken)>
+        ensures released { IfOk result (λ count. Records self.old self.new (Called (answers.Left count) (GuestRelease token.number))) }
+        ensures held { MatchResult result (λ _. GuestHolds self.old.world token) (λ fault. HoldsUnlessTold fault.0 (GuestHolds self.old.world token)) }
+        ensures back { IfErr result (λ fault. (fault.1 ≡ token) × (self.new ≡ self.old)) }
+        ensures run { IsRun self.new }
+    {
+        match self.answer(Event::GuestRelease { token }) {
+            Reply::Given(given) => Ok(given.left()),
+            Reply::Unfit(back) => Err((ReleaseFault::NotHeld, back.token())),
+            Reply::OutOfMemory(back) => Err((ReleaseFault::OutOfMemory, back.token())),
+            Reply::Refused(_) => unreachable!(),
+        }
+    }
+
+    /// Takes a clock reading, in milliseconds: the freezes go whose timers are due at or before it, and no others. The
+    /// answer is how many these were, at most 1024. C2 above 2^62; C5 below the last reading, which is 0 before the
+    /// first. Both are recorded and change nothing else.
+    pub fn clock(&mut self, reading: u64) -> Result<u32, CallFault>
+        ensures answered { IfOk result (λ count. Records self.old self.new (Called (answers.Removed count) (Clock reading))) }
+        ensures fault { IfErr result (λ fault. FaultIs fault (self.new ≡ self.old) (λ refusal. Records self.old self.new (Called (answers.Refused refusal) (Clock reading)))) }
+        ensures run { IsRun self.new }
+    {
+        match self.answer(Event::Clock { reading }) {
+            Reply::Given(given) => Ok(given.removed()),
+            fault => Err(fault.fault()),
+        }
+    }
+}

@@ -1,0 +1,105 @@
+// The parts of an engine beside its configuration and its history: what an event needs of them, and what it makes of them.
+// It relies on `ccb_table` for CCBs and their queues, and on `recoveries` for runs, freezes, tables and the clock.
+
+ghost use Rattle.std.specs.Prelude.{◌≡◌, false, List, IfOk, IfNone, IfSome, IfErr};
+ghost use Rattle.calls.specs.declared.record.Record.{Record as TheRecord};
+ghost use Rattle.world.specs.World.{World};
+ghost use Rattle.engine_core.specs.Invariant.{KeepsEngine};
+ghost use Rattle.engine_core.specs.Performing.{FitsAt, Performs, world_with};
+ghost use Rattle.engine_core.specs.Replies.{IsUnfit, is_park, owned};
+
+use crate::ccb_events::{complete, dispatch, submit};
+use crate::event::Event;
+use crate::freeze_events::{guest_freeze, guest_release, read_clock};
+use crate::reply::{Back, Reply};
+use crate::run_events::{advance, park, resume};
+use calls::Record;
+use ccb_table::CcbTable;
+use engine_config::Config;
+use recoveries::Recoveries;
+use std::alloc::Global;
+
+/// CCBs with their queues, and freezes, runs, tables and clock.
+#[derive(Drop)]
+pub(crate) struct Parts {
+    pub ccbs: CcbTable,
+    pub recoveries: Recoveries,
+}
+
+impl Parts {
+    /// Where the run stands that an advance or a park is of (0 for other events), and `None`, which is C4 or C6, exactly
+    /// where the run is not out as the event says, or no guest's freeze is the token's.
+    pub(crate) fn fits(&self, event: &Event<'_>) -> Option<usize>
+        ensures fit { IfSome result (λ place. FitsAt place self.now.recoveries event.now) }
+        ensures unfit { IfNone result ((world : World) → IsUnfit (world_with self.now.ccbs self.now.recoveries world) event.now) }
+    {
+        match event {
+            Event::Advance { run, segment } => {
+                self.recoveries.admit(run.number(), run.program(), segment)
+            }
+            Event::Park { run } => {
+                self.recoveries
+                    .admit_run(run.number(), run.program(), run.machine())
+            }
+            Event::GuestRelease { token } => {
+                if self.recoveries.is_guests(token) {
+                    Some(0)
+                } else {
+                    None
+                }
+            }
+            Event::Submit { .. }
+            | Event::Dispatch { .. }
+            | Event::Complete { .. }
+            | Event::Clock { .. }
+            | Event::GuestFreeze { .. }
+            | Event::Resume { .. } => Some(0),
+        }
+    }
+
+    /// Carries an event out that fits, or refuses it: the reply, and the one record that it makes. Where memory is refused
+    /// nothing changes, and what the event owned comes back.
+    pub(crate) fn perform(
+        &mut self,
+        alloc: Global,
+        config: &Config,
+        place: usize,
+        event: Event<'_>,
+    ) -> Result<(Reply, Record), Back>
+        requires of { (history : List TheRecord) × KeepsEngine config.now history self.old.ccbs self.old.recoveries }
+        requires fit { FitsAt place self.old.recoveries event }
+        ensures performs { IfOk result (λ it. Performs config.now event.entry self.old.ccbs self.old.recoveries self.new.ccbs self.new.recoveries it.0 it.1) }
+        ensures refused { IfErr result (λ back. (self.new ≡ self.old) × (is_park event.entry ≡ false) × (back ≡ owned event.entry)) }
+    {
+        match event {
+            Event::Submit {
+                queue,
+                priority,
+                retries,
+            } => Ok(submit(&mut self.ccbs, &self.recoveries, queue, priority, retries)),
+            Event::Dispatch { queue } => Ok(dispatch(&mut self.ccbs, &self.recoveries, queue)),
+            Event::Complete { completion } => complete(
+                alloc,
+                config,
+                &mut self.ccbs,
+                &mut self.recoveries,
+                completion,
+            ),
+            Event::Advance { run, segment } => advance(
+                alloc,
+                &mut self.ccbs,
+                &mut self.recoveries,
+                place,
+                run,
+                segment,
+            ),
+            Event::Clock { reading } => Ok(read_clock(&mut self.recoveries, reading)),
+            Event::GuestFreeze { place, guest } => {
+                Ok(guest_freeze(&mut self.recoveries, place, guest))
+            }
+            Event::GuestRelease { token } => Ok(guest_release(&mut self.recoveries, token)),
+            Event::Park { run } => Ok(park(&mut self.recoveries, place, run)),
+            Event::Resume { run } => resume(alloc, config, &mut self.recoveries, run),
+        }
+    }
+}

@@ -1,0 +1,50 @@
+// What is replied and recorded of a call that gives a value, or is refused. It relies on `reply` and on `calls`.
+
+ghost use Rattle.std.specs.Prelude.{◌≡◌};
+ghost use Rattle.calls.specs.declared.record.Record.TheVariants.{Called};
+ghost use Rattle.calls.specs.Answered.{ccb_answer, removed_answer};
+ghost use Rattle.engine_core.specs.Replies.{ccb_reply, removed_reply, refused_as};
+
+use crate::reply::{Given, Reply};
+use calls::{Call, CallAnswer, CallRefusal, Record};
+use ccb::CcbId;
+
+/// A call that is refused.
+pub(crate) fn refused(refusal: CallRefusal, call: Call) -> (Reply, Record)
+    ensures { result ≡ refused_as refusal call }
+{
+    let answer = CallAnswer::Refused(refusal);
+    (Reply::Refused(refusal), Record::Called { answer, call })
+}
+
+/// A submission or a start.
+pub(crate) fn ccb_told(answer: Result<CcbId, CallRefusal>, call: Call) -> (Reply, Record)
+    ensures { result ≡ (ccb_reply answer, Called (ccb_answer answer) call) }
+{
+    match answer {
+        Ok(ccb) => {
+            let answer = CallAnswer::Ccb(ccb);
+            (
+                Reply::Given(Given::Ccb(ccb)),
+                Record::Called { answer, call },
+            )
+        }
+        Err(refusal) => refused(refusal, call),
+    }
+}
+
+/// A clock reading.
+pub(crate) fn removed_told(answer: Result<u32, CallRefusal>, call: Call) -> (Reply, Record)
+    ensures { result ≡ (removed_reply answer, Called (removed_answer answer) call) }
+{
+    match answer {
+        Ok(count) => {
+            let answer = CallAnswer::Removed(count);
+            (
+                Reply::Given(Given::Removed(count)),
+                Record::Called { answer, call },
+            )
+        }
+        Err(refusal) => refused(refusal, call),
+    }
+}

@@ -43,12 +43,6 @@ goes setup history later ccbs more recoveries after r world kept is same leads f
       };
     }
 
--- a record of one event
-pub goes_once : (setup : Setup) (history later : List Record) (ccbs more : CcbsState) (recoveries after : RecoveryState) (r : Record) (event : Event) (reply : Reply) (world : World) → KeepsEngine setup history ccbs recoveries → later ≡ history ++ r ∷ [] → after.queues ≡ recoveries.queues → events_of r ≡ (event, reply) ∷ [] → WorldStep setup (world_of setup history ccbs recoveries) event reply world → IsWorldOf world more after → Goes setup history later ccbs more recoveries after r
-goes_once setup history later ccbs more recoveries after r event reply world kept is same one step fields =
-    goes setup history later ccbs more recoveries after r world kept is same
-    (subst (λ (xs : List (Event × Reply)). Leads setup (world_of setup history ccbs recoveries) xs world) (sym one) (world, step, refl)) fields
-
 -- what the world's laws say of an engine
 pub kept_sound : (setup : Setup) (history : List Record) (ccbs : CcbsState) (recoveries : RecoveryState) → KeepsEngine setup history ccbs recoveries → IsSound setup (world_of setup history ccbs recoveries)
 kept_sound setup history ccbs recoveries kept = run_sound setup (flat history) (world_of setup history ccbs recoveries) kept.run.lawful kept.run.run

@@ -65,11 +65,12 @@ pub(crate) fn complete(
     ensures performs { IfOk result (λ it. Performs config.now (Complete completion.entry) ccbs.old recoveries.old ccbs.new recoveries.new it.0 it.1) }
     ensures refused { IfErr result (λ owned. (ccbs.new ≡ ccbs.old) × (recoveries.new ≡ recoveries.old) × (owned ≡ back.Nothing)) }
 {
+    let course = decide(ccbs, recoveries, completion);
     let Ok(kept) = CompletionRecord::new(alloc, completion) else {
         return Err(Back::Nothing);
     };
     let call = Call::Complete { completion: kept };
-    match decide(ccbs, recoveries, completion) {
+    match course {
         Course::Refuse(refusal) => Ok(refused(refusal, call)),
         Course::Finish(ccb) => {
             ccbs.finish(ccb.number);

@@ -24,6 +24,7 @@ use std::alloc::AllocError;
 use std::sync::Arc;
 
 /// What is to be done about a completion.
+#[derive(Drop)]
 pub(crate) enum Course {
     Refuse(CallRefusal),
     /// The CCB is finished.

@@ -99,7 +99,7 @@ impl Parts {
             }
             Event::GuestRelease { token } => Ok(guest_release(&mut self.recoveries, token)),
             Event::Park { run } => Ok(park(&mut self.recoveries, place, run)),
-            Event::Resume { run } => resume(alloc, config, &mut self.recoveries, run),
+            Event::Resume { run } => resume(config, &mut self.recoveries, run),
         }
     }
 }

@@ -1,15 +1,12 @@
 // A run that is out: the right to take it further. It relies on `accepted` for its program and on `bpf_machine` for
 // its machine.
 
-ghost use Rattle.std.specs.Prelude.{◌≡◌, ℕ, IfOk};
+ghost use Rattle.std.specs.Prelude.{◌≡◌};
 ghost use Rattle.std.specs.Arc.{arc_value};
-ghost use Rattle.bpf_semantics.specs.Reached.{Reached};
 ghost use Rattle.engine_core.specs.RunState.{IsReached};
 
 use accepted::Accepted;
 use bpf_machine::Machine;
-use ccb::CONTEXT_BYTES;
-use std::alloc::{AllocError, Global};
 use std::marker::Model;
 use std::sync::Arc;
 
@@ -45,22 +42,6 @@ impl Run {
             program,
             machine,
         }
-    }
-
-    // The same for one that goes on with a program in a machine that it reaches.
-    pub(crate) fn again(
-        alloc: Global,
-        number: u32,
-        program: &Arc<Accepted>,
-        machine: &Machine,
-    ) -> Result<Self, AllocError>
-        requires { (n : ℕ) × Reached (arc_value program.now).program n machine.now }
-        ensures { IfOk result (λ run. run ≡ record { number = number; program = arc_value program.now; machine = machine.now }) }
-    {
-        let program = Arc::try_clone(program)?;
-        let mut held = Box::new(alloc, Machine::entry(&[0; CONTEXT_BYTES], 0))?;
-        held.copy_from(machine);
-        Ok(Run::new(number, program, held))
     }
 
     /// The number of the run, from 1.

@@ -22,6 +22,7 @@ use engine_config::Config;
 use interpreter::Segment;
 use recoveries::Recoveries;
 use std::alloc::Global;
+use std::sync::Arc;
 
 /// The segment, the next stretch of the run at this place, is taken over. Where memory is refused nothing changes, and the
 /// run comes back.
@@ -62,14 +63,14 @@ pub(crate) fn advance(
     }
 }
 
-/// The run at this place, which is out so, is parked.
+/// The run at this place, which is out so, is parked. The place of its machine is kept for runs to come.
 pub(crate) fn park(recoveries: &mut Recoveries, place: usize, run: Run) -> (Reply, Record)
     requires out { IsOutWith recoveries.old.runs run.number run.program.program run.machine }
     requires place { IsPlaced recoveries.old.runs run.number place }
     ensures { (setup : Setup) (ccbs : CcbsState) (history : List TheRecord) → KeepsEngine setup history ccbs recoveries.old → Performs setup (Park run) ccbs recoveries.old ccbs recoveries.new result.0 result.1 }
 {
     let call = Call::Park { run: run.number() };
-    run.forfeit();
+    recoveries.keep_place(run.spent());
     recoveries.set_out(place, false);
     let answer = CallAnswer::Ok;
     (Reply::Given(Given::Parked), Record::Called { answer, call })
@@ -77,7 +78,6 @@ pub(crate) fn park(recoveries: &mut Recoveries, place: usize, run: Run) -> (Repl
 
 /// The run of that number, which is parked, is out again, or C1. Where memory is refused nothing changes.
 pub(crate) fn resume(
-    alloc: Global,
     config: &Config,
     recoveries: &mut Recoveries,
     run: u32,
@@ -90,10 +90,14 @@ pub(crate) fn resume(
     let Some(place) = recoveries.parked(run) else {
         return Ok(refused(CallRefusal::Unknown, call));
     };
-    let program = config.program(recoveries.queue(place));
-    let Ok(again) = Run::again(alloc, run, program, recoveries.machine(place)) else {
+    let Ok(program) = Arc::try_clone(config.program(recoveries.queue(place))) else {
         return Err(Back::Nothing);
     };
+    let Ok(mut machine) = recoveries.place_for_machine() else {
+        return Err(Back::Nothing);
+    };
+    machine.copy_from(recoveries.machine(place));
+    let again = Run::new(run, program, machine);
     recoveries.set_out(place, true);
     let answer = CallAnswer::Ok;
     Ok((

@@ -1,5 +1,7 @@
 -- What it takes to take a segment over, and what that leaves.
 use Rattle.std.specs.Prelude.{◌≡◌, ℕ, List, Some}
+use Rattle.helpers.specs.declared.table.Deed.{Deed}
+use Rattle.helpers.specs.Table.{row_of}
 use Rattle.helpers.specs.declared.request.Request.{Request}
 use Rattle.helpers.specs.declared.request.Answer.{Answer}
 use Rattle.bpf_insn.specs.declared.program.Slot.{Slot}
@@ -7,7 +9,7 @@ use Rattle.bpf_semantics.specs.MachineState.{MachineState}
 use Rattle.bpf_semantics.specs.Step.{IsAnswer}
 use Rattle.bpf_semantics.specs.declared.stop.Stop.{Stop}
 use Rattle.bpf_semantics.specs.declared.stop.Stop.TheVariants.{Helper as at_helper, Exit as at_exit}
-use Rattle.interpreter.specs.Segments.{SegmentState}
+use Rattle.interpreter.specs.Segments.{SegmentState, IsSegment}
 use Rattle.ccb_table.specs.CcbsState.{CcbsState}
 use Rattle.recoveries.specs.RecoveryState.{RecoveryState}
 use Rattle.recoveries.specs.RunPlaces.{HasRunAt}
@@ -68,6 +70,33 @@ pub record Does (place : ℕ) (segment : SegmentState) (request : Request) (give
       (setup : Setup) (history : List Record) → KeepsEngine setup history ccbs recoveries →
       IsCarriedOut (goes_on (world_of setup history ccbs recoveries) a.out.it segment.to) (at_stop a.out.it segment) request given
       more (record after { runs = with_run (at_stop a.out.it segment) after.runs })
+
+-- The segment stops at this call, and is the next stretch of the run at this place.
+pub record IsCalled (ccbs : CcbsState) (recoveries : RecoveryState) (place : ℕ) (segment : SegmentState) (request : Request) : Type 0 where
+  pub segment_is : IsSegment segment
+  pub stop : segment.stop ≡ at_helper request
+  pub number : ℕ
+  pub admitted : IsAdmitted ccbs recoveries number place segment
+
+-- the helper of the call does this deed
+abbrev pub IsOfDeed : Deed → Request → Type 0
+IsOfDeed deed request = (row_of request.helper).deed ≡ deed
+
+-- a run at this place stands at such a call, with these CCBs
+abbrev pub AsksOf : Deed → CcbsState → RecoveryState → ℕ → Request → Type 0
+AsksOf deed ccbs recoveries place request = IsOfDeed deed request × ((segment : SegmentState) × IsCalled ccbs recoveries place segment request)
+
+-- with some CCBs
+abbrev pub Asks : Deed → RecoveryState → ℕ → Request → Type 0
+Asks deed recoveries place request = IsOfDeed deed request × ((ccbs : CcbsState) × (segment : SegmentState) × IsCalled ccbs recoveries place segment request)
+
+-- what is done is what such a call does, with these CCBs
+pub record AnswersOf (place : ℕ) (request : Request) (given : Answer) (ccbs : CcbsState) (recoveries : RecoveryState) (more : CcbsState) (after : RecoveryState) : Type 0 where
+  pub does : (segment : SegmentState) → IsCalled ccbs recoveries place segment request → Does place segment request given ccbs recoveries more after
+
+-- whatever CCBs there are, and all of them stay
+abbrev pub Answers : ℕ → Request → Answer → RecoveryState → RecoveryState → Type 0
+Answers place request given recoveries after = (ccbs : CcbsState) → AnswersOf place request given ccbs recoveries ccbs after
 
 -- the run at this place goes on there with its next machine, and is otherwise as it was
 pub record GoesOn (recoveries after : RecoveryState) (place : ℕ) : Type 0 where

@@ -4,6 +4,7 @@
 #![tactic(auto)]
 
 mod answers;
+mod carrying_out;
 mod ccb_events;
 mod course;
 mod engine;

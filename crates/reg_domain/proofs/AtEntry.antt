@@ -1,21 +1,22 @@
 -- What is known at the entry holds of each run's first machine.
-use Rattle.std.proofs.Common.{◌≡◌, ℕ, zero, suc, ◌<◌, List, [], ◌∷◌, length, Option, Some, None, get_or, refl, subst, sym, arith}
-use Rattle.std.specs.Prelude.{false, replicate}
+use Rattle.std.proofs.Common.{◌≡◌, ℕ, List, [], ◌∷◌, length, Option, None, refl, subst, sym, arith}
+use Rattle.std.specs.Prelude.{false}
 use Rattle.std.proofs.lemmas.List.{length-replicate}
 use Rattle.bpf_insn.specs.declared.reg.Reg.TheVariants.{R0, R1, R2, R3, R4, R5, R6, R7, R8, R9, R10}
 use Rattle.bpf_semantics.specs.MachineState.{MachineState, context_address, entry, frame_pointer, unwritten_frame}
 use Rattle.bpf_semantics.specs.Reached.{IsEntry}
 use Rattle.stack_domain.specs.Stack.{Covers as CoversFrames}
-use Rattle.reg_domain.specs.declared.description.Description.{Description}
+use Rattle.description.specs.declared.description.Description.{Description}
 use Rattle.register_kinds.specs.declared.freeze_name.FreezeName.TheVariants as names
 use Rattle.register_kinds.specs.declared.held.HeldFreeze.{HeldFreeze}
 use Rattle.register_kinds.specs.declared.kind.Kind.{Kind}
 use Rattle.register_kinds.specs.declared.kind.Kind.TheVariants.{Unwritten, Address, Freeze}
 use Rattle.register_kinds.specs.declared.region.Region.TheVariants.{Context, Frame}
-use Rattle.reg_domain.specs.Changes.{HoldAtEntry}
-use Rattle.reg_domain.specs.Description.{Describes}
+use Rattle.reg_domain.specs.AllRegisters.{HoldAtEntry}
+use Rattle.description.specs.Description.{Describes}
 use Rattle.register_kinds.specs.Freezes.{AreHeld, numbers_at_start, open_freeze}
 use Rattle.register_kinds.proofs.Freezes.{held_at_start}
+use Rattle.description.proofs.NoBytes.{no_byte}
 
 abbrev entry_kinds : List Kind
 entry_kinds = Unwritten ∷ Address Context (record { least = 0; most = 0 }) ∷ Freeze names.Start ∷ Unwritten ∷ Unwritten ∷ Unwritten ∷ Unwritten ∷ Unwritten ∷ Unwritten ∷ Unwritten ∷ Address (Frame 0) (record { least = 512; most = 512 }) ∷ []
@@ -32,17 +33,6 @@ hold_at_entry context freeze R7 = tt
 hold_at_entry context freeze R8 = tt
 hold_at_entry context freeze R9 = tt
 hold_at_entry context freeze R10 = (frame_pointer 0, refl, (512, refl, omega arith, omega arith, omega arith))
-
--- no byte of the only frame is written
-pub no_byte : (k offset byte : ℕ) → get_or (get_or (unwritten_frame ∷ []) k []) offset None ≡ Some byte → byte < 256
-no_byte zero offset byte is = absurd (none_there 512 offset byte is)
-  where
-    none_there : (n offset byte : ℕ) → get_or (replicate n None) offset None ≡ Some byte → ⊥
-    none_there zero offset byte is = absurd cc
-    none_there (suc n) zero byte is = absurd cc
-    none_there (suc n) (suc offset) byte is = none_there n offset byte is
-no_byte (suc zero) offset byte is = absurd cc
-no_byte (suc (suc k)) offset byte is = absurd cc
 
 pub describes_entry : (d : Description) → HoldAtEntry d.registers → ((frame : List (Option ℕ)) → length frame ≡ 512 → CoversFrames d.stack (frame ∷ [])) → d.held ≡ open_freeze names.Start ∷ [] → d.disposed ≡ false → (m : MachineState) → IsEntry m → Describes [] d m
 describes_entry d hold covers held disposed m is = subst (Describes [] d) (sym is.is) (

@@ -7,16 +7,16 @@ use Rattle.bpf_insn.specs.declared.reg.Reg.{Reg}
 use Rattle.bpf_insn.specs.Reg.{number_of}
 use Rattle.bpf_semantics.specs.MachineState.{MachineState, moved_to, register, with_register}
 use Rattle.stack_domain.specs.Stack.{Covers as CoversFrames}
-use Rattle.reg_domain.specs.declared.description.Description.{Description}
+use Rattle.description.specs.declared.description.Description.{Description}
 use Rattle.register_kinds.specs.declared.held.HeldFreeze.{HeldFreeze}
 use Rattle.register_kinds.specs.declared.kind.Kind.{Kind}
 use Rattle.register_kinds.specs.declared.kind.Kind.TheVariants.{Unwritten}
-use Rattle.reg_domain.specs.declared.saved.SavedRegisters.{SavedRegisters}
-use Rattle.reg_domain.specs.Description.{DescribesWith, kind_at}
+use Rattle.description.specs.declared.saved.SavedRegisters.{SavedRegisters}
+use Rattle.description.specs.Description.{DescribesWith, kind_at}
 use Rattle.reg_domain.specs.Enough.{ChangesOnly}
 use Rattle.register_kinds.specs.Freezes.{AreHeld, FreezeNumbers}
 use Rattle.register_kinds.specs.Kinds.{HoldsKind}
-use Rattle.reg_domain.proofs.RegisterPlaces.{number_below}
+use Rattle.description.proofs.RegisterPlaces.{number_below}
 
 holds_as : (numbers : FreezeNumbers) (a b : Kind) (o p : Option ℕ) → a ≡ b → o ≡ p → HoldsKind numbers b p → HoldsKind numbers a o
 holds_as numbers a b o p same_kind same h = subst (λ (k : Kind). HoldsKind numbers k o) (sym same_kind) (subst (HoldsKind numbers b) (sym same) h)

@@ -18,13 +18,13 @@ use Rattle.bpf_semantics.specs.Step.{compute, compute_one, does, load, operand, 
 use Rattle.bpf_semantics.specs.Stuck.{load_is_stuck, store_is_stuck}
 use Rattle.bpf_words.specs.Words.{in_place, sign_extended}
 use Rattle.register_kinds.specs.declared.cause.Cause.{Cause}
-use Rattle.reg_domain.specs.declared.description.Description.{Description}
+use Rattle.description.specs.declared.description.Description.{Description}
 use Rattle.reg_domain.specs.declared.following.Way.{Way}
 use Rattle.reg_domain.specs.declared.following.Way.TheVariants.{FallThrough}
 use Rattle.register_kinds.specs.declared.kind.Kind.{Kind}
-use Rattle.reg_domain.specs.declared.saved.SavedRegisters.{SavedRegisters}
+use Rattle.description.specs.declared.saved.SavedRegisters.{SavedRegisters}
 use Rattle.register_kinds.specs.Computes.{ChangesKind, ComputesKind}
-use Rattle.reg_domain.specs.Description.{DescribesWith, kind_at}
+use Rattle.description.specs.Description.{DescribesWith, kind_at}
 use Rattle.reg_domain.specs.Enough.{ChangesOnly}
 use Rattle.reg_domain.specs.Follows.{Follows}
 use Rattle.register_kinds.specs.Freezes.{FreezeNumbers}

@@ -10,12 +10,12 @@ use Rattle.bpf_semantics.specs.MachineState.{MachineState, register}
 use Rattle.bpf_semantics.specs.Step.{jump_if, operand}
 use Rattle.bpf_words.specs.Words.{holds_of}
 use Rattle.register_kinds.specs.declared.comparison.Finding.{Finding}
-use Rattle.reg_domain.specs.declared.description.Description.{Description}
+use Rattle.description.specs.declared.description.Description.{Description}
 use Rattle.reg_domain.specs.declared.following.Way.{Way}
 use Rattle.reg_domain.specs.declared.following.Way.TheVariants.{FallThrough, Taken}
 use Rattle.register_kinds.specs.declared.kind.Kind.{Kind}
-use Rattle.reg_domain.specs.declared.saved.SavedRegisters.{SavedRegisters}
-use Rattle.reg_domain.specs.Description.{Describes, DescribesWith, kind_at}
+use Rattle.description.specs.declared.saved.SavedRegisters.{SavedRegisters}
+use Rattle.description.specs.Description.{Describes, DescribesWith, kind_at}
 use Rattle.register_kinds.specs.Finds.{FindsWay, Found}
 use Rattle.reg_domain.specs.Follows.{Follows, GoesBy, jumps, jumps_if}
 use Rattle.register_kinds.specs.Freezes.{FreezeNumbers}

@@ -3,11 +3,11 @@ use Rattle.std.proofs.Common.{◌≡◌, get_or, ap, sym, subst, ◌∙◌, inl,
 use Rattle.std.proofs.lemmas.Bool.{cases_eq}
 use Rattle.bpf_insn.specs.declared.reg.Reg.{Reg}
 use Rattle.bpf_insn.specs.Reg.{number_of}
-use Rattle.reg_domain.specs.declared.description.Description.{Description}
+use Rattle.description.specs.declared.description.Description.{Description}
 use Rattle.register_kinds.specs.declared.kind.Kind.{Kind}
 use Rattle.register_kinds.specs.declared.kind.Kind.TheVariants.{Unwritten, Number, Address, Freeze}
-use Rattle.reg_domain.specs.Description.{kind_at}
-use Rattle.reg_domain.specs.Enough.{ChangesOnly, IsFreeze, LeavesKnown, StaysKnown}
+use Rattle.description.specs.Description.{kind_at}
+use Rattle.reg_domain.specs.Enough.{ChangesOnly, LeavesKnown, StaysKnown}
 use Rattle.register_kinds.specs.Kinds.{IsNumber}
 
 pub same_stays : (before after : Kind) → after ≡ before → StaysKnown before after
@@ -50,6 +50,3 @@ known_twice d between there first second = record {
   stack = second.stack ∙ first.stack;
   disposal = second.disposal ∙ first.disposal;
 }
-
-pub number_or_freeze : (kind : Kind) → IsNumber kind → IsFreeze kind → ⊥
-number_or_freeze kind number (name, is) = subst IsNumber is number

@@ -9,19 +9,21 @@ use Rattle.bpf_semantics.specs.MachineState.{register}
 use Rattle.bpf_semantics.specs.Memory.{address_at, store_width}
 use Rattle.register_kinds.specs.declared.access.Access.{Access}
 use Rattle.register_kinds.specs.declared.cause.Cause.{Cause}
-use Rattle.reg_domain.specs.declared.description.Description.{Description}
+use Rattle.description.specs.declared.description.Description.{Description}
 use Rattle.register_kinds.specs.declared.kind.Kind.{Kind}
 use Rattle.register_kinds.specs.declared.kind.Kind.TheVariants.{Unwritten, Number, Address, Freeze}
 use Rattle.register_kinds.specs.declared.region.Offsets.{Offsets}
 use Rattle.register_kinds.specs.declared.region.Region.{Region}
 use Rattle.register_kinds.specs.declared.region.Region.TheVariants.{Frame}
 use Rattle.register_kinds.specs.Accesses.{BeginsAt}
-use Rattle.reg_domain.specs.Description.{kind_at}
+use Rattle.description.specs.Description.{kind_at}
 use Rattle.register_kinds.specs.Kinds.{IsAt, HoldsKind, IsNumber, LiesAt, size_of}
-use Rattle.reg_domain.specs.Enough.{AreKnown, LeavesStored, LiesInFrame}
+use Rattle.description.specs.Memory.{AreKnown, LeavesMarked, Writes}
+use Rattle.reg_domain.specs.Enough.{LeavesStored, LiesInFrame}
 use Rattle.register_kinds.specs.Freezes.{FreezeNumbers}
-use Rattle.reg_domain.specs.Memory.{LeavesMarked, Stores, Writes, WritesFrom}
+use Rattle.reg_domain.specs.Memory.{Stores}
 use Rattle.reg_domain.proofs.ByteNumbers.{bytes_below, length-low_bytes}
+use Rattle.description.proofs.FramePlaces.{frame_is}
 
 -- where the bytes of an access begin
 abbrev pub Reaches : Kind → ℤ → Region → Offsets → Type 0
@@ -58,9 +60,6 @@ stores_ok (Ok x) d there size dst offset word base region frame offsets of_dst i
     (subst (λ (k : Kind). Reaches k offset (Frame frame) offsets) of_dst (subst (λ (g : Region). Reaches base offset g offsets) in_frame reaches))
     (subst (λ (n : ℕ). Writes d frame offsets n there) same writes) number
 stores_ok (Err cause) d there size dst offset word base region frame offsets of_dst in_frame reaches count same writes number = tt
-
-frame_is : (f g : ℕ) → Frame f ≡ Frame g → f ≡ g
-frame_is f g e = cc
 
 same_address : (f g a b : ℕ) → Address (Frame f) (record { least = a; most = a }) ≡ Address (Frame g) (record { least = b; most = b }) → (f ≡ g) × (a ≡ b)
 same_address f g a b e =
@@ -106,20 +105,3 @@ known_leaves r d there dst offset given word base access frame count bytes of_ds
     (subst (λ (n : ℕ). IsOkAnd r (λ x. LeavesMarked d lies.frame (address_at lies.at offset) n there)) is_count
     (subst (λ (z : ℤ). IsOkAnd r (λ x. LeavesMarked d lies.frame (address_at lies.at z) count there)) is_offset
     (subst (λ (k : ℕ). IsOkAnd r (λ x. LeavesMarked d k from count there)) (sym same.0) marked)))
-
--- bytes that are written from the address on that a register holds
-same_number : (a b : ℕ) → Some a ≡ Some b → a ≡ b
-same_number a b e = cc
-
-pub writes_from : (d there : Description) (reg : Reg) (frame : ℕ) (offsets : Offsets) (count : ℕ) → kind_at d reg ≡ Address (Frame frame) offsets → Writes d frame offsets count there → WritesFrom reg count d there
-writes_from d there reg frame offsets count in_frame writes numbers callers m address bytes is at size each =
-    let holds = subst (λ (kind : Kind). HoldsKind numbers kind (register m reg)) in_frame (is.registers reg) in
-    writes numbers callers m address bytes is (subst (LiesAt (Frame frame) offsets) (same_number holds.0 address (sym holds.1 ∙ at)) holds.2) size each
-
-pub known_from : (d there : Description) (reg : Reg) (frame : ℕ) (offsets : Offsets) (count : ℕ) → kind_at d reg ≡ Address (Frame frame) offsets
-    → ((from : ℕ) → offsets ≡ record { least = from; most = from } → LeavesMarked d frame from count there) → (k at : ℕ) → IsAt (Frame k) at (kind_at d reg) → AreKnown there k at count
-known_from d there reg frame offsets count in_frame marks k at is =
-    let same : Address (Frame frame) offsets ≡ Address (Frame k) (record { least = at; most = at }) = sym in_frame ∙ is in
-    let frames : Frame frame ≡ Frame k = cc in
-    let offset : offsets ≡ record { least = at; most = at } = cc in
-    subst (λ (j : ℕ). AreKnown there j at count) (frame_is frame k frames) (marks at offset).written

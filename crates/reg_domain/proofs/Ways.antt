@@ -1,5 +1,9 @@
--- Which way an instruction leads that is no jump, and what an exit asks.
-use Rattle.std.proofs.Common.{◌≡◌, ℕ, ℤ, true, false, Bool, not, ◌||◌, List, [], Option, Result, Ok, Err, IfOk, refl, ap, sym, subst, ◌∙◌, inl, inr}
+-- What is known of functions that wait, where a freeze is taken or held no more, and at a call and its return.
+use Rattle.std.proofs.Common.{◌≡◌, List, [], ◌∷◌, ◌++◌, refl, ℕ, ℤ, true, false, Bool, not, ◌||◌, Option, Result, Ok, Err, IfOk, ap, sym, subst, ◌∙◌, inl, inr}
+use Rattle.bpf_semantics.specs.MachineState.{OpenCall, MachineState, register}
+use Rattle.description.specs.declared.saved.SavedRegisters.{SavedRegisters}
+use Rattle.register_kinds.specs.Freezes.{FreezeNumbers, numbers_held}
+use Rattle.description.specs.OpenCalls.{AreOpen}
 use Rattle.std.specs.Prelude.{IsOkAnd, is_none}
 use Rattle.bpf_insn.specs.declared.insn.Insn.{Insn}
 use Rattle.bpf_insn.specs.declared.insn.Callee.TheVariants.{Helper}
@@ -10,24 +14,30 @@ use Rattle.bpf_insn.specs.declared.insn.Width.{Width}
 use Rattle.bpf_insn.specs.declared.reg.Reg.{Reg}
 use Rattle.bpf_insn.specs.declared.reg.Reg.TheVariants.{R0}
 use Rattle.helpers.specs.declared.limits.HelperLimits.{HelperLimits}
-use Rattle.bpf_semantics.specs.MachineState.{MachineState, register}
 use Rattle.bpf_semantics.specs.Stuck.{exit_is_stuck, holds_none}
 use Rattle.register_kinds.specs.declared.cause.Cause.{Cause}
-use Rattle.reg_domain.specs.declared.description.Description.{Description}
+use Rattle.description.specs.declared.description.Description.{Description}
 use Rattle.reg_domain.specs.declared.following.Way.{Way}
 use Rattle.reg_domain.specs.declared.following.Way.TheVariants.{FallThrough, Taken}
 use Rattle.register_kinds.specs.declared.freeze_name.FreezeName.{FreezeName}
 use Rattle.register_kinds.specs.declared.kind.Kind.{Kind}
 use Rattle.register_kinds.specs.declared.kind.Kind.TheVariants.{Unwritten, Number, Address, Freeze}
-use Rattle.reg_domain.specs.declared.saved.SavedRegisters.{SavedRegisters}
-use Rattle.reg_domain.specs.Calls.{CallFollows, CallIsNeverStuck}
-use Rattle.reg_domain.specs.Description.{kind_at}
-use Rattle.reg_domain.specs.Enough.{CanCall, Enough, Leaves, LeavesCalled}
-use Rattle.reg_domain.specs.Follows.{Follows, NeverStuck, jumps}
-use Rattle.register_kinds.specs.Freezes.{FreezeNumbers, numbers_held}
+use Rattle.helper_calls.specs.Calls.{CallFollows, CallIsNeverStuck}
+use Rattle.description.specs.Description.{kind_at, NeverStuck}
+use Rattle.helper_calls.specs.Called.{CanCall, LeavesCalled}
+use Rattle.reg_domain.specs.Enough.{Enough, Leaves}
+use Rattle.reg_domain.specs.Follows.{Follows, jumps}
 use Rattle.reg_domain.specs.GoesOn.{GoesOn, is_taken}
 use Rattle.register_kinds.specs.Kinds.{HoldsKind, IsNumber}
-use Rattle.reg_domain.proofs.OpenCalls.{none_open}
+
+-- no function waits
+pub none_open : (numbers : FreezeNumbers) (calls : List OpenCall) → AreOpen numbers [] calls → calls ≡ []
+none_open numbers [] are = refl
+none_open numbers (call ∷ calls) (outer, saved, split, its, rest) = absurd (no_end outer saved split)
+  where
+    no_end : (outer : List SavedRegisters) (saved : SavedRegisters) → [] ≡ outer ++ saved ∷ [] → ⊥
+    no_end [] saved e = absurd cc
+    no_end (first ∷ outer) saved e = absurd cc
 
 -- what is no jump goes on at the next instruction alone
 pub follows_way : (callers : List SavedRegisters) (insn : Insn) (way : Way) (d there : Description) → ((m : MachineState) → jumps m insn ≡ false) → Follows callers insn FallThrough d true there → Follows callers insn way d (not (is_taken way)) there

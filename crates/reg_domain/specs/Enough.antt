@@ -1,6 +1,6 @@
 -- What is enough for the check of an instruction to pass, and what is known behind it then. It says nothing of machines:
 -- it is what a program may rely on that is to be accepted.
-use Rattle.std.specs.Prelude.{◌≡◌, ℕ, ℤ, pos, ◌+◌, ◌<◌, ◌≤◌, ◌==◌, true, false, List, [], ◌∷◌, ◌++◌, length, Some, ◌⊎◌}
+use Rattle.std.specs.Prelude.{◌≡◌, ℕ, ℤ, pos, ◌+◌, ◌<◌, ◌≤◌, ◌==◌, true, false, [], ◌∷◌, length, Some, ◌⊎◌}
 use Rattle.std.specs.Int.{w64, byte_len, cast_unsigned}
 use Rattle.bpf_insn.specs.declared.insn.AluOp.{AluOp}
 use Rattle.bpf_insn.specs.declared.insn.AluOp.TheVariants.{Mov}
@@ -16,17 +16,10 @@ use Rattle.bpf_insn.specs.declared.insn.Width.TheVariants.{Bits64}
 use Rattle.bpf_insn.specs.declared.reg.Reg.{Reg}
 use Rattle.bpf_insn.specs.declared.reg.Reg.TheVariants.{R0, R1, R2, R10}
 use Rattle.bpf_insn.specs.Reg.{number_of}
-use Rattle.helpers.specs.declared.columns.Change.{Change}
-use Rattle.helpers.specs.declared.columns.Change.TheVariants as changes
-use Rattle.helpers.specs.declared.columns.Gives.{Gives}
-use Rattle.helpers.specs.declared.columns.Gives.TheVariants as gives
-use Rattle.helpers.specs.declared.table.Helper.{Helper}
-use Rattle.helpers.specs.declared.limits.HelperLimits.{HelperLimits}
-use Rattle.helpers.specs.Table.{helper_of, row_of}
 use Rattle.bpf_semantics.specs.Memory.{address_at, load_width, store_width}
 use Rattle.bpf_words.specs.Words.{reads_dst}
 use Rattle.stack_domain.specs.Stack.{Knows}
-use Rattle.reg_domain.specs.declared.description.Description.{Description}
+use Rattle.description.specs.declared.description.Description.{Description}
 use Rattle.reg_domain.specs.declared.following.Way.{Way}
 use Rattle.reg_domain.specs.declared.following.Way.TheVariants.{FallThrough, Taken}
 use Rattle.register_kinds.specs.declared.freeze_name.FreezeName.{FreezeName}
@@ -34,19 +27,17 @@ use Rattle.register_kinds.specs.declared.freeze_name.FreezeName.TheVariants as n
 use Rattle.register_kinds.specs.declared.held.Certainty.TheVariants.{Sure}
 use Rattle.register_kinds.specs.declared.kind.Kind.{Kind}
 use Rattle.register_kinds.specs.declared.kind.Kind.TheVariants.{Unwritten, Number, Address, Freeze}
-use Rattle.reg_domain.specs.declared.saved.SavedRegisters.{SavedRegisters}
 use Rattle.register_kinds.specs.declared.region.Region.TheVariants.{Context, Frame}
-use Rattle.reg_domain.specs.Arguments.{MayCall}
-use Rattle.reg_domain.specs.Description.{kind_at}
-use Rattle.register_kinds.specs.Freezes.{certainty_of, open_freeze, with_sure, without}
-use Rattle.register_kinds.specs.Kinds.{IsAt, IsAtMost, IsKnown, IsNumber, IsNumberWithin}
+use Rattle.description.specs.Description.{kind_at}
+use Rattle.register_kinds.specs.Freezes.{certainty_of, open_freeze, with_sure}
+use Rattle.register_kinds.specs.Kinds.{IsAt, IsAtMost, IsKnown, IsNumber}
+use Rattle.description.specs.Changes.{IsFreeze, LeavesGivenUp}
+use Rattle.description.specs.Memory.{AreKnown}
+use Rattle.helper_calls.specs.Called.{EnoughToCall, LeavesCalled}
 
 abbrev pub IsNumberOperand : Description → Operand → Type 0
 IsNumberOperand d (Immediate value) = Unit {0}
 IsNumberOperand d (Register reg) = IsNumber (kind_at d reg)
-
-abbrev pub IsFreeze : Kind → Type 0
-IsFreeze kind = (name : FreezeName) × (kind ≡ Freeze name)
 
 -- bytes of the context, of which it is known where they lie
 pub record LiesInContext (d : Description) (reg : Reg) (offset : ℤ) (bytes : ℕ) : Type 0 where
@@ -61,10 +52,6 @@ pub record LiesInFrame (d : Description) (reg : Reg) (offset : ℤ) (bytes : ℕ
   pub base : IsAt (Frame frame) at (kind_at d reg)
   pub live : frame < length d.stack
   pub inside : address_at at offset + bytes ≤ 512
-
--- so many bytes of a frame are known to be written
-abbrev pub AreKnown : Description → ℕ → ℕ → ℕ → Type 0
-AreKnown d frame from bytes = (at : ℕ) → from ≤ at → at < from + bytes → Knows d.stack frame at
 
 -- the bytes of a load
 pub record LiesWritten (d : Description) (reg : Reg) (offset : ℤ) (bytes : ℕ) : Type 0 where
@@ -83,14 +70,6 @@ pub record TestsFreeze (d : Description) (width : Width) (condition : Condition)
 pub record ComparesNumbers (d : Description) (dst : Reg) (src : Operand) : Type 0 where
   pub first : IsNumber (kind_at d dst)
   pub second : IsNumberOperand d src
-
--- the helper of that number may be called
-abbrev pub CanCall : HelperLimits → List SavedRegisters → Description → FreezeName → ℤ → Type 0
-CanCall limits callers d name number = (helper : Helper) × (helper_of number ≡ Some helper) × MayCall limits callers d name helper
-
--- and is under any limits, whichever functions wait, and however a freeze that it takes is named
-abbrev pub EnoughToCall : ℤ → Description → Type 0
-EnoughToCall number d = (limits : HelperLimits) (callers : List SavedRegisters) (name : FreezeName) → CanCall limits callers d name number
 
 -- a register is copied, or numbers are computed with
 abbrev pub EnoughToCompute : Description → Width → AluOp → Reg → Operand → Type 0
@@ -162,14 +141,6 @@ pub record LeavesSure (name : FreezeName) (d there : Description) : Type 0 where
   pub held : there.held ≡ with_sure d.held name
   pub disposal : there.disposed ≡ d.disposed
 
--- a freeze is held no more, and its copies are of that kind; all else is as before
-pub record LeavesGivenUp (name : FreezeName) (copy : Kind) (d there : Description) : Type 0 where
-  pub copies : (reg : Reg) → kind_at d reg ≡ Freeze name → kind_at there reg ≡ copy
-  pub others : (reg : Reg) → (kind_at d reg ≡ Freeze name → ⊥) → kind_at there reg ≡ kind_at d reg
-  pub stack : there.stack ≡ d.stack
-  pub held : there.held ≡ without d.held name
-  pub disposal : there.disposed ≡ d.disposed
-
 -- Behind a test for 0 the freeze is sure where it was not 0, and held no more where it was. The latter way is open only
 -- where it was not sure before.
 abbrev pub LeavesTested : Way → FreezeName → Description → Description → Type 0
@@ -179,59 +150,6 @@ LeavesTested Taken name d there = (certainty_of d.held name ≡ Some Sure → �
 pub record LeavesCompared (d : Description) (width : Width) (condition : Condition) (dst : Reg) (src : Operand) (way : Way) (there : Description) : Type 0 where
   pub numbers : ComparesNumbers d dst src → LeavesKnown d there × (there.held ≡ d.held)
   pub tested : (tests : TestsFreeze d width condition dst src) → LeavesTested way tests.name d there
-
--- what was known to be written still is, and nothing else is changed
-pub record ChangesStack (d there : Description) : Type 0 where
-  pub registers : there.registers ≡ d.registers
-  pub depth : length there.stack ≡ length d.stack
-  pub known : (k at : ℕ) → Knows d.stack k at → Knows there.stack k at
-  pub held : there.held ≡ d.held
-  pub disposal : there.disposed ≡ d.disposed
-
--- so many bytes are written from R1's address on, where it is one address
-abbrev pub LeavesFirstWritten : ℕ → Description → Description → Type 0
-LeavesFirstWritten bytes d there = (frame at : ℕ) → IsAt (Frame frame) at (kind_at d R1) → AreKnown there frame at bytes
-
--- the freeze of which R1 is a copy is held no more, and other copies are numbers that a freeze may have
-abbrev pub LeavesFirstGivenUp : Description → Description → Type 0
-LeavesFirstGivenUp d there =
-    (name : FreezeName) → kind_at d R1 ≡ Freeze name → (copy : Kind) × IsNumberWithin 1 0xffff_ffff copy × LeavesGivenUp name copy d there
-
--- What a call changes, but for R0 to R5. A freeze that it takes is held by that name, and may be 0.
-abbrev pub LeavesChanged : FreezeName → Change → Description → Description → Type 0
-LeavesChanged name changes.Nothing d there = there ≡ d
-LeavesChanged name changes.Holds d there = there ≡ record d { held = d.held ++ open_freeze name ∷ [] }
-LeavesChanged name changes.GivesUp d there = LeavesFirstGivenUp d there
-LeavesChanged name changes.Disposes d there = there ≡ record d { disposed = true }
-LeavesChanged name (changes.Writes bytes) d there = ChangesStack d there × LeavesFirstWritten bytes d there
-
--- what is given: a number of this range, known where it is but one, or a freeze of that name
-abbrev pub IsGivenAs : FreezeName → Gives → Kind → Type 0
-IsGivenAs name (gives.Number least most) kind = IsNumberWithin least most kind × (least ≡ most → IsKnown least kind)
-IsGivenAs name gives.NewFreeze kind = kind ≡ Freeze name
-
--- the answer is in R0, and all else but R1 to R5 is known as before
-pub record LeavesAnswer (kind : Kind) (d there : Description) : Type 0 where
-  pub r0 : kind_at there R0 ≡ kind
-  pub registers : (reg : Reg) → 6 ≤ number_of reg → kind_at there reg ≡ kind_at d reg
-  pub stack : there.stack ≡ d.stack
-  pub held : there.held ≡ d.held
-  pub disposal : there.disposed ≡ d.disposed
-
--- behind the call of a helper, by its row: what it changes comes first, and then its answer
-pub record LeavesOver (name : FreezeName) (helper : Helper) (d there : Description) : Type 0 where
-  pub between : Description
-  pub change : LeavesChanged name (row_of helper).machine d between
-  pub kind : Kind
-  pub given : IsGivenAs name (row_of helper).gives kind
-  pub answer : LeavesAnswer kind between there
-
--- and behind that of any: what is in R6 to R10 and no freeze is there as before
-pub record LeavesCalled (name : FreezeName) (d : Description) (number : ℤ) (there : Description) : Type 0 where
-  pub registers : (reg : Reg) → 6 ≤ number_of reg → (IsFreeze (kind_at d reg) → ⊥) → kind_at there reg ≡ kind_at d reg
-  pub depth : length there.stack ≡ length d.stack
-  pub known : (frame at : ℕ) → Knows d.stack frame at → Knows there.stack frame at
-  pub by : (helper : Helper) → helper_of number ≡ Some helper → LeavesOver name helper d there
 
 -- what is known behind an instruction of which enough was known, where the way is open
 abbrev pub Leaves : Insn → Way → Description → Description → Type 0

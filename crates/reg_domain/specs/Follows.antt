@@ -1,23 +1,20 @@
--- What an instruction makes of the machines that are described: none is stuck, and what becomes of those that go one way
--- is described again.
+-- What an instruction makes of the machines that are described: what becomes of those that go one way is described again.
 use Rattle.std.specs.Prelude.{◌≡◌, ℕ, Bool, true, false, List, [], Option, Some, None, ◌⊎◌}
 use Rattle.bpf_insn.specs.declared.insn.Callee.TheVariants.{Helper, Local}
 use Rattle.bpf_insn.specs.declared.insn.Condition.{Condition}
 use Rattle.bpf_insn.specs.declared.insn.Insn.{Insn}
 use Rattle.bpf_insn.specs.declared.insn.Insn.TheVariants.{Alu, InPlace, SignExtend, JumpIf, Jump, LoadImmediate, Load, Store, Call, Exit}
 use Rattle.bpf_insn.specs.declared.insn.Width.{Width}
-use Rattle.helpers.specs.declared.limits.HelperLimits.{HelperLimits}
 use Rattle.helpers.specs.declared.request.Answer.{Answer}
 use Rattle.helpers.specs.declared.request.Request.{Request}
 use Rattle.bpf_semantics.specs.MachineState.{MachineState, register}
 use Rattle.bpf_semantics.specs.Step.{Allowed, does, operand, request_in}
-use Rattle.bpf_semantics.specs.Stuck.{insn_is_stuck}
 use Rattle.bpf_words.specs.Words.{holds_of}
-use Rattle.reg_domain.specs.declared.description.Description.{Description}
+use Rattle.description.specs.declared.description.Description.{Description}
 use Rattle.reg_domain.specs.declared.following.Way.{Way}
 use Rattle.reg_domain.specs.declared.following.Way.TheVariants.{FallThrough, Taken}
-use Rattle.reg_domain.specs.declared.saved.SavedRegisters.{SavedRegisters}
-use Rattle.reg_domain.specs.Description.{Describes}
+use Rattle.description.specs.declared.saved.SavedRegisters.{SavedRegisters}
+use Rattle.description.specs.Description.{Describes}
 
 -- the condition of a jump holds
 abbrev pub jumps_if : Width → Condition → Option ℕ → Option ℕ → Bool
@@ -47,10 +44,6 @@ abbrev pub StepsBy : MachineState → Insn → MachineState → Type 0
 StepsBy m insn m' =
     (does m insn ≡ Some m')
     ⊎ ((request : Request) × (answer : Answer) × (request_in m insn ≡ Some request) × Allowed request answer m m')
-
--- no machine that is described is stuck there
-abbrev pub NeverStuck : HelperLimits → List SavedRegisters → Insn → Description → Type 0
-NeverStuck limits callers insn d = (m : MachineState) → Describes callers d m → insn_is_stuck limits m insn ≡ false
 
 -- Where a machine that is described goes this way, the way is open, and what becomes of the machine is described.
 abbrev pub Follows : List SavedRegisters → Insn → Way → Description → Bool → Description → Type 0

@@ -5,13 +5,13 @@ use Rattle.bpf_insn.specs.declared.insn.Insn.TheVariants.{Alu, InPlace, SignExte
 use Rattle.bpf_insn.specs.declared.insn.Operand.{Operand}
 use Rattle.bpf_insn.specs.declared.insn.Operand.TheVariants.{Immediate, Register}
 use Rattle.helpers.specs.declared.limits.HelperLimits.{HelperLimits}
-use Rattle.reg_domain.specs.declared.description.Description.{Description}
+use Rattle.description.specs.declared.description.Description.{Description}
 use Rattle.reg_domain.specs.declared.following.Way.{Way}
 use Rattle.reg_domain.specs.declared.following.Way.TheVariants.{FallThrough, Taken}
 use Rattle.register_kinds.specs.declared.kind.Kind.TheVariants.{Unwritten}
-use Rattle.reg_domain.specs.declared.saved.SavedRegisters.{SavedRegisters}
-use Rattle.reg_domain.specs.Description.{kind_at}
-use Rattle.reg_domain.specs.Follows.{Follows, NeverStuck}
+use Rattle.description.specs.declared.saved.SavedRegisters.{SavedRegisters}
+use Rattle.description.specs.Description.{kind_at, NeverStuck}
+use Rattle.reg_domain.specs.Follows.{Follows}
 
 -- the way is that of the jump
 abbrev pub is_taken : Way → Bool

@@ -1,10 +1,5 @@
-pub mod OpenCalls
-pub mod Description
-pub mod Follows
+pub mod AllRegisters
 pub mod Enough
-pub mod Memory
-pub mod Calls
-pub mod Arguments
-pub mod Changes
-pub mod Entering
+pub mod Follows
 pub mod GoesOn
+pub mod Memory

@@ -19,10 +19,10 @@ use Rattle.call_shape.specs.StaticPath.{Standing, outermost}
 use Rattle.call_shape.proofs.Places.{begins_there}
 use Rattle.call_shape.proofs.Ways.{further_behind}
 use Rattle.helpers.specs.declared.limits.HelperLimits.{HelperLimits}
-use Rattle.reg_domain.specs.declared.description.Description.{Description}
-use Rattle.reg_domain.specs.declared.saved.SavedRegisters.{SavedRegisters}
-use Rattle.reg_domain.specs.Description.{Describes}
-use Rattle.reg_domain.specs.Follows.{NeverStuck, StepsBy}
+use Rattle.description.specs.declared.description.Description.{Description}
+use Rattle.description.specs.declared.saved.SavedRegisters.{SavedRegisters}
+use Rattle.description.specs.Description.{Describes, NeverStuck}
+use Rattle.reg_domain.specs.Follows.{StepsBy}
 use Rattle.verifier.specs.Checks.{returns_of}
 use Rattle.verifier.specs.Function.{AreDone, IsLawfulProgram, IsOwn, Stands}
 use Rattle.verifier.specs.Goes.{FunctionIsSound, IsBack, IsCallVisited, IsChecked, IsLeft, IsVisited, StaysWell}

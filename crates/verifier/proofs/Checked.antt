@@ -12,11 +12,11 @@ use Rattle.call_shape.specs.Shape.{behind, goes_on_behind, target_in}
 use Rattle.call_shape.proofs.Lawful.{jumps_lawfully}
 use Rattle.helpers.specs.declared.limits.HelperLimits.{HelperLimits}
 use Rattle.reg_domain.specs.declared.following.Way.TheVariants.{FallThrough, Taken}
-use Rattle.reg_domain.specs.declared.saved.SavedRegisters.{SavedRegisters}
+use Rattle.description.specs.declared.saved.SavedRegisters.{SavedRegisters}
 use Rattle.reg_domain.specs.Follows.{GoesBy, Stays, StepsBy}
 use Rattle.register_kinds.specs.Freezes.{FreezeNumbers}
 use Rattle.reg_domain.specs.GoesOn.{falls_through}
-use Rattle.reg_domain.specs.OpenCalls.{AreOpen}
+use Rattle.description.specs.OpenCalls.{AreOpen}
 use Rattle.verifier.specs.Function.{HasChecked, IsEnd, IsLawfulProgram, Stands}
 use Rattle.verifier.specs.Table.{Table, HasLed, IsKnown}
 use Rattle.verifier.proofs.Steps.{is_inside, leaves, onward}

@@ -4,12 +4,12 @@ use Rattle.std.specs.Prelude.{slice_set}
 use Rattle.std.proofs.lemmas.Bool.{cases_eq, cases_lt}
 use Rattle.std.proofs.lemmas.List.{get_or_append_left, get_or-append_right, length-append}
 use Rattle.bpf_insn.specs.declared.program.Slot.{Slot}
-use Rattle.reg_domain.specs.declared.description.Description.{Description}
-use Rattle.reg_domain.specs.declared.saved.SavedRegisters.{SavedRegisters}
+use Rattle.description.specs.declared.description.Description.{Description}
+use Rattle.description.specs.declared.saved.SavedRegisters.{SavedRegisters}
 use Rattle.bpf_insn.specs.declared.insn.Insn.TheVariants.{Exit}
 use Rattle.bpf_semantics.specs.MachineState.{MachineState}
 use Rattle.bpf_semantics.specs.Step.{does}
-use Rattle.reg_domain.specs.Description.{Covers, Describes}
+use Rattle.description.specs.Description.{Covers, Describes}
 use Rattle.verifier.specs.Table.{Table, described, HasComeBack, HasJoined, HasLeft, IsFirstTable, IsKnown, IsMerged}
 use Rattle.verifier.specs.Arrives.{Arrives, AllArrive}
 

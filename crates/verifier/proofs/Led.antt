@@ -6,13 +6,13 @@ use Rattle.bpf_insn.specs.declared.program.Slot.{Slot}
 use Rattle.bpf_insn.specs.Program.{insn_at}
 use Rattle.bpf_semantics.specs.MachineState.{MachineState}
 use Rattle.helpers.specs.declared.limits.HelperLimits.{HelperLimits}
-use Rattle.reg_domain.specs.declared.description.Description.{Description}
-use Rattle.reg_domain.specs.declared.saved.SavedRegisters.{SavedRegisters}
+use Rattle.description.specs.declared.description.Description.{Description}
+use Rattle.description.specs.declared.saved.SavedRegisters.{SavedRegisters}
 use Rattle.reg_domain.specs.declared.following.Way.{Way}
-use Rattle.reg_domain.specs.Description.{Describes}
+use Rattle.description.specs.Description.{Describes, NeverStuck}
 use Rattle.reg_domain.specs.Enough.{Leaves}
 use Rattle.reg_domain.specs.GoesOn.{HasWay}
-use Rattle.reg_domain.specs.Follows.{Follows, NeverStuck}
+use Rattle.reg_domain.specs.Follows.{Follows}
 use Rattle.verifier.specs.Arrives.{AllArrive, Arrives, NeverLacks, follows, goes_to}
 use Rattle.verifier.specs.Table.{Table, described, IsKnown, HasJoined, HasLed}
 use Rattle.verifier.proofs.Joined.{same_description}

@@ -7,16 +7,15 @@ use Rattle.bpf_insn.specs.declared.program.Slot.{Slot}
 use Rattle.bpf_insn.specs.Program.{insn_at}
 use Rattle.bpf_semantics.specs.MachineState.{MachineState}
 use Rattle.bpf_semantics.specs.Stuck.{insn_is_stuck}
-use Rattle.call_shape.specs.Shape.{behind, goes_on_behind, target_in}
+use Rattle.call_shape.specs.Shape.{behind, goes_on_behind, target_in, AreContained}
 use Rattle.call_shape.proofs.Ways.{IsFurther, further_behind}
-use Rattle.call_shape.specs.Shape.{AreContained}
 use Rattle.call_shape.specs.StaticPath.{Standing}
 use Rattle.call_shape.proofs.Contained.{jumps_forward, jumps_to_insn, jumps_within, target_there}
 use Rattle.helpers.specs.declared.limits.HelperLimits.{HelperLimits}
-use Rattle.reg_domain.specs.declared.description.Description.{Description}
-use Rattle.reg_domain.specs.declared.saved.SavedRegisters.{SavedRegisters}
-use Rattle.reg_domain.specs.Description.{Describes}
-use Rattle.reg_domain.specs.Follows.{NeverStuck, Stays, StepsBy}
+use Rattle.description.specs.declared.description.Description.{Description}
+use Rattle.description.specs.declared.saved.SavedRegisters.{SavedRegisters}
+use Rattle.description.specs.Description.{Describes, NeverStuck}
+use Rattle.reg_domain.specs.Follows.{Stays, StepsBy}
 use Rattle.verifier.specs.Function.{AreDone, HasChecked, IsLawfulProgram, IsOwn}
 use Rattle.verifier.specs.Goes.{IsLeft}
 use Rattle.verifier.specs.OnTheWay.{IsChain}

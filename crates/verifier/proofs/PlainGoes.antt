@@ -23,7 +23,7 @@ use Rattle.helpers.specs.declared.table.Helper.TheVariants as helpers
 use Rattle.helpers.specs.declared.limits.HelperSet.{HelperSet}
 use Rattle.helpers.specs.declared.limits.HelperSet.TheVariants.{Queues}
 use Rattle.helpers.specs.Table.{is_there, row_of}
-use Rattle.reg_domain.specs.declared.description.Description.{Description}
+use Rattle.description.specs.declared.description.Description.{Description}
 use Rattle.reg_domain.specs.declared.following.Way.{Way}
 use Rattle.reg_domain.specs.declared.following.Way.TheVariants.{FallThrough, Taken}
 use Rattle.register_kinds.specs.declared.freeze_name.FreezeName.{FreezeName}
@@ -32,10 +32,11 @@ use Rattle.register_kinds.specs.declared.held.HeldFreeze.{HeldFreeze}
 use Rattle.register_kinds.specs.declared.kind.Kind.{Kind}
 use Rattle.register_kinds.specs.declared.kind.Kind.TheVariants.{Unwritten, Number, Address, Freeze}
 use Rattle.register_kinds.specs.declared.region.Region.TheVariants.{Context}
-use Rattle.reg_domain.specs.Description.{kind_at}
+use Rattle.description.specs.Description.{kind_at}
 use Rattle.register_kinds.specs.Freezes.{certainty_of, with_sure, without}
 use Rattle.register_kinds.specs.Kinds.{IsAtMost, IsBetween, IsKnown, IsAt}
-use Rattle.reg_domain.specs.Enough.{Enough, EnoughToCall, Leaves, LeavesOver, IsEntryKnown, TestsFreeze}
+use Rattle.reg_domain.specs.Enough.{Enough, Leaves, IsEntryKnown, TestsFreeze}
+use Rattle.helper_calls.specs.Called.{EnoughToCall, LeavesOver}
 use Rattle.verifier.specs.Arrives.{Arrives, enters, follows, joins, NeverLacks, goes_to}
 use Rattle.verifier.specs.Plain.{IsContextLoad, IsListed, IsPlain, is_free, is_kept, writes_register}
 use Rattle.verifier.proofs.PlainInsns.{length_plain, test, copy, release, Stands, loads_there, tests, copies, gives_back, lists, sets_retries, requeues_there, sets_answer, exits, stands}

@@ -12,15 +12,18 @@ use Rattle.bpf_insn.specs.declared.program.Slot.{Slot}
 use Rattle.bpf_insn.specs.Program.{insn_at}
 use Rattle.bpf_insn.specs.Reg.{number_of}
 use Rattle.call_shape.specs.StaticPath.{outermost, LeadsTo}
-use Rattle.reg_domain.specs.declared.description.Description.{Description}
+use Rattle.description.specs.declared.description.Description.{Description}
 use Rattle.register_kinds.specs.declared.freeze_name.FreezeName.{FreezeName}
 use Rattle.register_kinds.specs.declared.kind.Kind.{Kind}
 use Rattle.register_kinds.specs.declared.kind.Kind.TheVariants.{Unwritten, Number, Address, Freeze}
 use Rattle.register_kinds.specs.declared.region.Region.{Region}
 use Rattle.register_kinds.specs.declared.region.Region.TheVariants.{Frame}
-use Rattle.reg_domain.specs.Description.{kind_at}
+use Rattle.description.specs.Description.{kind_at}
 use Rattle.register_kinds.specs.Kinds.{IsNumber, IsAt}
-use Rattle.reg_domain.specs.Enough.{AreKnown, StaysKnown, ChangesOnly, IsFreeze, LeavesGivenUp, LeavesKnown, LeavesStored, LeavesSure, LeavesCalled, JoinsTo}
+use Rattle.description.specs.Memory.{AreKnown}
+use Rattle.reg_domain.specs.Enough.{StaysKnown, ChangesOnly, LeavesKnown, LeavesStored, LeavesSure, JoinsTo}
+use Rattle.description.specs.Changes.{IsFreeze, LeavesGivenUp}
+use Rattle.helper_calls.specs.Called.{LeavesCalled}
 use Rattle.verifier.specs.Plain.{ComesUnwritten, is_free, byte_of, writes_register, writes_byte}
 
 -- some path comes to a place without writing something

@@ -12,11 +12,11 @@ use Rattle.bpf_insn.specs.declared.program.Slot.{Slot}
 use Rattle.bpf_insn.specs.Target.{target}
 use Rattle.bpf_semantics.specs.Memory.{load_width, store_width}
 use Rattle.call_shape.specs.StaticPath.{outermost, LeadsTo}
-use Rattle.reg_domain.specs.declared.description.Description.{Description}
+use Rattle.description.specs.declared.description.Description.{Description}
 use Rattle.reg_domain.specs.declared.following.Way.{Way}
 use Rattle.reg_domain.specs.declared.following.Way.TheVariants.{FallThrough, Taken}
 use Rattle.register_kinds.specs.declared.region.Region.TheVariants.{Frame}
-use Rattle.reg_domain.specs.Description.{kind_at}
+use Rattle.description.specs.Description.{kind_at}
 use Rattle.register_kinds.specs.Kinds.{IsNumber, IsAt}
 use Rattle.reg_domain.specs.Enough.{Enough, Leaves, IsNumberOperand, ComparesNumbers, LiesInFrame, LeavesStored}
 use Rattle.verifier.specs.Arrives.{goes_to}

@@ -14,9 +14,9 @@ use Rattle.bpf_semantics.specs.Stuck.{is_stuck, is_stuck_at}
 use Rattle.call_shape.specs.StaticPath.{Standing, outermost}
 use Rattle.call_shape.proofs.Places.{begins_there}
 use Rattle.helpers.specs.declared.limits.HelperLimits.{HelperLimits}
-use Rattle.reg_domain.specs.declared.description.Description.{Description}
-use Rattle.reg_domain.specs.declared.saved.SavedRegisters.{SavedRegisters}
-use Rattle.reg_domain.specs.Description.{Describes, DescribesEntries}
+use Rattle.description.specs.declared.description.Description.{Description}
+use Rattle.description.specs.declared.saved.SavedRegisters.{SavedRegisters}
+use Rattle.description.specs.Description.{Describes, DescribesEntries}
 use Rattle.reg_domain.specs.Follows.{StepsBy}
 use Rattle.verifier.specs.Checks.{returns_of, standing_of}
 use Rattle.verifier.specs.Function.{AreDone, Lands, Stands}

@@ -11,8 +11,8 @@ use Rattle.call_shape.specs.Shape.{IsLawful, behind, goes_on_behind, target_in}
 use Rattle.call_shape.specs.StaticPath.{Standing, outermost}
 use Rattle.call_shape.specs.WrittenOut.{count_at, written_out}
 use Rattle.helpers.specs.declared.limits.HelperLimits.{HelperLimits}
-use Rattle.reg_domain.specs.declared.description.Description.{Description}
-use Rattle.reg_domain.specs.declared.saved.SavedRegisters.{SavedRegisters}
+use Rattle.description.specs.declared.description.Description.{Description}
+use Rattle.description.specs.declared.saved.SavedRegisters.{SavedRegisters}
 use Rattle.reg_domain.specs.Follows.{StepsBy}
 use Rattle.verifier.specs.Checks.{AreOnce, IsBefore}
 use Rattle.verifier.specs.Goes.{IsChecked, IsLeft, StaysWell}

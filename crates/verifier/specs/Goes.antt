@@ -12,9 +12,9 @@ use Rattle.bpf_semantics.specs.Reached.{Steps}
 use Rattle.bpf_semantics.specs.Stuck.{is_stuck}
 use Rattle.call_shape.specs.StaticPath.{Standing}
 use Rattle.helpers.specs.declared.limits.HelperLimits.{HelperLimits}
-use Rattle.reg_domain.specs.declared.description.Description.{Description}
-use Rattle.reg_domain.specs.declared.saved.SavedRegisters.{SavedRegisters}
-use Rattle.reg_domain.specs.Description.{Describes}
+use Rattle.description.specs.declared.description.Description.{Description}
+use Rattle.description.specs.declared.saved.SavedRegisters.{SavedRegisters}
+use Rattle.description.specs.Description.{Describes}
 use Rattle.reg_domain.specs.Follows.{StepsBy}
 use Rattle.verifier.specs.Checks.{AreOnce, returns_of}
 

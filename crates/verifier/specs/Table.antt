@@ -7,10 +7,10 @@ use Rattle.bpf_semantics.specs.MachineState.{MachineState}
 use Rattle.bpf_semantics.specs.Step.{does}
 use Rattle.bpf_semantics.specs.Stuck.{insn_is_stuck}
 use Rattle.helpers.specs.declared.limits.HelperLimits.{HelperLimits}
-use Rattle.reg_domain.specs.declared.description.Description.{Description}
+use Rattle.description.specs.declared.description.Description.{Description}
 use Rattle.reg_domain.specs.declared.following.Way.{Way}
-use Rattle.reg_domain.specs.declared.saved.SavedRegisters.{SavedRegisters}
-use Rattle.reg_domain.specs.Description.{Covers, Describes}
+use Rattle.description.specs.declared.saved.SavedRegisters.{SavedRegisters}
+use Rattle.description.specs.Description.{Covers, Describes}
 use Rattle.reg_domain.specs.GoesOn.{HasWay}
 use Rattle.reg_domain.specs.Follows.{GoesBy, StepsBy}
 

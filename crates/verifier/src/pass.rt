@@ -12,9 +12,10 @@ ghost use Rattle.call_shape.specs.Calls.{callee_at, function_of};
 ghost use Rattle.call_shape.specs.WrittenOut.{written_out};
 ghost use Rattle.call_shape.specs.declared.lawful_shape.TheConstants.{MAX_WRITTEN_OUT};
 ghost use Rattle.helpers.specs.declared.limits.HelperLimits.{HelperLimits};
-ghost use Rattle.reg_domain.specs.declared.description.Description.{Description};
+ghost use Rattle.description.specs.declared.description.Description.{Description};
 ghost use Rattle.reg_domain.specs.Enough.{IsEntryKnown};
-ghost use Rattle.reg_domain.specs.Follows.{NeverStuck, Stays};
+ghost use Rattle.description.specs.Description.{NeverStuck};
+ghost use Rattle.reg_domain.specs.Follows.{Stays};
 ghost use Rattle.verifier.specs.Arrives.{AllArrive, FailsUnless, IsNeverLacking, LacksMemoryOrMore, NeverLacks};
 ghost use Rattle.verifier.specs.Function.{AreVisited, HasChecked, IsEnd, IsLawfulProgram, IsOwn, checks_at, deep_under};
 ghost use Rattle.verifier.specs.Goes.{IsCallVisited, IsVisited};
@@ -26,8 +27,10 @@ use crate::table::{Check, come_back, first_table, lead, leave};
 use crate::ways::{callee_of, end_of, returning, target_of};
 use bpf_insn::Program;
 use call_shape::Shape;
+use description::{Description, SavedRegisters};
 use helpers::HelperLimits;
-use reg_domain::{Description, SavedRegisters, Way};
+use local_calls::enter;
+use reg_domain::{Way, entry};
 use std::alloc::Global;
 
 /// Describes each place of a program of lawful shape, and checks each instruction that something leads to, under these
@@ -40,7 +43,7 @@ pub fn pass(alloc: Global, limits: &HelperLimits, shape: &Shape<'_>) -> Result<u
     ensures fails { IfErr result (LacksMemoryOrMore shape.now) }
 {
     let program = shape.program();
-    let entry = Description::entry();
+    let entry = entry();
     let mut callers = Vec::new(alloc);
     let mut visits = 0;
     visit_function(
@@ -181,7 +184,7 @@ fn call(
     ensures fails { IfErr result (FailsUnless ⊥) }
 {
     let mut entry = *description;
-    let saved = entry.enter();
+    let saved = enter(&mut entry);
     callers.reserve(1)?;
     callers.push_reserved(saved);
     let left = visit_function(

@@ -7,17 +7,19 @@ ghost use Rattle.bpf_insn.specs.declared.program.Slot.{Slot};
 ghost use Rattle.bpf_insn.specs.Program.{insn_at};
 ghost use Rattle.call_shape.specs.declared.lawful_shape.TheConstants.{MAX_WRITTEN_OUT};
 ghost use Rattle.helpers.specs.declared.limits.HelperLimits.{HelperLimits};
-ghost use Rattle.reg_domain.specs.declared.description.Description.{Description};
-ghost use Rattle.reg_domain.specs.declared.saved.SavedRegisters.{SavedRegisters};
-ghost use Rattle.reg_domain.specs.Follows.{NeverStuck, Stays};
+ghost use Rattle.description.specs.declared.description.Description.{Description};
+ghost use Rattle.description.specs.declared.saved.SavedRegisters.{SavedRegisters};
+ghost use Rattle.description.specs.Description.{NeverStuck};
+ghost use Rattle.reg_domain.specs.Follows.{Stays};
 ghost use Rattle.verifier.specs.Arrives.{AllArrive, Arrives, FailsUnless, NeverLacks, goes_to};
 ghost use Rattle.verifier.specs.Table.{HasComeBack, HasJoined, HasLed, HasLeft, IsFirstTable, IsMerged};
 
 use crate::refusal::{Refusal, VerifyError};
 use bpf_insn::Insn;
+use description::{Description, SavedRegisters};
 use helpers::HelperLimits;
 use or_memory::OrMemory;
-use reg_domain::{Description, SavedRegisters, Way};
+use reg_domain::{Way, follow, join};
 use register_kinds::Cause;
 use std::alloc::{AllocError, Global};
 
@@ -91,7 +93,7 @@ pub fn lead(
         return Ok(());
     };
     let mut there = *description;
-    match there.follow(limits, callers, check.insn, check.number, way) {
+    match follow(&mut there, limits, callers, check.insn, check.number, way) {
         Ok(is_open) => {
             if is_open && to < table.len() {
                 join_into(table, to, &there, check.place_of(at, to))
@@ -133,7 +135,7 @@ fn merged(
 {
     match before {
         None => Ok(*new),
-        Some(old) => match old.join(new) {
+        Some(old) => match join(old, new) {
             Some(both) => Ok(both),
             None => Err(OrMemory::Fault(Refusal::Check(Cause::PathsDisagree, place))),
         },
@@ -171,7 +173,7 @@ pub fn leave(
     ensures fails { IfErr result (FailsUnless ⊥) }
 {
     let mut there = *description;
-    there.leave(saved);
+    local_calls::leave(&mut there, saved);
     let merged = merged(left, &there, place)?;
     *left = Some(merged);
     Ok(())

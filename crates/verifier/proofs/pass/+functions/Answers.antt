@@ -12,7 +12,7 @@ use Rattle.call_shape.specs.declared.lawful_shape.TheConstants.{MAX_WRITTEN_OUT}
 use Rattle.call_shape.specs.StaticPath.{outermost}
 use Rattle.call_shape.proofs.Contained.{callee_there}
 use Rattle.call_shape.proofs.Places.{begins_there}
-use Rattle.reg_domain.specs.declared.saved.SavedRegisters.{SavedRegisters}
+use Rattle.description.specs.declared.saved.SavedRegisters.{SavedRegisters}
 use Rattle.reg_domain.specs.Enough.{IsEntryKnown}
 use Rattle.reg_domain.specs.Follows.{Stays}
 use Rattle.std.specs.Prelude.{IfOk}
@@ -48,13 +48,13 @@ call-visit_function-requires t c =
     let pushed : c.push_reserved.new.self.items ≡ callers ++ saved ∷ [] = search rules in
     let count : length c.push_reserved.new.self.items ≡ length callers + 1 = ap length pushed ∙ more_callers callers saved in
     let room = room_to_enter c.args.program.now callers c.args.place c.args.callee c.args.description.now c.requires.lawful c.requires.own c.requires.calls in
-    let own = entry_own c.args.program.now callers saved c.args.place c.args.callee c.args.description.now c.enter-saved.new.self c.requires.lawful c.requires.own c.requires.calls c.enter-saved.ensures.depth in
+    let own = entry_own c.args.program.now callers saved c.args.place c.args.callee c.args.description.now c.enter-saved.new.description c.requires.lawful c.requires.own c.requires.calls c.enter-saved.ensures.depth in
     let few = callee_count callers c.push_reserved.new.self.items c.args.program.now c.args.callee count in (
       omega (arith, c.decreases, count, room),
       (
         c.requires.lawful,
         (
-          subst (λ (cs : List SavedRegisters). IsOwn c.args.program.now cs c.args.callee c.args.callee c.enter-saved.new.self) (sym pushed) own,
+          subst (λ (cs : List SavedRegisters). IsOwn c.args.program.now cs c.args.callee c.args.callee c.enter-saved.new.description) (sym pushed) own,
           omega (arith, few, c.requires.few),
         ),
       ),
@@ -71,9 +71,9 @@ call-returns-clause-sound t c =
     let callers = c.args.callers.now.items in
     let saved = c.enter-saved.result in
     let pushed : c.push_reserved.new.self.items ≡ callers ++ saved ∷ [] = search rules in
-    let visited : IsVisited c.args.limits.now c.args.program.now (callers ++ saved ∷ []) c.enter-saved.new.self c.args.callee c.in_ok-left.left c.args.visits.now c.visit_function.new.visits =
-    subst (λ (cs : List SavedRegisters). IsVisited c.args.limits.now c.args.program.now cs c.enter-saved.new.self c.args.callee c.in_ok-left.left c.args.visits.now c.visit_function.new.visits) pushed c.in_ok-left.ensures.sound in
-    call_visited c.args.limits.now c.args.program.now callers saved c.args.description.now c.enter-saved.new.self c.args.place c.args.callee c.in_ok-left.left c.args.visits.now c.visit_function.new.visits c.enter-saved.ensures.enters visited
+    let visited : IsVisited c.args.limits.now c.args.program.now (callers ++ saved ∷ []) c.enter-saved.new.description c.args.callee c.in_ok-left.left c.args.visits.now c.visit_function.new.visits =
+    subst (λ (cs : List SavedRegisters). IsVisited c.args.limits.now c.args.program.now cs c.enter-saved.new.description c.args.callee c.in_ok-left.left c.args.visits.now c.visit_function.new.visits) pushed c.in_ok-left.ensures.sound in
+    call_visited c.args.limits.now c.args.program.now callers saved c.args.description.now c.enter-saved.new.description c.args.place c.args.callee c.in_ok-left.left c.args.visits.now c.visit_function.new.visits c.enter-saved.ensures.enters visited
 
 pub visit-returns-in_default-clause-done : goal.visit-returns-in_default-clause-done
 visit-returns-in_default-clause-done t c =

@@ -1,7 +1,7 @@
 use Rattle.std.proofs.Common.{◌≡◌, ◌≤◌, ◌<◌, ◌+◌, ◌-◌, ◌*◌, length, Some}
 use Rattle.bpf_semantics.specs.MachineState.{MachineState}
 use Rattle.call_shape.specs.WrittenOut.{total}
-use Rattle.reg_domain.specs.Description.{Describes}
+use Rattle.description.specs.Description.{Describes}
 use Rattle.reg_domain.specs.Enough.{IsEntryKnown}
 use Rattle.verifier.specs.Arrives.{AllArrive, IsNeverLacking}
 use Rattle.verifier.specs.Function.{AreVisited, checks_at, deep_under}

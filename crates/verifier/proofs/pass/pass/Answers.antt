@@ -7,8 +7,8 @@ use Rattle.call_shape.specs.WrittenOut.{written_out}
 use Rattle.call_shape.proofs.Places.{begins_first}
 use Rattle.call_shape.proofs.WrittenFew.{within_count}
 use Rattle.helpers.specs.declared.limits.HelperLimits.{HelperLimits}
-use Rattle.reg_domain.specs.declared.description.Description.{Description}
-use Rattle.reg_domain.specs.declared.saved.SavedRegisters.{SavedRegisters}
+use Rattle.description.specs.declared.description.Description.{Description}
+use Rattle.description.specs.declared.saved.SavedRegisters.{SavedRegisters}
 use Rattle.verifier.specs.Checks.{AreChecks}
 use Rattle.verifier.specs.Function.{IsOwn}
 use Rattle.verifier.specs.Goes.{IsVisited}

@@ -1,6 +1,6 @@
 use Rattle.std.proofs.Common.{None, Option, subst, sym}
 use Rattle.std.proofs.lemmas.List.{get_or_default}
-use Rattle.reg_domain.specs.declared.description.Description.{Description}
+use Rattle.description.specs.declared.description.Description.{Description}
 use Rattle.verifier.specs.Table.{described, IsMerged}
 use Rattle.verifier.proofs.Joined.{joined_in}
 use Rattle.verifier.proofs.table.join_into.Goals as goal

@@ -1,0 +1,4 @@
+pub mod Changes
+pub mod Description
+pub mod Memory
+pub mod OpenCalls

@@ -1,0 +1,4 @@
+pub mod Arguments
+pub mod Calls
+pub mod Called
+pub mod Fresh

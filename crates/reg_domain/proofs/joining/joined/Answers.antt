@@ -1,0 +1,14 @@
+use Rattle.std.proofs.Common.{refl}
+use Rattle.description.proofs.RegisterPlaces.{number_below}
+use Rattle.reg_domain.proofs.joining.joined.Goals as goal
+
+pub returns-clause-joins : goal.returns-clause-joins
+returns-clause-joins c = record {
+  equal = λ reg. (c.join_registers.ensures _ (number_below reg)).equal;
+  numbers = λ reg. (c.join_registers.ensures _ (number_below reg)).numbers;
+  bounds = λ reg. (c.join_registers.ensures _ (number_below reg)).bounds;
+  known = c.join-joined.ensures.knows;
+  depth = c.join-joined.ensures.depth;
+  held = refl;
+  disposal = refl;
+}

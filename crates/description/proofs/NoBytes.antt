@@ -3,7 +3,6 @@ use Rattle.std.proofs.Common.{◌≡◌, ℕ, zero, suc, ◌<◌, [], ◌∷◌,
 use Rattle.std.specs.Prelude.{replicate}
 use Rattle.bpf_semantics.specs.MachineState.{unwritten_frame}
 
--- no byte of the only frame is written
 pub no_byte : (k offset byte : ℕ) → get_or (get_or (unwritten_frame ∷ []) k []) offset None ≡ Some byte → byte < 256
 no_byte zero offset byte is = absurd (none_there 512 offset byte is)
   where

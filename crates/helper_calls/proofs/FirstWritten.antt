@@ -13,7 +13,6 @@ use Rattle.description.specs.Memory.{AreKnown, LeavesMarked, Writes}
 use Rattle.helper_calls.specs.Calls.{WritesFrom}
 use Rattle.description.proofs.FramePlaces.{frame_is}
 
--- bytes that are written from the address on that a register holds
 same_number : (a b : ℕ) → Some a ≡ Some b → a ≡ b
 same_number a b e = cc
 

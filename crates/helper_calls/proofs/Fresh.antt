@@ -15,7 +15,7 @@ use Rattle.helper_calls.specs.Fresh.{IsFresh, is_copy, is_copy_of, saves}
 use Rattle.register_kinds.proofs.Freezes.{renumbered_other}
 use Rattle.description.proofs.OpenCalls.{KeepsSaved}
 
--- and what is no copy of one freeze
+-- what is saved and is no copy of one freeze holds by other numbers of the freezes too
 others_kept : (before after : FreezeNumbers) (name : FreezeName) → ((register : SavedRegister) → is_copy name register ≡ false → KeepsSaved before after register)
     → (registers : List SavedRegister) (os : List (Option ℕ)) → list_any (is_copy name) registers ≡ false → AreSaved before registers os → AreSaved after registers os
 others_kept before after name keeps [] [] none are = tt
@@ -40,7 +40,7 @@ others_open before after name keeps callers (call ∷ calls) fresh (outer, saved
     let parts = fresh_parts name outer saved (subst (IsFresh name) split fresh) in
     (outer, saved, split, (its.0, others_kept before after name keeps saved.registers call.saved parts.1 its.1), others_open before after name keeps outer calls parts.0 rest)
 
--- and for another number where it is taken
+-- so does what is known of a register where a freeze is taken of which it is no copy
 other_saved : (numbers : FreezeNumbers) (name : FreezeName) (number : ℕ) (kind : Kind) (copies : Scalar) (o : Option ℕ) → is_copy_of name kind ≡ false → HoldsAs numbers kind copies o → HoldsAs (renumbered numbers name (Some number)) kind copies o
 other_saved numbers name taken Unwritten copies o apart holds = tt
 other_saved numbers name taken (Number scalar) copies o apart holds = holds

@@ -12,7 +12,6 @@ use Rattle.register_kinds.specs.Freezes.{FreezeNumbers}
 use Rattle.register_kinds.specs.Kinds.{LiesAt}
 use Rattle.description.proofs.FramePlaces.{frame_found}
 
--- there is room in a frame
 pub frame_has_room : (numbers : FreezeNumbers) (callers : List SavedRegisters) (d : Description) (m : MachineState) (frame : ℕ) (offsets : Offsets) (address bytes : ℕ) → DescribesWith numbers callers d m → frame < length d.stack → LiesAt (Frame frame) offsets address → offsets.most + bytes ≤ 512
     → has_room 0 m.frames address bytes ≡ true
 frame_has_room numbers callers d m frame offsets address bytes is live lies fits =

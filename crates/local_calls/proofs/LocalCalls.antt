@@ -1,4 +1,4 @@
--- What is known of functions that wait, where a freeze is taken or held no more, and at a call and its return.
+-- What a local call makes of a described machine, and its return: the registers, the frames, and the functions that wait.
 use Rattle.std.proofs.Common.{◌≡◌, ℕ, Option, Some, refl, sym, ◌∙◌, ℤ, zero, suc, ◌+◌, ◌-◌, ◌<◌, ◌≤◌, true, false, not, Bool, List, [], ◌∷◌, ◌++◌, None, length, take, drop, get_or, ap, subst, arith, inl, inr, length-append, length-drop}
 use Rattle.scalar_domain.specs.declared.scalars.Scalar.{Scalar}
 use Rattle.scalar_domain.specs.Scalar.{Has}

@@ -1,12 +1,2 @@
-pub mod Accessible
 pub mod AtEntry
-pub mod ByteNumbers
-pub mod Described
-pub mod Reading
-pub mod Tested
-pub mod GoingOn
-pub mod Jumps
-pub mod Loading
 pub mod Ways
-pub mod StaysKnown
-pub mod Storing

@@ -1,4 +1,4 @@
--- What is known of functions that wait, where a freeze is taken or held no more, and at a call and its return.
+-- Which way an instruction leads that is no jump, and what an exit asks.
 use Rattle.std.proofs.Common.{◌≡◌, List, [], ◌∷◌, ◌++◌, refl, ℕ, ℤ, true, false, Bool, not, ◌||◌, Option, Result, Ok, Err, IfOk, ap, sym, subst, ◌∙◌, inl, inr}
 use Rattle.bpf_semantics.specs.MachineState.{OpenCall, MachineState, register}
 use Rattle.description.specs.declared.saved.SavedRegisters.{SavedRegisters}
@@ -17,8 +17,8 @@ use Rattle.helpers.specs.declared.limits.HelperLimits.{HelperLimits}
 use Rattle.bpf_semantics.specs.Stuck.{exit_is_stuck, holds_none}
 use Rattle.register_kinds.specs.declared.cause.Cause.{Cause}
 use Rattle.description.specs.declared.description.Description.{Description}
-use Rattle.reg_domain.specs.declared.following.Way.{Way}
-use Rattle.reg_domain.specs.declared.following.Way.TheVariants.{FallThrough, Taken}
+use Rattle.private_insns.specs.declared.way.Way.{Way}
+use Rattle.private_insns.specs.declared.way.Way.TheVariants.{FallThrough, Taken}
 use Rattle.register_kinds.specs.declared.freeze_name.FreezeName.{FreezeName}
 use Rattle.register_kinds.specs.declared.kind.Kind.{Kind}
 use Rattle.register_kinds.specs.declared.kind.Kind.TheVariants.{Unwritten, Number, Address, Freeze}
@@ -26,8 +26,8 @@ use Rattle.helper_calls.specs.Calls.{CallFollows, CallIsNeverStuck}
 use Rattle.description.specs.Description.{kind_at, NeverStuck}
 use Rattle.helper_calls.specs.Called.{CanCall, LeavesCalled}
 use Rattle.reg_domain.specs.Enough.{Enough, Leaves}
-use Rattle.reg_domain.specs.Follows.{Follows, jumps}
-use Rattle.reg_domain.specs.GoesOn.{GoesOn, is_taken}
+use Rattle.private_insns.specs.Follows.{Follows, jumps}
+use Rattle.private_insns.specs.GoesOn.{GoesOn, is_taken}
 use Rattle.register_kinds.specs.Kinds.{HoldsKind, IsNumber}
 
 -- no function waits

@@ -1,5 +1,3 @@
 pub mod AllRegisters
 pub mod Enough
-pub mod Follows
-pub mod GoesOn
-pub mod Memory
+pub mod Ways

@@ -1,45 +1,26 @@
 // What becomes of the machines at a place by its instruction, and whether one of them may be stuck there. It relies on
-// `description` for what is known of them, on `straight`, `memory` and `jumping` for their instructions, and on
-// `helper_calls` for calls of helpers.
+// `description` for what is known of them, on `private_insns` for arithmetic, memory and jumps, and on `helper_calls` for
+// calls of helpers.
 
 ghost use Rattle.std.specs.Prelude.{◌≡◌, ℤ, [], true, false, length, IfOk, IsOk, IsOkAnd, IsTrue};
 ghost use Rattle.bpf_insn.specs.declared.insn.Callee.TheVariants.{Helper as helper_call};
 ghost use Rattle.bpf_insn.specs.declared.insn.Insn.TheVariants.{Call, Exit};
 ghost use Rattle.bpf_insn.specs.declared.reg.Reg.TheVariants.{R0};
-ghost use Rattle.reg_domain.specs.declared.following.Way.TheVariants.{FallThrough};
+ghost use Rattle.private_insns.specs.declared.way.Way.TheVariants.{FallThrough};
 ghost use Rattle.register_kinds.specs.declared.freeze_name.FreezeName.TheVariants as names;
 ghost use Rattle.description.specs.Description.{kind_at, NeverStuck};
 ghost use Rattle.helper_calls.specs.Called.{CanCall, LeavesCalled};
 ghost use Rattle.reg_domain.specs.Enough.{Enough, Leaves};
-ghost use Rattle.reg_domain.specs.Follows.{Follows, Stays};
-ghost use Rattle.reg_domain.specs.GoesOn.{HasWay, is_taken};
+ghost use Rattle.private_insns.specs.Follows.{Follows};
+ghost use Rattle.reg_domain.specs.Ways.{Stays, HasWay};
 ghost use Rattle.register_kinds.specs.Kinds.{IsNumber};
 
-use crate::jumping::jump_if;
-use crate::straight::{change, compute, extend, load, load_immediate, store_operand};
 use bpf_insn::{Callee, Insn, Reg};
 use description::{Description, SavedRegisters};
 use helper_calls::call;
 use helpers::HelperLimits;
+use private_insns::{Way, change, compute, extend, jump_if, load, load_immediate, store_operand};
 use register_kinds::Cause;
-
-/// Where an instruction leads.
-#[derive(Clone, Copy, Debug, PartialEq, Eq)]
-pub enum Way {
-    /// To the instruction behind it.
-    FallThrough,
-    /// To the target of its jump.
-    Taken,
-}
-
-impl Way {
-    // Whether it is that of the jump.
-    pub(crate) fn is_taken(self) -> bool
-        ensures { result ≡ is_taken self }
-    {
-        matches!(self, Way::Taken)
-    }
-}
 
 /// Checks an instruction where this is known, under these limits of helper calls and where these functions wait, the
 /// outermost first, and goes one way from there: then it is what is known there, and the answer is whether any machine

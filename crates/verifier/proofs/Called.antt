@@ -22,7 +22,7 @@ use Rattle.helpers.specs.declared.limits.HelperLimits.{HelperLimits}
 use Rattle.description.specs.declared.description.Description.{Description}
 use Rattle.description.specs.declared.saved.SavedRegisters.{SavedRegisters}
 use Rattle.description.specs.Description.{Describes, NeverStuck}
-use Rattle.reg_domain.specs.Follows.{StepsBy}
+use Rattle.private_insns.specs.Follows.{StepsBy}
 use Rattle.verifier.specs.Checks.{returns_of}
 use Rattle.verifier.specs.Function.{AreDone, IsLawfulProgram, IsOwn, Stands}
 use Rattle.verifier.specs.Goes.{FunctionIsSound, IsBack, IsCallVisited, IsChecked, IsLeft, IsVisited, StaysWell}

@@ -11,11 +11,11 @@ use Rattle.call_shape.specs.Calls.{callee_in}
 use Rattle.call_shape.specs.Shape.{behind, goes_on_behind, target_in}
 use Rattle.call_shape.proofs.Lawful.{jumps_lawfully}
 use Rattle.helpers.specs.declared.limits.HelperLimits.{HelperLimits}
-use Rattle.reg_domain.specs.declared.following.Way.TheVariants.{FallThrough, Taken}
+use Rattle.private_insns.specs.declared.way.Way.TheVariants.{FallThrough, Taken}
 use Rattle.description.specs.declared.saved.SavedRegisters.{SavedRegisters}
-use Rattle.reg_domain.specs.Follows.{GoesBy, Stays, StepsBy}
+use Rattle.private_insns.specs.Follows.{GoesBy, StepsBy}
+use Rattle.reg_domain.specs.Ways.{Stays, falls_through}
 use Rattle.register_kinds.specs.Freezes.{FreezeNumbers}
-use Rattle.reg_domain.specs.GoesOn.{falls_through}
 use Rattle.description.specs.OpenCalls.{AreOpen}
 use Rattle.verifier.specs.Function.{HasChecked, IsEnd, IsLawfulProgram, Stands}
 use Rattle.verifier.specs.Table.{Table, HasLed, IsKnown}

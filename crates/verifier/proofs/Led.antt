@@ -8,11 +8,11 @@ use Rattle.bpf_semantics.specs.MachineState.{MachineState}
 use Rattle.helpers.specs.declared.limits.HelperLimits.{HelperLimits}
 use Rattle.description.specs.declared.description.Description.{Description}
 use Rattle.description.specs.declared.saved.SavedRegisters.{SavedRegisters}
-use Rattle.reg_domain.specs.declared.following.Way.{Way}
+use Rattle.private_insns.specs.declared.way.Way.{Way}
 use Rattle.description.specs.Description.{Describes, NeverStuck}
 use Rattle.reg_domain.specs.Enough.{Leaves}
-use Rattle.reg_domain.specs.GoesOn.{HasWay}
-use Rattle.reg_domain.specs.Follows.{Follows}
+use Rattle.reg_domain.specs.Ways.{HasWay}
+use Rattle.private_insns.specs.Follows.{Follows}
 use Rattle.verifier.specs.Arrives.{AllArrive, Arrives, NeverLacks, follows, goes_to}
 use Rattle.verifier.specs.Table.{Table, described, IsKnown, HasJoined, HasLed}
 use Rattle.verifier.proofs.Joined.{same_description}

@@ -15,7 +15,8 @@ use Rattle.helpers.specs.declared.limits.HelperLimits.{HelperLimits}
 use Rattle.description.specs.declared.description.Description.{Description}
 use Rattle.description.specs.declared.saved.SavedRegisters.{SavedRegisters}
 use Rattle.description.specs.Description.{Describes, NeverStuck}
-use Rattle.reg_domain.specs.Follows.{Stays, StepsBy}
+use Rattle.reg_domain.specs.Ways.{Stays}
+use Rattle.private_insns.specs.Follows.{StepsBy}
 use Rattle.verifier.specs.Function.{AreDone, HasChecked, IsLawfulProgram, IsOwn}
 use Rattle.verifier.specs.Goes.{IsLeft}
 use Rattle.verifier.specs.OnTheWay.{IsChain}

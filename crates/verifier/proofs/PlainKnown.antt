@@ -21,9 +21,10 @@ use Rattle.register_kinds.specs.declared.region.Region.TheVariants.{Frame}
 use Rattle.description.specs.Description.{kind_at}
 use Rattle.register_kinds.specs.Kinds.{IsNumber, IsAt}
 use Rattle.description.specs.Memory.{AreKnown}
-use Rattle.reg_domain.specs.Enough.{StaysKnown, ChangesOnly, LeavesKnown, LeavesStored, LeavesSure, JoinsTo}
+use Rattle.private_insns.specs.Enough.{StaysKnown, ChangesOnly, LeavesKnown, LeavesStored, LeavesSure}
 use Rattle.description.specs.Changes.{IsFreeze, LeavesGivenUp}
 use Rattle.helper_calls.specs.Called.{LeavesCalled}
+use Rattle.reg_domain.specs.Enough.{JoinsTo}
 use Rattle.verifier.specs.Plain.{ComesUnwritten, is_free, byte_of, writes_register, writes_byte}
 
 -- some path comes to a place without writing something

@@ -13,12 +13,13 @@ use Rattle.bpf_insn.specs.Target.{target}
 use Rattle.bpf_semantics.specs.Memory.{load_width, store_width}
 use Rattle.call_shape.specs.StaticPath.{outermost, LeadsTo}
 use Rattle.description.specs.declared.description.Description.{Description}
-use Rattle.reg_domain.specs.declared.following.Way.{Way}
-use Rattle.reg_domain.specs.declared.following.Way.TheVariants.{FallThrough, Taken}
+use Rattle.private_insns.specs.declared.way.Way.{Way}
+use Rattle.private_insns.specs.declared.way.Way.TheVariants.{FallThrough, Taken}
 use Rattle.register_kinds.specs.declared.region.Region.TheVariants.{Frame}
 use Rattle.description.specs.Description.{kind_at}
 use Rattle.register_kinds.specs.Kinds.{IsNumber, IsAt}
-use Rattle.reg_domain.specs.Enough.{Enough, Leaves, IsNumberOperand, ComparesNumbers, LiesInFrame, LeavesStored}
+use Rattle.reg_domain.specs.Enough.{Enough, Leaves}
+use Rattle.private_insns.specs.Enough.{IsNumberOperand, ComparesNumbers, LiesInFrame, LeavesStored}
 use Rattle.verifier.specs.Arrives.{goes_to}
 use Rattle.verifier.specs.Plain.{IsListed, IsFreeOperand, ReadsRegister, ReadsByte, ComesUnwritten, is_free, byte_of, writes_register, writes_byte}
 use Rattle.verifier.proofs.PlainKnown.{IsCommon, IsStep, compared_keeps, number_on, known_on, stored_on}

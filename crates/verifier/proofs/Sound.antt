@@ -17,7 +17,7 @@ use Rattle.helpers.specs.declared.limits.HelperLimits.{HelperLimits}
 use Rattle.description.specs.declared.description.Description.{Description}
 use Rattle.description.specs.declared.saved.SavedRegisters.{SavedRegisters}
 use Rattle.description.specs.Description.{Describes, DescribesEntries}
-use Rattle.reg_domain.specs.Follows.{StepsBy}
+use Rattle.private_insns.specs.Follows.{StepsBy}
 use Rattle.verifier.specs.Checks.{returns_of, standing_of}
 use Rattle.verifier.specs.Function.{AreDone, Lands, Stands}
 use Rattle.verifier.specs.Goes.{FunctionIsSound, IsChecked, IsLeft, StaysWell}

@@ -13,7 +13,7 @@ use Rattle.call_shape.specs.WrittenOut.{count_at, written_out}
 use Rattle.helpers.specs.declared.limits.HelperLimits.{HelperLimits}
 use Rattle.description.specs.declared.description.Description.{Description}
 use Rattle.description.specs.declared.saved.SavedRegisters.{SavedRegisters}
-use Rattle.reg_domain.specs.Follows.{StepsBy}
+use Rattle.private_insns.specs.Follows.{StepsBy}
 use Rattle.verifier.specs.Checks.{AreOnce, IsBefore}
 use Rattle.verifier.specs.Goes.{IsChecked, IsLeft, StaysWell}
 use Rattle.verifier.specs.OnTheWay.{IsChain}

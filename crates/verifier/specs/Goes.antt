@@ -15,7 +15,7 @@ use Rattle.helpers.specs.declared.limits.HelperLimits.{HelperLimits}
 use Rattle.description.specs.declared.description.Description.{Description}
 use Rattle.description.specs.declared.saved.SavedRegisters.{SavedRegisters}
 use Rattle.description.specs.Description.{Describes}
-use Rattle.reg_domain.specs.Follows.{StepsBy}
+use Rattle.private_insns.specs.Follows.{StepsBy}
 use Rattle.verifier.specs.Checks.{AreOnce, returns_of}
 
 -- all is well with each machine on the way for so many instructions, or until it has come to where that ends

@@ -8,11 +8,11 @@ use Rattle.bpf_semantics.specs.Step.{does}
 use Rattle.bpf_semantics.specs.Stuck.{insn_is_stuck}
 use Rattle.helpers.specs.declared.limits.HelperLimits.{HelperLimits}
 use Rattle.description.specs.declared.description.Description.{Description}
-use Rattle.reg_domain.specs.declared.following.Way.{Way}
+use Rattle.private_insns.specs.declared.way.Way.{Way}
 use Rattle.description.specs.declared.saved.SavedRegisters.{SavedRegisters}
 use Rattle.description.specs.Description.{Covers, Describes}
-use Rattle.reg_domain.specs.GoesOn.{HasWay}
-use Rattle.reg_domain.specs.Follows.{GoesBy, StepsBy}
+use Rattle.reg_domain.specs.Ways.{HasWay}
+use Rattle.private_insns.specs.Follows.{GoesBy, StepsBy}
 
 -- the descriptions of all slots of a function, `None` where nothing has led yet
 abbrev pub Table : Type 0

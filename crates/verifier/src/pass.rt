@@ -15,7 +15,7 @@ ghost use Rattle.helpers.specs.declared.limits.HelperLimits.{HelperLimits};
 ghost use Rattle.description.specs.declared.description.Description.{Description};
 ghost use Rattle.reg_domain.specs.Enough.{IsEntryKnown};
 ghost use Rattle.description.specs.Description.{NeverStuck};
-ghost use Rattle.reg_domain.specs.Follows.{Stays};
+ghost use Rattle.reg_domain.specs.Ways.{Stays};
 ghost use Rattle.verifier.specs.Arrives.{AllArrive, FailsUnless, IsNeverLacking, LacksMemoryOrMore, NeverLacks};
 ghost use Rattle.verifier.specs.Function.{AreVisited, HasChecked, IsEnd, IsLawfulProgram, IsOwn, checks_at, deep_under};
 ghost use Rattle.verifier.specs.Goes.{IsCallVisited, IsVisited};
@@ -30,7 +30,8 @@ use call_shape::Shape;
 use description::{Description, SavedRegisters};
 use helpers::HelperLimits;
 use local_calls::enter;
-use reg_domain::{Way, entry};
+use private_insns::Way;
+use reg_domain::entry;
 use std::alloc::Global;
 
 /// Describes each place of a program of lawful shape, and checks each instruction that something leads to, under these

@@ -1,5 +1,5 @@
 // A table of what is known at each slot of a function, and what a check of an instruction does to it. It relies on
-// `reg_domain` for what is known and what an instruction makes of it.
+// `description` for what is known, on `reg_domain` for what an instruction makes of it, and on `local_calls` for a return.
 
 ghost use Rattle.std.specs.Prelude.{◌≡◌, ◌<◌, ◌≤◌, ◌+◌, ◌++◌, ◌∷◌, [], List, ℕ, length, Some, IfOk, IfErr, IsOkAnd};
 ghost use Rattle.bpf_insn.specs.declared.insn.Insn.TheVariants.{Exit};
@@ -10,7 +10,7 @@ ghost use Rattle.helpers.specs.declared.limits.HelperLimits.{HelperLimits};
 ghost use Rattle.description.specs.declared.description.Description.{Description};
 ghost use Rattle.description.specs.declared.saved.SavedRegisters.{SavedRegisters};
 ghost use Rattle.description.specs.Description.{NeverStuck};
-ghost use Rattle.reg_domain.specs.Follows.{Stays};
+ghost use Rattle.reg_domain.specs.Ways.{Stays};
 ghost use Rattle.verifier.specs.Arrives.{AllArrive, Arrives, FailsUnless, NeverLacks, goes_to};
 ghost use Rattle.verifier.specs.Table.{HasComeBack, HasJoined, HasLed, HasLeft, IsFirstTable, IsMerged};
 
@@ -19,7 +19,8 @@ use bpf_insn::Insn;
 use description::{Description, SavedRegisters};
 use helpers::HelperLimits;
 use or_memory::OrMemory;
-use reg_domain::{Way, follow, join};
+use private_insns::Way;
+use reg_domain::{follow, join};
 use register_kinds::Cause;
 use std::alloc::{AllocError, Global};
 

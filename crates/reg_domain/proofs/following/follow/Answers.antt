@@ -6,7 +6,7 @@ use Rattle.bpf_insn.specs.declared.insn.Insn.TheVariants.{Call}
 use Rattle.register_kinds.specs.declared.freeze_name.FreezeName.TheVariants as names
 use Rattle.description.specs.declared.description.Description.{Description}
 use Rattle.helper_calls.specs.Called.{LeavesCalled}
-use Rattle.reg_domain.specs.Follows.{Stays}
+use Rattle.reg_domain.specs.Ways.{Stays}
 use Rattle.reg_domain.proofs.Ways.{exit_never_stuck, follows_way, goes_way, jump_goes, jump_never_stuck}
 use Rattle.reg_domain.proofs.following.follow.Goals as goal
 use Rattle.reg_domain.proofs.following.follow.Goals.{in-Alu+in_ok-compute-in-Alu, in-InPlace+in_ok-change-in-InPlace, in-SignExtend+in_ok-extend-in-SignExtend, in-LoadImmediate, in-Load+in_ok-load-in-Load, in-Store+in_ok-store_operand-in-Store, in-Call+in_ok-call_function-in-Call}

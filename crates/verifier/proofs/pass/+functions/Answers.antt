@@ -14,7 +14,7 @@ use Rattle.call_shape.proofs.Contained.{callee_there}
 use Rattle.call_shape.proofs.Places.{begins_there}
 use Rattle.description.specs.declared.saved.SavedRegisters.{SavedRegisters}
 use Rattle.reg_domain.specs.Enough.{IsEntryKnown}
-use Rattle.reg_domain.specs.Follows.{Stays}
+use Rattle.reg_domain.specs.Ways.{Stays}
 use Rattle.std.specs.Prelude.{IfOk}
 use Rattle.verifier.specs.Arrives.{AllArrive, IsNeverLacking}
 use Rattle.verifier.specs.Function.{AreDone, AreVisited, HasChecked, IsEnd, IsOwn, checks_at, deep_under}

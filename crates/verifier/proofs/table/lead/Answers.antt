@@ -1,7 +1,7 @@
 use Rattle.std.proofs.Common.{◌≡◌, ◌≤◌, ◌⊎◌, ◌∙◌, length, true, false, Bool, Some, None, subst, arith, inl, inr}
 use Rattle.std.proofs.lemmas.List.{get_or_default}
 use Rattle.reg_domain.specs.Enough.{Leaves}
-use Rattle.reg_domain.specs.Follows.{Follows}
+use Rattle.private_insns.specs.Follows.{Follows}
 use Rattle.verifier.specs.Table.{described}
 use Rattle.verifier.proofs.Led.{if_ok, led_on, led_nowhere, arrives_on}
 use Rattle.verifier.proofs.table.lead.Goals.{else-is_open-via-then-is_open+else-to-table, else-is_open-via-else-is_open}

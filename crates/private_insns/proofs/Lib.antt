@@ -1,0 +1,10 @@
+pub mod Accessible
+pub mod ByteNumbers
+pub mod Described
+pub mod Reading
+pub mod Tested
+pub mod GoingOn
+pub mod Jumps
+pub mod Loading
+pub mod StaysKnown
+pub mod Storing

@@ -1,0 +1,4 @@
+pub mod Enough
+pub mod Follows
+pub mod GoesOn
+pub mod Memory

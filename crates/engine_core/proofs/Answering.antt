@@ -1,5 +1,5 @@
 -- An event's reply: what fits, the room for its record, and what the engine is behind it.
-use Rattle.std.proofs.Common.{◌≡◌, ℕ, ◌+◌, ◌<◌, ◌≤◌, Bool, true, false, List, [], ◌∷◌, ◌++◌, length, Result, Ok, Err, Option, Some, None, refl, ap, sym, subst, ◌∙◌, arith}
+use Rattle.std.proofs.Common.{◌≡◌, ℕ, ◌+◌, ◌<◌, ◌≤◌, true, false, List, [], ◌∷◌, ◌++◌, length, Result, Ok, Err, Option, Some, None, refl, sym, arith}
 use Rattle.std.specs.Prelude.{IfOk, IfNone, IsSome, OnErr}
 use Rattle.std.specs.Result.{is_err}
 use Rattle.std.proofs.lemmas.List.Sums.{count_by-le-length}
@@ -11,7 +11,7 @@ use Rattle.engine_core.specs.declared.event.Event.{Event}
 use Rattle.engine_core.specs.declared.event.Event.TheVariants.{Submit, Dispatch, Complete, Advance, Clock, GuestFreeze, GuestRelease, Park, Resume}
 use Rattle.engine_core.specs.declared.reply.Reply.{Reply}
 use Rattle.engine_core.specs.declared.reply.Reply.TheVariants.{Given, Refused, Unfit, OutOfMemory}
-use Rattle.engine_core.specs.Invariant.{HasRoom, KeepsEngine, outs}
+use Rattle.engine_core.specs.Invariant.{HasRoom, KeepsEngine}
 use Rattle.engine_core.specs.Performing.{FitsAt, IsRoomFor, LeavesRoom, Performs, world_with}
 use Rattle.engine_core.specs.Replies.{IsFit, IsUnfit, ToldFit, may_be_unfit, record_of}
 use Rattle.engine_core.proofs.Parking.{room_to_park}

@@ -1,5 +1,5 @@
 -- What the arms make of an engine's parts is what the world does: from what the tables tell of their steps.
-use Rattle.std.proofs.Common.{◌≡◌, ℕ, ◌+◌, List, true, false, length, Result, Ok, Err, Some, refl, ap, sym, subst, ◌∙◌}
+use Rattle.std.proofs.Common.{◌≡◌, ℕ, ◌+◌, List, true, false, length, Result, Ok, Err, Some, refl, ap, sym, subst}
 use Rattle.std.specs.Borrow.{Bor}
 use Rattle.std.specs.Prelude.{Contains}
 use Rattle.ccb.specs.declared.CcbId.{CcbId}

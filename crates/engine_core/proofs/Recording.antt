@@ -1,5 +1,5 @@
 -- One record more keeps an engine.
-use Rattle.std.proofs.Common.{◌≡◌, List, [], ◌∷◌, ◌++◌, length, refl, ap, sym, subst, ◌∙◌}
+use Rattle.std.proofs.Common.{◌≡◌, List, [], ◌∷◌, ◌++◌, length, ap, sym, subst, ◌∙◌}
 use Rattle.std.proofs.lemmas.List.Concat.{flat_map-append}
 use Rattle.std.proofs.Common.{append-nil}
 use Rattle.ccb_table.specs.CcbsState.{CcbsState, with_ccbs}
@@ -7,7 +7,6 @@ use Rattle.recoveries.specs.RecoveryState.{RecoveryState, with_recoveries}
 use Rattle.calls.specs.declared.record.Record.{Record}
 use Rattle.world.specs.World.{Setup, World, queue_count, opening}
 use Rattle.world.specs.Event.{Event, Reply}
-use Rattle.world.specs.Step.{WorldStep}
 use Rattle.world.specs.WorldRun.{Leads, WorldRun}
 use Rattle.world.specs.Flat.{events_of, flat}
 use Rattle.world_laws.proofs.Leads.{leads_append, world_after_leads}

@@ -1,9 +1,7 @@
 // What no command shows: writers that fail, memory that is refused, and records that no scenario makes yet.
 // Expected texts are worked out by hand.
 
-use calls::{
-    Call, CallAnswer, CompletionRecord, Record, StoppedAt, Totals, Trace, TracedBytes,
-};
+use calls::{Call, CallAnswer, CompletionRecord, Record, StoppedAt, Totals, Trace, TracedBytes};
 use ccb::{CamStatus, CcbId, Completion};
 use command_line::Plan;
 use commands::carry;

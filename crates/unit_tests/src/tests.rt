@@ -10,6 +10,7 @@ mod live_runs;
 mod passes;
 mod policies;
 mod recovery;
+mod replies;
 mod structure;
 mod tables;
 mod timers;

@@ -1,12 +1,7 @@
-use Rattle.std.proofs.Common.{◌≡◌, Some, refl, ap, sym, subst, ◌∙◌, arith}
-use Rattle.ccb_table.specs.CcbsState.{CcbsState, with_ccbs}
-use Rattle.recoveries.specs.RecoveryState.{with_recoveries}
-use Rattle.calls.specs.declared.call.Call.TheVariants.{Complete}
-use Rattle.calls.specs.declared.call_answer.CallAnswer.TheVariants as answers
+use Rattle.std.proofs.Common.{Some, refl, ap, ◌∙◌, arith}
 use Rattle.world.specs.declared.ccb_state.CcbState.TheVariants.{Active}
 use Rattle.world.specs.World.{LiveCcb, World}
 use Rattle.world.specs.Event.{Reply}
-use Rattle.world.specs.CcbSteps.{finishes}
 use Rattle.world_laws.proofs.Steps.Effects.{known_queue}
 use Rattle.world.proofs.Steps.Moves.{ccb_found}
 use Rattle.engine_core.specs.EngineState.{world_of}

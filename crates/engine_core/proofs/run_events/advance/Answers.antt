@@ -1,5 +1,4 @@
-use Rattle.std.proofs.Common.{◌≡◌, refl, sym, subst, rules}
-use Rattle.bpf_semantics.specs.declared.stop.Stop.TheVariants.{Helper, Exit}
+use Rattle.std.proofs.Common.{refl, sym, subst, rules}
 use Rattle.engine_core.specs.declared.reply.Given.TheVariants.{Goes, Ended}
 use Rattle.engine_core.specs.Answers.{stopped_at, StopsByCode}
 use Rattle.engine_core.specs.Performing.{world_with}

@@ -2,7 +2,6 @@ use Rattle.std.proofs.Common.{◌≡◌, List, true, refl, ap, sym, subst, ◌�
 use Rattle.std.specs.Arc.{arc_value}
 use Rattle.accepted.specs.Verdict.{Verdict}
 use Rattle.bpf_insn.specs.declared.program.Slot.{Slot}
-use Rattle.bpf_semantics.specs.MachineState.{MachineState}
 use Rattle.bpf_semantics.specs.Reached.{Reached}
 use Rattle.recoveries.specs.RecoveryState.{RecoveryState}
 use Rattle.recoveries.specs.RunPlaces.{HasRunAt}

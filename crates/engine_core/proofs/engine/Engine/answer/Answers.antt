@@ -1,7 +1,6 @@
-use Rattle.std.proofs.Common.{◌≡◌, length, refl, sym, ◌∙◌, rules, arith}
+use Rattle.std.proofs.Common.{length, refl, sym, ◌∙◌, rules, arith}
 use Rattle.std.specs.Prelude.{vec_capacity}
 use Rattle.engine_core.specs.EngineState.{world_of}
-use Rattle.engine_core.specs.Performing.{IsRoomFor}
 use Rattle.engine_core.proofs.Answering.{few_runs, fit_at, on_err, performed, room_behind, room_to_tell, told_fit, unfit_may, unless_err}
 use Rattle.engine_core.proofs.Parking.{room_kept}
 use Rattle.engine_core.proofs.engine.Engine.answer.Goals as goal

@@ -1,4 +1,4 @@
-use Rattle.std.proofs.Common.{◌≡◌, sym}
+use Rattle.std.proofs.Common.{sym}
 use Rattle.engine_core.proofs.Answering.{none_fits}
 use Rattle.engine_core.proofs.parts.Parts.fits.Goals as goal
 

@@ -1,8 +1,8 @@
 // A module for what is tested, and the policies that they share.
 
-mod calls;
 mod ccbs;
 mod decoding;
+mod each_call;
 mod engine;
 mod freezes;
 mod instructions;

@@ -37,7 +37,7 @@ finished_by_run code (Some run) = record { number = run.ccb; code = code } ∷ [
 -- of a run whose call is told to finish it, with the code that is told
 abbrev pub finished_by : World → Event → Reply → List EndedCcb
 finished_by before (called (Complete outcome)) (replies answers.Done) = record { number = outcome.ccb.0; code = code_of outcome.status } ∷ []
-finished_by before (executes run (call (finishes helper code))) reply = finished_by_run code (run_of run before.runs)
+finished_by before (executes run (call (finishes helper code))) reply = finished_by_run code (run_of run before.runs.list)
 finished_by before event reply = []
 
 -- all that the events finish, in order
@@ -50,7 +50,7 @@ finished_in setup before (x ∷ xs) after leads = finished_by before x.0 x.1 ++ 
 abbrev pub EachIsLiveOrEnded : Type 0
 EachIsLiveOrEnded =
     (setup : Setup) (xs : List (Event × Reply)) (world : World) → (run : WorldRun setup xs world) →
-    AreAccounted world.live world.ended world.greatest_ccb × (world.ended ≡ finished_in setup (opening setup) xs world run)
+    AreAccounted world.transport.live world.ended world.transport.greatest_ccb × (world.ended ≡ finished_in setup (opening setup) xs world run)
 
 -- No step makes more CCBs of a queue active than it has openings then. Openings that a run lowers below the active ones
 -- stop starts and nothing else, so there may be more active ones, but none is added.
@@ -59,4 +59,4 @@ StartsKeepOpenings =
     (setup : Setup) (xs : List (Event × Reply)) (before : World) → WorldRun setup xs before →
     (event : Event) (reply : Reply) (after : World) → WorldStep setup before event reply after →
     (queue : ℕ) →
-    (active_count queue after.live ≤ active_count queue before.live) ⊎ (active_count queue after.live ≤ slice_index before.openings queue)
+    (active_count queue after.transport.live ≤ active_count queue before.transport.live) ⊎ (active_count queue after.transport.live ≤ slice_index before.transport.openings queue)

@@ -26,28 +26,23 @@ use Rattle.world.specs.FreezeSteps.{froze}
 -- numbers are used up
 abbrev pub ccb_meets_limit : ℕ → World → Bool
 ccb_meets_limit queue world =
-    nat_le most_ccbs_of_queue (live_count queue world.live) || nat_le most_ccbs (length world.live)
-    || nat_le last_number world.greatest_ccb
+    nat_le most_ccbs_of_queue (live_count queue world.transport.live) || nat_le most_ccbs (length world.transport.live)
+    || nat_le last_number world.transport.greatest_ccb
 
 -- a CCB waits under a new number
 abbrev pub submits : World → QueueId → ℕ → ℕ → Reply × World
 submits world queue priority retries =
-    let number = world.greatest_ccb + 1 in
+    let number = world.transport.greatest_ccb + 1 in
     let ccb = submitted (record { 0 = number }) queue priority retries in (
       replies (answers.Ccb (record { 0 = number })),
-      record world {
-        live = world.live ++ record { ccb = ccb; state = Waiting } ∷ [];
-        greatest_ccb = number;
-      },
+      record world { transport = record world.transport { live = world.transport.live ++ record { ccb = ccb; state = Waiting } ∷ []; greatest_ccb = number } },
     )
 
 -- a CCB that waits is active, and was started once more
 abbrev pub starts : World → LiveCcb → Reply × World
 starts world next = (
   replies (answers.Ccb next.ccb.number),
-  record world {
-    live = with_ccb (record { ccb = started next.ccb; state = Active }) world.live;
-  },
+  record world { transport = record world.transport { live = with_ccb (record { ccb = started next.ccb; state = Active }) world.transport.live } },
 )
 
 -- the status needs no recovery
@@ -56,14 +51,11 @@ is_success status = code_of status == code_of RequestCompleted
 
 -- a further run meets a limit: there are as many as may be, or the numbers are used up
 abbrev pub run_meets_limit : World → Bool
-run_meets_limit world = nat_le most_runs (length world.runs) || nat_le last_number world.greatest_run
+run_meets_limit world = nat_le most_runs (length world.runs.list) || nat_le last_number world.runs.greatest
 
 -- the CCB is gone, and its final code is kept
 abbrev pub ended_with : World → Ccb → ℕ → World
-ended_with world ccb code = record world {
-  live = filter (λ live. not (live.ccb.number.0 == ccb.number.0)) world.live;
-  ended = world.ended ++ record { number = ccb.number.0; code = code } ∷ [];
-}
+ended_with world ccb code = record world { transport = record world.transport { live = filter (λ live. not (live.ccb.number.0 == ccb.number.0)) world.transport.live }; ended = world.ended ++ record { number = ccb.number.0; code = code } ∷ [] }
 
 -- it is gone with the code of its status
 abbrev pub finishes : World → Ccb → CamStatus → World
@@ -73,30 +65,32 @@ finishes world ccb status = ended_with world ccb (code_of status)
 -- of the CCB, and is told the number of its freeze.
 abbrev pub run_starts : Setup → World → Ccb → ℕ → Reply × World
 run_starts setup world ccb freeze =
-    let number = world.greatest_run + 1 in (
+    let number = world.runs.greatest + 1 in (
       replies (answers.Started number freeze),
       record world {
-        live = with_ccb (record { ccb = ccb; state = InRecovery }) world.live;
-        runs = world.runs ++ record {
-          number = number;
-          ccb = ccb.number.0;
-          queue = ccb.queue.0;
-          program = (queue_setup setup ccb.queue.0).program;
-          machine = entry (context_of ccb) freeze;
-          out = true;
-        } ∷ [];
-        greatest_run = number;
+        transport = record world.transport { live = with_ccb (record { ccb = ccb; state = InRecovery }) world.transport.live };
+        runs = record world.runs {
+          list = world.runs.list ++ record {
+            number = number;
+            ccb = ccb.number.0;
+            queue = ccb.queue.0;
+            program = (queue_setup setup ccb.queue.0).program;
+            machine = entry (context_of ccb) freeze;
+            out = true;
+          } ∷ [];
+          greatest = number;
+        };
       },
     )
 
 -- a run starts with a new freeze of the queue, which it holds, or with none as number 0 where that meets a limit
 abbrev pub recovers : Setup → World → Ccb → Outcome → Reply × World
 recovers setup world ccb outcome =
-    if meets_limit (Device ccb.queue) world.freezes world.greatest_freeze
+    if meets_limit (Device ccb.queue) world.transport.freezes world.transport.greatest_freeze
     then run_starts setup world (completed ccb outcome false) 0
     else
-    run_starts setup (froze world (Device ccb.queue) (Run (world.greatest_run + 1))) (completed ccb outcome true)
-    (world.greatest_freeze + 1)
+    run_starts setup (froze world (Device ccb.queue) (Run (world.runs.greatest + 1))) (completed ccb outcome true)
+    (world.transport.greatest_freeze + 1)
 
 -- an active CCB is finished, or a run starts for it
 abbrev pub completes : Setup → World → Outcome → LiveCcb → Reply × World

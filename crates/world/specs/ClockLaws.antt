@@ -15,7 +15,7 @@ use Rattle.world.specs.WorldRun.{Leads, WorldRun}
 abbrev pub ClockGoesOn : Type 0
 ClockGoesOn =
     (setup : Setup) (xs ys : List (Event × Reply)) (before after : World) →
-    WorldRun setup xs before → Leads setup before ys after → (before.clock ≤ after.clock) × (after.clock ≤ last_reading)
+    WorldRun setup xs before → Leads setup before ys after → (before.transport.clock ≤ after.transport.clock) × (after.transport.clock ≤ last_reading)
 
 -- the event lets go what is due at this time: it is a clock reading that is not refused and not before that time
 abbrev pub lets_go : ℕ → Reply → Event → Bool
@@ -25,8 +25,8 @@ lets_go due reply event = false
 -- what a step makes of a freeze that a timer holds: it is gone where the event lets it go, and else it is as it was
 abbrev pub KeepsTime : World → Event → Reply → World → Type 0
 KeepsTime before event reply after =
-    (freeze : Freeze) (due : ℕ) → entry_of freeze.number before.freezes ≡ Some freeze → freeze.holder ≡ Timer due →
-    entry_of freeze.number after.freezes ≡ (if lets_go due reply event then None else Some freeze)
+    (freeze : Freeze) (due : ℕ) → entry_of freeze.number before.transport.freezes ≡ Some freeze → freeze.holder ≡ Timer due →
+    entry_of freeze.number after.transport.freezes ≡ (if lets_go due reply event then None else Some freeze)
 
 -- at every moment of every run
 abbrev pub TimersKeepTime : Type 0

@@ -25,29 +25,29 @@ use Rattle.world.specs.WorldRun.{Leads, WorldRun}
 
 -- a freeze of that number is there
 abbrev pub IsHeld : ℕ → World → Type 0
-IsHeld number world = IsSome (entry_of number world.freezes)
+IsHeld number world = IsSome (entry_of number world.transport.freezes)
 
 -- no freeze came or went
 abbrev pub KeepsFreezes : World → World → Type 0
-KeepsFreezes before after = after.freezes ≡ before.freezes
+KeepsFreezes before after = after.transport.freezes ≡ before.transport.freezes
 
 -- one freeze more, of that place, and of any other as many as before
 abbrev pub OneMore : World → Place → World → Type 0
 OneMore before place after =
-    (other : Place) → frozen other after.freezes ≡ frozen other before.freezes + (if is_place place other then 1 else 0)
+    (other : Place) → frozen other after.transport.freezes ≡ frozen other before.transport.freezes + (if is_place place other then 1 else 0)
 
 -- The freeze of that number went: one fewer of its place, of any other as many as before, and `count` is how many
 -- entries name its place now.
 pub record OneFewer (before : World) (number count : ℕ) (after : World) : Type 0 where
   pub freeze : Freeze
-  pub entry : entry_of number before.freezes ≡ Some freeze
-  pub count_is : count ≡ frozen_with freeze after.freezes
-  pub fewer : (other : Place) → frozen other after.freezes + (if names other freeze then 1 else 0) ≡ frozen other before.freezes
+  pub entry : entry_of number before.transport.freezes ≡ Some freeze
+  pub count_is : count ≡ frozen_with freeze after.transport.freezes
+  pub fewer : (other : Place) → frozen other after.transport.freezes + (if names other freeze then 1 else 0) ≡ frozen other before.transport.freezes
 
 -- The freezes whose timers are due went, `count` in all: of each place as many as were its own.
 pub record DueGone (before : World) (reading count : ℕ) (after : World) : Type 0 where
-  pub count_is : count ≡ length (due_at reading before.freezes)
-  pub fewer : (other : Place) → frozen other after.freezes + frozen other (due_at reading before.freezes) ≡ frozen other before.freezes
+  pub count_is : count ≡ length (due_at reading before.transport.freezes)
+  pub fewer : (other : Place) → frozen other after.transport.freezes + frozen other (due_at reading before.transport.freezes) ≡ frozen other before.transport.freezes
 
 -- a clock reading, by its reply
 abbrev pub MovesByClock : World → ℕ → Reply → World → Type 0
@@ -64,10 +64,10 @@ MovesByFreeze before place reply after = ⊥
 -- a completion, by its reply: one more of the CCB's queue where a run started with a freeze, which has a number above 0
 abbrev pub MovesByCompletion : World → Outcome → Reply → World → Type 0
 MovesByCompletion before outcome (replies (answers.Started run freeze)) after =
-    (live : LiveCcb) × (ccb_of outcome.ccb.0 before.live ≡ Some live)
+    (live : LiveCcb) × (ccb_of outcome.ccb.0 before.transport.live ≡ Some live)
     × ((other : Place) →
-    frozen other after.freezes
-    ≡ frozen other before.freezes + (if freeze == 0 then 0 else if is_place (Device live.ccb.queue) other then 1 else 0))
+    frozen other after.transport.freezes
+    ≡ frozen other before.transport.freezes + (if freeze == 0 then 0 else if is_place (Device live.ccb.queue) other then 1 else 0))
 MovesByCompletion before outcome (replies answers.Done) after = KeepsFreezes before after
 MovesByCompletion before outcome (replies (answers.Refused refusal)) after = after ≡ before
 MovesByCompletion before outcome reply after = ⊥
@@ -75,7 +75,7 @@ MovesByCompletion before outcome reply after = ⊥
 -- the run stands at this call
 abbrev pub Calls : World → ℕ → Request → Type 0
 Calls world run request =
-    (it : LiveRun) × (run_of run world.runs ≡ Some it) × (request_at it.program it.machine ≡ Some request)
+    (it : LiveRun) × (run_of run world.runs.list ≡ Some it) × (request_at it.program it.machine ≡ Some request)
 
 -- the run stands at a call that does this deed, with this number in R1
 pub record CallsTo (deed : Deed) (world : World) (run number : ℕ) : Type 0 where
@@ -98,7 +98,7 @@ pub record MovesByTaking (before : World) (run : ℕ) (reply : Reply) (after : W
   pub freeze : ℕ
   pub asks : CallsTo deeds.Freeze before run queue
   pub reply_is : reply ≡ result freeze
-  pub more : (other : Place) → frozen other after.freezes ≡ frozen other before.freezes + (if freeze == 0 then 0 else if is_place (device queue) other then 1 else 0)
+  pub more : (other : Place) → frozen other after.transport.freezes ≡ frozen other before.transport.freezes + (if freeze == 0 then 0 else if is_place (device queue) other then 1 else 0)
 
 -- A run's call that gives a freeze back: one fewer of its place, and the reply is how many there are then.
 pub record MovesByGiving (before : World) (run : ℕ) (reply : Reply) (after : World) : Type 0 where
@@ -110,7 +110,7 @@ pub record MovesByGiving (before : World) (run : ℕ) (reply : Reply) (after : W
 
 -- no place's count changed: a freeze may have another holder
 abbrev pub KeepsCounts : World → World → Type 0
-KeepsCounts before after = (other : Place) → frozen other after.freezes ≡ frozen other before.freezes
+KeepsCounts before after = (other : Place) → frozen other after.transport.freezes ≡ frozen other before.transport.freezes
 
 -- what a run's call does to each place's frozen count, by its deed
 abbrev pub MovesByDeed : Deed → World → ℕ → Reply → World → Type 0
@@ -152,7 +152,7 @@ GivenUpByRunStaysGivenUp =
 
 -- a run or a guest holds the freeze of that number
 abbrev pub IsOwned : ℕ → World → Type 0
-IsOwned number world = (freeze : Freeze) × (entry_of number world.freezes ≡ Some freeze) × (is_timer freeze.holder ≡ false)
+IsOwned number world = (freeze : Freeze) × (entry_of number world.transport.freezes ≡ Some freeze) × (is_timer freeze.holder ≡ false)
 
 -- one that a run handed over is held by a timer or gone ever after, and never by a run or a guest again
 abbrev pub HandedOverStaysHandedOver : Type 0
@@ -180,8 +180,8 @@ held_by run freezes = map (λ freeze. freeze.number) (entries_of run freezes)
 -- What the machine of each live run holds is what the entries say that the run holds, and no entry names a run that is
 -- not live.
 pub record HoldsWhatEntriesSay (world : World) : Type 0 where
-  pub machines : (number : ℕ) (run : LiveRun) → run_of number world.runs ≡ Some run → run.machine.held ≡ held_by number world.freezes
-  pub entries : (number run : ℕ) (freeze : Freeze) → entry_of number world.freezes ≡ Some freeze → is_run run freeze.holder ≡ true → IsSome (run_of run world.runs)
+  pub machines : (number : ℕ) (run : LiveRun) → run_of number world.runs.list ≡ Some run → run.machine.held ≡ held_by number world.transport.freezes
+  pub entries : (number run : ℕ) (freeze : Freeze) → entry_of number world.transport.freezes ≡ Some freeze → is_run run freeze.holder ≡ true → IsSome (run_of run world.runs.list)
 
 -- at every moment of every run of a lawful setup
 abbrev pub HeldAreEntries : Type 0

@@ -26,35 +26,32 @@ frozen_with freeze freezes = frozen freeze.place freezes
 -- with a new freeze of the place, under the number after the greatest given
 abbrev pub froze : World → Place → Holder → World
 froze world place holder =
-    let number = world.greatest_freeze + 1 in
-    record world {
-      freezes = world.freezes ++ record { number = number; place = place; holder = holder } ∷ [];
-      greatest_freeze = number;
-    }
+    let number = world.transport.greatest_freeze + 1 in
+    record world { transport = record world.transport { freezes = world.transport.freezes ++ record { number = number; place = place; holder = holder } ∷ []; greatest_freeze = number } }
 
 -- without the freeze of this number
 abbrev pub thawed : World → ℕ → World
-thawed world number = record world { freezes = without number world.freezes }
+thawed world number = record world { transport = record world.transport { freezes = without number world.transport.freezes } }
 
 -- with a timer that is due then as the holder of the freeze of this number
 abbrev pub timed : World → ℕ → ℕ → World
-timed world number due = record world { freezes = handed_over number due world.freezes }
+timed world number due = record world { transport = record world.transport { freezes = handed_over number due world.transport.freezes } }
 
 -- a guest holds a new freeze of the place
 abbrev pub guest_freezes : World → Place → ℕ → Reply × World
-guest_freezes world place guest = (replies (answers.Freeze (world.greatest_freeze + 1)), froze world place (Guest guest))
+guest_freezes world place guest = (replies (answers.Freeze (world.transport.greatest_freeze + 1)), froze world place (Guest guest))
 
 -- no event unless a guest holds a freeze of that number; it goes
 abbrev pub guest_releases : World → Option Freeze → Option (Reply × World)
 guest_releases world None = None
 guest_releases world (Some freeze) =
     let after = thawed world freeze.number in
-    if is_guest freeze.holder then Some (replies (answers.Left (frozen_with freeze after.freezes)), after) else None
+    if is_guest freeze.holder then Some (replies (answers.Left (frozen_with freeze after.transport.freezes)), after) else None
 
 -- the clock reads this, and the freezes whose timers are due are gone
 abbrev pub clock_at : World → ℕ → World
-clock_at world reading = record world { freezes = not_due_at reading world.freezes; clock = reading }
+clock_at world reading = record world { transport = record world.transport { freezes = not_due_at reading world.transport.freezes; clock = reading } }
 
 -- the reply is how many these are
 abbrev pub reads_clock : World → ℕ → Reply × World
-reads_clock world reading = (replies (answers.Removed (length (due_at reading world.freezes))), clock_at world reading)
+reads_clock world reading = (replies (answers.Removed (length (due_at reading world.transport.freezes))), clock_at world reading)

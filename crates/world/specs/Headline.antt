@@ -94,14 +94,14 @@ pub record HasOneStep (setup : Setup) (world : World) (run : ℕ) : Type 0 where
 abbrev pub NeverStuck : Type 0
 NeverStuck =
     (setup : Setup) → IsLawful setup → (xs : List (Event × Reply)) (world : World) → WorldRun setup xs world →
-    (number : ℕ) (run : LiveRun) → run_of number world.runs ≡ Some run →
+    (number : ℕ) (run : LiveRun) → run_of number world.runs.list ≡ Some run →
     (is_stuck run.program setup.limits run.machine ≡ false) × (run.out ≡ true → HasOneStep setup world number)
 
 -- Each live run's machine is one that its program reaches, at every moment of every run of the world.
 abbrev pub MachinesAreReached : Type 0
 MachinesAreReached =
     (setup : Setup) → IsLawful setup → (xs : List (Event × Reply)) (world : World) → WorldRun setup xs world →
-    (number : ℕ) (run : LiveRun) → run_of number world.runs ≡ Some run → (n : ℕ) × Reached run.program n run.machine
+    (number : ℕ) (run : LiveRun) → run_of number world.runs.list ≡ Some run → (n : ℕ) × Reached run.program n run.machine
 
 -- A completion starts a run at some moment of a run of the world, which goes on from there.
 pub record StartedRun (setup : Setup) (outcome : Outcome) (run : ℕ) (ys : List (Event × Reply)) (world : World) : Type 0 where
@@ -117,7 +117,7 @@ pub record StartedRun (setup : Setup) (outcome : Outcome) (run : ℕ) (ys : List
 -- machine was reached in exactly so many instructions.
 pub record KeepsWithin (setup : Setup) (run : ℕ) (start : LiveRun) (steps : ℕ) (world : World) : Type 0 where
   pub budget : steps ≤ (queue_setup setup start.queue).budget
-  pub reached : (now : LiveRun) → run_of run world.runs ≡ Some now →
+  pub reached : (now : LiveRun) → run_of run world.runs.list ≡ Some now →
       (now.queue ≡ start.queue) × Reached now.program steps now.machine
 
 -- From its start on a run executes at most as many instructions as its queue's budget says, private ones, helper calls
@@ -126,23 +126,23 @@ abbrev pub WithinBudget : Type 0
 WithinBudget =
     (setup : Setup) → IsLawful setup → (outcome : Outcome) (run : ℕ) (ys : List (Event × Reply)) (world : World) →
     (it : StartedRun setup outcome run ys world) →
-    (start : LiveRun) × (run_of run it.started.runs ≡ Some start) × KeepsWithin setup run start (steps_of run ys) world
+    (start : LiveRun) × (run_of run it.started.runs.list ≡ Some start) × KeepsWithin setup run start (steps_of run ys) world
 
 -- The CCB is in recovery by this run alone.
 pub record InRecoveryBy (run ccb : ℕ) (world : World) : Type 0 where
   pub live : LiveCcb
-  pub found : ccb_of ccb world.live ≡ Some live
+  pub found : ccb_of ccb world.transport.live ≡ Some live
   pub state : live.state ≡ InRecovery
   pub now : LiveRun
-  pub is_live : run_of run world.runs ≡ Some now
+  pub is_live : run_of run world.runs.list ≡ Some now
   pub fresh : now.machine.disposed ≡ false
-  pub alone : (other : ℕ) (its : LiveRun) → run_of other world.runs ≡ Some its → its.ccb ≡ ccb → its.machine.disposed ≡ false → other ≡ run
+  pub alone : (other : ℕ) (its : LiveRun) → run_of other world.runs.list ≡ Some its → its.ccb ≡ ccb → its.machine.disposed ≡ false → other ≡ run
 
 -- The CCB is requeued: it waits again with so many retries fewer, not below 0, in its queue, with its priority and its
 -- count of starts. What its completion brought is gone, and no CCB ended.
 pub record IsRequeued (ccb used : ℕ) (was : LiveCcb) (before after : World) : Type 0 where
   pub now : LiveCcb
-  pub found : ccb_of ccb after.live ≡ Some now
+  pub found : ccb_of ccb after.transport.live ≡ Some now
   pub state : now.state ≡ Waiting
   pub queue : now.ccb.queue ≡ was.ccb.queue
   pub priority : now.ccb.priority ≡ was.ccb.priority
@@ -156,7 +156,7 @@ pub record IsRequeued (ccb used : ℕ) (was : LiveCcb) (before after : World) : 
 
 -- The CCB is finished: it is gone, and it alone ended, with this code.
 pub record IsFinished (ccb code : ℕ) (before after : World) : Type 0 where
-  pub gone : ccb_of ccb after.live ≡ None
+  pub gone : ccb_of ccb after.transport.live ≡ None
   pub ended : after.ended ≡ before.ended ++ record { number = ccb; code = code } ∷ []
 
 -- What a call makes of the run's CCB, by its deed: it is requeued with the retries that the run asks for, or finished with
@@ -184,7 +184,7 @@ DisposesBy instruction run ccb was before after = ⊥
 pub record DisposesOfIt (run ccb : ℕ) (before : World) (event : Event) (after : World) : Type 0 where
   pub recovery : InRecoveryBy run ccb before
   pub disposes : DisposesBy (instruction_of run event) run ccb recovery.live before after
-  pub others : (other : ℕ) → (other ≡ ccb → ⊥) → ccb_of other after.live ≡ ccb_of other before.live
+  pub others : (other : ℕ) → (other ≡ ccb → ⊥) → ccb_of other after.transport.live ≡ ccb_of other before.transport.live
 
 -- From its start on, as long as it is live, a run is that of the CCB which the completion named. It disposes of that CCB at
 -- most once, and exactly once if it exited; until then the CCB is in recovery by this run alone. The step by which it
@@ -195,7 +195,7 @@ DisposedOnce =
     StartedRun setup outcome run ys world →
     (disposals_of run ys ≤ 1) × (0 < exits_of run ys → disposals_of run ys ≡ 1)
     × (disposals_of run ys ≡ 0 → InRecoveryBy run outcome.ccb.0 world)
-    × ((now : LiveRun) → run_of run world.runs ≡ Some now → now.ccb ≡ outcome.ccb.0)
+    × ((now : LiveRun) → run_of run world.runs.list ≡ Some now → now.ccb ≡ outcome.ccb.0)
     × ((event : Event) (reply : Reply) (after : World) → WorldStep setup world event reply after →
     is_disposal_of run event ≡ true → DisposesOfIt run outcome.ccb.0 world event after)
 
@@ -207,8 +207,8 @@ times_in number numbers = count_by (λ other. other == number) numbers
 -- gave up alone.
 pub record HoldsExactly (run : ℕ) (got given : List ℕ) (world : World) : Type 0 where
   pub once : (number : ℕ) → times_in number got ≤ 1
-  pub live : (now : LiveRun) → run_of run world.runs ≡ Some now → (number : ℕ) → times_in number got ≡ times_in number now.machine.held + times_in number given
-  pub gone : run_of run world.runs ≡ None → (number : ℕ) → times_in number got ≡ times_in number given
+  pub live : (now : LiveRun) → run_of run world.runs.list ≡ Some now → (number : ℕ) → times_in number got ≡ times_in number now.machine.held + times_in number given
+  pub gone : run_of run world.runs.list ≡ None → (number : ℕ) → times_in number got ≡ times_in number given
 
 -- From its start on a run holds exactly the freezes that it got and did not give up yet, and at its end it gave up each.
 abbrev pub ExactFreezes : Type 0
@@ -223,14 +223,14 @@ abbrev pub OthersLeaveIt : Type 0
 OthersLeaveIt =
     (setup : Setup) (xs : List (Event × Reply)) (before : World) → WorldRun setup xs before →
     (event : Event) (reply : Reply) (after : World) → WorldStep setup before event reply after →
-    (number : ℕ) (run : LiveRun) → run_of number before.runs ≡ Some run →
-    (is_own_of number event ≡ false → run_of number after.runs ≡ Some run)
-    × (is_step_of number event ≡ false → entries_of number after.freezes ≡ entries_of number before.freezes)
+    (number : ℕ) (run : LiveRun) → run_of number before.runs.list ≡ Some run →
+    (is_own_of number event ≡ false → run_of number after.runs.list ≡ Some run)
+    × (is_step_of number event ≡ false → entries_of number after.transport.freezes ≡ entries_of number before.transport.freezes)
 
 -- a run that is gone never comes back
 abbrev pub GoneRunStaysGone : Type 0
 GoneRunStaysGone =
     (setup : Setup) (xs ys zs : List (Event × Reply)) (number : ℕ) (run : LiveRun) (live gone later : World) →
-    WorldRun setup xs live → run_of number live.runs ≡ Some run →
-    Leads setup live ys gone → run_of number gone.runs ≡ None →
-    Leads setup gone zs later → run_of number later.runs ≡ None
+    WorldRun setup xs live → run_of number live.runs.list ≡ Some run →
+    Leads setup live ys gone → run_of number gone.runs.list ≡ None →
+    Leads setup gone zs later → run_of number later.runs.list ≡ None

@@ -18,36 +18,36 @@ NamesNoOther setup = setup.limits.queues ≤ queue_count setup
 -- Each freeze is of a place that exists, where calls name no other; no place has too many, nor has the ledger, and
 -- numbers rise.
 pub record FreezeLimits (setup : Setup) (world : World) : Type 0 where
-  pub places : NamesNoOther setup → All (λ freeze. is_unknown setup freeze.place ≡ false) world.freezes
-  pub a_place : (place : Place) → frozen place world.freezes ≤ most_freezes_of_place
-  pub ledger : length world.freezes ≤ most_freezes
-  pub numbered : AreRising 0 (map (λ freeze. freeze.number) world.freezes) world.greatest_freeze
-  pub numbers : world.greatest_freeze ≤ last_number
+  pub places : NamesNoOther setup → All (λ freeze. is_unknown setup freeze.place ≡ false) world.transport.freezes
+  pub a_place : (place : Place) → frozen place world.transport.freezes ≤ most_freezes_of_place
+  pub ledger : length world.transport.freezes ≤ most_freezes
+  pub numbered : AreRising 0 (map (λ freeze. freeze.number) world.transport.freezes) world.transport.greatest_freeze
+  pub numbers : world.transport.greatest_freeze ≤ last_number
 
 -- Each CCB is of a queue that exists, no queue has too many, nor have all together, and numbers rise.
 pub record CcbLimits (setup : Setup) (world : World) : Type 0 where
-  pub queues : All (λ live. live.ccb.queue.0 < queue_count setup) world.live
-  pub a_queue : (queue : ℕ) → live_count queue world.live ≤ most_ccbs_of_queue
-  pub all : length world.live ≤ most_ccbs
-  pub rising : AreRising 0 (map (λ live. live.ccb.number.0) world.live) world.greatest_ccb
-  pub numbers : world.greatest_ccb ≤ last_number
+  pub queues : All (λ live. live.ccb.queue.0 < queue_count setup) world.transport.live
+  pub a_queue : (queue : ℕ) → live_count queue world.transport.live ≤ most_ccbs_of_queue
+  pub all : length world.transport.live ≤ most_ccbs
+  pub rising : AreRising 0 (map (λ live. live.ccb.number.0) world.transport.live) world.transport.greatest_ccb
+  pub numbers : world.transport.greatest_ccb ≤ last_number
 
 -- Each run is of a queue that exists, and of its program; there are not too many, and numbers rise.
 pub record RunLimits (setup : Setup) (world : World) : Type 0 where
-  pub queues : All (λ run. run.queue < queue_count setup) world.runs
-  pub programs : All (λ run. run.program ≡ (queue_setup setup run.queue).program) world.runs
-  pub all : length world.runs ≤ most_runs
-  pub rising : AreRising 0 (map (λ run. run.number) world.runs) world.greatest_run
-  pub numbers : world.greatest_run ≤ last_number
+  pub queues : All (λ run. run.queue < queue_count setup) world.runs.list
+  pub programs : All (λ run. run.program ≡ (queue_setup setup run.queue).program) world.runs.list
+  pub all : length world.runs.list ≤ most_runs
+  pub rising : AreRising 0 (map (λ run. run.number) world.runs.list) world.runs.greatest
+  pub numbers : world.runs.greatest ≤ last_number
 
 -- What calls are answered with keeps its limits: each queue has 1 to 255 openings, the tables are as long as the limits of
 -- the helper calls say and have words below 2^64, and the clock has not read more than it can.
 pub record AnswerLimits (setup : Setup) (world : World) : Type 0 where
-  pub queues : length world.openings ≡ queue_count setup
-  pub openings : All (λ openings. (1 ≤ openings) × (openings ≤ most_openings)) world.openings
-  pub lengths : map (λ table. length table) world.tables ≡ setup.limits.table_lengths
-  pub words : All (λ table. All (λ word. word < 2 ^ 64) table) world.tables
-  pub clock : world.clock ≤ last_reading
+  pub queues : length world.transport.openings ≡ queue_count setup
+  pub openings : All (λ openings. (1 ≤ openings) × (openings ≤ most_openings)) world.transport.openings
+  pub lengths : map (λ table. length table) world.runs.tables ≡ setup.limits.table_lengths
+  pub words : All (λ table. All (λ word. word < 2 ^ 64) table) world.runs.tables
+  pub clock : world.transport.clock ≤ last_reading
 
 pub record KeepsLimits (setup : Setup) (world : World) : Type 0 where
   pub freezes : FreezeLimits setup world

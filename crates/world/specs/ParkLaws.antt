@@ -23,15 +23,15 @@ resumes_of run xs = count_by (λ x. is_resume_of run x.0) xs
 -- The run was parked in one world, and nobody resumed it up to the other: it is parked, with all that it had, and the
 -- entries name it as they did. A CCB that it has not disposed of is as it was. And a resume gives it back as it was.
 pub record StaysParked (setup : Setup) (number : ℕ) (run : LiveRun) (before later : World) : Type 0 where
-  pub still : run_of number later.runs ≡ Some (record run { out = false })
-  pub freezes : entries_of number later.freezes ≡ entries_of number before.freezes
-  pub ccb : IsLawful setup → run.machine.disposed ≡ false → ccb_of run.ccb later.live ≡ ccb_of run.ccb before.live
-  pub resumed : (after : World) × WorldStep setup later (called (Resume number)) (replies answers.Ok) after × (run_of number after.runs ≡ Some run)
+  pub still : run_of number later.runs.list ≡ Some (record run { out = false })
+  pub freezes : entries_of number later.transport.freezes ≡ entries_of number before.transport.freezes
+  pub ccb : IsLawful setup → run.machine.disposed ≡ false → ccb_of run.ccb later.transport.live ≡ ccb_of run.ccb before.transport.live
+  pub resumed : (after : World) × WorldStep setup later (called (Resume number)) (replies answers.Ok) after × (run_of number after.runs.list ≡ Some run)
 
 -- From its park on, up to its resume, a run takes no step and stays as it was.
 abbrev pub ParkedStaysAsItIs : Type 0
 ParkedStaysAsItIs =
     (setup : Setup) (xs ys : List (Event × Reply)) (number : ℕ) (run : LiveRun) (reply : Reply) (before parked later : World) →
-    WorldRun setup xs before → run_of number before.runs ≡ Some run → WorldStep setup before (called (Park number)) reply parked →
+    WorldRun setup xs before → run_of number before.runs.list ≡ Some run → WorldStep setup before (called (Park number)) reply parked →
     Leads setup parked ys later → resumes_of number ys ≡ 0 →
     (steps_of number ys ≡ 0) × StaysParked setup number run before later

@@ -11,10 +11,10 @@ use Rattle.world.specs.Lookups.{active_count, waiting_count}
 -- how many freezes, active CCBs, waiting CCBs and openings the queue has
 abbrev pub queue_info : World → ℕ → QueueInfo
 queue_info world queue = record {
-  frozen = frozen (device queue) world.freezes;
-  active = active_count queue world.live;
-  waiting = waiting_count queue world.live;
-  openings = slice_index world.openings queue;
+  frozen = frozen (device queue) world.transport.freezes;
+  active = active_count queue world.transport.live;
+  waiting = waiting_count queue world.transport.live;
+  openings = slice_index world.transport.openings queue;
 }
 
 -- as four words of four bytes, each with the lowest byte first

@@ -32,18 +32,18 @@ abbrev pub refusals_of : Setup → World → Call → List (Bool × CallRefusal)
 refusals_of setup world (Submit queue priority retries) =
     (is_unknown setup (Device queue), Unknown) ∷ (ccb_meets_limit queue.0 world, Limit) ∷ []
 refusals_of setup world (Dispatch queue) =
-    (is_unknown setup (Device queue), Unknown) ∷ (nat_lt 0 (frozen (Device queue) world.freezes), Frozen)
-    ∷ (nat_le (slice_index world.openings queue.0) (active_count queue.0 world.live), NoOpening)
-    ∷ (is_none (next_waiting queue.0 world.live), NothingWaits) ∷ []
+    (is_unknown setup (Device queue), Unknown) ∷ (nat_lt 0 (frozen (Device queue) world.transport.freezes), Frozen)
+    ∷ (nat_le (slice_index world.transport.openings queue.0) (active_count queue.0 world.transport.live), NoOpening)
+    ∷ (is_none (next_waiting queue.0 world.transport.live), NothingWaits) ∷ []
 refusals_of setup world (Complete outcome) =
-    (is_none (ccb_of outcome.ccb.0 world.live), Unknown) ∷ (not (is_success outcome.status) && run_meets_limit world, Limit)
-    ∷ (not (works (ccb_of outcome.ccb.0 world.live)), NotActive) ∷ []
+    (is_none (ccb_of outcome.ccb.0 world.transport.live), Unknown) ∷ (not (is_success outcome.status) && run_meets_limit world, Limit)
+    ∷ (not (works (ccb_of outcome.ccb.0 world.transport.live)), NotActive) ∷ []
 refusals_of setup world (GuestFreeze place guest) =
-    (is_unknown setup place, Unknown) ∷ (meets_limit place world.freezes world.greatest_freeze, Limit) ∷ []
+    (is_unknown setup place, Unknown) ∷ (meets_limit place world.transport.freezes world.transport.greatest_freeze, Limit) ∷ []
 refusals_of setup world (GuestRelease freeze) = []
-refusals_of setup world (Clock reading) = (nat_lt last_reading reading, Limit) ∷ (nat_lt reading world.clock, GoesBack) ∷ []
+refusals_of setup world (Clock reading) = (nat_lt last_reading reading, Limit) ∷ (nat_lt reading world.transport.clock, GoesBack) ∷ []
 refusals_of setup world (Park run) = []
-refusals_of setup world (Resume run) = (not (is_parked (run_of run world.runs)), Unknown) ∷ []
+refusals_of setup world (Resume run) = (not (is_parked (run_of run world.runs.list)), Unknown) ∷ []
 
 -- the first refusal that holds, with the world as it was; and where none holds, this
 abbrev pub unless_refused : List (Bool × CallRefusal) → World → Option (Reply × World) → Option (Reply × World)

@@ -34,7 +34,7 @@ is_run number (Guest guest) = false
 
 -- the run's machine is now this one
 abbrev pub goes_on : World → LiveRun → MachineState → World
-goes_on world run machine = record world { runs = with_run (record run { machine = machine }) world.runs }
+goes_on world run machine = record world { runs = record world.runs { list = with_run (record run { machine = machine }) world.runs.list } }
 
 -- the run's call is answered
 abbrev pub answers : World → LiveRun → Request → Answer → Reply × World
@@ -46,9 +46,9 @@ answers world run request answer = (result answer.r0, goes_on world run (answere
 abbrev pub takes : World → LiveRun → Request → Reply × World
 takes world run request =
     let place = device request.arguments.first in
-    if meets_limit place world.freezes world.greatest_freeze
+    if meets_limit place world.transport.freezes world.transport.greatest_freeze
     then answers world run request (answer_number 0)
-    else answers (froze world place (Run run.number)) run request (answer_number (world.greatest_freeze + 1))
+    else answers (froze world place (Run run.number)) run request (answer_number (world.transport.greatest_freeze + 1))
 
 -- no event unless the run holds the freeze; it goes, and the answer is how many its place has then
 abbrev pub releases : World → LiveRun → Request → Option Freeze → Option (Reply × World)
@@ -56,14 +56,14 @@ releases world run request None = None
 releases world run request (Some freeze) =
     let after = thawed world request.arguments.first in
     if is_run run.number freeze.holder
-    then Some (answers after run request (answer_number (frozen_with freeze after.freezes)))
+    then Some (answers after run request (answer_number (frozen_with freeze after.transport.freezes)))
     else None
 
 -- no event unless the run holds the freeze; its holder is now a timer, which is due so many milliseconds after the clock
 abbrev pub hands_over : World → LiveRun → Request → Option Freeze → Option (Reply × World)
 hands_over world run request None = None
 hands_over world run request (Some freeze) =
-    let after = timed world request.arguments.first (world.clock + request.arguments.second) in
+    let after = timed world request.arguments.first (world.transport.clock + request.arguments.second) in
     if is_run run.number freeze.holder then Some (answers after run request (answer_number 0)) else None
 
 -- the run's CCB waits again with so many retries fewer
@@ -71,7 +71,7 @@ abbrev pub requeues : World → LiveRun → Request → Option LiveCcb → Optio
 requeues world run request None = None
 requeues world run request (Some live) =
     let again : LiveCcb = record { ccb = requeued live.ccb request.arguments.first; state = Waiting } in
-    Some (answers (record world { live = with_ccb again world.live }) run request (answer_number 0))
+    Some (answers (record world { transport = record world.transport { live = with_ccb again world.transport.live } }) run request (answer_number 0))
 
 -- the run's CCB is gone, with this final code
 abbrev pub finishes : World → LiveRun → Request → Option LiveCcb → Option (Reply × World)
@@ -80,13 +80,11 @@ finishes world run request (Some live) = Some (answers (ended_with world live.cc
 
 -- the word that a call names
 abbrev pub its_word : World → Request → ℕ
-its_word world request = word_at world.tables request.arguments.first request.arguments.second
+its_word world request = word_at world.runs.tables request.arguments.first request.arguments.second
 
 -- the tables with this in its place
 abbrev pub with_its_word : World → Request → ℕ → World
-with_its_word world request word = record world {
-  tables = with_word world.tables request.arguments.first request.arguments.second word;
-}
+with_its_word world request word = record world { runs = record world.runs { tables = with_word world.runs.tables request.arguments.first request.arguments.second word } }
 
 -- a word of a table is read
 abbrev pub gets : World → LiveRun → Request → Reply × World
@@ -107,8 +105,8 @@ adds world run request =
 -- the run's queue has so many openings from now on, and the answer is how many it had
 abbrev pub opens : World → LiveRun → Request → Reply × World
 opens world run request =
-    let after = record world { openings = slice_set world.openings run.queue request.arguments.first } in
-    answers after run request (answer_number (slice_index world.openings run.queue))
+    let after = record world { transport = record world.transport { openings = slice_set world.transport.openings run.queue request.arguments.first } } in
+    answers after run request (answer_number (slice_index world.transport.openings run.queue))
 
 -- what the run's queue has, as 16 bytes from the address on
 abbrev pub info_answer : World → LiveRun → ℕ → Answer
@@ -119,15 +117,15 @@ info_answer world run address =
 abbrev pub by_deed : Deed → World → LiveRun → Request → Option (Reply × World)
 by_deed deeds.Nothing world run request = Some (answers world run request (answer_number 0))
 by_deed deeds.Freeze world run request = Some (takes world run request)
-by_deed deeds.GiveBack world run request = releases world run request (entry_of request.arguments.first world.freezes)
-by_deed deeds.HandOver world run request = hands_over world run request (entry_of request.arguments.first world.freezes)
-by_deed deeds.Requeue world run request = requeues world run request (ccb_of run.ccb world.live)
-by_deed deeds.Finish world run request = finishes world run request (ccb_of run.ccb world.live)
+by_deed deeds.GiveBack world run request = releases world run request (entry_of request.arguments.first world.transport.freezes)
+by_deed deeds.HandOver world run request = hands_over world run request (entry_of request.arguments.first world.transport.freezes)
+by_deed deeds.Requeue world run request = requeues world run request (ccb_of run.ccb world.transport.live)
+by_deed deeds.Finish world run request = finishes world run request (ccb_of run.ccb world.transport.live)
 by_deed deeds.GetWord world run request = Some (gets world run request)
 by_deed deeds.PutWord world run request = Some (puts world run request)
 by_deed deeds.AddWord world run request = Some (adds world run request)
 by_deed deeds.TellQueue world run request = Some (answers world run request (info_answer world run request.arguments.first))
-by_deed deeds.TellClock world run request = Some (answers world run request (answer_number world.clock))
+by_deed deeds.TellClock world run request = Some (answers world run request (answer_number world.transport.clock))
 by_deed deeds.SetOpenings world run request = Some (opens world run request)
 
 abbrev pub step_request : World → LiveRun → Request → Option (Reply × World)
@@ -143,7 +141,7 @@ step_helper limits world run told request = if may_call limits run told request 
 
 -- the run is gone
 abbrev pub ends : World → LiveRun → World
-ends world run = record world { runs = filter (λ other. not (other.number == run.number)) world.runs }
+ends world run = record world { runs = record world.runs { list = filter (λ other. not (other.number == run.number)) world.runs.list } }
 
 -- no event unless the machine stands at such an instruction
 abbrev pub step_run : HelperLimits → World → LiveRun → Instruction → Option (Reply × World)

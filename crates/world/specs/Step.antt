@@ -16,13 +16,13 @@ use Rattle.world.specs.Refusals.{refusals_of, unless_refused}
 -- what a call does that is not refused, or `None` where it is no event in this world
 abbrev pub performs : Setup → World → Call → Option (Reply × World)
 performs setup world (Submit queue priority retries) = Some (submits world queue priority retries)
-performs setup world (Dispatch queue) = option_map (starts world) (next_waiting queue.0 world.live)
-performs setup world (Complete outcome) = option_map (completes setup world outcome) (ccb_of outcome.ccb.0 world.live)
+performs setup world (Dispatch queue) = option_map (starts world) (next_waiting queue.0 world.transport.live)
+performs setup world (Complete outcome) = option_map (completes setup world outcome) (ccb_of outcome.ccb.0 world.transport.live)
 performs setup world (GuestFreeze place guest) = Some (guest_freezes world place guest)
-performs setup world (GuestRelease freeze) = guest_releases world (entry_of freeze world.freezes)
+performs setup world (GuestRelease freeze) = guest_releases world (entry_of freeze world.transport.freezes)
 performs setup world (Clock reading) = Some (reads_clock world reading)
-performs setup world (Park run) = parks world (run_of run world.runs)
-performs setup world (Resume run) = option_map (resumes world) (run_of run world.runs)
+performs setup world (Park run) = parks world (run_of run world.runs.list)
+performs setup world (Resume run) = option_map (resumes world) (run_of run world.runs.list)
 
 -- it can be asked: of a completion, that a device can report it
 abbrev pub is_call : Call → Bool
@@ -37,7 +37,7 @@ step_call setup world call =
 -- what an event is answered and leads to, or `None` where it is no event in this world
 abbrev pub step : Setup → World → Event → Option (Reply × World)
 step setup world (called call) = step_call setup world call
-step setup world (executes run instruction) = step_executes setup.limits world instruction (run_of run world.runs)
+step setup world (executes run instruction) = step_executes setup.limits world instruction (run_of run world.runs.list)
 
 -- the event with this reply leads from one world to the other
 abbrev pub WorldStep : Setup → World → Event → Reply → World → Type 0

@@ -57,7 +57,7 @@ given_up (Some exit) request = []
 
 -- the freeze that an event takes from this run
 abbrev pub given_by : ℕ → World → Event → List ℕ
-given_by run world event = given_up (instruction_of run event) (request_of_run (run_of run world.runs))
+given_by run world event = given_up (instruction_of run event) (request_of_run (run_of run world.runs.list))
 
 -- all that a run got, in order
 abbrev pub took : ℕ → List (Event × Reply) → List ℕ

@@ -11,9 +11,9 @@ use Rattle.world.specs.Flat.{flat}
 abbrev pub totals_in : List Record → World → Totals
 totals_in records world = record {
   history = length records;
-  frozen = length world.freezes;
-  active = count_by (λ live. is_active live.state) world.live;
-  runs = length world.runs;
+  frozen = length world.transport.freezes;
+  active = count_by (λ live. is_active live.state) world.transport.live;
+  runs = length world.runs.list;
 }
 
 abbrev pub TotalsOf : Setup → List Record → Totals → Type 0

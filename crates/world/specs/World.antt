@@ -53,37 +53,46 @@ pub record LiveRun : Type 0 where
   pub machine : MachineState
   pub out : Bool
 
-pub record World : Type 0 where
+-- what CAM keeps: the CCBs and queues, the freezes, and the clock
+pub record Transport : Type 0 where
   -- the CCBs that are not finished, in the order of their numbers
   pub live : List LiveCcb
-  -- those that are, in the order in which they ended
-  pub ended : List EndedCcb
-  -- each a number, a queue and a holder, in the order of their numbers
-  pub freezes : List Freeze
-  -- in the order of their numbers
-  pub runs : List LiveRun
   -- of each queue, how many of its CCBs may be active at a time
   pub openings : List ℕ
-  -- the words of each table
-  pub tables : List (List ℕ)
-  -- the greatest CCB, run and freeze numbers that were given, 0 before the first
+  -- each a number, a place and a holder, in the order of their numbers
+  pub freezes : List Freeze
+  -- the greatest CCB and freeze numbers that were given, 0 before the first
   pub greatest_ccb : ℕ
-  pub greatest_run : ℕ
   pub greatest_freeze : ℕ
   -- what the clock read last, in milliseconds, 0 before the first reading
   pub clock : ℕ
 
+-- the runs of recovery programs, and what they share
+pub record Runs : Type 0 where
+  -- those that have not exited, in the order of their numbers
+  pub list : List LiveRun
+  -- the greatest run number that was given, 0 before the first
+  pub greatest : ℕ
+  -- the words of each table
+  pub tables : List (List ℕ)
+
+pub record World : Type 0 where
+  pub transport : Transport
+  pub runs : Runs
+  -- the CCBs that are finished, in the order in which they ended
+  pub ended : List EndedCcb
+
 -- the world before the first event
 abbrev pub opening : Setup → World
 opening setup = record {
-  live = [];
+  transport = record {
+    live = [];
+    openings = map (λ queue. queue.openings) setup.queues;
+    freezes = [];
+    greatest_ccb = 0;
+    greatest_freeze = 0;
+    clock = 0;
+  };
+  runs = record { list = []; greatest = 0; tables = map zero_table setup.limits.table_lengths };
   ended = [];
-  freezes = [];
-  runs = [];
-  openings = map (λ queue. queue.openings) setup.queues;
-  tables = map zero_table setup.limits.table_lengths;
-  greatest_ccb = 0;
-  greatest_run = 0;
-  greatest_freeze = 0;
-  clock = 0;
 }

@@ -103,7 +103,7 @@ accounts_leave live ended greatest number code old found accounts =
     }
 
 abbrev Accounts : World → Type 0
-Accounts world = AreAccounted world.live world.ended world.greatest_ccb
+Accounts world = AreAccounted world.transport.live world.ended world.transport.greatest_ccb
 
 -- where nothing is finished nothing ended
 none_more : (before after : World) (event : Event) (reply : Reply) → after.ended ≡ before.ended ++ finished_by before event reply → finished_by before event reply ≡ [] → after.ended ≡ before.ended
@@ -111,13 +111,13 @@ none_more before after event reply ended none = ended ∙ (ap (λ (l : List Ende
 
 move_accounts : (setup : Setup) (before : World) (event : Event) (reply : Reply) (after : World) → Accounts before → after.ended ≡ before.ended ++ finished_by before event reply → CcbMove setup before event reply after → Accounts after
 move_accounts setup before event reply after accounts ended (ccbs_stay e g unended) =
-    accounts_from before.live after.live before.ended after.ended before.greatest_ccb after.greatest_ccb e (none_more before after event reply ended unended) g accounts
+    accounts_from before.transport.live after.transport.live before.ended after.ended before.transport.greatest_ccb after.transport.greatest_ccb e (none_more before after event reply ended unended) g accounts
 move_accounts setup before event reply after accounts ended (ccb_enters queue priority retries known full e g unended) =
-    accounts_from _ after.live before.ended after.ended _ after.greatest_ccb e (none_more before after event reply ended unended) g (accounts_push before.live before.ended before.greatest_ccb _ refl accounts)
+    accounts_from _ after.transport.live before.ended after.ended _ after.transport.greatest_ccb e (none_more before after event reply ended unended) g (accounts_push before.transport.live before.ended before.transport.greatest_ccb _ refl accounts)
 move_accounts setup before event reply after accounts ended (ccb_changes old new found queue_is active may e g unended) =
-    accounts_from _ after.live before.ended after.ended before.greatest_ccb after.greatest_ccb e (none_more before after event reply ended unended) g (accounts_put before.live before.ended before.greatest_ccb old new found accounts)
+    accounts_from _ after.transport.live before.ended after.ended before.transport.greatest_ccb after.transport.greatest_ccb e (none_more before after event reply ended unended) g (accounts_put before.transport.live before.ended before.transport.greatest_ccb old new found accounts)
 move_accounts setup before event reply after accounts ended (ccb_leaves number code old found may e g one) =
-    accounts_from _ after.live _ after.ended before.greatest_ccb after.greatest_ccb e (ended ∙ ap (λ (l : List EndedCcb). before.ended ++ l) one) g (accounts_leave before.live before.ended before.greatest_ccb number code old found accounts)
+    accounts_from _ after.transport.live _ after.ended before.transport.greatest_ccb after.transport.greatest_ccb e (ended ∙ ap (λ (l : List EndedCcb). before.ended ++ l) one) g (accounts_leave before.transport.live before.ended before.transport.greatest_ccb number code old found accounts)
 
 leads_accounts : (setup : Setup) (before : World) (xs : List (Event × Reply)) (after : World) → KeepsLists setup before → (run : Leads setup before xs after) → Accounts before → Accounts after × (after.ended ≡ before.ended ++ finished_in setup before xs after run)
 leads_accounts setup before [] after kept run accounts = (subst Accounts run accounts, sym (ap (λ (w : World). w.ended) run) ∙ sym (append-nil before.ended))

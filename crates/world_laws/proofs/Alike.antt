@@ -12,14 +12,14 @@ use Rattle.world_laws.proofs.Apart.{put_swap}
 
 -- the world with this run in the place of the one that has its number
 abbrev pub changed : LiveRun → World → World
-changed c world = record world { runs = with_run c world.runs }
+changed c world = record world { runs = record world.runs { list = with_run c world.runs.list } }
 
 module _ (r : ℕ) (c : LiveRun) (named : c.number ≡ r) (w : World) where
   -- What a step from this world leads to, and what one from the changed world does: the same reply, and, where the run does
   -- not start, the same world but for the change; and the step leaves the run.
   pub record Alike (x y : Reply × World) : Type 0 where
     pub reply_is : x.0 ≡ y.0
-    pub world_is : is_start_of r x.0 ≡ false → (y.1 ≡ changed c x.1) × (run_of r x.1.runs ≡ run_of r w.runs)
+    pub world_is : is_start_of r x.0 ≡ false → (y.1 ≡ changed c x.1) × (run_of r x.1.runs.list ≡ run_of r w.runs.list)
 
   -- or both are no event
   abbrev pub Both : Option (Reply × World) → Option (Reply × World) → Type 0
@@ -50,15 +50,15 @@ module _ (r : ℕ) (c : LiveRun) (named : c.number ≡ r) (w : World) where
   if_so false x x' it = neither
 
   -- the runs are as they were
-  pub stays : (reply : Reply) (after : World) → after.runs ≡ w.runs → Alike (reply, after) (reply, changed c after)
+  pub stays : (reply : Reply) (after : World) → after.runs.list ≡ w.runs.list → Alike (reply, after) (reply, changed c after)
   stays reply after e = record { reply_is = refl; world_is = λ other. (refl, ap (run_of r) e) }
 
   -- another run is changed
-  pub changes : (reply : Reply) (between : World) (d : LiveRun) → between.runs ≡ w.runs → (d.number ≡ r → ⊥) → Alike (reply, changed d between) (reply, changed d (changed c between))
+  pub changes : (reply : Reply) (between : World) (d : LiveRun) → between.runs.list ≡ w.runs.list → (d.number ≡ r → ⊥) → Alike (reply, changed d between) (reply, changed d (changed c between))
   changes reply between d e apart = record {
     reply_is = refl;
     world_is = λ other. (
-      ap (λ (runs : List LiveRun). record between { runs = runs }) (put_swap run_key d c between.runs (λ same. apart (same ∙ named))),
-      put_other run_key d r between.runs apart ∙ ap (run_of r) e,
+      ap (λ (runs : List LiveRun). record between { runs = record between.runs { list = runs } }) (put_swap run_key d c between.runs.list (λ same. apart (same ∙ named))),
+      put_other run_key d r between.runs.list apart ∙ ap (run_of r) e,
     );
   }

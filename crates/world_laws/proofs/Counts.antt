@@ -20,7 +20,7 @@ use Rattle.world.proofs.Steps.Moves.{KeepsLists}
 use Rattle.world_laws.proofs.Leads.{lists_are_kept}
 
 -- the count after the freeze of this number went
-goes : (setup : Setup) (before after : World) (number : ℕ) (freeze : Freeze) → KeepsLists setup before → entry_of number before.freezes ≡ Some freeze → after.freezes ≡ without number before.freezes → OneFewer before number (frozen_with freeze (without number before.freezes)) after
+goes : (setup : Setup) (before after : World) (number : ℕ) (freeze : Freeze) → KeepsLists setup before → entry_of number before.transport.freezes ≡ Some freeze → after.transport.freezes ≡ without number before.transport.freezes → OneFewer before number (frozen_with freeze (without number before.transport.freezes)) after
 goes setup before after number freeze kept entry e =
     record {
       freeze = freeze;
@@ -28,20 +28,20 @@ goes setup before after number freeze kept entry e =
       count_is = sym (ap (frozen_with freeze) e);
       fewer = λ other.
           ap (λ (fs : List Freeze). frozen other fs + cond {A = ℕ} (is_place freeze.place other) 1 0) e
-          ∙ frozen_without other 0 before.freezes before.greatest_freeze number freeze kept.freezes.numbered entry;
+          ∙ frozen_without other 0 before.transport.freezes before.transport.greatest_freeze number freeze kept.freezes.numbered entry;
     }
 
 -- what a call of a helper does, by the freeze that it takes, gives back or hands over
-call_moves : (setup : Setup) (before after : World) (number : ℕ) (run : LiveRun) (request : Request) (given : Answer) (between : World) → KeepsLists setup before → Calls before number request → after.freezes ≡ between.freezes → FreezeDeed setup before run request given between → MovesCounts before (executes number (call (told_of request))) (result given.r0) after
+call_moves : (setup : Setup) (before after : World) (number : ℕ) (run : LiveRun) (request : Request) (given : Answer) (between : World) → KeepsLists setup before → Calls before number request → after.transport.freezes ≡ between.transport.freezes → FreezeDeed setup before run request given between → MovesCounts before (executes number (call (told_of request))) (result given.r0) after
 call_moves setup before after number run request given between kept calls same (leaves_freezes deed) = deed.moves number after calls (same ∙ deed.freezes_is)
 call_moves setup before after number run request given between kept calls same (takes_one deed) =
-    let above : eqb (before.greatest_freeze + 1) 0 ≡ false = ne_eqb _ _ (λ e. omega (arith, e)) in
+    let above : eqb (before.transport.greatest_freeze + 1) 0 ≡ false = ne_eqb _ _ (λ e. omega (arith, e)) in
     moves_by deeds.Freeze request deed.deed_is before number (result given.r0) after (rw deed.given_is (record {
       queue = request.arguments.first;
-      freeze = before.greatest_freeze + 1;
+      freeze = before.transport.greatest_freeze + 1;
       asks = record { request = request; calls = calls; deed_is = deed.deed_is; number_is = refl };
       reply_is = refl;
-      more = rw above (λ other. ap (frozen other) (same ∙ deed.freezes_is) ∙ frozen_push other before.freezes _);
+      more = rw above (λ other. ap (frozen other) (same ∙ deed.freezes_is) ∙ frozen_push other before.transport.freezes _);
     }))
 call_moves setup before after number run request given between kept calls same (gives_one_back deed) =
     moves_by deeds.GiveBack request deed.deed_is before number (result given.r0) after (rw deed.given_is (record {
@@ -53,40 +53,40 @@ call_moves setup before after number run request given between kept calls same (
     }))
 call_moves setup before after number run request given between kept calls same (hands_one_over deed) =
     moves_by deeds.HandOver request deed.deed_is before number (result given.r0) after
-    (λ other. ap (frozen other) (same ∙ deed.freezes_is) ∙ frozen_handed_over other request.arguments.first (before.clock + request.arguments.second) before.freezes)
+    (λ other. ap (frozen other) (same ∙ deed.freezes_is) ∙ frozen_handed_over other request.arguments.first (before.transport.clock + request.arguments.second) before.transport.freezes)
 
 pub case_moves : (setup : Setup) (before : World) (event : Event) (reply : Reply) (after : World) → KeepsLists setup before → Case setup before event reply after → MovesCounts before event reply after
 case_moves setup before event reply after kept (refuses it) = rw (it.reply_is, it.after_is) it.moves
-case_moves setup before event reply after kept (submits it) = rw it.event_is (ap (λ (w : World). w.freezes) it.after_is)
-case_moves setup before event reply after kept (dispatches it) = rw it.event_is (ap (λ (w : World). w.freezes) it.after_is)
-case_moves setup before event reply after kept (finishes_one it) = rw (it.event_is, it.reply_is) (ap (λ (w : World). w.freezes) it.after_is)
+case_moves setup before event reply after kept (submits it) = rw it.event_is (ap (λ (w : World). w.transport.freezes) it.after_is)
+case_moves setup before event reply after kept (dispatches it) = rw it.event_is (ap (λ (w : World). w.transport.freezes) it.after_is)
+case_moves setup before event reply after kept (finishes_one it) = rw (it.event_is, it.reply_is) (ap (λ (w : World). w.transport.freezes) it.after_is)
 case_moves setup before event reply after kept (recovers_one it) =
-    let reply_is : reply ≡ replies (answers.Started (before.greatest_run + 1) (before.greatest_freeze + 1)) = ap (λ (x : Reply × World). x.0) it.starts_is in
-    let is = ap (λ (x : Reply × World). x.1.freezes) it.starts_is in
-    let above : eqb (before.greatest_freeze + 1) 0 ≡ false = ne_eqb _ _ (λ e. omega (arith, e)) in
+    let reply_is : reply ≡ replies (answers.Started (before.runs.greatest + 1) (before.transport.greatest_freeze + 1)) = ap (λ (x : Reply × World). x.0) it.starts_is in
+    let is = ap (λ (x : Reply × World). x.1.transport.freezes) it.starts_is in
+    let above : eqb (before.transport.greatest_freeze + 1) 0 ≡ false = ne_eqb _ _ (λ e. omega (arith, e)) in
     rw (it.fails.event_is, reply_is) (
       it.fails.live,
       it.fails.found,
-      rw above (λ other. ap (frozen other) is ∙ frozen_push other before.freezes _),
+      rw above (λ other. ap (frozen other) is ∙ frozen_push other before.transport.freezes _),
     )
 case_moves setup before event reply after kept (recovers_unfrozen it) =
-    let reply_is : reply ≡ replies (answers.Started (before.greatest_run + 1) 0) = ap (λ (x : Reply × World). x.0) it.starts_is in
-    rw (it.fails.event_is, reply_is) (it.fails.live, it.fails.found, λ other. omega (arith, ap (λ (x : Reply × World). frozen other x.1.freezes) it.starts_is))
+    let reply_is : reply ≡ replies (answers.Started (before.runs.greatest + 1) 0) = ap (λ (x : Reply × World). x.0) it.starts_is in
+    rw (it.fails.event_is, reply_is) (it.fails.live, it.fails.found, λ other. omega (arith, ap (λ (x : Reply × World). frozen other x.1.transport.freezes) it.starts_is))
 case_moves setup before event reply after kept (freezes_one it) =
-    rw (it.event_is, it.reply_is) (λ other. ap (λ (w : World). frozen other w.freezes) it.after_is ∙ frozen_push other before.freezes _)
+    rw (it.event_is, it.reply_is) (λ other. ap (λ (w : World). frozen other w.transport.freezes) it.after_is ∙ frozen_push other before.transport.freezes _)
 case_moves setup before event reply after kept (releases_one it) =
-    rw it.event_is (_, it.reply_is, goes setup before after it.number it.freeze kept it.entry (ap (λ (w : World). w.freezes) it.after_is))
+    rw it.event_is (_, it.reply_is, goes setup before after it.number it.freeze kept it.entry (ap (λ (w : World). w.transport.freezes) it.after_is))
 case_moves setup before event reply after kept (reads_clock it) =
     rw (it.event_is, it.reply_is) (record {
       count_is = refl;
-      fewer = λ other. ap (λ (w : World). frozen other w.freezes + frozen other (due_at it.reading before.freezes)) it.after_is ∙ frozen_due other it.reading before.freezes;
+      fewer = λ other. ap (λ (w : World). frozen other w.transport.freezes + frozen other (due_at it.reading before.transport.freezes)) it.after_is ∙ frozen_due other it.reading before.transport.freezes;
     })
-case_moves setup before event reply after kept (turns_one it) = rw it.reply_is (it.moves after (ap (λ (w : World). w.freezes) it.after_is))
-case_moves setup before event reply after kept (goes_on_one it) = rw it.it.event_is (ap (λ (w : World). w.freezes) it.after_is)
+case_moves setup before event reply after kept (turns_one it) = rw it.reply_is (it.moves after (ap (λ (w : World). w.transport.freezes) it.after_is))
+case_moves setup before event reply after kept (goes_on_one it) = rw it.it.event_is (ap (λ (w : World). w.transport.freezes) it.after_is)
 case_moves setup before event reply after kept (asks_one it) =
     let reply_is : reply ≡ result it.given.r0 = ap (λ (x : Reply × World). x.0) it.answer in
-    rw (it.it.event_is, reply_is) (call_moves setup before after it.it.number it.it.run it.request it.given it.between kept (it.it.run, it.it.found, it.call_is) (ap (λ (x : Reply × World). x.1.freezes) it.answer) it.freezes)
-case_moves setup before event reply after kept (exits it) = rw it.it.event_is (ap (λ (w : World). w.freezes) it.after_is)
+    rw (it.it.event_is, reply_is) (call_moves setup before after it.it.number it.it.run it.request it.given it.between kept (it.it.run, it.it.found, it.call_is) (ap (λ (x : Reply × World). x.1.transport.freezes) it.answer) it.freezes)
+case_moves setup before event reply after kept (exits it) = rw it.it.event_is (ap (λ (w : World). w.transport.freezes) it.after_is)
 
 pub counts_are_entries : CountsAreEntries
 counts_are_entries setup xs before run event reply after e = case_moves setup before event reply after (lists_are_kept setup xs before run) (case_of setup before event reply after e)

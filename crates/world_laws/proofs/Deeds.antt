@@ -96,7 +96,7 @@ freeze = record {
   leads = λ limits world run request is own rule. (_, refl);
   alike = λ r c named w run apart request.
       an_event r c named w _ _
-      (one_of r c named w (meets_limit (device request.arguments.first) w.freezes w.greatest_freeze) _ _ _ _ (both_change r c named w _ w _ refl apart)
+      (one_of r c named w (meets_limit (device request.arguments.first) w.transport.freezes w.transport.greatest_freeze) _ _ _ _ (both_change r c named w _ w _ refl apart)
       (both_change r c named w _ (froze w (device request.arguments.first) (Run run.number)) _ refl apart));
   does = does;
 }
@@ -106,7 +106,7 @@ freeze = record {
         let columns = suits deeds.Freeze request is in
         let place : Place = device request.arguments.first in
         let no_code = named_alone request columns.tells_is in
-        elim (cases_Bool (meets_limit place before.freezes before.greatest_freeze)) [
+        elim (cases_Bool (meets_limit place before.transport.freezes before.transport.greatest_freeze)) [
           | inl full ↦
               calmly setup before run request (answer_number 0) before
               (staying setup before run request (answer_number 0) before deeds.Freeze NewFreeze changes.Holds (record {
@@ -128,11 +128,11 @@ freeze = record {
               }) refl refl)
               (calm before run request (answer_number 0) before changes.Holds columns.machine_is no_code refl refl refl refl refl)
               (nothing_set before before refl refl refl refl refl) p
-              (sym (ap Some (cond-true (meets_limit place before.freezes before.greatest_freeze) _ _ full)) ∙ e)
+              (sym (ap Some (cond-true (meets_limit place before.transport.freezes before.transport.greatest_freeze) _ _ full)) ∙ e)
           | inr room ↦ record {
-            given = answer_number (before.greatest_freeze + 1);
+            given = answer_number (before.transport.greatest_freeze + 1);
             between = froze before place (Run run.number);
-            answer = some_is _ _ e ∙ cond-false (meets_limit place before.freezes before.greatest_freeze) _ _ room;
+            answer = some_is _ _ e ∙ cond-false (meets_limit place before.transport.freezes before.transport.greatest_freeze) _ _ room;
             freezes = takes_one (record {
               deed_is = is;
               machine_is = columns.machine_is;
@@ -149,7 +149,7 @@ freeze = record {
         ]
 
 -- the freeze that a call names is held, and there, and the run's own
-its_freeze : (limits : HelperLimits) (world : World) (run : LiveRun) (request : Request) → (row_of request.helper).asks.first ≡ Some asked_for.HeldFreeze → HasItsOwn world run → meets_rule limits run.machine request ≡ true → (freeze : Freeze) × (entry_of request.arguments.first world.freezes ≡ Some freeze) × (is_run run.number freeze.holder ≡ true)
+its_freeze : (limits : HelperLimits) (world : World) (run : LiveRun) (request : Request) → (row_of request.helper).asks.first ≡ Some asked_for.HeldFreeze → HasItsOwn world run → meets_rule limits run.machine request ≡ true → (freeze : Freeze) × (entry_of request.arguments.first world.transport.freezes ≡ Some freeze) × (is_run run.number freeze.holder ≡ true)
 its_freeze limits world run request first own rule =
     own.freezes request.arguments.first (first_as limits run.machine request (Some asked_for.HeldFreeze) first rule)
 
@@ -158,21 +158,21 @@ give_back = record {
   leads = λ limits world run request is own rule.
       let its = its_freeze limits world run request (suits deeds.GiveBack request is).first_is own rule in
       (_, ap (releases world run request) its.1 ∙ cond-true (is_run run.number its.0.holder) _ None its.2);
-  alike = λ r c named w run apart request. alike r c named w run apart request (entry_of request.arguments.first w.freezes);
-  does = λ setup before run request is rule p. does setup before run request is p (entry_of request.arguments.first before.freezes) refl;
+  alike = λ r c named w run apart request. alike r c named w run apart request (entry_of request.arguments.first w.transport.freezes);
+  does = λ setup before run request is rule p. does setup before run request is p (entry_of request.arguments.first before.transport.freezes) refl;
 }
   where
     alike : (r : ℕ) (c : LiveRun) (named : c.number ≡ r) (w : World) (run : LiveRun) → (run.number ≡ r → ⊥) → (request : Request) (o : Option Freeze) → AlikeOr r c named w (releases w run request o) (releases (changed c w) run request o)
     alike r c named w run apart request None = neither r c named w
     alike r c named w run apart request (Some freeze) = if_so r c named w _ _ _ (an_event r c named w _ _ (both_change r c named w _ (thawed w request.arguments.first) _ refl apart))
 
-    does : (setup : Setup) (before : World) (run : LiveRun) (request : Request) → (row_of request.helper).deed ≡ deeds.GiveBack → (p : Reply × World) (o : Option Freeze) → entry_of request.arguments.first before.freezes ≡ o → releases before run request o ≡ Some p → Does setup before run request p
+    does : (setup : Setup) (before : World) (run : LiveRun) (request : Request) → (row_of request.helper).deed ≡ deeds.GiveBack → (p : Reply × World) (o : Option Freeze) → entry_of request.arguments.first before.transport.freezes ≡ o → releases before run request o ≡ Some p → Does setup before run request p
     does setup before run request is p None entry e = absurd cc
     does setup before run request is p (Some f) entry e =
         let columns = suits deeds.GiveBack request is in
         elim (cases_Bool (is_run run.number f.holder)) [
           | inl its ↦ record {
-            given = answer_number (frozen_with f (without request.arguments.first before.freezes));
+            given = answer_number (frozen_with f (without request.arguments.first before.transport.freezes));
             between = thawed before request.arguments.first;
             answer = some_is _ _ (sym (cond-true (is_run run.number f.holder) _ _ its) ∙ e);
             freezes = gives_one_back (record { deed_is = is; machine_is = columns.machine_is; gives_is = columns.gives_is; freeze = f; entry = entry; its = its; given_is = refl; freezes_is = refl; greatest_is = refl });
@@ -187,23 +187,23 @@ hand_over = record {
   leads = λ limits world run request is own rule.
       let its = its_freeze limits world run request (suits deeds.HandOver request is).first_is own rule in
       (_, ap (hands_over world run request) its.1 ∙ cond-true (is_run run.number its.0.holder) _ None its.2);
-  alike = λ r c named w run apart request. alike r c named w run apart request (entry_of request.arguments.first w.freezes);
-  does = λ setup before run request is rule p. does setup before run request is p (entry_of request.arguments.first before.freezes) refl;
+  alike = λ r c named w run apart request. alike r c named w run apart request (entry_of request.arguments.first w.transport.freezes);
+  does = λ setup before run request is rule p. does setup before run request is p (entry_of request.arguments.first before.transport.freezes) refl;
 }
   where
     alike : (r : ℕ) (c : LiveRun) (named : c.number ≡ r) (w : World) (run : LiveRun) → (run.number ≡ r → ⊥) → (request : Request) (o : Option Freeze) → AlikeOr r c named w (hands_over w run request o) (hands_over (changed c w) run request o)
     alike r c named w run apart request None = neither r c named w
     alike r c named w run apart request (Some freeze) =
-        if_so r c named w _ _ _ (an_event r c named w _ _ (both_change r c named w _ (timed w request.arguments.first (w.clock + request.arguments.second)) _ refl apart))
+        if_so r c named w _ _ _ (an_event r c named w _ _ (both_change r c named w _ (timed w request.arguments.first (w.transport.clock + request.arguments.second)) _ refl apart))
 
-    does : (setup : Setup) (before : World) (run : LiveRun) (request : Request) → (row_of request.helper).deed ≡ deeds.HandOver → (p : Reply × World) (o : Option Freeze) → entry_of request.arguments.first before.freezes ≡ o → hands_over before run request o ≡ Some p → Does setup before run request p
+    does : (setup : Setup) (before : World) (run : LiveRun) (request : Request) → (row_of request.helper).deed ≡ deeds.HandOver → (p : Reply × World) (o : Option Freeze) → entry_of request.arguments.first before.transport.freezes ≡ o → hands_over before run request o ≡ Some p → Does setup before run request p
     does setup before run request is p None entry e = absurd cc
     does setup before run request is p (Some f) entry e =
         let columns = suits deeds.HandOver request is in
         elim (cases_Bool (is_run run.number f.holder)) [
           | inl its ↦ record {
             given = answer_number 0;
-            between = timed before request.arguments.first (before.clock + request.arguments.second);
+            between = timed before request.arguments.first (before.transport.clock + request.arguments.second);
             answer = some_is _ _ (sym (cond-true (is_run run.number f.holder) _ _ its) ∙ e);
             freezes = hands_one_over (record { deed_is = is; machine_is = columns.machine_is; gives_is = columns.gives_is; freeze = f; entry = entry; its = its; given_is = refl; freezes_is = refl; greatest_is = refl });
             ccbs = leaves_ccbs (calm before run request _ _ changes.GivesUp columns.machine_is (named_alone request columns.tells_is) refl refl refl refl refl);
@@ -213,25 +213,25 @@ hand_over = record {
         ]
 
 -- the run's CCB is there
-its_ccb : (limits : HelperLimits) (world : World) (run : LiveRun) (request : Request) → (row_of request.helper).needs ≡ needs.Undisposed → HasItsOwn world run → meets_rule limits run.machine request ≡ true → (live : LiveCcb) × (ccb_of run.ccb world.live ≡ Some live)
+its_ccb : (limits : HelperLimits) (world : World) (run : LiveRun) (request : Request) → (row_of request.helper).needs ≡ needs.Undisposed → HasItsOwn world run → meets_rule limits run.machine request ≡ true → (live : LiveCcb) × (ccb_of run.ccb world.transport.live ≡ Some live)
 its_ccb limits world run request need own rule = own.ccb (fresh_by limits run.machine request need rule)
 
 requeue : Entry deeds.Requeue
 requeue = record {
   leads = λ limits world run request is own rule. (_, ap (requeues world run request) (its_ccb limits world run request (suits deeds.Requeue request is).needs_is own rule).1);
-  alike = λ r c named w run apart request. alike r c named w run apart request (ccb_of run.ccb w.live);
-  does = λ setup before run request is rule p. does setup before run request is rule p (ccb_of run.ccb before.live) refl;
+  alike = λ r c named w run apart request. alike r c named w run apart request (ccb_of run.ccb w.transport.live);
+  does = λ setup before run request is rule p. does setup before run request is rule p (ccb_of run.ccb before.transport.live) refl;
 }
   where
     alike : (r : ℕ) (c : LiveRun) (named : c.number ≡ r) (w : World) (run : LiveRun) → (run.number ≡ r → ⊥) → (request : Request) (o : Option LiveCcb) → AlikeOr r c named w (requeues w run request o) (requeues (changed c w) run request o)
     alike r c named w run apart request None = neither r c named w
-    alike r c named w run apart request (Some live) = an_event r c named w _ _ (both_change r c named w _ (record w { live = _ }) _ refl apart)
+    alike r c named w run apart request (Some live) = an_event r c named w _ _ (both_change r c named w _ (record w { transport = record w.transport { live = _ } }) _ refl apart)
 
-    does : (setup : Setup) (before : World) (run : LiveRun) (request : Request) → (row_of request.helper).deed ≡ deeds.Requeue → meets_rule setup.limits run.machine request ≡ true → (p : Reply × World) (o : Option LiveCcb) → ccb_of run.ccb before.live ≡ o → requeues before run request o ≡ Some p → Does setup before run request p
+    does : (setup : Setup) (before : World) (run : LiveRun) (request : Request) → (row_of request.helper).deed ≡ deeds.Requeue → meets_rule setup.limits run.machine request ≡ true → (p : Reply × World) (o : Option LiveCcb) → ccb_of run.ccb before.transport.live ≡ o → requeues before run request o ≡ Some p → Does setup before run request p
     does setup before run request is rule p None found e = absurd cc
     does setup before run request is rule p (Some live) found e =
         let columns = suits deeds.Requeue request is in
-        let between : World = record before { live = with_ccb (record { ccb = requeued live.ccb request.arguments.first; state = Waiting }) before.live } in
+        let between : World = record before { transport = record before.transport { live = with_ccb (record { ccb = requeued live.ccb request.arguments.first; state = Waiting }) before.transport.live } } in
         record {
           given = answer_number 0;
           between = between;
@@ -262,15 +262,15 @@ requeue = record {
 finish : Entry deeds.Finish
 finish = record {
   leads = λ limits world run request is own rule. (_, ap (finishes world run request) (its_ccb limits world run request (suits deeds.Finish request is).needs_is own rule).1);
-  alike = λ r c named w run apart request. alike r c named w run apart request (ccb_of run.ccb w.live);
-  does = λ setup before run request is rule p. does setup before run request is rule p (ccb_of run.ccb before.live) refl;
+  alike = λ r c named w run apart request. alike r c named w run apart request (ccb_of run.ccb w.transport.live);
+  does = λ setup before run request is rule p. does setup before run request is rule p (ccb_of run.ccb before.transport.live) refl;
 }
   where
     alike : (r : ℕ) (c : LiveRun) (named : c.number ≡ r) (w : World) (run : LiveRun) → (run.number ≡ r → ⊥) → (request : Request) (o : Option LiveCcb) → AlikeOr r c named w (finishes w run request o) (finishes (changed c w) run request o)
     alike r c named w run apart request None = neither r c named w
     alike r c named w run apart request (Some live) = an_event r c named w _ _ (both_change r c named w _ (ended_with w live.ccb request.arguments.first) _ refl apart)
 
-    does : (setup : Setup) (before : World) (run : LiveRun) (request : Request) → (row_of request.helper).deed ≡ deeds.Finish → meets_rule setup.limits run.machine request ≡ true → (p : Reply × World) (o : Option LiveCcb) → ccb_of run.ccb before.live ≡ o → finishes before run request o ≡ Some p → Does setup before run request p
+    does : (setup : Setup) (before : World) (run : LiveRun) (request : Request) → (row_of request.helper).deed ≡ deeds.Finish → meets_rule setup.limits run.machine request ≡ true → (p : Reply × World) (o : Option LiveCcb) → ccb_of run.ccb before.transport.live ≡ o → finishes before run request o ≡ Some p → Does setup before run request p
     does setup before run request is rule p None found e = absurd cc
     does setup before run request is rule p (Some live) found e =
         let columns = suits deeds.Finish request is in
@@ -304,7 +304,7 @@ finish = record {
 
 -- a word of a table is one of 64 bits
 its_word_below : (setup : Setup) (world : World) (run : LiveRun) (request : Request) → AnswersFrom setup world run → its_word world request ≤ 18446744073709551615
-its_word_below setup world run request from = omega (arith, word_below world.tables request.arguments.first request.arguments.second from.kept.answers.words)
+its_word_below setup world run request from = omega (arith, word_below world.runs.tables request.arguments.first request.arguments.second from.kept.answers.words)
 
 pub get_word : Reads deeds.GetWord (λ world run request. its_word world request) 0 18446744073709551615
 get_word = record {
@@ -316,9 +316,9 @@ get_word = record {
 }
 
 -- a call that writes the word that it names, and answers a word
-writes_word : (setup : Setup) (before : World) (run : LiveRun) (request : Request) (word given : ℕ) (deed : Deed) → (row_of request.helper).deed ≡ deed → NamesWord (Some asked_for.Word) (row_of request.helper) → ((number : ℕ) (after : World) → after.freezes ≡ before.freezes → MovesByDeed deed before number (result given) after) → word < 2 ^ 64 → (AnswersFrom setup before run → given ≤ 18446744073709551615) → (p : Reply × World) → Some (answers (with_its_word before request word) run request (answer_number given)) ≡ Some p → Does setup before run request p
+writes_word : (setup : Setup) (before : World) (run : LiveRun) (request : Request) (word given : ℕ) (deed : Deed) → (row_of request.helper).deed ≡ deed → NamesWord (Some asked_for.Word) (row_of request.helper) → ((number : ℕ) (after : World) → after.transport.freezes ≡ before.transport.freezes → MovesByDeed deed before number (result given) after) → word < 2 ^ 64 → (AnswersFrom setup before run → given ≤ 18446744073709551615) → (p : Reply × World) → Some (answers (with_its_word before request word) run request (answer_number given)) ≡ Some p → Does setup before run request p
 writes_word setup before run request word given deed is columns moves below most =
-    plain_row setup before run request (answer_number given) before.openings (with_its_word before request word).tables deed _ _ _ 0 18446744073709551615 changes.Nothing is columns tt moves
+    plain_row setup before run request (answer_number given) before.transport.openings (with_its_word before request word).runs.tables deed _ _ _ 0 18446744073709551615 changes.Nothing is columns tt moves
     (λ from. (omega arith, most from)) tt (openings_stay refl) (word_changes request.arguments.first request.arguments.second word below refl)
 
 put_word : Entry deeds.PutWord
@@ -344,11 +344,11 @@ tell_queue = record {
   leads = λ limits world run request is own rule. (_, refl);
   alike = λ r c named w run apart request. an_event r c named w _ _ (both_change r c named w _ w _ refl apart);
   does = λ setup before run request is rule.
-      plain_row setup before run request (info_answer before run request.arguments.first) before.openings before.tables deeds.TellQueue _ _ _ 0 0 (changes.Writes 16) is (suits deeds.TellQueue request is) tt (λ number after same. same)
+      plain_row setup before run request (info_answer before run request.arguments.first) before.transport.openings before.runs.tables deeds.TellQueue _ _ _ 0 0 (changes.Writes 16) is (suits deeds.TellQueue request is) tt (λ number after same. same)
       (λ from. (omega arith, omega arith)) (info_wrote request.arguments.first (queue_info before run.queue)) (openings_stay refl) (tables_stay refl);
 }
 
-pub tell_clock : Reads deeds.TellClock (λ world run request. world.clock) 0 4611686018427387904
+pub tell_clock : Reads deeds.TellClock (λ world run request. world.transport.clock) 0 4611686018427387904
 tell_clock = record {
   columns = suits deeds.TellClock;
   step = λ world run request. refl;
@@ -364,10 +364,10 @@ openings_to_set limits m request is rule = first_within limits m request 1 255 (
 set_openings : Entry deeds.SetOpenings
 set_openings = record {
   leads = λ limits world run request is own rule. (_, refl);
-  alike = λ r c named w run apart request. an_event r c named w _ _ (both_change r c named w _ (record w { openings = _ }) _ refl apart);
+  alike = λ r c named w run apart request. an_event r c named w _ _ (both_change r c named w _ (record w { transport = record w.transport { openings = _ } }) _ refl apart);
   does = λ setup before run request is rule.
       let within = openings_to_set setup.limits run.machine request is rule in
-      plain_row setup before run request (answer_number (slice_index before.openings run.queue)) (slice_set before.openings run.queue request.arguments.first) before.tables deeds.SetOpenings _ _ _ 1 255 changes.Nothing is (suits deeds.SetOpenings request is) tt (λ number after same. same)
+      plain_row setup before run request (answer_number (slice_index before.transport.openings run.queue)) (slice_set before.transport.openings run.queue request.arguments.first) before.runs.tables deeds.SetOpenings _ _ _ 1 255 changes.Nothing is (suits deeds.SetOpenings request is) tt (λ number after same. same)
       (λ from. openings_within setup before run.queue from.kept.answers from.queue) tt (openings_change run.queue request.arguments.first within.0 within.1 refl) (tables_stay refl);
 }
 
@@ -400,5 +400,5 @@ pub does_all : (setup : Setup) (before : World) (run : LiveRun) (request : Reque
 does_all setup before run request rule p e = (entry_for (row_of request.helper).deed).does setup before run request refl rule p e
 
 -- a word that a call names is there
-pub word_named : (setup : Setup) (world : World) (m : MachineState) (request : Request) (third : Option Asked) → AnswerLimits setup world → NamesWord third (row_of request.helper) → meets_rule setup.limits m request ≡ true → HasWord world.tables request.arguments.first request.arguments.second
+pub word_named : (setup : Setup) (world : World) (m : MachineState) (request : Request) (third : Option Asked) → AnswerLimits setup world → NamesWord third (row_of request.helper) → meets_rule setup.limits m request ≡ true → HasWord world.runs.tables request.arguments.first request.arguments.second
 word_named setup world m request third kept columns rule = word_there setup world m request kept columns.first_is columns.second_is rule

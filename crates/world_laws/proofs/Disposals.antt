@@ -26,13 +26,13 @@ use Rattle.world_laws.proofs.Recovering.{Recovering}
 abbrev again : LiveCcb → ℕ → LiveCcb
 again was used = record { ccb = requeued was.ccb used; state = Waiting }
 
-requeued_now : (ccb used : ℕ) (was : LiveCcb) (before after : World) → ccb_of ccb before.live ≡ Some was → after.live ≡ with_ccb (again was used) before.live → after.ended ≡ before.ended → IsRequeued ccb used was before after
+requeued_now : (ccb used : ℕ) (was : LiveCcb) (before after : World) → ccb_of ccb before.transport.live ≡ Some was → after.transport.live ≡ with_ccb (again was used) before.transport.live → after.ended ≡ before.ended → IsRequeued ccb used was before after
 requeued_now ccb used was before after found live_is ended_is =
-    let named : was.ccb.number.0 ≡ ccb = found_key ccb_key ccb before.live was found in
-    let there : ccb_of was.ccb.number.0 after.live ≡ Some (again was used) = ap (ccb_of was.ccb.number.0) live_is ∙ put_same ccb_key (again was used) before.live was (ccb_found ccb before.live was found) in
+    let named : was.ccb.number.0 ≡ ccb = found_key ccb_key ccb before.transport.live was found in
+    let there : ccb_of was.ccb.number.0 after.transport.live ≡ Some (again was used) = ap (ccb_of was.ccb.number.0) live_is ∙ put_same ccb_key (again was used) before.transport.live was (ccb_found ccb before.transport.live was found) in
     record {
       now = again was used;
-      found = subst (λ (n : ℕ). ccb_of n after.live ≡ Some (again was used)) named there;
+      found = subst (λ (n : ℕ). ccb_of n after.transport.live ≡ Some (again was used)) named there;
       state = refl;
       queue = refl;
       priority = refl;
@@ -45,28 +45,28 @@ requeued_now ccb used was before after found live_is ended_is =
       ended = ended_is;
     }
 
-requeued_alone : (ccb used : ℕ) (was : LiveCcb) (before after : World) → ccb_of ccb before.live ≡ Some was → after.live ≡ with_ccb (again was used) before.live → (other : ℕ) → (other ≡ ccb → ⊥) → ccb_of other after.live ≡ ccb_of other before.live
+requeued_alone : (ccb used : ℕ) (was : LiveCcb) (before after : World) → ccb_of ccb before.transport.live ≡ Some was → after.transport.live ≡ with_ccb (again was used) before.transport.live → (other : ℕ) → (other ≡ ccb → ⊥) → ccb_of other after.transport.live ≡ ccb_of other before.transport.live
 requeued_alone ccb used was before after found live_is other apart =
-    let named : was.ccb.number.0 ≡ ccb = found_key ccb_key ccb before.live was found in
-    ap (ccb_of other) live_is ∙ put_other ccb_key (again was used) other before.live (λ same. apart (sym same ∙ named))
+    let named : was.ccb.number.0 ≡ ccb = found_key ccb_key ccb before.transport.live was found in
+    ap (ccb_of other) live_is ∙ put_other ccb_key (again was used) other before.transport.live (λ same. apart (sym same ∙ named))
 
 -- A CCB that is finished.
 
-finished_now : (ccb code : ℕ) (was : LiveCcb) (before after : World) → ccb_of ccb before.live ≡ Some was → after.live ≡ (ended_with before was.ccb code).live → after.ended ≡ (ended_with before was.ccb code).ended → IsFinished ccb code before after
+finished_now : (ccb code : ℕ) (was : LiveCcb) (before after : World) → ccb_of ccb before.transport.live ≡ Some was → after.transport.live ≡ (ended_with before was.ccb code).transport.live → after.ended ≡ (ended_with before was.ccb code).ended → IsFinished ccb code before after
 finished_now ccb code was before after found live_is ended_is =
-    let named : was.ccb.number.0 ≡ ccb = found_key ccb_key ccb before.live was found in
+    let named : was.ccb.number.0 ≡ ccb = found_key ccb_key ccb before.transport.live was found in
     record {
-      gone = subst (λ (n : ℕ). ccb_of n after.live ≡ None) named (ap (ccb_of was.ccb.number.0) live_is ∙ leave_same ccb_key was.ccb.number.0 before.live);
+      gone = subst (λ (n : ℕ). ccb_of n after.transport.live ≡ None) named (ap (ccb_of was.ccb.number.0) live_is ∙ leave_same ccb_key was.ccb.number.0 before.transport.live);
       ended = subst (λ (n : ℕ). after.ended ≡ before.ended ++ record { number = n; code = code } ∷ []) named ended_is;
     }
 
-finished_alone : (ccb code : ℕ) (was : LiveCcb) (before after : World) → ccb_of ccb before.live ≡ Some was → after.live ≡ (ended_with before was.ccb code).live → (other : ℕ) → (other ≡ ccb → ⊥) → ccb_of other after.live ≡ ccb_of other before.live
+finished_alone : (ccb code : ℕ) (was : LiveCcb) (before after : World) → ccb_of ccb before.transport.live ≡ Some was → after.transport.live ≡ (ended_with before was.ccb code).transport.live → (other : ℕ) → (other ≡ ccb → ⊥) → ccb_of other after.transport.live ≡ ccb_of other before.transport.live
 finished_alone ccb code was before after found live_is other apart =
-    let named : was.ccb.number.0 ≡ ccb = found_key ccb_key ccb before.live was found in
-    ap (ccb_of other) live_is ∙ leave_other ccb_key was.ccb.number.0 other before.live (λ same. apart (sym same ∙ named))
+    let named : was.ccb.number.0 ≡ ccb = found_key ccb_key ccb before.transport.live was found in
+    ap (ccb_of other) live_is ∙ leave_other ccb_key was.ccb.number.0 other before.transport.live (λ same. apart (sym same ∙ named))
 
 -- the CCB of a run that has not disposed of it is in recovery by this run alone
-pub in_recovery_by : (number : ℕ) (run : LiveRun) (before : World) → Recovering before → run_of number before.runs ≡ Some run → run.machine.disposed ≡ false → InRecoveryBy number run.ccb before
+pub in_recovery_by : (number : ℕ) (run : LiveRun) (before : World) → Recovering before → run_of number before.runs.list ≡ Some run → run.machine.disposed ≡ false → InRecoveryBy number run.ccb before
 in_recovery_by number run before recovering found fresh =
     let recovery = recovering.ccbs number run found fresh in
     record {
@@ -80,7 +80,7 @@ in_recovery_by number run before recovering found fresh =
     }
 
 -- it is the only one of its number
-one_live : (number run_number : ℕ) (run : LiveRun) (before : World) (its : LiveCcb) (recovery : InRecoveryBy run_number number before) → ccb_of number before.live ≡ Some its → its ≡ recovery.live
+one_live : (number run_number : ℕ) (run : LiveRun) (before : World) (its : LiveCcb) (recovery : InRecoveryBy run_number number before) → ccb_of number before.transport.live ≡ Some its → its ≡ recovery.live
 one_live number run_number run before its recovery found =
     let both : Some its ≡ Some recovery.live = sym found ∙ recovery.found in cc
 
@@ -97,8 +97,8 @@ call_disposes setup before event reply after recovering it disposing (requeues_o
     let ccb : ℕ = it.it.run.ccb in
     let recovery = in_recovery_by number it.it.run before recovering it.it.found deed.its.fresh in
     let same : deed.its.live ≡ recovery.live = one_live ccb number it.it.run before deed.its.live recovery deed.its.found in
-    let live_is : after.live ≡ with_ccb (again recovery.live used) before.live =
-    ap (λ (x : Reply × World). x.1.live) it.answer ∙ (deed.live_is ∙ ap (λ (c : LiveCcb). with_ccb (again c used) before.live) same) in
+    let live_is : after.transport.live ≡ with_ccb (again recovery.live used) before.transport.live =
+    ap (λ (x : Reply × World). x.1.transport.live) it.answer ∙ (deed.live_is ∙ ap (λ (c : LiveCcb). with_ccb (again c used) before.transport.live) same) in
     let instruction_is = its_instruction before event (call (told_of it.request)) it.it in
     record {
       recovery = recovery;
@@ -118,8 +118,8 @@ call_disposes setup before event reply after recovering it disposing (ends_one d
     let ccb : ℕ = it.it.run.ccb in
     let recovery = in_recovery_by number it.it.run before recovering it.it.found deed.its.fresh in
     let same : deed.its.live ≡ recovery.live = one_live ccb number it.it.run before deed.its.live recovery deed.its.found in
-    let live_is : after.live ≡ (ended_with before recovery.live.ccb code).live =
-    ap (λ (x : Reply × World). x.1.live) it.answer ∙ (deed.live_is ∙ ap (λ (c : LiveCcb). (ended_with before c.ccb code).live) same) in
+    let live_is : after.transport.live ≡ (ended_with before recovery.live.ccb code).transport.live =
+    ap (λ (x : Reply × World). x.1.transport.live) it.answer ∙ (deed.live_is ∙ ap (λ (c : LiveCcb). (ended_with before c.ccb code).transport.live) same) in
     let ended_is : after.ended ≡ (ended_with before recovery.live.ccb code).ended =
     ap (λ (x : Reply × World). x.1.ended) it.answer ∙ (deed.ended_is ∙ ap (λ (c : LiveCcb). (ended_with before c.ccb code).ended) same) in
     let instruction_is = its_instruction before event (call (told_of it.request)) it.it in
@@ -143,17 +143,17 @@ own_disposal number other instruction disposal = elim (cases_Bool (eqb other num
   | inr apart ↦ absurd (let bad : false ≡ true = sym (ap (λ (b : Bool). is_disposal (cond b (Some instruction) None)) apart) ∙ disposal in cc)
 ]
 
-told_disposal : (setup : Setup) (before : World) (number : ℕ) (told : Told) (reply : Reply) (after : World) (ccb : ℕ) → Recovering before → ((now : LiveRun) → run_of number before.runs ≡ Some now → now.ccb ≡ ccb) → is_disposing told ≡ true → Asks setup before (executes number (call told)) reply after → DisposesOfIt number ccb before (executes number (call told)) after
+told_disposal : (setup : Setup) (before : World) (number : ℕ) (told : Told) (reply : Reply) (after : World) (ccb : ℕ) → Recovering before → ((now : LiveRun) → run_of number before.runs.list ≡ Some now → now.ccb ≡ ccb) → is_disposing told ≡ true → Asks setup before (executes number (call told)) reply after → DisposesOfIt number ccb before (executes number (call told)) after
 told_disposal setup before number told reply after ccb recovering its_ccb disposing it =
     let same_event : executes number (call told) ≡ executes it.it.number (call (told_of it.request)) = it.it.event_is in
     let same_number : it.it.number ≡ number = cc in
     let same_told : told ≡ told_of it.request = cc in
-    let found : run_of number before.runs ≡ Some it.it.run = subst (λ (n : ℕ). run_of n before.runs ≡ Some it.it.run) same_number it.it.found in
+    let found : run_of number before.runs.list ≡ Some it.it.run = subst (λ (n : ℕ). run_of n before.runs.list ≡ Some it.it.run) same_number it.it.found in
     let disposes = call_disposes setup before (executes number (call told)) reply after recovering it (sym (ap is_disposing same_told) ∙ disposing) it.ccbs in
     subst (λ (n : ℕ). DisposesOfIt n ccb before (executes number (call told)) after) same_number
     (subst (λ (n : ℕ). DisposesOfIt it.it.number n before (executes number (call told)) after) (its_ccb it.it.run found) disposes)
 
-pub disposal_of : (setup : Setup) (before : World) (event : Event) (reply : Reply) (after : World) (number ccb : ℕ) → Recovering before → ((now : LiveRun) → run_of number before.runs ≡ Some now → now.ccb ≡ ccb) → WorldStep setup before event reply after → is_disposal_of number event ≡ true → DisposesOfIt number ccb before event after
+pub disposal_of : (setup : Setup) (before : World) (event : Event) (reply : Reply) (after : World) (number ccb : ℕ) → Recovering before → ((now : LiveRun) → run_of number before.runs.list ≡ Some now → now.ccb ≡ ccb) → WorldStep setup before event reply after → is_disposal_of number event ≡ true → DisposesOfIt number ccb before event after
 disposal_of setup before (called its) reply after number ccb recovering its_ccb step disposal = absurd (let bad : false ≡ true = disposal in cc)
 disposal_of setup before (executes other private) reply after number ccb recovering its_ccb step disposal =
     absurd (let bad : false ≡ true = (own_disposal number other private disposal).1 in cc)

@@ -61,8 +61,8 @@ pub record OnlyAnswers (least most : ℕ) (row : Row) : Type 0 where
 -- What a call may rely on: the freezes that its run holds are there and are the run's, and so is its CCB until it disposes
 -- of that.
 pub record HasItsOwn (world : World) (run : LiveRun) : Type 0 where
-  pub freezes : (number : ℕ) → is_held run.machine.held number ≡ true → (freeze : Freeze) × (entry_of number world.freezes ≡ Some freeze) × (is_run run.number freeze.holder ≡ true)
-  pub ccb : run.machine.disposed ≡ false → (live : LiveCcb) × (ccb_of run.ccb world.live ≡ Some live)
+  pub freezes : (number : ℕ) → is_held run.machine.held number ≡ true → (freeze : Freeze) × (entry_of number world.transport.freezes ≡ Some freeze) × (is_run run.number freeze.holder ≡ true)
+  pub ccb : run.machine.disposed ≡ false → (live : LiveCcb) × (ccb_of run.ccb world.transport.live ≡ Some live)
 
 -- A step leads somewhere.
 abbrev pub LeadsOn : Option (Reply × World) → Type 0
@@ -78,7 +78,7 @@ pub record Entry (deed : Deed) : Type 0 where
   pub does : (setup : Setup) (before : World) (run : LiveRun) (request : Request) → (row_of request.helper).deed ≡ deed → meets_rule setup.limits run.machine request ≡ true → (p : Reply × World) → by_deed deed before run request ≡ Some p → Does setup before run request p
 
 -- openings and tables stay
-pub nothing_set : (before between : World) → between.openings ≡ before.openings → between.tables ≡ before.tables → between.runs ≡ before.runs → between.greatest_run ≡ before.greatest_run → between.clock ≡ before.clock → LeavesTheRest before between
+pub nothing_set : (before between : World) → between.transport.openings ≡ before.transport.openings → between.runs.tables ≡ before.runs.tables → between.runs.list ≡ before.runs.list → between.runs.greatest ≡ before.runs.greatest → between.transport.clock ≡ before.transport.clock → LeavesTheRest before between
 nothing_set before between openings tables runs greatest clock = record { openings = openings_stay openings; tables = tables_stay tables; runs_is = runs; greatest_is = greatest; clock_is = clock }
 
 -- Freezes that stay: by the columns the call gives up none and takes none, and what it answers and writes is allowed.
@@ -91,9 +91,9 @@ pub record StayingBy (setup : Setup) (before : World) (run : LiveRun) (request :
   pub answer : AnswersFrom setup before run → IsGiven run.machine.held give given.r0
   pub written : IsWritten change request.arguments given.written
   pub taken : (other number : ℕ) → taken_as give other number given.r0 ≡ []
-  pub moves : (number : ℕ) (after : World) → Calls before number request → after.freezes ≡ before.freezes → MovesByDeed deed before number (result given.r0) after
+  pub moves : (number : ℕ) (after : World) → Calls before number request → after.transport.freezes ≡ before.transport.freezes → MovesByDeed deed before number (result given.r0) after
 
-pub staying : (setup : Setup) (before : World) (run : LiveRun) (request : Request) (given : Answer) (between : World) (deed : Deed) (give : Gives) (change : Change) → StayingBy setup before run request given deed give change → between.freezes ≡ before.freezes → between.greatest_freeze ≡ before.greatest_freeze → LeavesFreezes setup before run request given between
+pub staying : (setup : Setup) (before : World) (run : LiveRun) (request : Request) (given : Answer) (between : World) (deed : Deed) (give : Gives) (change : Change) → StayingBy setup before run request given deed give change → between.transport.freezes ≡ before.transport.freezes → between.transport.greatest_freeze ≡ before.transport.greatest_freeze → LeavesFreezes setup before run request given between
 staying setup before run request given between deed give change it freezes greatest = record {
   keeps = ap (λ (c : Change). asked_by c request) it.machine_is ∙ it.keeps;
   allowed = λ from. (
@@ -113,7 +113,7 @@ tells_none tells.Name said request before number reply = refl
 tells_none tells.Bytes said request before number reply = refl
 tells_none tells.Code said request before number reply = absurd said
 
-pub calm : (before : World) (run : LiveRun) (request : Request) (given : Answer) (between : World) (change : Change) → (row_of request.helper).machine ≡ change → TellsNoCode (row_of request.helper).tells → disposes change ≡ false → (changed_by change request.arguments given (after_call run.machine given.r0)).disposed ≡ run.machine.disposed → between.live ≡ before.live → between.ended ≡ before.ended → between.greatest_ccb ≡ before.greatest_ccb → LeavesCcbs before run request given between
+pub calm : (before : World) (run : LiveRun) (request : Request) (given : Answer) (between : World) (change : Change) → (row_of request.helper).machine ≡ change → TellsNoCode (row_of request.helper).tells → disposes change ≡ false → (changed_by change request.arguments given (after_call run.machine given.r0)).disposed ≡ run.machine.disposed → between.transport.live ≡ before.transport.live → between.ended ≡ before.ended → between.transport.greatest_ccb ≡ before.transport.greatest_ccb → LeavesCcbs before run request given between
 calm before run request given between change is no_code calm_change disposed live ended greatest = record {
   calm = disposes_by change request is ∙ calm_change;
   ends_none = tells_none (row_of request.helper).tells no_code request before;
@@ -168,15 +168,15 @@ record Plain (setup : Setup) (before : World) (run : LiveRun) (request : Request
   machine_is : (row_of request.helper).machine ≡ change
   no_code : TellsNoCode (row_of request.helper).tells
   calm : IsCalm change
-  moves : (number : ℕ) (after : World) → after.freezes ≡ before.freezes → MovesByDeed deed before number (result given.r0) after
+  moves : (number : ℕ) (after : World) → after.transport.freezes ≡ before.transport.freezes → MovesByDeed deed before number (result given.r0) after
   answer : AnswersFrom setup before run → (least ≤ given.r0) × (given.r0 ≤ greatest)
   written : IsWritten change request.arguments given.written
-  opens : OpeningsMove before.openings openings
-  sets : TablesMove before.tables tables
+  opens : OpeningsMove before.transport.openings openings
+  sets : TablesMove before.runs.tables tables
 
-plainly : (setup : Setup) (before : World) (run : LiveRun) (request : Request) (given : Answer) (openings : List ℕ) (tables : List (List ℕ)) (deed : Deed) (least greatest : ℕ) (change : Change) → Plain setup before run request given openings tables deed least greatest change → (p : Reply × World) → Some (answers (record before { openings = openings; tables = tables }) run request given) ≡ Some p → Does setup before run request p
+plainly : (setup : Setup) (before : World) (run : LiveRun) (request : Request) (given : Answer) (openings : List ℕ) (tables : List (List ℕ)) (deed : Deed) (least greatest : ℕ) (change : Change) → Plain setup before run request given openings tables deed least greatest change → (p : Reply × World) → Some (answers (record before { transport = record before.transport { openings = openings }; runs = record before.runs { tables = tables } }) run request given) ≡ Some p → Does setup before run request p
 plainly setup before run request given openings tables deed least greatest change it =
-    let between : World = record before { openings = openings; tables = tables } in
+    let between : World = record before { transport = record before.transport { openings = openings }; runs = record before.runs { tables = tables } } in
     let leaves = leaves_held change it.calm request given run.machine in
     calmly setup before run request given between
     (staying setup before run request given between deed (Number least greatest) change (record {
@@ -194,7 +194,7 @@ plainly setup before run request given openings tables deed least greatest chang
     (record { openings = it.opens; tables = it.sets; runs_is = refl; greatest_is = refl; clock_is = refl })
 
 -- where a row is such by its columns
-pub plain_row : (setup : Setup) (before : World) (run : LiveRun) (request : Request) (given : Answer) (openings : List ℕ) (tables : List (List ℕ)) (deed : Deed) (one two three : Option Asked) (least greatest : ℕ) (change : Change) → (row_of request.helper).deed ≡ deed → Columns one two three needs.Nothing (Number least greatest) change tells.Name (row_of request.helper) → IsCalm change → ((number : ℕ) (after : World) → after.freezes ≡ before.freezes → MovesByDeed deed before number (result given.r0) after) → (AnswersFrom setup before run → (least ≤ given.r0) × (given.r0 ≤ greatest)) → IsWritten change request.arguments given.written → OpeningsMove before.openings openings → TablesMove before.tables tables → (p : Reply × World) → Some (answers (record before { openings = openings; tables = tables }) run request given) ≡ Some p → Does setup before run request p
+pub plain_row : (setup : Setup) (before : World) (run : LiveRun) (request : Request) (given : Answer) (openings : List ℕ) (tables : List (List ℕ)) (deed : Deed) (one two three : Option Asked) (least greatest : ℕ) (change : Change) → (row_of request.helper).deed ≡ deed → Columns one two three needs.Nothing (Number least greatest) change tells.Name (row_of request.helper) → IsCalm change → ((number : ℕ) (after : World) → after.transport.freezes ≡ before.transport.freezes → MovesByDeed deed before number (result given.r0) after) → (AnswersFrom setup before run → (least ≤ given.r0) × (given.r0 ≤ greatest)) → IsWritten change request.arguments given.written → OpeningsMove before.transport.openings openings → TablesMove before.runs.tables tables → (p : Reply × World) → Some (answers (record before { transport = record before.transport { openings = openings }; runs = record before.runs { tables = tables } }) run request given) ≡ Some p → Does setup before run request p
 plain_row setup before run request given openings tables deed one two three least greatest change is columns calm moves answer written opens sets =
     plainly setup before run request given openings tables deed least greatest change (record {
       deed_is = is;
@@ -216,7 +216,7 @@ pub record Reads (deed : Deed) (answer : World → LiveRun → Request → ℕ) 
   -- which no change of another run changes
   pub apart : (c : LiveRun) (world : World) (run : LiveRun) (request : Request) → answer (changed c world) run request ≡ answer world run request
   pub within : (setup : Setup) (world : World) (run : LiveRun) (request : Request) → AnswersFrom setup world run → (least ≤ answer world run request) × (answer world run request ≤ most)
-  pub moves : (before : World) (number : ℕ) (reply : Reply) (after : World) → after.freezes ≡ before.freezes → MovesByDeed deed before number reply after
+  pub moves : (before : World) (number : ℕ) (reply : Reply) (after : World) → after.transport.freezes ≡ before.transport.freezes → MovesByDeed deed before number reply after
 
 pub reads : (deed : Deed) (answer : World → LiveRun → Request → ℕ) (least most : ℕ) → Reads deed answer least most → Entry deed
 reads deed answer least most it = record {
@@ -231,7 +231,7 @@ reads deed answer least most it = record {
       (an_event r c named w _ _ (both_change r c named w _ w _ refl apart)));
   does = λ setup before run request is rule p e.
       let columns = it.columns request is in
-      plainly setup before run request (answer_number (answer before run request)) before.openings before.tables deed least most changes.Nothing (record {
+      plainly setup before run request (answer_number (answer before run request)) before.transport.openings before.runs.tables deed least most changes.Nothing (record {
         deed_is = is;
         gives_is = columns.gives_is;
         machine_is = columns.machine_is;

@@ -143,17 +143,17 @@ times_held r n low (g ∷ fs) high f h entry its =
 
 -- what a step of anyone else takes from a run
 nothing_given : (number : ℕ) (world : World) (event : Event) → instruction_of number event ≡ None → given_by number world event ≡ []
-nothing_given number world event idle = ap (λ (o : Option Instruction). given_up o (request_of_run (run_of number world.runs))) idle
+nothing_given number world event idle = ap (λ (o : Option Instruction). given_up o (request_of_run (run_of number world.runs.list))) idle
 
 -- of one number: how often the run got it, and gave it up
 pub data Balance (n number got given : ℕ) (world : World) : Type 0 where
-  has : (now : LiveRun) → run_of number world.runs ≡ Some now → got ≡ times_in n now.machine.held + given → Balance n number got given world
-  had : run_of number world.runs ≡ None → number ≤ world.greatest_run → got ≡ given → Balance n number got given world
+  has : (now : LiveRun) → run_of number world.runs.list ≡ Some now → got ≡ times_in n now.machine.held + given → Balance n number got given world
+  had : run_of number world.runs.list ≡ None → number ≤ world.runs.greatest → got ≡ given → Balance n number got given world
 
 -- the run got it once at most, and not at all if it is still to be given
 pub record IsGotOnce (n got : ℕ) (world : World) : Type 0 where
   pub once : got ≤ 1
-  pub later : world.greatest_freeze < n → got ≡ 0
+  pub later : world.transport.greatest_freeze < n → got ≡ 0
 
 -- what the run got and gave up after a step, or along a run of the world, if it had got and given so much
 pub record Balanced (n number got given : ℕ) (after : World) (more gave_up : List ℕ) : Type 0 where
@@ -161,7 +161,7 @@ pub record Balanced (n number got given : ℕ) (after : World) (more gave_up : L
   pub balance : Balance n number (got + times_in n more) (given + times_in n gave_up) after
 
 -- a step by which the run gets nothing
-got_nothing : (n got : ℕ) (before after : World) (taken : List ℕ) → IsGotOnce n got before → before.greatest_freeze ≤ after.greatest_freeze → taken ≡ [] → IsGotOnce n (got + times_in n taken) after
+got_nothing : (n got : ℕ) (before after : World) (taken : List ℕ) → IsGotOnce n got before → before.transport.greatest_freeze ≤ after.transport.greatest_freeze → taken ≡ [] → IsGotOnce n (got + times_in n taken) after
 got_nothing n got before after taken got_once greatest none =
     let nothing : times_in n taken ≡ 0 = ap (times_in n) none in
     record {
@@ -187,15 +187,15 @@ balance_step setup n number got given before event reply after lawful sound got_
     effect : Effect setup before event reply after
     effect = effect_of setup before event reply after (lists_of sound.kept) it
 
-    greatest_rises : before.greatest_freeze ≤ after.greatest_freeze
+    greatest_rises : before.transport.greatest_freeze ≤ after.transport.greatest_freeze
     greatest_rises = move_rises setup before event after effect.freezes
 
     gives_by : (instruction : Instruction) → instruction_of number event ≡ Some instruction → given_by number before event ≡ given_up (Some instruction) (request_at now.program now.machine)
     gives_by instruction event_is =
-        ap (λ (o : Option Instruction). given_up o (request_of_run (run_of number before.runs))) event_is
+        ap (λ (o : Option Instruction). given_up o (request_of_run (run_of number before.runs.list))) event_is
         ∙ ap (λ (o : Option LiveRun). given_up (Some instruction) (request_of_run o)) found
 
-    by_holding : (instruction : Instruction) (machine : MachineState) → instruction_of number event ≡ Some instruction → run_of number after.runs ≡ Some (machine_of now machine) → Holding before event reply after number now instruction machine → Balanced n number got given after (taken_by number event reply) (given_by number before event)
+    by_holding : (instruction : Instruction) (machine : MachineState) → instruction_of number event ≡ Some instruction → run_of number after.runs.list ≡ Some (machine_of now machine) → Holding before event reply after number now instruction machine → Balanced n number got given after (taken_by number event reply) (given_by number before event)
     by_holding instruction machine event_is is (holds_the_same held_is freezes gives takes) =
         let not_given : times_in n (given_by number before event) ≡ 0 = ap (times_in n) (gives_by instruction event_is ∙ gives) in
         let not_taken : times_in n (taken_by number event reply) ≡ 0 = ap (times_in n) takes in
@@ -224,7 +224,7 @@ balance_step setup n number got given before event reply after lawful sound got_
         let given_now : times_in n (given_by number before event) ≡ one (eqb wanted n) = ap (times_in n) (gives_by instruction event_is ∙ gives) ∙ times_one n wanted in
         let not_taken : times_in n (taken_by number event reply) ≡ 0 = ap (times_in n) takes in
         let once : times_in wanted now.machine.held ≡ 1 =
-        ap (times_in wanted) (sound.held.machines number now found) ∙ times_held number wanted 0 before.freezes before.greatest_freeze freeze sound.kept.freezes.numbered entry own in
+        ap (times_in wanted) (sound.held.machines number now found) ∙ times_held number wanted 0 before.transport.freezes before.transport.greatest_freeze freeze sound.kept.freezes.numbered entry own in
         let left : times_in n machine.held ≡ times_in n (held_without now.machine.held wanted) = ap (times_in n) fewer in
         let out = times_out n wanted now.machine.held in
         record {
@@ -288,11 +288,11 @@ balance_leads setup n number got given before (x ∷ xs) after lawful sound got_
     }
 
 -- what the balance says of a run that is live, and of one that is gone
-pub live_balance : (n number got given : ℕ) (world : World) (now : LiveRun) → run_of number world.runs ≡ Some now → Balance n number got given world → got ≡ times_in n now.machine.held + given
+pub live_balance : (n number got given : ℕ) (world : World) (now : LiveRun) → run_of number world.runs.list ≡ Some now → Balance n number got given world → got ≡ times_in n now.machine.held + given
 live_balance n number got given world now found (has its found_too same) =
     subst (λ (r : LiveRun). got ≡ times_in n r.machine.held + given) (same_found world number its now found_too found) same
-live_balance n number got given world now found (had none number_given same) = absurd (no_some (run_of number world.runs) now none found)
+live_balance n number got given world now found (had none number_given same) = absurd (no_some (run_of number world.runs.list) now none found)
 
-pub gone_balance : (n number got given : ℕ) (world : World) → run_of number world.runs ≡ None → Balance n number got given world → got ≡ given
-gone_balance n number got given world none (has its found same) = absurd (no_some (run_of number world.runs) its none found)
+pub gone_balance : (n number got given : ℕ) (world : World) → run_of number world.runs.list ≡ None → Balance n number got given world → got ≡ given
+gone_balance n number got given world none (has its found same) = absurd (no_some (run_of number world.runs.list) its none found)
 gone_balance n number got given world none (had none_too number_given same) = same

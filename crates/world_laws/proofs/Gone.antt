@@ -36,21 +36,21 @@ use Rattle.world_laws.proofs.Leads.{leads_split, leads_keeps, lists_are_kept}
 
 -- numbers only rise, and one that is not there will not be given again
 pub record IsPast (number : ℕ) (world : World) : Type 0 where
-  pub given : number ≤ world.greatest_freeze
-  pub none : entry_of number world.freezes ≡ None
+  pub given : number ≤ world.transport.greatest_freeze
+  pub none : entry_of number world.transport.freezes ≡ None
 
 move_past : (setup : Setup) (before : World) (event : Event) (after : World) (number : ℕ) → FreezeMove setup before event after → IsPast number before → IsPast number after
 move_past setup before event after number (freezes_stay e g) past = record { given = rw g past.given; none = rw e past.none }
 move_past setup before event after number (freeze_enters queue holder known room e g comes) past =
-    record { given = rw g (omega (arith, past.given)); none = rw e (entry_push number before.freezes _ (λ same. omega (arith, same, past.given)) past.none) }
+    record { given = rw g (omega (arith, past.given)); none = rw e (entry_push number before.transport.freezes _ (λ same. omega (arith, same, past.given)) past.none) }
 move_past setup before event after number (freezes_leave gone e g from) past =
-    record { given = rw g past.given; none = rw e (missing_filter freeze_key (λ (f : Freeze). not (gone f)) number before.freezes past.none) }
+    record { given = rw g past.given; none = rw e (missing_filter freeze_key (λ (f : Freeze). not (gone f)) number before.transport.freezes past.none) }
 move_past setup before event after number (freeze_changes old new found queue_is e g hands) past =
     let apart : new.number ≡ number → ⊥ = λ same.
-    let bad : None ≡ Some old = sym past.none ∙ (ap (λ (n : ℕ). entry_of n before.freezes) (sym same) ∙ found) in cc in
-    record { given = rw g past.given; none = ap (entry_of number) e ∙ (put_other freeze_key new number before.freezes apart ∙ past.none) }
+    let bad : None ≡ Some old = sym past.none ∙ (ap (λ (n : ℕ). entry_of n before.transport.freezes) (sym same) ∙ found) in cc in
+    record { given = rw g past.given; none = ap (entry_of number) e ∙ (put_other freeze_key new number before.transport.freezes apart ∙ past.none) }
 
-pub move_rises : (setup : Setup) (before : World) (event : Event) (after : World) → FreezeMove setup before event after → before.greatest_freeze ≤ after.greatest_freeze
+pub move_rises : (setup : Setup) (before : World) (event : Event) (after : World) → FreezeMove setup before event after → before.transport.greatest_freeze ≤ after.transport.greatest_freeze
 move_rises setup before event after (freezes_stay e g) = omega (arith, g)
 move_rises setup before event after (freeze_enters queue holder known room e g comes) = omega (arith, g)
 move_rises setup before event after (freezes_leave gone e g from) = omega (arith, g)
@@ -65,25 +65,25 @@ leads_past setup before (x ∷ xs) after number kept run past =
     leads_past setup run.0 xs after number (step_keeps setup before x.0 x.1 run.0 run.1 kept) run.2
     (move_past setup before x.0 run.0 number (step_freezes setup before x.0 x.1 run.0 kept run.1) past)
 
-pub leads_rises : (setup : Setup) (before : World) (xs : List (Event × Reply)) (after : World) → KeepsLists setup before → Leads setup before xs after → before.greatest_freeze ≤ after.greatest_freeze
+pub leads_rises : (setup : Setup) (before : World) (xs : List (Event × Reply)) (after : World) → KeepsLists setup before → Leads setup before xs after → before.transport.greatest_freeze ≤ after.transport.greatest_freeze
 leads_rises setup before [] after kept run = rw run (omega arith)
 leads_rises setup before (x ∷ xs) after kept run =
     omega (arith, move_rises setup before x.0 run.0 (step_freezes setup before x.0 x.1 run.0 kept run.1), leads_rises setup run.0 xs after (step_keeps setup before x.0 x.1 run.0 run.1 kept) run.2)
 
-none_held : (number : ℕ) (world : World) → entry_of number world.freezes ≡ None → IsHeld number world → ⊥
+none_held : (number : ℕ) (world : World) → entry_of number world.transport.freezes ≡ None → IsHeld number world → ⊥
 none_held number world none held = let bad : IsSome {T = Freeze} None = subst (λ (o : Option Freeze). IsSome o) none held in cc
 
 -- a number that is held was given
-held_given : (setup : Setup) (world : World) (number : ℕ) (o : Option Freeze) → KeepsLists setup world → entry_of number world.freezes ≡ o → IsSome o → number ≤ world.greatest_freeze
+held_given : (setup : Setup) (world : World) (number : ℕ) (o : Option Freeze) → KeepsLists setup world → entry_of number world.transport.freezes ≡ o → IsSome o → number ≤ world.transport.greatest_freeze
 held_given setup world number None kept is some = absurd (let bad : IsSome {T = Freeze} None = some in cc)
-held_given setup world number (Some f) kept is some = (entry_bounds 0 world.freezes world.greatest_freeze number f kept.freezes.numbered is).2
+held_given setup world number (Some f) kept is some = (entry_bounds 0 world.transport.freezes world.transport.greatest_freeze number f kept.freezes.numbered is).2
 
 -- the freeze of a number was taken out, so the number is past
-removed_past : (setup : Setup) (before after : World) (number : ℕ) (freeze : Freeze) → KeepsLists setup before → entry_of number before.freezes ≡ Some freeze → after.freezes ≡ without number before.freezes → after.greatest_freeze ≡ before.greatest_freeze → IsPast number after
+removed_past : (setup : Setup) (before after : World) (number : ℕ) (freeze : Freeze) → KeepsLists setup before → entry_of number before.transport.freezes ≡ Some freeze → after.transport.freezes ≡ without number before.transport.freezes → after.transport.greatest_freeze ≡ before.transport.greatest_freeze → IsPast number after
 removed_past setup before after number freeze kept entry e g =
     record {
-      given = rw g (entry_bounds 0 before.freezes before.greatest_freeze number freeze kept.freezes.numbered entry).2;
-      none = rw e (entry_removed number before.freezes);
+      given = rw g (entry_bounds 0 before.transport.freezes before.transport.greatest_freeze number freeze kept.freezes.numbered entry).2;
+      none = rw e (entry_removed number before.transport.freezes);
     }
 
 pub given_up_stays_given_up : GivenUpStaysGivenUp
@@ -94,8 +94,8 @@ given_up_stays_given_up setup xs ys number reply world run held =
     let kept = lists_are_kept setup xs before parts.1 in
     let it = guest_release_parts setup before number reply after parts.2.1 in
     let same : it.number ≡ number = let e : called (GuestRelease number) ≡ called (GuestRelease it.number) = it.event_is in cc in
-    let past = removed_past setup before after number it.freeze kept (subst (λ (n : ℕ). entry_of n before.freezes ≡ Some it.freeze) same it.entry)
-    (ap (λ (w : World). w.freezes) it.after_is ∙ ap (λ (n : ℕ). without n before.freezes) same) (ap (λ (w : World). w.greatest_freeze) it.after_is) in
+    let past = removed_past setup before after number it.freeze kept (subst (λ (n : ℕ). entry_of n before.transport.freezes ≡ Some it.freeze) same it.entry)
+    (ap (λ (w : World). w.transport.freezes) it.after_is ∙ ap (λ (n : ℕ). without n before.transport.freezes) same) (ap (λ (w : World). w.transport.greatest_freeze) it.after_is) in
     none_held number world (leads_past setup after ys world number (step_keeps setup before (called (GuestRelease number)) reply after parts.2.1 kept) parts.2.2 past).none held
 
 -- the call that is an event is the one at which the run stands
@@ -103,7 +103,7 @@ the_call : (setup : Setup) (before : World) (run : ℕ) (told : Told) (reply : R
 the_call setup before run told reply after request calls it =
     let e : executes run (call told) ≡ executes it.it.number (call (told_of it.request)) = it.it.event_is in
     let named : it.it.number ≡ run = cc in
-    let runs : Some it.it.run ≡ Some calls.0 = sym it.it.found ∙ (ap (λ (n : ℕ). run_of n before.runs) named ∙ calls.1) in
+    let runs : Some it.it.run ≡ Some calls.0 = sym it.it.found ∙ (ap (λ (n : ℕ). run_of n before.runs.list) named ∙ calls.1) in
     let same : it.it.run ≡ calls.0 = cc in
     let requests : Some it.request ≡ Some request = sym it.call_is ∙ (ap (λ (r : LiveRun). request_at r.program r.machine) same ∙ calls.2) in
     cc
@@ -119,13 +119,13 @@ gives_it_up request number machine_is same = ap (λ (c : Change). asked_by c req
 one_deed : (request : Request) (a b : Deed) → (row_of request.helper).deed ≡ a → (row_of request.helper).deed ≡ b → a ≡ b
 one_deed request a b first second = sym first ∙ second
 
-given_back_past : (setup : Setup) (before after : World) (number : ℕ) (run : LiveRun) (request : Request) (given : Answer) (between : World) → KeepsLists setup before → (row_of request.helper).deed ≡ deeds.GiveBack → request.arguments.first ≡ number → after.freezes ≡ between.freezes → after.greatest_freeze ≡ between.greatest_freeze → FreezeDeed setup before run request given between → IsPast number after
+given_back_past : (setup : Setup) (before after : World) (number : ℕ) (run : LiveRun) (request : Request) (given : Answer) (between : World) → KeepsLists setup before → (row_of request.helper).deed ≡ deeds.GiveBack → request.arguments.first ≡ number → after.transport.freezes ≡ between.transport.freezes → after.transport.greatest_freeze ≡ between.transport.greatest_freeze → FreezeDeed setup before run request given between → IsPast number after
 given_back_past setup before after number run request given between kept is same e g (leaves_freezes deed) =
     absurd (asked_for_one setup before run request given between number (gives_it_up request number (suits deeds.GiveBack request is).machine_is same) deed)
 given_back_past setup before after number run request given between kept is same e g (takes_one deed) = absurd (let bad : deeds.Freeze ≡ deeds.GiveBack = one_deed request _ _ deed.deed_is is in cc)
 given_back_past setup before after number run request given between kept is same e g (gives_one_back deed) =
-    removed_past setup before after number deed.freeze kept (subst (λ (n : ℕ). entry_of n before.freezes ≡ Some deed.freeze) same deed.entry)
-    (e ∙ (deed.freezes_is ∙ ap (λ (n : ℕ). without n before.freezes) same)) (g ∙ deed.greatest_is)
+    removed_past setup before after number deed.freeze kept (subst (λ (n : ℕ). entry_of n before.transport.freezes ≡ Some deed.freeze) same deed.entry)
+    (e ∙ (deed.freezes_is ∙ ap (λ (n : ℕ). without n before.transport.freezes) same)) (g ∙ deed.greatest_is)
 given_back_past setup before after number run request given between kept is same e g (hands_one_over deed) = absurd (let bad : deeds.HandOver ≡ deeds.GiveBack = one_deed request _ _ deed.deed_is is in cc)
 
 pub given_up_by_run_stays_given_up : GivenUpByRunStaysGivenUp
@@ -136,13 +136,13 @@ given_up_by_run_stays_given_up setup xs ys run number told reply before world fi
     let call_is = the_call setup before run told reply after asks.request asks.calls it in
     let past = given_back_past setup before after number it.it.run it.request it.given it.between kept
     (ap (λ (r : Request). (row_of r.helper).deed) call_is ∙ asks.deed_is) (ap (λ (r : Request). r.arguments.first) call_is ∙ asks.number_is)
-    (ap (λ (x : Reply × World). x.1.freezes) it.answer) (ap (λ (x : Reply × World). x.1.greatest_freeze) it.answer) it.freezes in
+    (ap (λ (x : Reply × World). x.1.transport.freezes) it.answer) (ap (λ (x : Reply × World). x.1.transport.greatest_freeze) it.answer) it.freezes in
     none_held number world (leads_past setup after ys world number (step_keeps setup before (executes run (call told)) reply after second.1 kept) second.2 past).none held
 
 -- a number was given, and what bears it, if anything does, is a timer's
 record IsTimed (number : ℕ) (world : World) : Type 0 where
-  given : number ≤ world.greatest_freeze
-  timer : (freeze : Freeze) → entry_of number world.freezes ≡ Some freeze → is_timer freeze.holder ≡ true
+  given : number ≤ world.transport.greatest_freeze
+  timer : (freeze : Freeze) → entry_of number world.transport.freezes ≡ Some freeze → is_timer freeze.holder ≡ true
 
 move_timed : (setup : Setup) (before : World) (event : Event) (after : World) (number : ℕ) → KeepsLists setup before → FreezeMove setup before event after → IsTimed number before → IsTimed number after
 move_timed setup before event after number kept (freezes_stay e g) timed = record { given = rw g timed.given; timer = λ f found. timed.timer f (sym (ap (entry_of number) e) ∙ found) }
@@ -150,7 +150,7 @@ move_timed setup before event after number kept (freeze_enters queue holder know
     record {
       given = rw g (omega (arith, timed.given));
       timer = λ f found.
-          elim (found_in_push freeze_key number before.freezes _ f (sym (ap (entry_of number) e) ∙ found)) [
+          elim (found_in_push freeze_key number before.transport.freezes _ f (sym (ap (entry_of number) e) ∙ found)) [
             | inl old ↦ timed.timer f old
             | inr new ↦ absurd (omega (arith, new.1, timed.given))
           ];
@@ -158,19 +158,19 @@ move_timed setup before event after number kept (freeze_enters queue holder know
 move_timed setup before event after number kept (freezes_leave gone e g from) timed =
     record {
       given = rw g timed.given;
-      timer = λ f found. timed.timer f (found_unfiltered freeze_key (λ (x : Freeze). not (gone x)) 0 before.freezes before.greatest_freeze number f kept.freezes.numbered (sym (ap (entry_of number) e) ∙ found));
+      timer = λ f found. timed.timer f (found_unfiltered freeze_key (λ (x : Freeze). not (gone x)) 0 before.transport.freezes before.transport.greatest_freeze number f kept.freezes.numbered (sym (ap (entry_of number) e) ∙ found));
     }
 move_timed setup before event after number kept (freeze_changes old new was queue_is e g hands) timed =
     record {
       given = rw g timed.given;
       timer = λ f found.
-          let there : entry_of number (put freeze_key new before.freezes) ≡ Some f = sym (ap (entry_of number) e) ∙ found in
+          let there : entry_of number (put freeze_key new before.transport.freezes) ≡ Some f = sym (ap (entry_of number) e) ∙ found in
           elim (cases_eq new.number number) [
             | inl same ↦
-                let both : Some new ≡ Some f = sym (subst (λ (n : ℕ). entry_of n (put freeze_key new before.freezes) ≡ Some new) same (put_same freeze_key new before.freezes old was)) ∙ there in
+                let both : Some new ≡ Some f = sym (subst (λ (n : ℕ). entry_of n (put freeze_key new before.transport.freezes) ≡ Some new) same (put_same freeze_key new before.transport.freezes old was)) ∙ there in
                 let is : new ≡ f = cc in
                 subst (λ (x : Freeze). is_timer x.holder ≡ true) is hands.timed
-            | inr apart ↦ timed.timer f (sym (put_other freeze_key new number before.freezes apart) ∙ there)
+            | inr apart ↦ timed.timer f (sym (put_other freeze_key new number before.transport.freezes apart) ∙ there)
           ];
     }
 
@@ -180,7 +180,7 @@ leads_timed setup before (x ∷ xs) after number kept run timed =
     leads_timed setup run.0 xs after number (step_keeps setup before x.0 x.1 run.0 run.1 kept) run.2
     (move_timed setup before x.0 run.0 number kept (step_freezes setup before x.0 x.1 run.0 kept run.1) timed)
 
-handed_over_timed : (setup : Setup) (before after : World) (number : ℕ) (run : LiveRun) (request : Request) (given : Answer) (between : World) → KeepsLists setup before → (row_of request.helper).deed ≡ deeds.HandOver → request.arguments.first ≡ number → after.freezes ≡ between.freezes → after.greatest_freeze ≡ between.greatest_freeze → FreezeDeed setup before run request given between → IsTimed number after
+handed_over_timed : (setup : Setup) (before after : World) (number : ℕ) (run : LiveRun) (request : Request) (given : Answer) (between : World) → KeepsLists setup before → (row_of request.helper).deed ≡ deeds.HandOver → request.arguments.first ≡ number → after.transport.freezes ≡ between.transport.freezes → after.transport.greatest_freeze ≡ between.transport.greatest_freeze → FreezeDeed setup before run request given between → IsTimed number after
 handed_over_timed setup before after number run request given between kept is same e g (leaves_freezes deed) =
     absurd (asked_for_one setup before run request given between number (gives_it_up request number (suits deeds.HandOver request is).machine_is same) deed)
 handed_over_timed setup before after number run request given between kept is same e g (takes_one deed) = absurd (let bad : deeds.Freeze ≡ deeds.HandOver = one_deed request _ _ deed.deed_is is in cc)
@@ -188,15 +188,15 @@ handed_over_timed setup before after number run request given between kept is sa
 handed_over_timed setup before after number run request given between kept is same e g (hands_one_over deed) =
     let asked_number : ℕ = request.arguments.first in
     let old : Freeze = deed.freeze in
-    let due : ℕ = before.clock + request.arguments.second in
+    let due : ℕ = before.transport.clock + request.arguments.second in
     let new : Freeze = record old { holder = Timer due } in
-    let bounds = entry_bounds 0 before.freezes before.greatest_freeze asked_number old kept.freezes.numbered deed.entry in
-    let freezes_is : after.freezes ≡ put freeze_key new before.freezes = e ∙ (deed.freezes_is ∙ handed_is_put asked_number due 0 before.freezes before.greatest_freeze old kept.freezes.numbered deed.entry) in
-    let there : entry_of old.number after.freezes ≡ Some new = ap (entry_of old.number) freezes_is ∙ put_same freeze_key new before.freezes old (subst (λ (n : ℕ). entry_of n before.freezes ≡ Some old) (sym bounds.0) deed.entry) in
+    let bounds = entry_bounds 0 before.transport.freezes before.transport.greatest_freeze asked_number old kept.freezes.numbered deed.entry in
+    let freezes_is : after.transport.freezes ≡ put freeze_key new before.transport.freezes = e ∙ (deed.freezes_is ∙ handed_is_put asked_number due 0 before.transport.freezes before.transport.greatest_freeze old kept.freezes.numbered deed.entry) in
+    let there : entry_of old.number after.transport.freezes ≡ Some new = ap (entry_of old.number) freezes_is ∙ put_same freeze_key new before.transport.freezes old (subst (λ (n : ℕ). entry_of n before.transport.freezes ≡ Some old) (sym bounds.0) deed.entry) in
     record {
       given = omega (arith, same, bounds.2, g, deed.greatest_is);
       timer = λ f found.
-          let one : Some new ≡ Some f = sym there ∙ (ap (λ (n : ℕ). entry_of n after.freezes) (bounds.0 ∙ same) ∙ found) in
+          let one : Some new ≡ Some f = sym there ∙ (ap (λ (n : ℕ). entry_of n after.transport.freezes) (bounds.0 ∙ same) ∙ found) in
           let is_new : new ≡ f = cc in
           ap (λ (x : Freeze). is_timer x.holder) (sym is_new);
     }
@@ -209,13 +209,13 @@ handed_over_stays_handed_over setup xs ys run number told reply before world fir
     let call_is = the_call setup before run told reply after hands.request hands.calls it in
     let timed = handed_over_timed setup before after number it.it.run it.request it.given it.between kept
     (ap (λ (r : Request). (row_of r.helper).deed) call_is ∙ hands.deed_is) (ap (λ (r : Request). r.arguments.first) call_is ∙ hands.number_is)
-    (ap (λ (x : Reply × World). x.1.freezes) it.answer) (ap (λ (x : Reply × World). x.1.greatest_freeze) it.answer) it.freezes in
+    (ap (λ (x : Reply × World). x.1.transport.freezes) it.answer) (ap (λ (x : Reply × World). x.1.transport.greatest_freeze) it.answer) it.freezes in
     let later = leads_timed setup after ys world number (step_keeps setup before (executes run (call told)) reply after second.1 kept) second.2 timed in
     let bad : false ≡ true = sym owned.2 ∙ later.timer owned.0 owned.1 in cc
 
 pub gone_stays_gone : GoneStaysGone
 gone_stays_gone setup xs ys zs number held gone later first was second not_there third is_there =
     let kept = lists_are_kept setup xs held first in
-    let given = held_given setup held number (entry_of number held.freezes) kept refl was in
-    let past : IsPast number gone = record { given = omega (arith, given, leads_rises setup held ys gone kept second); none = none_since (entry_of number gone.freezes) not_there } in
+    let given = held_given setup held number (entry_of number held.transport.freezes) kept refl was in
+    let past : IsPast number gone = record { given = omega (arith, given, leads_rises setup held ys gone kept second); none = none_since (entry_of number gone.transport.freezes) not_there } in
     none_held number later (leads_past setup gone zs later number (leads_keeps setup held ys gone second kept) third past).none is_there

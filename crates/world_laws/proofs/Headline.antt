@@ -31,7 +31,7 @@ use Rattle.world_laws.proofs.Lives.{Life, alive, over, recount, rises, stays_ove
 -- a run from its start on
 record Story (setup : Setup) (outcome : Outcome) (run : ℕ) (ys : List (Event × Reply)) (world : World) (started : World) : Type 0 where
   start : LiveRun
-  found : run_of run started.runs ≡ Some start
+  found : run_of run started.runs.list ≡ Some start
   ccb_is : start.ccb ≡ outcome.ccb.0
   sound : IsSound setup world
   life : Life setup start run (steps_of run ys) (disposals_of run ys) (exits_of run ys) world
@@ -45,9 +45,9 @@ story setup lawful outcome run ys world it =
     let begins = begun.1 in
     let same_event : called (Complete begins.outcome) ≡ called (Complete outcome) = sym begins.event_is in
     let same_outcome : begins.outcome ≡ outcome = cc in
-    let same_reply : replies (answers.Started run it.freeze) ≡ replies (answers.Started (before.greatest_run + 1) begins.freeze) = begins.reply_is in
-    let named : before.greatest_run + 1 ≡ run = cc in
-    let there = subst (λ (n : ℕ). run_of n started.runs ≡ Some begun.0) named (begun_found setup before (called (Complete outcome)) (replies (answers.Started run it.freeze)) started begun.0 sound.kept.runs begins) in
+    let same_reply : replies (answers.Started run it.freeze) ≡ replies (answers.Started (before.runs.greatest + 1) begins.freeze) = begins.reply_is in
+    let named : before.runs.greatest + 1 ≡ run = cc in
+    let there = subst (λ (n : ℕ). run_of n started.runs.list ≡ Some begun.0) named (begun_found setup before (called (Complete outcome)) (replies (answers.Started run it.freeze)) started begun.0 sound.kept.runs begins) in
     let began : Life setup begun.0 run 0 0 0 started =
     alive begun.0 there refl refl (begins_at_entry setup before (called (Complete outcome)) (replies (answers.Started run it.freeze)) started begun.0 begins)
     (inl (ap (λ (r : LiveRun). r.machine.disposed) begins.run_is, refl)) refl in
@@ -57,7 +57,7 @@ story setup lawful outcome run ys world it =
       found = there;
       ccb_is =
           ap (λ (r : LiveRun). r.ccb) begins.run_is
-          ∙ (found_key ccb_key begins.outcome.ccb.0 before.live begins.live begins.found ∙ ap (λ (o : Outcome). o.ccb.0) same_outcome);
+          ∙ (found_key ccb_key begins.outcome.ccb.0 before.transport.live begins.live begins.found ∙ ap (λ (o : Outcome). o.ccb.0) same_outcome);
       sound = leads_sound setup started ys world lawful it.goes_on after_start;
       life = recount setup begun.0 run _ _ _ _ _ _ world (omega arith) (omega arith) (omega arith) (life_leads setup begun.0 run 0 0 0 started ys world lawful after_start it.goes_on began);
     }
@@ -69,7 +69,7 @@ keeps_within setup start run k j e world lawful sound (alive now found queue ccb
       reached = λ it found_too. subst (λ (r : LiveRun). (r.queue ≡ start.queue) × Reached r.program k r.machine) (same_found world run now it found found_too) (queue, reached);
     }
 keeps_within setup start run k j e world lawful sound (over none given most used gone) =
-    record { budget = most; reached = λ it found_too. absurd (no_some (run_of run world.runs) it none found_too) }
+    record { budget = most; reached = λ it found_too. absurd (no_some (run_of run world.runs.list) it none found_too) }
 
 pub within_budget : WithinBudget
 within_budget setup lawful outcome run ys world it =
@@ -81,10 +81,10 @@ record Disposes (run ccb j e : ℕ) (world : World) : Type 0 where
   most : j ≤ 1
   at_exit : 0 < e → j ≡ 1
   until_then : j ≡ 0 → InRecoveryBy run ccb world
-  its_ccb : (now : LiveRun) → run_of run world.runs ≡ Some now → now.ccb ≡ ccb
+  its_ccb : (now : LiveRun) → run_of run world.runs.list ≡ Some now → now.ccb ≡ ccb
 
 -- a live run is of the CCB of its start
-stays_its_own : (world : World) (run : ℕ) (start now : LiveRun) → run_of run world.runs ≡ Some now → now.ccb ≡ start.ccb → (it : LiveRun) → run_of run world.runs ≡ Some it → it.ccb ≡ start.ccb
+stays_its_own : (world : World) (run : ℕ) (start now : LiveRun) → run_of run world.runs.list ≡ Some now → now.ccb ≡ start.ccb → (it : LiveRun) → run_of run world.runs.list ≡ Some it → it.ccb ≡ start.ccb
 stays_its_own world run start now found ccb it found_too = subst (λ (r : LiveRun). r.ccb ≡ start.ccb) (same_found world run now it found found_too) ccb
 
 disposes : (setup : Setup) (start : LiveRun) (run k j e : ℕ) (world : World) → IsSound setup world → Life setup start run k j e world → Disposes run start.ccb j e world
@@ -107,14 +107,14 @@ disposes setup start run k j e world sound (over none given most used gone) =
       most = omega (arith, used);
       at_exit = λ some. used;
       until_then = λ zero_yet. absurd (omega (arith, zero_yet, used));
-      its_ccb = λ it found_too. absurd (no_some (run_of run world.runs) it none found_too);
+      its_ccb = λ it found_too. absurd (no_some (run_of run world.runs.list) it none found_too);
     }
 
 pub disposed_once : DisposedOnce
 disposed_once setup lawful outcome run ys world it =
     let s = story setup lawful outcome run ys world it in
     let d = disposes setup s.start run (steps_of run ys) (disposals_of run ys) (exits_of run ys) world s.sound s.life in
-    let its_ccb : (now : LiveRun) → run_of run world.runs ≡ Some now → now.ccb ≡ outcome.ccb.0 = λ now found. d.its_ccb now found ∙ s.ccb_is in (
+    let its_ccb : (now : LiveRun) → run_of run world.runs.list ≡ Some now → now.ccb ≡ outcome.ccb.0 = λ now found. d.its_ccb now found ∙ s.ccb_is in (
       d.most,
       d.at_exit,
       λ none. subst (λ (n : ℕ). InRecoveryBy run n world) s.ccb_is (d.until_then none),
@@ -123,7 +123,7 @@ disposed_once setup lawful outcome run ys world it =
     )
 
 -- what a run holds at its start is what it got
-start_balance : (setup : Setup) (before : World) (event : Event) (reply : Reply) (after : World) (run : ℕ) (start : LiveRun) (n : ℕ) → before.greatest_run + 1 ≡ run → Begins setup before event reply after start → (times_in n (taken_by run event reply) ≡ times_in n start.machine.held) × (times_in n (taken_by run event reply) ≤ 1)
+start_balance : (setup : Setup) (before : World) (event : Event) (reply : Reply) (after : World) (run : ℕ) (start : LiveRun) (n : ℕ) → before.runs.greatest + 1 ≡ run → Begins setup before event reply after start → (times_in n (taken_by run event reply) ≡ times_in n start.machine.held) × (times_in n (taken_by run event reply) ≤ 1)
 start_balance setup before event reply after run start n named it =
     let got : taken_by run event reply ≡ cond (not (eqb it.freeze 0)) (it.freeze ∷ []) [] =
     (λ i. taken_by run (it.event_is i) (it.reply_is i))
@@ -154,16 +154,16 @@ exact_freezes setup lawful outcome run ys world it =
     let reply : Reply = replies (answers.Started run it.freeze) in
     let sound = run_sound setup it.xs before lawful it.run_before in
     let begun = started_begins setup before outcome run it.freeze started (effect_of setup before event reply started (lists_of sound.kept) (case_of setup before event reply started it.step)).runs in
-    let same_reply : replies (answers.Started run it.freeze) ≡ replies (answers.Started (before.greatest_run + 1) begun.1.freeze) = begun.1.reply_is in
-    let named : before.greatest_run + 1 ≡ run = cc in
-    let there = subst (λ (n : ℕ). run_of n started.runs ≡ Some begun.0) named (begun_found setup before event reply started begun.0 sound.kept.runs begun.1) in
+    let same_reply : replies (answers.Started run it.freeze) ≡ replies (answers.Started (before.runs.greatest + 1) begun.1.freeze) = begun.1.reply_is in
+    let named : before.runs.greatest + 1 ≡ run = cc in
+    let there = subst (λ (n : ℕ). run_of n started.runs.list ≡ Some begun.0) named (begun_found setup before event reply started begun.0 sound.kept.runs begun.1) in
     let after_start = step_sound setup before event reply started lawful it.step sound in
     let at_start = λ (n : ℕ). start_balance setup before event reply started run begun.0 n named begun.1 in
     let got_once : (n : ℕ) → IsGotOnce n (times_in n (taken_by run event reply)) started = λ (n : ℕ). record {
       once = (at_start n).1;
       later = λ above.
-          let held : times_in n begun.0.machine.held ≡ times_in n (held_by run started.freezes) = ap (times_in n) (after_start.held.machines run begun.0 there) in
-          omega (arith, (at_start n).0, held, times_above run n 0 started.freezes started.greatest_freeze after_start.kept.freezes.numbered above);
+          let held : times_in n begun.0.machine.held ≡ times_in n (held_by run started.transport.freezes) = ap (times_in n) (after_start.held.machines run begun.0 there) in
+          omega (arith, (at_start n).0, held, times_above run n 0 started.transport.freezes started.transport.greatest_freeze after_start.kept.freezes.numbered above);
     } in
     let balanced = λ (n : ℕ).
     balance_leads setup n run (times_in n (taken_by run event reply)) 0 started ys world lawful after_start (got_once n) it.goes_on
@@ -184,13 +184,13 @@ not_one : (number another : ℕ) (event : Event) → is_own_of number event ≡ 
 not_one number another event other its same = let bad : false ≡ true = sym other ∙ subst (λ (n : ℕ). is_own_of n event ≡ true) same its in cc
 
 -- an event that is not the run's own leaves it
-pub not_its_own : (setup : Setup) (before : World) (event : Event) (reply : Reply) (after : World) (number : ℕ) (run : LiveRun) → is_own_of number event ≡ false → run_of number before.runs ≡ Some run → RunMove setup before event reply after → run_of number after.runs ≡ Some run
+pub not_its_own : (setup : Setup) (before : World) (event : Event) (reply : Reply) (after : World) (number : ℕ) (run : LiveRun) → is_own_of number event ≡ false → run_of number before.runs.list ≡ Some run → RunMove setup before event reply after → run_of number after.runs.list ≡ Some run
 not_its_own setup before event reply after number run other found (runs_stay e g quiet) = ap (run_of number) e ∙ found
-not_its_own setup before event reply after number run other found (run_enters fresh begins known room g) = ap (run_of number) begins.runs_is ∙ found_push run_key number before.runs fresh run found
+not_its_own setup before event reply after number run other found (run_enters fresh begins known room g) = ap (run_of number) begins.runs_is ∙ found_push run_key number before.runs.list fresh run found
 not_its_own setup before event reply after number run other found (run_changes old new there queue_is program_is e g quiet its) =
-    ap (run_of number) e ∙ (put_other run_key new number before.runs (not_one number new.number event other its) ∙ found)
+    ap (run_of number) e ∙ (put_other run_key new number before.runs.list (not_one number new.number event other its) ∙ found)
 not_its_own setup before event reply after number run other found (run_leaves another there e g quiet its) =
-    ap (run_of number) e ∙ (leave_other run_key another.number number before.runs (not_one number another.number event other its) ∙ found)
+    ap (run_of number) e ∙ (leave_other run_key another.number number before.runs.list (not_one number another.number event other its) ∙ found)
 
 pub others_leave_it : OthersLeaveIt
 others_leave_it setup xs before first event reply after e number run found =
@@ -199,14 +199,14 @@ others_leave_it setup xs before first event reply after e number run found =
     (λ other. not_its_own setup before event reply after number run other found effect.runs, λ other. others_entries setup before event after number run kept found other effect.freezes)
 
 -- run numbers only rise, and a run that is over stays over
-leads_over : (setup : Setup) (before : World) (xs : List (Event × Reply)) (after : World) (number : ℕ) → KeepsLists setup before → Leads setup before xs after → run_of number before.runs ≡ None → number ≤ before.greatest_run → run_of number after.runs ≡ None
-leads_over setup before [] after number kept run none given = subst (λ (w : World). run_of number w.runs ≡ None) run none
+leads_over : (setup : Setup) (before : World) (xs : List (Event × Reply)) (after : World) (number : ℕ) → KeepsLists setup before → Leads setup before xs after → run_of number before.runs.list ≡ None → number ≤ before.runs.greatest → run_of number after.runs.list ≡ None
+leads_over setup before [] after number kept run none given = subst (λ (w : World). run_of number w.runs.list ≡ None) run none
 leads_over setup before (x ∷ xs) after number kept run none given =
     let it = effect_of setup before x.0 x.1 run.0 kept (case_of setup before x.0 x.1 run.0 run.1) in
     let still = stays_over setup before x.0 x.1 run.0 number none given it.runs in
     leads_over setup run.0 xs after number (step_keeps setup before x.0 x.1 run.0 run.1 kept) run.2 still.0 still.1
 
-leads_rise : (setup : Setup) (before : World) (xs : List (Event × Reply)) (after : World) → KeepsLists setup before → Leads setup before xs after → before.greatest_run ≤ after.greatest_run
+leads_rise : (setup : Setup) (before : World) (xs : List (Event × Reply)) (after : World) → KeepsLists setup before → Leads setup before xs after → before.runs.greatest ≤ after.runs.greatest
 leads_rise setup before [] after kept run = rw run (omega arith)
 leads_rise setup before (x ∷ xs) after kept run =
     let it = effect_of setup before x.0 x.1 run.0 kept (case_of setup before x.0 x.1 run.0 run.1) in

@@ -45,9 +45,9 @@ IsThere setup freeze = is_unknown setup freeze.place ≡ false
 
 -- what the limits of freezes speak of
 abbrev FreezesWithin : Setup → List Freeze → ℕ → Type 0
-FreezesWithin setup freezes greatest = FreezeLimits setup (record (opening setup) { freezes = freezes; greatest_freeze = greatest })
+FreezesWithin setup freezes greatest = FreezeLimits setup (record (opening setup) { transport = record (opening setup).transport { freezes = freezes; greatest_freeze = greatest } })
 
-freezes_from : (setup : Setup) (world : World) (freezes : List Freeze) (greatest : ℕ) → world.freezes ≡ freezes → world.greatest_freeze ≡ greatest → FreezesWithin setup freezes greatest → FreezeLimits setup world
+freezes_from : (setup : Setup) (world : World) (freezes : List Freeze) (greatest : ℕ) → world.transport.freezes ≡ freezes → world.transport.greatest_freeze ≡ greatest → FreezesWithin setup freezes greatest → FreezeLimits setup world
 freezes_from setup world freezes greatest e g kept =
     record {
       places = λ agreed. rw e (kept.places agreed);
@@ -59,47 +59,47 @@ freezes_from setup world freezes greatest e g kept =
 
 pub freezes_kept : (setup : Setup) (before : World) (event : Event) (after : World) → FreezeMove setup before event after → FreezeLimits setup before → FreezeLimits setup after
 freezes_kept setup before event after (freezes_stay e g) kept =
-    freezes_from setup after before.freezes before.greatest_freeze e g (record { places = kept.places; a_place = kept.a_place; ledger = kept.ledger; numbered = kept.numbered; numbers = kept.numbers })
+    freezes_from setup after before.transport.freezes before.transport.greatest_freeze e g (record { places = kept.places; a_place = kept.a_place; ledger = kept.ledger; numbered = kept.numbered; numbers = kept.numbers })
 freezes_kept setup before event after (freeze_enters place holder known full e g comes) kept =
-    let f : Freeze = record { number = before.greatest_freeze + 1; place = place; holder = holder } in
-    let room = room_from place before.freezes before.greatest_freeze full in
-    let one_more : (q : Place) → frozen q before.freezes + cond {A = ℕ} (is_place place q) 1 0 ≤ 255 = λ q. elim (cases_Bool (is_place place q)) [
-      | inl same ↦ let here = same_frozen place q before.freezes same in rw same (omega (arith, here, room.a_place))
+    let f : Freeze = record { number = before.transport.greatest_freeze + 1; place = place; holder = holder } in
+    let room = room_from place before.transport.freezes before.transport.greatest_freeze full in
+    let one_more : (q : Place) → frozen q before.transport.freezes + cond {A = ℕ} (is_place place q) 1 0 ≤ 255 = λ q. elim (cases_Bool (is_place place q)) [
+      | inl same ↦ let here = same_frozen place q before.transport.freezes same in rw same (omega (arith, here, room.a_place))
       | inr apart ↦ rw apart (omega (arith, kept.a_place q))
     ] in
-    freezes_from setup after (before.freezes ++ f ∷ []) (before.greatest_freeze + 1) e g (record {
-      places = λ agreed. All-push (IsThere setup) before.freezes f (kept.places agreed) (known agreed);
-      a_place = λ q. omega (arith, frozen_push q before.freezes f, one_more q);
-      ledger = omega (arith, room.ledger, length-append before.freezes (f ∷ []));
-      numbered = rising_push freeze_key 0 before.freezes before.greatest_freeze f kept.numbered refl;
+    freezes_from setup after (before.transport.freezes ++ f ∷ []) (before.transport.greatest_freeze + 1) e g (record {
+      places = λ agreed. All-push (IsThere setup) before.transport.freezes f (kept.places agreed) (known agreed);
+      a_place = λ q. omega (arith, frozen_push q before.transport.freezes f, one_more q);
+      ledger = omega (arith, room.ledger, length-append before.transport.freezes (f ∷ []));
+      numbered = rising_push freeze_key 0 before.transport.freezes before.transport.greatest_freeze f kept.numbered refl;
       numbers = omega (arith, room.numbers);
     })
 freezes_kept setup before event after (freezes_leave gone e g from) kept =
     let stays : Freeze → Bool = λ x. not (gone x) in
-    freezes_from setup after (filter stays before.freezes) before.greatest_freeze e g (record {
-      places = λ agreed. All-filter stays (IsThere setup) before.freezes (kept.places agreed);
-      a_place = λ q. omega (arith, kept.a_place q, count_filter freeze_key (names q) stays before.freezes);
-      ledger = omega (arith, kept.ledger, length-filter stays before.freezes, count_by-le-length stays before.freezes);
-      numbered = rising_filter freeze_key stays 0 before.freezes before.greatest_freeze kept.numbered;
+    freezes_from setup after (filter stays before.transport.freezes) before.transport.greatest_freeze e g (record {
+      places = λ agreed. All-filter stays (IsThere setup) before.transport.freezes (kept.places agreed);
+      a_place = λ q. omega (arith, kept.a_place q, count_filter freeze_key (names q) stays before.transport.freezes);
+      ledger = omega (arith, kept.ledger, length-filter stays before.transport.freezes, count_by-le-length stays before.transport.freezes);
+      numbered = rising_filter freeze_key stays 0 before.transport.freezes before.transport.greatest_freeze kept.numbered;
       numbers = kept.numbers;
     })
 freezes_kept setup before event after (freeze_changes old new found place_is e g hands) kept =
     let named : (q : Place) → names q new ≡ names q old = λ q. ap (λ (x : Place). is_place x q) place_is in
-    freezes_from setup after (put freeze_key new before.freezes) before.greatest_freeze e g (record {
+    freezes_from setup after (put freeze_key new before.transport.freezes) before.transport.greatest_freeze e g (record {
       places = λ agreed.
-          let known : IsThere setup new = rw place_is (all_found freeze_key (IsThere setup) new.number before.freezes old (kept.places agreed) found) in
-          all_put freeze_key (IsThere setup) new before.freezes known (kept.places agreed);
-      a_place = λ q. omega (arith, kept.a_place q, count_put freeze_key (names q) 0 before.freezes before.greatest_freeze new old kept.numbered found, ap (λ (b : Bool). cond {A = ℕ} b 1 0) (named q));
-      ledger = omega (arith, kept.ledger, put_length freeze_key new before.freezes);
-      numbered = rw (put_keys freeze_key new before.freezes) kept.numbered;
+          let known : IsThere setup new = rw place_is (all_found freeze_key (IsThere setup) new.number before.transport.freezes old (kept.places agreed) found) in
+          all_put freeze_key (IsThere setup) new before.transport.freezes known (kept.places agreed);
+      a_place = λ q. omega (arith, kept.a_place q, count_put freeze_key (names q) 0 before.transport.freezes before.transport.greatest_freeze new old kept.numbered found, ap (λ (b : Bool). cond {A = ℕ} b 1 0) (named q));
+      ledger = omega (arith, kept.ledger, put_length freeze_key new before.transport.freezes);
+      numbered = rw (put_keys freeze_key new before.transport.freezes) kept.numbered;
       numbers = kept.numbers;
     })
 
 -- what the limits of CCBs speak of
 abbrev CcbsWithin : Setup → List LiveCcb → ℕ → Type 0
-CcbsWithin setup live greatest = CcbLimits setup (record (opening setup) { live = live; greatest_ccb = greatest })
+CcbsWithin setup live greatest = CcbLimits setup (record (opening setup) { transport = record (opening setup).transport { live = live; greatest_ccb = greatest } })
 
-ccbs_from : (setup : Setup) (world : World) (live : List LiveCcb) (greatest : ℕ) → world.live ≡ live → world.greatest_ccb ≡ greatest → CcbsWithin setup live greatest → CcbLimits setup world
+ccbs_from : (setup : Setup) (world : World) (live : List LiveCcb) (greatest : ℕ) → world.transport.live ≡ live → world.transport.greatest_ccb ≡ greatest → CcbsWithin setup live greatest → CcbLimits setup world
 ccbs_from setup world live greatest e g kept =
     record {
       queues = rw e kept.queues;
@@ -111,9 +111,9 @@ ccbs_from setup world live greatest e g kept =
 
 -- below every limit of CCBs
 record CcbRoom (queue : ℕ) (world : World) : Type 0 where
-  a_queue : live_count queue world.live < 256
-  all : length world.live < 4096
-  numbers : world.greatest_ccb < 4294967295
+  a_queue : live_count queue world.transport.live < 256
+  all : length world.transport.live < 4096
+  numbers : world.transport.greatest_ccb < 4294967295
 
 ccb_room : (queue : ℕ) (world : World) → ccb_meets_limit queue world ≡ false → CcbRoom queue world
 ccb_room queue world e =
@@ -123,49 +123,49 @@ ccb_room queue world e =
 
 pub ccbs_kept : (setup : Setup) (before : World) (event : Event) (reply : Reply) (after : World) → CcbMove setup before event reply after → CcbLimits setup before → CcbLimits setup after
 ccbs_kept setup before event reply after (ccbs_stay e g unended) kept =
-    ccbs_from setup after before.live before.greatest_ccb e g (record { queues = kept.queues; a_queue = kept.a_queue; all = kept.all; rising = kept.rising; numbers = kept.numbers })
+    ccbs_from setup after before.transport.live before.transport.greatest_ccb e g (record { queues = kept.queues; a_queue = kept.a_queue; all = kept.all; rising = kept.rising; numbers = kept.numbers })
 ccbs_kept setup before event reply after (ccb_enters queue priority retries known full e g unended) kept =
-    let c : LiveCcb = record { ccb = submitted (record { 0 = before.greatest_ccb + 1 }) queue priority retries; state = Waiting } in
+    let c : LiveCcb = record { ccb = submitted (record { 0 = before.transport.greatest_ccb + 1 }) queue priority retries; state = Waiting } in
     let room = ccb_room queue.0 before full in
-    let one_more : (q : ℕ) → live_count q before.live + cond {A = ℕ} (eqb queue.0 q) 1 0 ≤ 256 = λ q. elim (cases_eq queue.0 q) [
-      | inl same ↦ let here : live_count q before.live < 256 = subst (λ (x : ℕ). live_count x before.live < 256) same room.a_queue in rw (eq-eqb queue.0 q same) (omega arith)
+    let one_more : (q : ℕ) → live_count q before.transport.live + cond {A = ℕ} (eqb queue.0 q) 1 0 ≤ 256 = λ q. elim (cases_eq queue.0 q) [
+      | inl same ↦ let here : live_count q before.transport.live < 256 = subst (λ (x : ℕ). live_count x before.transport.live < 256) same room.a_queue in rw (eq-eqb queue.0 q same) (omega arith)
       | inr apart ↦ rw (ne_eqb queue.0 q apart) (omega (arith, kept.a_queue q))
     ] in
-    ccbs_from setup after (before.live ++ c ∷ []) (before.greatest_ccb + 1) e g (record {
-      queues = All-push (λ (x : LiveCcb). x.ccb.queue.0 < queue_count setup) before.live c kept.queues known;
-      a_queue = λ q. omega (arith, sum_by_push (λ (x : LiveCcb). cond (is_of q x) 1 0) before.live c, one_more q);
-      all = omega (arith, room.all, length-append before.live (c ∷ []));
-      rising = rising_push ccb_key 0 before.live before.greatest_ccb c kept.rising refl;
+    ccbs_from setup after (before.transport.live ++ c ∷ []) (before.transport.greatest_ccb + 1) e g (record {
+      queues = All-push (λ (x : LiveCcb). x.ccb.queue.0 < queue_count setup) before.transport.live c kept.queues known;
+      a_queue = λ q. omega (arith, sum_by_push (λ (x : LiveCcb). cond (is_of q x) 1 0) before.transport.live c, one_more q);
+      all = omega (arith, room.all, length-append before.transport.live (c ∷ []));
+      rising = rising_push ccb_key 0 before.transport.live before.transport.greatest_ccb c kept.rising refl;
       numbers = omega (arith, room.numbers);
     })
 ccbs_kept setup before event reply after (ccb_changes old new found queue_is active_or_not may e g unended) kept =
     let of_old : (q : ℕ) → is_of q new ≡ is_of q old = λ q. ap (λ (x : ℕ). eqb x q) queue_is in
-    let known : new.ccb.queue.0 < queue_count setup = rw queue_is (all_found ccb_key (λ (x : LiveCcb). x.ccb.queue.0 < queue_count setup) new.ccb.number.0 before.live old kept.queues found) in
-    let moved : (p : LiveCcb → Bool) → count_by p (with_ccb new before.live) + cond (p old) 1 0 ≡ count_by p before.live + cond (p new) 1 0 = λ p.
-    count_put ccb_key p 0 before.live before.greatest_ccb new old kept.rising found in
-    ccbs_from setup after (with_ccb new before.live) before.greatest_ccb e g (record {
-      queues = all_put ccb_key (λ (x : LiveCcb). x.ccb.queue.0 < queue_count setup) new before.live known kept.queues;
+    let known : new.ccb.queue.0 < queue_count setup = rw queue_is (all_found ccb_key (λ (x : LiveCcb). x.ccb.queue.0 < queue_count setup) new.ccb.number.0 before.transport.live old kept.queues found) in
+    let moved : (p : LiveCcb → Bool) → count_by p (with_ccb new before.transport.live) + cond (p old) 1 0 ≡ count_by p before.transport.live + cond (p new) 1 0 = λ p.
+    count_put ccb_key p 0 before.transport.live before.transport.greatest_ccb new old kept.rising found in
+    ccbs_from setup after (with_ccb new before.transport.live) before.transport.greatest_ccb e g (record {
+      queues = all_put ccb_key (λ (x : LiveCcb). x.ccb.queue.0 < queue_count setup) new before.transport.live known kept.queues;
       a_queue = λ q.
           let same : cond {A = ℕ} (is_of q new) 1 0 ≡ cond (is_of q old) 1 0 = ap (λ (b : Bool). cond {A = ℕ} b 1 0) (of_old q) in
           omega (arith, moved (is_of q), same, kept.a_queue q);
-      all = omega (arith, put_length ccb_key new before.live, kept.all);
-      rising = rw (put_keys ccb_key new before.live) kept.rising;
+      all = omega (arith, put_length ccb_key new before.transport.live, kept.all);
+      rising = rw (put_keys ccb_key new before.transport.live) kept.rising;
       numbers = kept.numbers;
     })
 ccbs_kept setup before event reply after (ccb_leaves number code old found may e g one) kept =
-    ccbs_from setup after (leave ccb_key number before.live) before.greatest_ccb e g (record {
-      queues = All-filter (λ (x : LiveCcb). not (eqb x.ccb.number.0 number)) (λ (x : LiveCcb). x.ccb.queue.0 < queue_count setup) before.live kept.queues;
-      a_queue = λ q. omega (arith, kept.a_queue q, count_leave ccb_key (is_of q) before.live number);
-      all = omega (arith, kept.all, length-filter (λ (x : LiveCcb). not (eqb x.ccb.number.0 number)) before.live, count_by-le-length (λ (x : LiveCcb). not (eqb x.ccb.number.0 number)) before.live);
-      rising = rising_leave ccb_key 0 before.live before.greatest_ccb number kept.rising;
+    ccbs_from setup after (leave ccb_key number before.transport.live) before.transport.greatest_ccb e g (record {
+      queues = All-filter (λ (x : LiveCcb). not (eqb x.ccb.number.0 number)) (λ (x : LiveCcb). x.ccb.queue.0 < queue_count setup) before.transport.live kept.queues;
+      a_queue = λ q. omega (arith, kept.a_queue q, count_leave ccb_key (is_of q) before.transport.live number);
+      all = omega (arith, kept.all, length-filter (λ (x : LiveCcb). not (eqb x.ccb.number.0 number)) before.transport.live, count_by-le-length (λ (x : LiveCcb). not (eqb x.ccb.number.0 number)) before.transport.live);
+      rising = rising_leave ccb_key 0 before.transport.live before.transport.greatest_ccb number kept.rising;
       numbers = kept.numbers;
     })
 
 -- what the limits of runs speak of
 abbrev RunsWithin : Setup → List LiveRun → ℕ → Type 0
-RunsWithin setup runs greatest = RunLimits setup (record (opening setup) { runs = runs; greatest_run = greatest })
+RunsWithin setup runs greatest = RunLimits setup (record (opening setup) { runs = record (opening setup).runs { list = runs; greatest = greatest } })
 
-runs_from : (setup : Setup) (world : World) (runs : List LiveRun) (greatest : ℕ) → world.runs ≡ runs → world.greatest_run ≡ greatest → RunsWithin setup runs greatest → RunLimits setup world
+runs_from : (setup : Setup) (world : World) (runs : List LiveRun) (greatest : ℕ) → world.runs.list ≡ runs → world.runs.greatest ≡ greatest → RunsWithin setup runs greatest → RunLimits setup world
 runs_from setup world runs greatest e g kept =
     record { queues = rw e kept.queues; programs = rw e kept.programs; all = rw e kept.all; rising = rw (e, g) kept.rising; numbers = rw g kept.numbers }
 
@@ -177,36 +177,36 @@ IsOfProgram setup run = run.program ≡ (queue_setup setup run.queue).program
 
 pub runs_kept : (setup : Setup) (before : World) (event : Event) (reply : Reply) (after : World) → RunMove setup before event reply after → RunLimits setup before → RunLimits setup after
 runs_kept setup before event reply after (runs_stay e g quiet) kept =
-    runs_from setup after before.runs before.greatest_run e g (record { queues = kept.queues; programs = kept.programs; all = kept.all; rising = kept.rising; numbers = kept.numbers })
+    runs_from setup after before.runs.list before.runs.greatest e g (record { queues = kept.queues; programs = kept.programs; all = kept.all; rising = kept.rising; numbers = kept.numbers })
 runs_kept setup before event reply after (run_enters run begins known full g) kept =
-    let number : run.number ≡ before.greatest_run + 1 = ap (λ (r : LiveRun). r.number) begins.run_is in
+    let number : run.number ≡ before.runs.greatest + 1 = ap (λ (r : LiveRun). r.number) begins.run_is in
     let program : IsOfProgram setup run = ap (λ (r : LiveRun). r.program) begins.run_is ∙ sym (ap (λ (r : LiveRun). (queue_setup setup r.queue).program) begins.run_is) in
     let parts = or_parts _ _ full in
-    let most : length before.runs < 256 = leb-false _ _ parts.0 in
-    let left : before.greatest_run < 4294967295 = leb-false _ _ parts.1 in
-    runs_from setup after (before.runs ++ run ∷ []) (before.greatest_run + 1) begins.runs_is g (record {
-      queues = All-push (IsKnown setup) before.runs run kept.queues known;
-      programs = All-push (IsOfProgram setup) before.runs run kept.programs program;
-      all = omega (arith, most, length-append before.runs (run ∷ []));
-      rising = rising_push run_key 0 before.runs before.greatest_run run kept.rising number;
+    let most : length before.runs.list < 256 = leb-false _ _ parts.0 in
+    let left : before.runs.greatest < 4294967295 = leb-false _ _ parts.1 in
+    runs_from setup after (before.runs.list ++ run ∷ []) (before.runs.greatest + 1) begins.runs_is g (record {
+      queues = All-push (IsKnown setup) before.runs.list run kept.queues known;
+      programs = All-push (IsOfProgram setup) before.runs.list run kept.programs program;
+      all = omega (arith, most, length-append before.runs.list (run ∷ []));
+      rising = rising_push run_key 0 before.runs.list before.runs.greatest run kept.rising number;
       numbers = omega (arith, left);
     })
 runs_kept setup before event reply after (run_changes old new found queue_is program_is e g quiet its) kept =
-    let known : IsKnown setup old = all_found run_key (IsKnown setup) new.number before.runs old kept.queues found in
-    let program : IsOfProgram setup old = all_found run_key (IsOfProgram setup) new.number before.runs old kept.programs found in
-    runs_from setup after (put run_key new before.runs) before.greatest_run e g (record {
-      queues = all_put run_key (IsKnown setup) new before.runs (rw queue_is known) kept.queues;
-      programs = all_put run_key (IsOfProgram setup) new before.runs (rw (queue_is, program_is) program) kept.programs;
-      all = omega (arith, put_length run_key new before.runs, kept.all);
-      rising = rw (put_keys run_key new before.runs) kept.rising;
+    let known : IsKnown setup old = all_found run_key (IsKnown setup) new.number before.runs.list old kept.queues found in
+    let program : IsOfProgram setup old = all_found run_key (IsOfProgram setup) new.number before.runs.list old kept.programs found in
+    runs_from setup after (put run_key new before.runs.list) before.runs.greatest e g (record {
+      queues = all_put run_key (IsKnown setup) new before.runs.list (rw queue_is known) kept.queues;
+      programs = all_put run_key (IsOfProgram setup) new before.runs.list (rw (queue_is, program_is) program) kept.programs;
+      all = omega (arith, put_length run_key new before.runs.list, kept.all);
+      rising = rw (put_keys run_key new before.runs.list) kept.rising;
       numbers = kept.numbers;
     })
 runs_kept setup before event reply after (run_leaves run found e g quiet its) kept =
-    runs_from setup after (leave run_key run.number before.runs) before.greatest_run e g (record {
-      queues = All-filter (λ (x : LiveRun). not (eqb x.number run.number)) (IsKnown setup) before.runs kept.queues;
-      programs = All-filter (λ (x : LiveRun). not (eqb x.number run.number)) (IsOfProgram setup) before.runs kept.programs;
-      all = omega (arith, kept.all, length-filter (λ (x : LiveRun). not (eqb x.number run.number)) before.runs, count_by-le-length (λ (x : LiveRun). not (eqb x.number run.number)) before.runs);
-      rising = rising_leave run_key 0 before.runs before.greatest_run run.number kept.rising;
+    runs_from setup after (leave run_key run.number before.runs.list) before.runs.greatest e g (record {
+      queues = All-filter (λ (x : LiveRun). not (eqb x.number run.number)) (IsKnown setup) before.runs.list kept.queues;
+      programs = All-filter (λ (x : LiveRun). not (eqb x.number run.number)) (IsOfProgram setup) before.runs.list kept.programs;
+      all = omega (arith, kept.all, length-filter (λ (x : LiveRun). not (eqb x.number run.number)) before.runs.list, count_by-le-length (λ (x : LiveRun). not (eqb x.number run.number)) before.runs.list);
+      rising = rising_leave run_key 0 before.runs.list before.runs.greatest run.number kept.rising;
       numbers = kept.numbers;
     })
 

@@ -29,8 +29,8 @@ Disposed run requeues = ((run.machine.disposed ≡ false) × (requeues ≡ 0)) �
 
 -- a run after so many steps, requeues and exits: live, or over
 pub data Life (setup : Setup) (start : LiveRun) (number steps requeues exits : ℕ) (world : World) : Type 0 where
-  alive : (now : LiveRun) → run_of number world.runs ≡ Some now → now.queue ≡ start.queue → now.ccb ≡ start.ccb → Reached now.program steps now.machine → Disposed now requeues → exits ≡ 0 → Life setup start number steps requeues exits world
-  over : run_of number world.runs ≡ None → number ≤ world.greatest_run → steps ≤ (queue_setup setup start.queue).budget → requeues ≡ 1 → exits ≡ 1 → Life setup start number steps requeues exits world
+  alive : (now : LiveRun) → run_of number world.runs.list ≡ Some now → now.queue ≡ start.queue → now.ccb ≡ start.ccb → Reached now.program steps now.machine → Disposed now requeues → exits ≡ 0 → Life setup start number steps requeues exits world
+  over : run_of number world.runs.list ≡ None → number ≤ world.runs.greatest → steps ≤ (queue_setup setup start.queue).budget → requeues ≡ 1 → exits ≡ 1 → Life setup start number steps requeues exits world
 
 abbrev one : Bool → ℕ
 one b = cond b 1 0
@@ -55,32 +55,32 @@ not_counted setup start number k j e event world idle life =
     recount setup start number k j e _ _ _ world (omega (arith, step)) (omega (arith, again)) (omega (arith, gone)) life
 
 -- a run that is not live makes no step
-pub gone_stands : (setup : Setup) (before : World) (event : Event) (reply : Reply) (after : World) (number : ℕ) → run_of number before.runs ≡ None → Effect setup before event reply after → instruction_of number event ≡ None
+pub gone_stands : (setup : Setup) (before : World) (event : Event) (reply : Reply) (after : World) (number : ℕ) → run_of number before.runs.list ≡ None → Effect setup before event reply after → instruction_of number event ≡ None
 gone_stands setup before event reply after number none it = split (instruction_of number event) refl
   where
     split : (o : Option Instruction) → instruction_of number event ≡ o → o ≡ None
     split None e = refl
     split (Some instruction) e = absurd (let bad : IsSome {T = LiveRun} None = subst (λ (o : Option LiveRun). IsSome o) none (it.acts number instruction e) in cc)
 
-pub rises : (setup : Setup) (before : World) (event : Event) (reply : Reply) (after : World) → RunMove setup before event reply after → before.greatest_run ≤ after.greatest_run
+pub rises : (setup : Setup) (before : World) (event : Event) (reply : Reply) (after : World) → RunMove setup before event reply after → before.runs.greatest ≤ after.runs.greatest
 rises setup before event reply after (runs_stay e g quiet) = omega (arith, g)
 rises setup before event reply after (run_enters run begins known room g) = omega (arith, g)
 rises setup before event reply after (run_changes old new found queue_is program_is e g quiet its) = omega (arith, g)
 rises setup before event reply after (run_leaves run found e g quiet its) = omega (arith, g)
 
 -- a run that is over stays over
-pub stays_over : (setup : Setup) (before : World) (event : Event) (reply : Reply) (after : World) (number : ℕ) → run_of number before.runs ≡ None → number ≤ before.greatest_run → RunMove setup before event reply after → (run_of number after.runs ≡ None) × (number ≤ after.greatest_run)
-stays_over setup before event reply after number none given it = (split (run_of number after.runs) refl, omega (arith, given, rises setup before event reply after it))
+pub stays_over : (setup : Setup) (before : World) (event : Event) (reply : Reply) (after : World) (number : ℕ) → run_of number before.runs.list ≡ None → number ≤ before.runs.greatest → RunMove setup before event reply after → (run_of number after.runs.list ≡ None) × (number ≤ after.runs.greatest)
+stays_over setup before event reply after number none given it = (split (run_of number after.runs.list) refl, omega (arith, given, rises setup before event reply after it))
   where
-    split : (o : Option LiveRun) → run_of number after.runs ≡ o → run_of number after.runs ≡ None
+    split : (o : Option LiveRun) → run_of number after.runs.list ≡ o → run_of number after.runs.list ≡ None
     split None found = found
     split (Some run) found = absurd (let new = new_run setup before event reply after number run it none found in omega (arith, given, new.number_is))
 
 -- what a run is within
-pub within : (setup : Setup) (world : World) (number : ℕ) (run : LiveRun) → IsLawful setup → IsSound setup world → run_of number world.runs ≡ Some run → Within run.program (queue_setup setup run.queue).budget
+pub within : (setup : Setup) (world : World) (number : ℕ) (run : LiveRun) → IsLawful setup → IsSound setup world → run_of number world.runs.list ≡ Some run → Within run.program (queue_setup setup run.queue).budget
 within setup world number run lawful sound found =
-    let known = all_found run_key (λ (r : LiveRun). r.queue < queue_count setup) number world.runs run sound.kept.runs.queues found in
-    let program = all_found run_key (λ (r : LiveRun). r.program ≡ (queue_setup setup r.queue).program) number world.runs run sound.kept.runs.programs found in
+    let known = all_found run_key (λ (r : LiveRun). r.queue < queue_count setup) number world.runs.list run sound.kept.runs.queues found in
+    let program = all_found run_key (λ (r : LiveRun). r.program ≡ (queue_setup setup r.queue).program) number world.runs.list run sound.kept.runs.programs found in
     subst (λ (p : List Slot). Within p (queue_setup setup run.queue).budget) (sym program) (lawful_queue setup lawful run.queue known).within
 
 -- one instruction further
@@ -101,7 +101,7 @@ same_disposal : (run : LiveRun) (machine : MachineState) (j : ℕ) → machine.d
 same_disposal run machine j same (inl p) = inl (same ∙ p.0, p.1)
 same_disposal run machine j same (inr p) = inr (same ∙ p.0, p.1)
 
-alive_step : (setup : Setup) (start : LiveRun) (number k j e : ℕ) (before : World) (event : Event) (reply : Reply) (after : World) → IsLawful setup → IsSound setup before → Effect setup before event reply after → (now : LiveRun) → run_of number before.runs ≡ Some now → now.queue ≡ start.queue → now.ccb ≡ start.ccb → Reached now.program k now.machine → Disposed now j → e ≡ 0 → Fate before event reply after number now → Later setup start number k j e event after
+alive_step : (setup : Setup) (start : LiveRun) (number k j e : ℕ) (before : World) (event : Event) (reply : Reply) (after : World) → IsLawful setup → IsSound setup before → Effect setup before event reply after → (now : LiveRun) → run_of number before.runs.list ≡ Some now → now.queue ≡ start.queue → now.ccb ≡ start.ccb → Reached now.program k now.machine → Disposed now j → e ≡ 0 → Fate before event reply after number now → Later setup start number k j e event after
 alive_step setup start number k j e before event reply after lawful sound effect now found queue ccb reached disposed none_yet (stands out idle is) =
     not_counted setup start number k j e event after idle (alive (turned now out) is queue ccb reached disposed none_yet)
 alive_step setup start number k j e before event reply after lawful sound effect now found queue ccb reached disposed none_yet (goes instruction machine event_is no_exit steps is holding disposing) = by_disposing disposing

@@ -49,19 +49,19 @@ module _ (r : ℕ) (c : LiveRun) (named : c.number ≡ r) (w : World) where
   leaves reply run apart = record {
     reply_is = refl;
     world_is = λ other. (
-      ap (λ (runs : List LiveRun). record w { runs = runs }) (leave_swap run_key run.number c w.runs (λ same. apart (sym same ∙ named))),
-      leave_other run_key run.number r w.runs apart,
+      ap (λ (runs : List LiveRun). record w { runs = record w.runs { list = runs } }) (leave_swap run_key run.number c w.runs.list (λ same. apart (sym same ∙ named))),
+      leave_other run_key run.number r w.runs.list apart,
     );
   }
 
   -- a run starts
-  begins : (setup : Setup) (between : World) (ccb : Ccb) (freeze : ℕ) → between.runs ≡ w.runs → Alike r c named w (run_starts setup between ccb freeze) (run_starts setup (changed c between) ccb freeze)
+  begins : (setup : Setup) (between : World) (ccb : Ccb) (freeze : ℕ) → between.runs.list ≡ w.runs.list → Alike r c named w (run_starts setup between ccb freeze) (run_starts setup (changed c between) ccb freeze)
   begins setup between ccb freeze e = record {
     reply_is = refl;
     world_is = λ other.
-        let apart : between.greatest_run + 1 ≡ r → ⊥ = λ same. let bad : true ≡ false = sym (eq-eqb _ _ same) ∙ other in cc in (
-          ap (λ (runs : List LiveRun). record (run_starts setup between ccb freeze).1 { runs = runs }) (sym (push_swap run_key c _ between.runs (λ same. apart (same ∙ named)))),
-          push_other run_key r _ between.runs apart ∙ ap (run_of r) e,
+        let apart : between.runs.greatest + 1 ≡ r → ⊥ = λ same. let bad : true ≡ false = sym (eq-eqb _ _ same) ∙ other in cc in (
+          ap (λ (runs : List LiveRun). record (run_starts setup between ccb freeze).1 { runs = record (run_starts setup between ccb freeze).1.runs { list = runs } }) (sym (push_swap run_key c _ between.runs.list (λ same. apart (same ∙ named)))),
+          push_other run_key r _ between.runs.list apart ∙ ap (run_of r) e,
         );
   }
 
@@ -81,12 +81,12 @@ module _ (r : ℕ) (c : LiveRun) (named : c.number ≡ r) (w : World) where
   starts_next (Some next) = an_event r c named w _ _ (stays r c named w _ _ refl)
 
   same_limit : run_meets_limit (changed c w) ≡ run_meets_limit w
-  same_limit = ap (λ (n : ℕ). nat_le most_runs n || nat_le last_number w.greatest_run) (put_length run_key c w.runs)
+  same_limit = ap (λ (n : ℕ). nat_le most_runs n || nat_le last_number w.runs.greatest) (put_length run_key c w.runs.list)
 
   recovers_alike : (setup : Setup) (ccb : Ccb) (outcome : Outcome) → Alike r c named w (recovers setup w ccb outcome) (recovers setup (changed c w) ccb outcome)
   recovers_alike setup ccb outcome =
-      one_of r c named w (meets_limit (Device ccb.queue) w.freezes w.greatest_freeze) _ _ _ _ (begins setup w (completed ccb outcome false) 0 refl)
-      (begins setup (froze w (Device ccb.queue) (Run (w.greatest_run + 1))) (completed ccb outcome true) (w.greatest_freeze + 1) refl)
+      one_of r c named w (meets_limit (Device ccb.queue) w.transport.freezes w.transport.greatest_freeze) _ _ _ _ (begins setup w (completed ccb outcome false) 0 refl)
+      (begins setup (froze w (Device ccb.queue) (Run (w.runs.greatest + 1))) (completed ccb outcome true) (w.transport.greatest_freeze + 1) refl)
 
   completes_alike : (setup : Setup) (outcome : Outcome) (o : Option LiveCcb) → AlikeOr r c named w (option_map (completes setup w outcome) o) (option_map (completes setup (changed c w) outcome) o)
   completes_alike setup outcome None = neither r c named w
@@ -97,19 +97,19 @@ module _ (r : ℕ) (c : LiveRun) (named : c.number ≡ r) (w : World) where
   released None = neither r c named w
   released (Some freeze) = if_so r c named w _ _ _ (an_event r c named w _ _ (stays r c named w _ _ refl))
 
-  parks_alike : (number : ℕ) → (number ≡ r → ⊥) → (o : Option LiveRun) → run_of number w.runs ≡ o → AlikeOr r c named w (parks w o) (parks (changed c w) o)
+  parks_alike : (number : ℕ) → (number ≡ r → ⊥) → (o : Option LiveRun) → run_of number w.runs.list ≡ o → AlikeOr r c named w (parks w o) (parks (changed c w) o)
   parks_alike number apart None found = neither r c named w
   parks_alike number apart (Some run) found =
-      if_so r c named w _ _ _ (an_event r c named w _ _ (changes r c named w (replies answers.Ok) w (record run { out = false }) refl (λ same. apart (sym (found_key run_key number w.runs run found) ∙ same))))
+      if_so r c named w _ _ _ (an_event r c named w _ _ (changes r c named w (replies answers.Ok) w (record run { out = false }) refl (λ same. apart (sym (found_key run_key number w.runs.list run found) ∙ same))))
 
-  resumes_alike : (number : ℕ) → (number ≡ r → ⊥) → (o : Option LiveRun) → run_of number w.runs ≡ o → AlikeOr r c named w (option_map (resumes w) o) (option_map (resumes (changed c w)) o)
+  resumes_alike : (number : ℕ) → (number ≡ r → ⊥) → (o : Option LiveRun) → run_of number w.runs.list ≡ o → AlikeOr r c named w (option_map (resumes w) o) (option_map (resumes (changed c w)) o)
   resumes_alike number apart None found = neither r c named w
   resumes_alike number apart (Some run) found =
-      an_event r c named w _ _ (changes r c named w (replies answers.Ok) w (record run { out = true }) refl (λ same. apart (sym (found_key run_key number w.runs run found) ∙ same)))
+      an_event r c named w _ _ (changes r c named w (replies answers.Ok) w (record run { out = true }) refl (λ same. apart (sym (found_key run_key number w.runs.list run found) ∙ same)))
 
   -- the number of another run is of the same run in the changed world
-  same_run : (number : ℕ) → (number ≡ r → ⊥) → run_of number (changed c w).runs ≡ run_of number w.runs
-  same_run number apart = put_other run_key c number w.runs (λ same. apart (sym same ∙ named))
+  same_run : (number : ℕ) → (number ≡ r → ⊥) → run_of number (changed c w).runs.list ≡ run_of number w.runs.list
+  same_run number apart = put_other run_key c number w.runs.list (λ same. apart (sym same ∙ named))
 
   not_its : (number : ℕ) → eqb number r ≡ false → number ≡ r → ⊥
   not_its number other same = let bad : true ≡ false = sym (eq-eqb number r same) ∙ other in cc
@@ -117,26 +117,26 @@ module _ (r : ℕ) (c : LiveRun) (named : c.number ≡ r) (w : World) where
   call_alike : (setup : Setup) (its : Call) → is_own_of r (called its) ≡ false → AlikeOr r c named w (step_call setup w its) (step_call setup (changed c w) its)
   call_alike setup (Submit queue priority retries) other =
       unless_alike (refusals_of setup w (Submit queue priority retries)) _ refl _ _ (an_event r c named w _ _ (stays r c named w _ _ refl))
-  call_alike setup (Dispatch queue) other = unless_alike (refusals_of setup w (Dispatch queue)) _ refl _ _ (starts_next (next_waiting queue.0 w.live))
+  call_alike setup (Dispatch queue) other = unless_alike (refusals_of setup w (Dispatch queue)) _ refl _ _ (starts_next (next_waiting queue.0 w.transport.live))
   call_alike setup (Complete outcome) other =
       if_so r c named w (is_completion outcome) _ _
       (unless_alike (refusals_of setup w (Complete outcome)) _
-      (ap (λ (full : Bool). (is_none (ccb_of outcome.ccb.0 w.live), Unknown) ∷ (not (is_success outcome.status) && full, Limit) ∷ (not (works (ccb_of outcome.ccb.0 w.live)), NotActive) ∷ []) same_limit) _ _
-      (completes_alike setup outcome (ccb_of outcome.ccb.0 w.live)))
+      (ap (λ (full : Bool). (is_none (ccb_of outcome.ccb.0 w.transport.live), Unknown) ∷ (not (is_success outcome.status) && full, Limit) ∷ (not (works (ccb_of outcome.ccb.0 w.transport.live)), NotActive) ∷ []) same_limit) _ _
+      (completes_alike setup outcome (ccb_of outcome.ccb.0 w.transport.live)))
   call_alike setup (GuestFreeze place guest) other =
       unless_alike (refusals_of setup w (GuestFreeze place guest)) _ refl _ _ (an_event r c named w _ _ (stays r c named w _ _ refl))
-  call_alike setup (GuestRelease freeze) other = released (entry_of freeze w.freezes)
+  call_alike setup (GuestRelease freeze) other = released (entry_of freeze w.transport.freezes)
   call_alike setup (Clock reading) other =
       unless_alike (refusals_of setup w (Clock reading)) _ refl _ _ (an_event r c named w _ _ (stays r c named w _ _ refl))
   call_alike setup (Park number) other =
       let apart = not_its number other in
-      subst (λ (o : Option LiveRun). AlikeOr r c named w (parks w (run_of number w.runs)) (parks (changed c w) o)) (sym (same_run number apart))
-      (parks_alike number apart (run_of number w.runs) refl)
+      subst (λ (o : Option LiveRun). AlikeOr r c named w (parks w (run_of number w.runs.list)) (parks (changed c w) o)) (sym (same_run number apart))
+      (parks_alike number apart (run_of number w.runs.list) refl)
   call_alike setup (Resume number) other =
       let apart = not_its number other in
       unless_alike (refusals_of setup w (Resume number)) _ (ap (λ (o : Option LiveRun). (not (is_parked o), Unknown) ∷ []) (same_run number apart)) _ _
-      (subst (λ (o : Option LiveRun). AlikeOr r c named w (option_map (resumes w) (run_of number w.runs)) (option_map (resumes (changed c w)) o)) (sym (same_run number apart))
-      (resumes_alike number apart (run_of number w.runs) refl))
+      (subst (λ (o : Option LiveRun). AlikeOr r c named w (option_map (resumes w) (run_of number w.runs.list)) (option_map (resumes (changed c w)) o)) (sym (same_run number apart))
+      (resumes_alike number apart (run_of number w.runs.list) refl))
 
   -- an instruction of another run
 
@@ -157,10 +157,10 @@ module _ (r : ℕ) (c : LiveRun) (named : c.number ≡ r) (w : World) where
   runs_alike limits run apart (call told) = calls limits run apart told (request_at run.program run.machine)
   runs_alike limits run apart exit = exits run apart (exit_at run.program run.machine)
 
-  executes_alike : (limits : HelperLimits) (number : ℕ) → (number ≡ r → ⊥) → (instruction : Instruction) (o : Option LiveRun) → run_of number w.runs ≡ o → AlikeOr r c named w (step_executes limits w instruction o) (step_executes limits (changed c w) instruction o)
+  executes_alike : (limits : HelperLimits) (number : ℕ) → (number ≡ r → ⊥) → (instruction : Instruction) (o : Option LiveRun) → run_of number w.runs.list ≡ o → AlikeOr r c named w (step_executes limits w instruction o) (step_executes limits (changed c w) instruction o)
   executes_alike limits number apart instruction None found = neither r c named w
   executes_alike limits number apart instruction (Some run) found =
-      if_so r c named w _ _ _ (runs_alike limits run (λ same. apart (sym (found_key run_key number w.runs run found) ∙ same)) instruction)
+      if_so r c named w _ _ _ (runs_alike limits run (λ same. apart (sym (found_key run_key number w.runs.list run found) ∙ same)) instruction)
 
   executes_other : (number : ℕ) (instruction : Instruction) → is_own_of r (executes number instruction) ≡ false → number ≡ r → ⊥
   executes_other number instruction other same =
@@ -170,13 +170,13 @@ module _ (r : ℕ) (c : LiveRun) (named : c.number ≡ r) (w : World) where
   step_alike setup (called its) other = call_alike setup its other
   step_alike setup (executes number instruction) other =
       let apart = executes_other number instruction other in
-      subst (λ (o : Option LiveRun). AlikeOr r c named w (step_executes setup.limits w instruction (run_of number w.runs)) (step_executes setup.limits (changed c w) instruction o)) (sym (same_run number apart))
-      (executes_alike setup.limits number apart instruction (run_of number w.runs) refl)
+      subst (λ (o : Option LiveRun). AlikeOr r c named w (step_executes setup.limits w instruction (run_of number w.runs.list)) (step_executes setup.limits (changed c w) instruction o)) (sym (same_run number apart))
+      (executes_alike setup.limits number apart instruction (run_of number w.runs.list) refl)
 
 -- Now a private step of the run is such a change, and so is what one event more leads to.
 
 -- where the run is found, its private step is this one
-steps : (setup : Setup) (world : World) (r : ℕ) (run : LiveRun) (machine : MachineState) → run_of r world.runs ≡ Some run → run.out ≡ true → private_step run.program run.machine ≡ Some machine → WorldStep setup world (executes r private) went_on (changed (record run { machine = machine }) world)
+steps : (setup : Setup) (world : World) (r : ℕ) (run : LiveRun) (machine : MachineState) → run_of r world.runs.list ≡ Some run → run.out ≡ true → private_step run.program run.machine ≡ Some machine → WorldStep setup world (executes r private) went_on (changed (record run { machine = machine }) world)
 steps setup world r run machine found out step =
     ap (step_executes setup.limits world private) found
     ∙ (cond-true run.out _ _ out ∙ ap (option_map (λ (m : MachineState). let x : Reply × World = (went_on, goes_on world run m) in x)) step)
@@ -184,7 +184,7 @@ steps setup world r run machine found out step =
 -- a private step of this run
 record Goes (before : World) (r : ℕ) (reply : Reply) (after : World) : Type 0 where
   run : LiveRun
-  found : run_of r before.runs ≡ Some run
+  found : run_of r before.runs.list ≡ Some run
   named : run.number ≡ r
   out : run.out ≡ true
   machine : MachineState
@@ -198,8 +198,8 @@ goes_parts setup before r reply after e =
     let number_is : it.it.number ≡ r = let same : executes r private ≡ executes it.it.number private = it.it.event_is in cc in
     record {
       run = it.it.run;
-      found = subst (λ (n : ℕ). run_of n before.runs ≡ Some it.it.run) number_is it.it.found;
-      named = found_key run_key it.it.number before.runs it.it.run it.it.found ∙ number_is;
+      found = subst (λ (n : ℕ). run_of n before.runs.list ≡ Some it.it.run) number_is it.it.found;
+      named = found_key run_key it.it.number before.runs.list it.it.run it.it.found ∙ number_is;
       out = it.it.out;
       machine = it.machine;
       step = it.step;

@@ -35,14 +35,14 @@ StandsAt run private = (m : MachineState) × (private_step run.program run.machi
 StandsAt run (call told) = (request : Request) × (request_at run.program run.machine ≡ Some request) × (told ≡ told_of request)
 StandsAt run exit = (r0 : ℕ) × (exit_at run.program run.machine ≡ Some r0)
 
-its_run : (world : World) (number : ℕ) (run : LiveRun) (instruction : Instruction) → run_of number world.runs ≡ Some run → (it : Executes world (executes number instruction) instruction) → it.run ≡ run
+its_run : (world : World) (number : ℕ) (run : LiveRun) (instruction : Instruction) → run_of number world.runs.list ≡ Some run → (it : Executes world (executes number instruction) instruction) → it.run ≡ run
 its_run world number run instruction found it =
     let e : executes number instruction ≡ executes it.number instruction = it.event_is in
     let same : it.number ≡ number = cc in
-    same_run world.runs it.number number it.run run same it.found found
+    same_run world.runs.list it.number number it.run run same it.found found
 
 -- an instruction that is an event is one at which the run stands
-stands_at : (setup : Setup) (world : World) (number : ℕ) (run : LiveRun) (instruction : Instruction) (reply : Reply) (after : World) → run_of number world.runs ≡ Some run → WorldStep setup world (executes number instruction) reply after → StandsAt run instruction
+stands_at : (setup : Setup) (world : World) (number : ℕ) (run : LiveRun) (instruction : Instruction) (reply : Reply) (after : World) → run_of number world.runs.list ≡ Some run → WorldStep setup world (executes number instruction) reply after → StandsAt run instruction
 stands_at setup world number run private reply after found e =
     let it = private_parts setup world number reply after e in
     (it.machine, subst (λ (r : LiveRun). private_step r.program r.machine ≡ Some it.machine) (its_run world number run private found it.it) it.step)
@@ -54,7 +54,7 @@ stands_at setup world number run exit reply after found e =
     (it.r0, subst (λ (r : LiveRun). exit_at r.program r.machine ≡ Some it.r0) (its_run world number run exit found it.it) it.exit_is)
 
 -- a step, and that no other instruction is one
-one_step : (setup : Setup) (world : World) (number : ℕ) (run : LiveRun) → run_of number world.runs ≡ Some run → run.out ≡ true → (instruction : Instruction) (p : Reply × World) → step_run setup.limits world run instruction ≡ Some p → ((other : Instruction) → StandsAt run other → other ≡ instruction) → HasOneStep setup world number
+one_step : (setup : Setup) (world : World) (number : ℕ) (run : LiveRun) → run_of number world.runs.list ≡ Some run → run.out ≡ true → (instruction : Instruction) (p : Reply × World) → step_run setup.limits world run instruction ≡ Some p → ((other : Instruction) → StandsAt run other → other ≡ instruction) → HasOneStep setup world number
 one_step setup world number run found out instruction p e only =
     let step : WorldStep setup world (executes number instruction) p.0 p.1 =
     ap (step_executes setup.limits world instruction) found ∙ (cond-true run.out (step_run setup.limits world run instruction) None out ∙ e) in
@@ -73,7 +73,7 @@ absent : {A : Type 0} (o : Option A) (x : A) → o ≡ None → o ≡ Some x →
 absent o x none some = let bad : None ≡ Some x = sym none ∙ some in cc
 
 -- a private instruction is the one
-at_private : (setup : Setup) (world : World) (number : ℕ) (run : LiveRun) → run_of number world.runs ≡ Some run → run.out ≡ true → HasStep run.program run.machine → HasOneStep setup world number
+at_private : (setup : Setup) (world : World) (number : ℕ) (run : LiveRun) → run_of number world.runs.list ≡ Some run → run.out ≡ true → HasStep run.program run.machine → HasOneStep setup world number
 at_private setup world number run found out it =
     one_step setup world number run found out private _ (ap (option_map _) it.step) only
   where
@@ -86,7 +86,7 @@ same_call : (a b : Request) → Some a ≡ Some b → a ≡ b
 same_call a b e = cc
 
 -- a call by its rule that leads somewhere is the one
-at_this_call : (setup : Setup) (world : World) (number : ℕ) (run : LiveRun) → run_of number world.runs ≡ Some run → run.out ≡ true → (request : Request) → request_at run.program run.machine ≡ Some request → meets_rule setup.limits run.machine request ≡ true → private_step run.program run.machine ≡ None → exit_at run.program run.machine ≡ None → (p : Reply × World) → step_request world run request ≡ Some p → HasOneStep setup world number
+at_this_call : (setup : Setup) (world : World) (number : ℕ) (run : LiveRun) → run_of number world.runs.list ≡ Some run → run.out ≡ true → (request : Request) → request_at run.program run.machine ≡ Some request → meets_rule setup.limits run.machine request ≡ true → private_step run.program run.machine ≡ None → exit_at run.program run.machine ≡ None → (p : Reply × World) → step_request world run request ≡ Some p → HasOneStep setup world number
 at_this_call setup world number run found out request call_is rule no_step no_exit p leads =
     one_step setup world number run found out (call (told_of request)) p
     (ap (option_and_then (step_helper setup.limits world run (told_of request))) call_is
@@ -99,14 +99,14 @@ at_this_call setup world number run found out request call_is rule no_step no_ex
     only exit at = absurd (absent _ _ no_exit at.1)
 
 -- the freeze that a run holds is there, and is the run's
-its_entry : (setup : Setup) (world : World) (number : ℕ) (run : LiveRun) → IsSound setup world → run_of number world.runs ≡ Some run → (f : ℕ) → is_held run.machine.held f ≡ true → (freeze : Freeze) × (entry_of f world.freezes ≡ Some freeze) × (is_run run.number freeze.holder ≡ true)
+its_entry : (setup : Setup) (world : World) (number : ℕ) (run : LiveRun) → IsSound setup world → run_of number world.runs.list ≡ Some run → (f : ℕ) → is_held run.machine.held f ≡ true → (freeze : Freeze) × (entry_of f world.transport.freezes ≡ Some freeze) × (is_run run.number freeze.holder ≡ true)
 its_entry setup world number run sound found f held =
-    let among = among_is number f 0 world.freezes world.greatest_freeze sound.kept.freezes.numbered (sym (ap (λ (ns : List ℕ). is_held ns f) (sound.held.machines number run found)) ∙ held) in
-    let named : run.number ≡ number = found_key run_key number world.runs run found in
+    let among = among_is number f 0 world.transport.freezes world.transport.greatest_freeze sound.kept.freezes.numbered (sym (ap (λ (ns : List ℕ). is_held ns f) (sound.held.machines number run found)) ∙ held) in
+    let named : run.number ≡ number = found_key run_key number world.runs.list run found in
     (among.0, among.1, subst (λ (n : ℕ). is_run n among.0.holder ≡ true) (sym named) among.2)
 
 -- what a run's call may rely on
-has_its_own : (setup : Setup) (world : World) (number : ℕ) (run : LiveRun) → IsSound setup world → run_of number world.runs ≡ Some run → HasItsOwn world run
+has_its_own : (setup : Setup) (world : World) (number : ℕ) (run : LiveRun) → IsSound setup world → run_of number world.runs.list ≡ Some run → HasItsOwn world run
 has_its_own setup world number run sound found = record {
   freezes = its_entry setup world number run sound found;
   ccb = λ fresh.
@@ -114,13 +114,13 @@ has_its_own setup world number run sound found = record {
       (recovery.live, recovery.found);
 }
 
-at_call : (setup : Setup) (world : World) (number : ℕ) (run : LiveRun) → IsSound setup world → run_of number world.runs ≡ Some run → run.out ≡ true → (request : Request) → request_at run.program run.machine ≡ Some request → meets_rule setup.limits run.machine request ≡ true → private_step run.program run.machine ≡ None → exit_at run.program run.machine ≡ None → HasOneStep setup world number
+at_call : (setup : Setup) (world : World) (number : ℕ) (run : LiveRun) → IsSound setup world → run_of number world.runs.list ≡ Some run → run.out ≡ true → (request : Request) → request_at run.program run.machine ≡ Some request → meets_rule setup.limits run.machine request ≡ true → private_step run.program run.machine ≡ None → exit_at run.program run.machine ≡ None → HasOneStep setup world number
 at_call setup world number run sound found out request call_is rule no_step no_exit =
     let leads = leads_on setup.limits world run request (has_its_own setup world number run sound found) rule in
     at_this_call setup world number run found out request call_is rule no_step no_exit leads.0 leads.1
 
 -- the lawful exit is the one
-at_exit : (setup : Setup) (world : World) (number : ℕ) (run : LiveRun) → run_of number world.runs ≡ Some run → run.out ≡ true → AtLawfulExit run.program run.machine → HasOneStep setup world number
+at_exit : (setup : Setup) (world : World) (number : ℕ) (run : LiveRun) → run_of number world.runs.list ≡ Some run → run.out ≡ true → AtLawfulExit run.program run.machine → HasOneStep setup world number
 at_exit setup world number run found out it =
     one_step setup world number run found out exit _ (ap (option_map _) it.exit) only
   where
@@ -129,7 +129,7 @@ at_exit setup world number run found out it =
     only (call told) at = absurd (absent _ _ it.no_call at.1)
     only exit at = refl
 
-has_one_step : (setup : Setup) (world : World) (number : ℕ) (run : LiveRun) → IsSound setup world → run_of number world.runs ≡ Some run → is_stuck run.program setup.limits run.machine ≡ false → run.out ≡ true → HasOneStep setup world number
+has_one_step : (setup : Setup) (world : World) (number : ℕ) (run : LiveRun) → IsSound setup world → run_of number world.runs.list ≡ Some run → is_stuck run.program setup.limits run.machine ≡ false → run.out ≡ true → HasOneStep setup world number
 has_one_step setup world number run sound found goes out =
     elim (progress_lem run.program setup.limits run.machine goes) [
       | inl has_step ↦ at_private setup world number run found out has_step

@@ -35,11 +35,11 @@ abbrev one : Bool → ℕ
 one b = cond b 1 0
 
 -- a run that is parked takes no step
-takes_none : (setup : Setup) (before : World) (number other : ℕ) (instruction : Instruction) (reply : Reply) (after : World) (run : LiveRun) → run_of number before.runs ≡ Some run → run.out ≡ false → WorldStep setup before (executes other instruction) reply after → other ≡ number → ⊥
+takes_none : (setup : Setup) (before : World) (number other : ℕ) (instruction : Instruction) (reply : Reply) (after : World) (run : LiveRun) → run_of number before.runs.list ≡ Some run → run.out ≡ false → WorldStep setup before (executes other instruction) reply after → other ≡ number → ⊥
 takes_none setup before number other instruction reply after run found parked step same =
     let it = (executes_parts setup before other instruction reply after step).it in
     let number_is : it.number ≡ number = let e : executes other instruction ≡ executes it.number instruction = it.event_is in cc in
-    let one_run : it.run ≡ run = same_found before number it.run run (subst (λ (n : ℕ). run_of n before.runs ≡ Some it.run) number_is it.found) found in
+    let one_run : it.run ≡ run = same_found before number it.run run (subst (λ (n : ℕ). run_of n before.runs.list ≡ Some it.run) number_is it.found) found in
     let bad : true ≡ false = sym it.out ∙ (ap (λ (r : LiveRun). r.out) one_run ∙ parked) in cc
 
 -- nor is it parked again
@@ -47,7 +47,7 @@ parks_none : (before : World) (run : LiveRun) (reply : Reply) (after : World) �
 parks_none before run reply after parked step = let none = sym (cond-false run.out _ _ parked) ∙ step in cc
 
 -- so no event is its own but its resume
-not_own : (setup : Setup) (before : World) (number : ℕ) (run : LiveRun) (event : Event) (reply : Reply) (after : World) → run_of number before.runs ≡ Some run → run.out ≡ false → is_resume_of number event ≡ false → WorldStep setup before event reply after → is_own_of number event ≡ false
+not_own : (setup : Setup) (before : World) (number : ℕ) (run : LiveRun) (event : Event) (reply : Reply) (after : World) → run_of number before.runs.list ≡ Some run → run.out ≡ false → is_resume_of number event ≡ false → WorldStep setup before event reply after → is_own_of number event ≡ false
 not_own setup before number run (called (Submit queue priority retries)) reply after found parked other step = refl
 not_own setup before number run (called (Dispatch queue)) reply after found parked other step = refl
 not_own setup before number run (called (Complete outcome)) reply after found parked other step = refl
@@ -56,7 +56,7 @@ not_own setup before number run (called (GuestRelease freeze)) reply after found
 not_own setup before number run (called (Clock reading)) reply after found parked other step = refl
 not_own setup before number run (called (Park another)) reply after found parked other step =
     elim (cases_eq another number) [
-      | inl same ↦ absurd (parks_none before run reply after parked (sym (ap (parks before) (ap (λ (n : ℕ). run_of n before.runs) same ∙ found)) ∙ step))
+      | inl same ↦ absurd (parks_none before run reply after parked (sym (ap (parks before) (ap (λ (n : ℕ). run_of n before.runs.list) same ∙ found)) ∙ step))
       | inr apart ↦ ne_eqb _ _ apart
     ]
 not_own setup before number run (called (Resume another)) reply after found parked other step = other
@@ -69,17 +69,17 @@ not_own setup before number run (executes another instruction) reply after found
 -- it stands along a run of the world
 record Stands (setup : Setup) (number : ℕ) (run : LiveRun) (before : World) (ys : List (Event × Reply)) (later : World) : Type 0 where
   no_step : steps_of number ys ≡ 0
-  still : run_of number later.runs ≡ Some run
-  freezes : entries_of number later.freezes ≡ entries_of number before.freezes
-  ccb : IsLawful setup → IsSound setup before → run.machine.disposed ≡ false → ccb_of run.ccb later.live ≡ ccb_of run.ccb before.live
+  still : run_of number later.runs.list ≡ Some run
+  freezes : entries_of number later.transport.freezes ≡ entries_of number before.transport.freezes
+  ccb : IsLawful setup → IsSound setup before → run.machine.disposed ≡ false → ccb_of run.ccb later.transport.live ≡ ccb_of run.ccb before.transport.live
 
-stands_along : (setup : Setup) (number : ℕ) (run : LiveRun) (before : World) (ys : List (Event × Reply)) (later : World) → KeepsLists setup before → run.out ≡ false → run_of number before.runs ≡ Some run → Leads setup before ys later → resumes_of number ys ≡ 0 → Stands setup number run before ys later
+stands_along : (setup : Setup) (number : ℕ) (run : LiveRun) (before : World) (ys : List (Event × Reply)) (later : World) → KeepsLists setup before → run.out ≡ false → run_of number before.runs.list ≡ Some run → Leads setup before ys later → resumes_of number ys ≡ 0 → Stands setup number run before ys later
 stands_along setup number run before [] later kept parked found leads none =
     record {
       no_step = refl;
-      still = ap (λ (w : World). run_of number w.runs) (sym leads) ∙ found;
-      freezes = ap (λ (w : World). entries_of number w.freezes) (sym leads);
-      ccb = λ lawful sound fresh. ap (λ (w : World). ccb_of run.ccb w.live) (sym leads);
+      still = ap (λ (w : World). run_of number w.runs.list) (sym leads) ∙ found;
+      freezes = ap (λ (w : World). entries_of number w.transport.freezes) (sym leads);
+      ccb = λ lawful sound fresh. ap (λ (w : World). ccb_of run.ccb w.transport.live) (sym leads);
     }
 stands_along setup number run before (y ∷ ys) later kept parked found leads none =
     let between : World = leads.0 in
@@ -116,26 +116,26 @@ park_parts before number run reply after step =
     ]
 
 -- and a resume gives it back
-gives_back : (setup : Setup) (number : ℕ) (run : LiveRun) (later : World) → run.out ≡ true → run_of number later.runs ≡ Some (turned run false) → (after : World) × WorldStep setup later (called (Resume number)) (replies answers.Ok) after × (run_of number after.runs ≡ Some run)
+gives_back : (setup : Setup) (number : ℕ) (run : LiveRun) (later : World) → run.out ≡ true → run_of number later.runs.list ≡ Some (turned run false) → (after : World) × WorldStep setup later (called (Resume number)) (replies answers.Ok) after × (run_of number after.runs.list ≡ Some run)
 gives_back setup number run later out found = (
   with_out later (turned run false) true,
   ap (λ (o : Option LiveRun). unless_refused ((not (is_parked o), Unknown) ∷ []) later (option_map (resumes later) o)) found,
-  changed_same later.runs _ number (turned run false) (turned run true) refl found refl ∙ ap (λ (b : Bool). Some (turned run b)) (sym out),
+  changed_same later.runs.list _ number (turned run false) (turned run true) refl found refl ∙ ap (λ (b : Bool). Some (turned run b)) (sym out),
 )
 
 pub parked_stays_as_it_is : ParkedStaysAsItIs
 parked_stays_as_it_is setup xs ys number run reply before parked later first found park leads none =
     let it = park_parts before number run reply parked (sym (ap (parks before) found) ∙ park) in
     let kept = lists_are_kept setup xs before first in
-    let there = changed_same before.runs parked.runs number run (turned run false) refl found (ap (λ (w : World). w.runs) it.after_is) in
+    let there = changed_same before.runs.list parked.runs.list number run (turned run false) refl found (ap (λ (w : World). w.runs.list) it.after_is) in
     let stands = stands_along setup number (turned run false) parked ys later (step_keeps setup before (called (Park number)) reply parked park kept) refl there leads none in (
       stands.no_step,
       record {
         still = stands.still;
-        freezes = stands.freezes ∙ ap (λ (w : World). entries_of number w.freezes) it.after_is;
+        freezes = stands.freezes ∙ ap (λ (w : World). entries_of number w.transport.freezes) it.after_is;
         ccb = λ lawful fresh.
             stands.ccb lawful (step_sound setup before (called (Park number)) reply parked lawful park (run_sound setup xs before lawful first)) fresh
-            ∙ ap (λ (w : World). ccb_of run.ccb w.live) it.after_is;
+            ∙ ap (λ (w : World). ccb_of run.ccb w.transport.live) it.after_is;
         resumed = gives_back setup number run later it.out stands.still;
       },
     )

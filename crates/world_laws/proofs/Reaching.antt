@@ -20,29 +20,29 @@ use Rattle.world_laws.proofs.Steps.Effects.{effect_of}
 use Rattle.world_laws.proofs.Steps.Fates.{machine_of, turned, Fate, stands, goes, leaves_world, fate_of, same_run}
 use Rattle.world_laws.proofs.Steps.Beginnings.{new_run, begins_at_entry}
 
-pub same_found : (world : World) (number : ℕ) (a b : LiveRun) → run_of number world.runs ≡ Some a → run_of number world.runs ≡ Some b → a ≡ b
-same_found world number a b first second = same_run world.runs number number a b refl first second
+pub same_found : (world : World) (number : ℕ) (a b : LiveRun) → run_of number world.runs.list ≡ Some a → run_of number world.runs.list ≡ Some b → a ≡ b
+same_found world number a b first second = same_run world.runs.list number number a b refl first second
 
-from_steps : (after : World) (number : ℕ) (run now : LiveRun) (machine : MachineState) → ((n : ℕ) × Reached run.program n run.machine) → run_of number after.runs ≡ Some now → Steps run.program run.machine machine → run_of number after.runs ≡ Some (machine_of run machine) → (n : ℕ) × Reached now.program n now.machine
+from_steps : (after : World) (number : ℕ) (run now : LiveRun) (machine : MachineState) → ((n : ℕ) × Reached run.program n run.machine) → run_of number after.runs.list ≡ Some now → Steps run.program run.machine machine → run_of number after.runs.list ≡ Some (machine_of run machine) → (n : ℕ) × Reached now.program n now.machine
 from_steps after number run now machine reached some steps is =
     subst (λ (r : LiveRun). (n : ℕ) × Reached r.program n r.machine) (same_found after number (machine_of run machine) now is some)
     (suc reached.0, (run.machine, reached.1, steps))
 
 -- each live run's machine was reached
 abbrev pub AllReached : World → Type 0
-AllReached world = (number : ℕ) (run : LiveRun) → run_of number world.runs ≡ Some run → (n : ℕ) × Reached run.program n run.machine
+AllReached world = (number : ℕ) (run : LiveRun) → run_of number world.runs.list ≡ Some run → (n : ℕ) × Reached run.program n run.machine
 
 -- a run that stands or goes on was reached after the step where it was reached before
-from_fate : (before : World) (event : Event) (reply : Reply) (after : World) (number : ℕ) (run : LiveRun) (now : LiveRun) → ((n : ℕ) × Reached run.program n run.machine) → run_of number after.runs ≡ Some now → Fate before event reply after number run → (n : ℕ) × Reached now.program n now.machine
+from_fate : (before : World) (event : Event) (reply : Reply) (after : World) (number : ℕ) (run : LiveRun) (now : LiveRun) → ((n : ℕ) × Reached run.program n run.machine) → run_of number after.runs.list ≡ Some now → Fate before event reply after number run → (n : ℕ) × Reached now.program n now.machine
 from_fate before event reply after number run now reached some (stands out idle is) =
     subst (λ (r : LiveRun). (n : ℕ) × Reached r.program n r.machine) (same_found after number (turned run out) now is some) reached
 from_fate before event reply after number run now reached some (goes instruction machine event_is no_exit steps is holding disposing) = from_steps after number run now machine reached some steps is
 from_fate before event reply after number run now reached some (leaves_world r0 event_is exit_is none takes) = absurd (let bad : None ≡ Some now = sym none ∙ some in cc)
 
 pub case_reaches : (setup : Setup) (before : World) (event : Event) (reply : Reply) (after : World) → IsLawful setup → KeepsLimits setup before → HoldsWhatEntriesSay before → Case setup before event reply after → AllReached before → AllReached after
-case_reaches setup before event reply after lawful kept held it reached number now some = split (run_of number before.runs) refl
+case_reaches setup before event reply after lawful kept held it reached number now some = split (run_of number before.runs.list) refl
   where
-    split : (o : Option LiveRun) → run_of number before.runs ≡ o → (n : ℕ) × Reached now.program n now.machine
+    split : (o : Option LiveRun) → run_of number before.runs.list ≡ o → (n : ℕ) × Reached now.program n now.machine
     split None none = (0, begins_at_entry setup before event reply after now (new_run setup before event reply after number now (effect_of setup before event reply after (lists_of kept) it).runs none some).begins)
     split (Some run) found = from_fate before event reply after number run now (reached number run found) some (fate_of setup before event reply after number run lawful kept held found it)
 
@@ -51,10 +51,10 @@ pub lawful_queue : (setup : Setup) → IsLawful setup → (queue : ℕ) → queu
 lawful_queue setup lawful queue known = lawful.queues queue no_queue known
 
 -- what a live run was reached as is not stuck
-pub reached_goes : (setup : Setup) → IsLawful setup → (world : World) → RunLimits setup world → (number : ℕ) (run : LiveRun) → run_of number world.runs ≡ Some run → ((n : ℕ) × Reached run.program n run.machine) → is_stuck run.program setup.limits run.machine ≡ false
+pub reached_goes : (setup : Setup) → IsLawful setup → (world : World) → RunLimits setup world → (number : ℕ) (run : LiveRun) → run_of number world.runs.list ≡ Some run → ((n : ℕ) × Reached run.program n run.machine) → is_stuck run.program setup.limits run.machine ≡ false
 reached_goes setup lawful world kept number run found reached =
-    let known = all_found run_key (λ (r : LiveRun). r.queue < queue_count setup) number world.runs run kept.queues found in
-    let program = all_found run_key (λ (r : LiveRun). r.program ≡ (queue_setup setup r.queue).program) number world.runs run kept.programs found in
+    let known = all_found run_key (λ (r : LiveRun). r.queue < queue_count setup) number world.runs.list run kept.queues found in
+    let program = all_found run_key (λ (r : LiveRun). r.program ≡ (queue_setup setup r.queue).program) number world.runs.list run kept.programs found in
     let safe = (lawful_queue setup lawful run.queue known).safe in
     subst (λ (p : List Slot). is_stuck p setup.limits run.machine ≡ false) (sym program)
     (safe reached.0 run.machine (subst (λ (p : List Slot). Reached p reached.0 run.machine) program reached.1))

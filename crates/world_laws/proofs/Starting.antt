@@ -21,7 +21,7 @@ works queue live = is_of queue live && is_active live.state
 
 -- no more of the queue are active than before, or than it has openings
 abbrev Keeps : ℕ → World → World → Type 0
-Keeps queue before after = (active_count queue after.live ≤ active_count queue before.live) ⊎ (active_count queue after.live ≤ slice_index before.openings queue)
+Keeps queue before after = (active_count queue after.transport.live ≤ active_count queue before.transport.live) ⊎ (active_count queue after.transport.live ≤ slice_index before.transport.openings queue)
 
 -- a CCB counts once
 at_most_one : (b : Bool) → cond {A = ℕ} b 1 0 ≤ 1
@@ -34,11 +34,11 @@ not_counted b e = ap (λ (x : Bool). cond {A = ℕ} x 1 0) e
 move_starts : (setup : Setup) (before : World) (event : Event) (reply : Reply) (after : World) (queue : ℕ) → CcbLimits setup before → CcbMove setup before event reply after → Keeps queue before after
 move_starts setup before event reply after queue kept (ccbs_stay e g unended) = inl (rw e (omega arith))
 move_starts setup before event reply after queue kept (ccb_enters its priority retries known full e g unended) =
-    let c : LiveCcb = record { ccb = submitted (record { 0 = before.greatest_ccb + 1 }) its priority retries; state = Waiting } in
+    let c : LiveCcb = record { ccb = submitted (record { 0 = before.transport.greatest_ccb + 1 }) its priority retries; state = Waiting } in
     let none = not_counted (works queue c) (and_right (is_of queue c) false refl) in
-    inl (rw e (omega (arith, sum_by_push (λ (x : LiveCcb). cond (works queue x) 1 0) before.live c, none)))
+    inl (rw e (omega (arith, sum_by_push (λ (x : LiveCcb). cond (works queue x) 1 0) before.transport.live c, none)))
 move_starts setup before event reply after queue kept (ccb_changes old new found queue_is active_or_not may e g unended) =
-    let moved = count_put ccb_key (works queue) 0 before.live before.greatest_ccb new old kept.rising found in
+    let moved = count_put ccb_key (works queue) 0 before.transport.live before.transport.greatest_ccb new old kept.rising found in
     elim active_or_not [
       | inl idle ↦
           let none = not_counted (works queue new) (and_right (is_of queue new) (is_active new.state) idle) in
@@ -46,14 +46,14 @@ move_starts setup before event reply after queue kept (ccb_changes old new found
       | inr free ↦
           elim (cases_eq new.ccb.queue.0 queue) [
             | inl same ↦
-                let here : active_count queue before.live < slice_index before.openings queue = subst (λ (q : ℕ). active_count q before.live < slice_index before.openings q) same free in
+                let here : active_count queue before.transport.live < slice_index before.transport.openings queue = subst (λ (q : ℕ). active_count q before.transport.live < slice_index before.transport.openings q) same free in
                 inr (rw e (omega (arith, moved, at_most_one (works queue new), here)))
             | inr apart ↦
                 let none = not_counted (works queue new) (and_left (is_of queue new) (is_active new.state) (ne_eqb _ _ apart)) in
                 inl (rw e (omega (arith, moved, none)))
           ]
     ]
-move_starts setup before event reply after queue kept (ccb_leaves number code old found may e g one) = inl (rw e (count_leave ccb_key (works queue) before.live number))
+move_starts setup before event reply after queue kept (ccb_leaves number code old found may e g one) = inl (rw e (count_leave ccb_key (works queue) before.transport.live number))
 
 pub starts_keep_openings : StartsKeepOpenings
 starts_keep_openings setup xs before run event reply after e queue =

@@ -23,15 +23,15 @@ pub data TablesMove (before after : List (List ℕ)) : Type 0 where
 
 -- the clock stays, or it reads what is neither before it nor after the last reading
 abbrev pub ClockMove : World → World → Type 0
-ClockMove before after = (after.clock ≡ before.clock) ⊎ ((before.clock ≤ after.clock) × (after.clock ≤ last_reading))
+ClockMove before after = (after.transport.clock ≡ before.transport.clock) ⊎ ((before.transport.clock ≤ after.transport.clock) × (after.transport.clock ≤ last_reading))
 
 pub record AnswerMove (before after : World) : Type 0 where
-  pub openings : OpeningsMove before.openings after.openings
-  pub tables : TablesMove before.tables after.tables
+  pub openings : OpeningsMove before.transport.openings after.transport.openings
+  pub tables : TablesMove before.runs.tables after.runs.tables
   pub clock : ClockMove before after
 
 -- all three stay
-pub answers_stay : (before after : World) → after.openings ≡ before.openings → after.tables ≡ before.tables → after.clock ≡ before.clock → AnswerMove before after
+pub answers_stay : (before after : World) → after.transport.openings ≡ before.transport.openings → after.runs.tables ≡ before.runs.tables → after.transport.clock ≡ before.transport.clock → AnswerMove before after
 answers_stay before after openings tables clock = record { openings = openings_stay openings; tables = tables_stay tables; clock = inl clock }
 
 -- What is read is within the limits, whatever is asked for.
@@ -54,7 +54,7 @@ pub word_below : (tables : List (List ℕ)) (table index : ℕ) → All (λ tabl
 word_below tables table index words = all_read IsWord (table_at tables table) index 0 (omega arith) (words_of tables table words)
 
 -- of a queue that there is
-pub openings_within : (setup : Setup) (world : World) (queue : ℕ) → AnswerLimits setup world → queue < queue_count setup → (1 ≤ slice_index world.openings queue) × (slice_index world.openings queue ≤ most_openings)
+pub openings_within : (setup : Setup) (world : World) (queue : ℕ) → AnswerLimits setup world → queue < queue_count setup → (1 ≤ slice_index world.transport.openings queue) × (slice_index world.transport.openings queue ≤ most_openings)
 openings_within setup world queue kept known = kept.openings queue 0 (omega (arith, kept.queues, known))
 
 -- A step keeps the limits.
@@ -84,14 +84,14 @@ tables_kept setup before after (word_changes table index word below e) kept =
       words = All-set (All IsWord) before table changed (All-set IsWord (table_at before table) index word below (words_of before table kept.words)) kept.words;
     })
 
-pub moved_on : (before after : World) → ClockMove before after → before.clock ≤ last_reading → (before.clock ≤ after.clock) × (after.clock ≤ last_reading)
+pub moved_on : (before after : World) → ClockMove before after → before.transport.clock ≤ last_reading → (before.transport.clock ≤ after.transport.clock) × (after.transport.clock ≤ last_reading)
 moved_on before after (inl same) within = (omega (arith, same), rw same within)
 moved_on before after (inr moved) within = moved
 
 pub answers_kept : (setup : Setup) (before after : World) → AnswerMove before after → AnswerLimits setup before → AnswerLimits setup after
 answers_kept setup before after move kept =
-    let openings = openings_kept setup before.openings after.openings move.openings (record { queues = kept.queues; each = kept.openings }) in
-    let tables = tables_kept setup before.tables after.tables move.tables (record { lengths = kept.lengths; words = kept.words }) in
+    let openings = openings_kept setup before.transport.openings after.transport.openings move.openings (record { queues = kept.queues; each = kept.openings }) in
+    let tables = tables_kept setup before.runs.tables after.runs.tables move.tables (record { lengths = kept.lengths; words = kept.words }) in
     record {
       queues = openings.queues;
       openings = openings.each;

@@ -75,7 +75,7 @@ next_found queue live high next rising e =
 pub record DisposesOf (before : World) (event : Event) (old : LiveCcb) : Type 0 where
   pub number : ℕ
   pub run : LiveRun
-  pub found : run_of number before.runs ≡ Some run
+  pub found : run_of number before.runs.list ≡ Some run
   pub its : is_step_of number event ≡ true
   pub ccb_is : old.ccb.number.0 ≡ run.ccb
   pub fresh : run.machine.disposed ≡ false
@@ -85,21 +85,21 @@ abbrev pub MayTouch : World → Event → LiveCcb → Type 0
 MayTouch before event old = (old.state ≡ InRecovery → ⊥) ⊎ DisposesOf before event old
 
 pub data CcbMove (setup : Setup) (before : World) (event : Event) (reply : Reply) (after : World) : Type 0 where
-  ccbs_stay : after.live ≡ before.live → after.greatest_ccb ≡ before.greatest_ccb → finished_by before event reply ≡ [] → CcbMove setup before event reply after
-  ccb_enters : (queue : QueueId) (priority retries : ℕ) → queue.0 < queue_count setup → ccb_meets_limit queue.0 before ≡ false → after.live ≡ before.live ++ record { ccb = submitted (record { 0 = before.greatest_ccb + 1 }) queue priority retries; state = Waiting } ∷ [] → after.greatest_ccb ≡ before.greatest_ccb + 1 → finished_by before event reply ≡ [] → CcbMove setup before event reply after
-  ccb_changes : (old new : LiveCcb) → ccb_of new.ccb.number.0 before.live ≡ Some old → new.ccb.queue.0 ≡ old.ccb.queue.0 → (is_active new.state ≡ false) ⊎ (active_count new.ccb.queue.0 before.live < slice_index before.openings new.ccb.queue.0) → MayTouch before event old → after.live ≡ with_ccb new before.live → after.greatest_ccb ≡ before.greatest_ccb → finished_by before event reply ≡ [] → CcbMove setup before event reply after
-  ccb_leaves : (number code : ℕ) (old : LiveCcb) → ccb_of number before.live ≡ Some old → MayTouch before event old → after.live ≡ leave ccb_key number before.live → after.greatest_ccb ≡ before.greatest_ccb → finished_by before event reply ≡ record { number = number; code = code } ∷ [] → CcbMove setup before event reply after
+  ccbs_stay : after.transport.live ≡ before.transport.live → after.transport.greatest_ccb ≡ before.transport.greatest_ccb → finished_by before event reply ≡ [] → CcbMove setup before event reply after
+  ccb_enters : (queue : QueueId) (priority retries : ℕ) → queue.0 < queue_count setup → ccb_meets_limit queue.0 before ≡ false → after.transport.live ≡ before.transport.live ++ record { ccb = submitted (record { 0 = before.transport.greatest_ccb + 1 }) queue priority retries; state = Waiting } ∷ [] → after.transport.greatest_ccb ≡ before.transport.greatest_ccb + 1 → finished_by before event reply ≡ [] → CcbMove setup before event reply after
+  ccb_changes : (old new : LiveCcb) → ccb_of new.ccb.number.0 before.transport.live ≡ Some old → new.ccb.queue.0 ≡ old.ccb.queue.0 → (is_active new.state ≡ false) ⊎ (active_count new.ccb.queue.0 before.transport.live < slice_index before.transport.openings new.ccb.queue.0) → MayTouch before event old → after.transport.live ≡ with_ccb new before.transport.live → after.transport.greatest_ccb ≡ before.transport.greatest_ccb → finished_by before event reply ≡ [] → CcbMove setup before event reply after
+  ccb_leaves : (number code : ℕ) (old : LiveCcb) → ccb_of number before.transport.live ≡ Some old → MayTouch before event old → after.transport.live ≡ leave ccb_key number before.transport.live → after.transport.greatest_ccb ≡ before.transport.greatest_ccb → finished_by before event reply ≡ record { number = number; code = code } ∷ [] → CcbMove setup before event reply after
 
 -- the freezes
 
 -- A freeze that enters is nobody's among the runs, or that of a run that begins, or of the one whose step this is.
 pub record Comes (before : World) (event : Event) (after : World) (holder : Holder) : Type 0 where
-  pub whose : (run : ℕ) → is_run run holder ≡ true → (run ≡ before.greatest_run + 1) ⊎ (is_step_of run event ≡ true)
-  pub live : (run : ℕ) → is_run run holder ≡ true → IsSome (run_of run after.runs)
+  pub whose : (run : ℕ) → is_run run holder ≡ true → (run ≡ before.runs.greatest + 1) ⊎ (is_step_of run event ≡ true)
+  pub live : (run : ℕ) → is_run run holder ≡ true → IsSome (run_of run after.runs.list)
 
 -- a run loses freezes by its own steps alone
 abbrev pub GoesFrom : World → Event → (Freeze → Bool) → Type 0
-GoesFrom before event gone = (n : ℕ) (f : Freeze) → entry_of n before.freezes ≡ Some f → gone f ≡ true → (run : ℕ) → is_run run f.holder ≡ true → is_step_of run event ≡ true
+GoesFrom before event gone = (n : ℕ) (f : Freeze) → entry_of n before.transport.freezes ≡ Some f → gone f ≡ true → (run : ℕ) → is_run run f.holder ≡ true → is_step_of run event ≡ true
 
 -- A freeze gets a timer as its holder, and had none; where it was a run's, that is by its own step.
 pub record ChangesHands (event : Event) (old new : Holder) : Type 0 where
@@ -108,10 +108,10 @@ pub record ChangesHands (event : Event) (old new : Holder) : Type 0 where
   pub whose : (run : ℕ) → is_run run old ≡ true → is_step_of run event ≡ true
 
 pub data FreezeMove (setup : Setup) (before : World) (event : Event) (after : World) : Type 0 where
-  freezes_stay : after.freezes ≡ before.freezes → after.greatest_freeze ≡ before.greatest_freeze → FreezeMove setup before event after
-  freeze_enters : (place : Place) (holder : Holder) → (NamesNoOther setup → is_unknown setup place ≡ false) → meets_limit place before.freezes before.greatest_freeze ≡ false → after.freezes ≡ before.freezes ++ record { number = before.greatest_freeze + 1; place = place; holder = holder } ∷ [] → after.greatest_freeze ≡ before.greatest_freeze + 1 → Comes before event after holder → FreezeMove setup before event after
-  freezes_leave : (gone : Freeze → Bool) → after.freezes ≡ filter (λ f. not (gone f)) before.freezes → after.greatest_freeze ≡ before.greatest_freeze → GoesFrom before event gone → FreezeMove setup before event after
-  freeze_changes : (old new : Freeze) → entry_of new.number before.freezes ≡ Some old → new.place ≡ old.place → after.freezes ≡ put freeze_key new before.freezes → after.greatest_freeze ≡ before.greatest_freeze → ChangesHands event old.holder new.holder → FreezeMove setup before event after
+  freezes_stay : after.transport.freezes ≡ before.transport.freezes → after.transport.greatest_freeze ≡ before.transport.greatest_freeze → FreezeMove setup before event after
+  freeze_enters : (place : Place) (holder : Holder) → (NamesNoOther setup → is_unknown setup place ≡ false) → meets_limit place before.transport.freezes before.transport.greatest_freeze ≡ false → after.transport.freezes ≡ before.transport.freezes ++ record { number = before.transport.greatest_freeze + 1; place = place; holder = holder } ∷ [] → after.transport.greatest_freeze ≡ before.transport.greatest_freeze + 1 → Comes before event after holder → FreezeMove setup before event after
+  freezes_leave : (gone : Freeze → Bool) → after.transport.freezes ≡ filter (λ f. not (gone f)) before.transport.freezes → after.transport.greatest_freeze ≡ before.transport.greatest_freeze → GoesFrom before event gone → FreezeMove setup before event after
+  freeze_changes : (old new : Freeze) → entry_of new.number before.transport.freezes ≡ Some old → new.place ≡ old.place → after.transport.freezes ≡ put freeze_key new before.transport.freezes → after.transport.greatest_freeze ≡ before.transport.greatest_freeze → ChangesHands event old.holder new.holder → FreezeMove setup before event after
 
 -- the runs
 
@@ -121,25 +121,25 @@ pub record Begins (setup : Setup) (before : World) (event : Event) (reply : Repl
   pub event_is : event ≡ called (Complete outcome)
   pub completion : is_completion outcome ≡ true
   pub live : LiveCcb
-  pub found : ccb_of outcome.ccb.0 before.live ≡ Some live
+  pub found : ccb_of outcome.ccb.0 before.transport.live ≡ Some live
   pub is_active : is_active live.state ≡ true
   pub taken : Bool
   pub freeze : ℕ
   pub run_is : run ≡ record {
-    number = before.greatest_run + 1;
+    number = before.runs.greatest + 1;
     ccb = live.ccb.number.0;
     queue = live.ccb.queue.0;
     program = (queue_setup setup live.ccb.queue.0).program;
     machine = entry (context_of (completed live.ccb outcome taken)) freeze;
     out = true;
   }
-  pub reply_is : reply ≡ replies (answers.Started (before.greatest_run + 1) freeze)
-  pub live_is : after.live ≡ with_ccb (record { ccb = completed live.ccb outcome taken; state = InRecovery }) before.live
-  pub runs_is : after.runs ≡ before.runs ++ run ∷ []
+  pub reply_is : reply ≡ replies (answers.Started (before.runs.greatest + 1) freeze)
+  pub live_is : after.transport.live ≡ with_ccb (record { ccb = completed live.ccb outcome taken; state = InRecovery }) before.transport.live
+  pub runs_is : after.runs.list ≡ before.runs.list ++ run ∷ []
   pub freezes_is :
-      ((freeze ≡ 0) × (after.freezes ≡ before.freezes))
-      ⊎ ((freeze ≡ before.greatest_freeze + 1) × (meets_limit (Device live.ccb.queue) before.freezes before.greatest_freeze ≡ false)
-      × (after.freezes ≡ before.freezes ++ record { number = freeze; place = Device live.ccb.queue; holder = Run (before.greatest_run + 1) } ∷ []))
+      ((freeze ≡ 0) × (after.transport.freezes ≡ before.transport.freezes))
+      ⊎ ((freeze ≡ before.transport.greatest_freeze + 1) × (meets_limit (Device live.ccb.queue) before.transport.freezes before.transport.greatest_freeze ≡ false)
+      × (after.transport.freezes ≡ before.transport.freezes ++ record { number = freeze; place = Device live.ccb.queue; holder = Run (before.runs.greatest + 1) } ∷ []))
 
 -- the reply tells of a run that starts
 abbrev pub tells_start : Reply → Bool
@@ -147,10 +147,10 @@ tells_start (replies (answers.Started run freeze)) = true
 tells_start reply = false
 
 pub data RunMove (setup : Setup) (before : World) (event : Event) (reply : Reply) (after : World) : Type 0 where
-  runs_stay : after.runs ≡ before.runs → after.greatest_run ≡ before.greatest_run → tells_start reply ≡ false → RunMove setup before event reply after
-  run_enters : (run : LiveRun) → Begins setup before event reply after run → run.queue < queue_count setup → run_meets_limit before ≡ false → after.greatest_run ≡ before.greatest_run + 1 → RunMove setup before event reply after
-  run_changes : (old new : LiveRun) → run_of new.number before.runs ≡ Some old → new.queue ≡ old.queue → new.program ≡ old.program → after.runs ≡ with_run new before.runs → after.greatest_run ≡ before.greatest_run → tells_start reply ≡ false → is_own_of new.number event ≡ true → RunMove setup before event reply after
-  run_leaves : (run : LiveRun) → run_of run.number before.runs ≡ Some run → after.runs ≡ leave run_key run.number before.runs → after.greatest_run ≡ before.greatest_run → tells_start reply ≡ false → is_own_of run.number event ≡ true → RunMove setup before event reply after
+  runs_stay : after.runs.list ≡ before.runs.list → after.runs.greatest ≡ before.runs.greatest → tells_start reply ≡ false → RunMove setup before event reply after
+  run_enters : (run : LiveRun) → Begins setup before event reply after run → run.queue < queue_count setup → run_meets_limit before ≡ false → after.runs.greatest ≡ before.runs.greatest + 1 → RunMove setup before event reply after
+  run_changes : (old new : LiveRun) → run_of new.number before.runs.list ≡ Some old → new.queue ≡ old.queue → new.program ≡ old.program → after.runs.list ≡ with_run new before.runs.list → after.runs.greatest ≡ before.runs.greatest → tells_start reply ≡ false → is_own_of new.number event ≡ true → RunMove setup before event reply after
+  run_leaves : (run : LiveRun) → run_of run.number before.runs.list ≡ Some run → after.runs.list ≡ leave run_key run.number before.runs.list → after.runs.greatest ≡ before.runs.greatest → tells_start reply ≡ false → is_own_of run.number event ≡ true → RunMove setup before event reply after
 
 -- all that a step does: to each list, to what calls are answered from, whom its instruction is of, and that it gives a
 -- freeze to no other run that was there
@@ -160,5 +160,5 @@ pub record Effect (setup : Setup) (before : World) (event : Event) (reply : Repl
   pub freezes : FreezeMove setup before event after
   pub runs : RunMove setup before event reply after
   pub answers : AnswerMove before after
-  pub taken : (run : ℕ) → run ≤ before.greatest_run → instruction_of run event ≡ None → taken_by run event reply ≡ []
-  pub acts : (run : ℕ) (instruction : Instruction) → instruction_of run event ≡ Some instruction → IsSome (run_of run before.runs)
+  pub taken : (run : ℕ) → run ≤ before.runs.greatest → instruction_of run event ≡ None → taken_by run event reply ≡ []
+  pub acts : (run : ℕ) (instruction : Instruction) → instruction_of run event ≡ Some instruction → IsSome (run_of run before.runs.list)

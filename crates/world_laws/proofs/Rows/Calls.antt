@@ -21,7 +21,7 @@ use Rattle.world.specs.Event.{call, Event, executes, result}
 use Rattle.world_laws.proofs.Rows.Words.{clock_reads, expired}
 use Rattle.world.specs.Step.{step}
 use Rattle.world.specs.Flat.{flat}
-use Rattle.world_laws.proofs.Rows.Worked.{two_queues, with_freezes, ccb_in, next, answer}
+use Rattle.world_laws.proofs.Rows.Worked.{answer, ccb_in, next, running, transported, two_queues, with_freezes}
 
 abbrev pub limits : HelperLimits
 limits = of_queues 2 []
@@ -50,19 +50,13 @@ run_at helper first second held disposed = record {
 
 -- it recovers CCB 1, and the clock is at 1000
 abbrev with_run : LiveRun → List Freeze → ℕ → World
-with_run run freezes greatest = record (with_freezes freezes greatest) {
-  live = ccb_in 1 5 InRecovery ∷ [];
-  runs = run ∷ [];
-  greatest_ccb = 1;
-  greatest_run = 1;
-  clock = 1000;
-}
+with_run run freezes greatest = (transported (λ t. record t { live = ccb_in 1 5 InRecovery ∷ []; greatest_ccb = 1; clock = 1000 }) (running (λ r. record r { list = run ∷ []; greatest = 1 }) (with_freezes freezes greatest)))
 
 abbrev freeze_by : ℕ → ℕ → Holder → Freeze
 freeze_by number queue holder = record { number = number; place = device queue; holder = holder }
 
 abbrev held_in : World → List (List ℕ)
-held_in world = map (λ run. run.machine.held) world.runs
+held_in world = map (λ run. run.machine.held) world.runs.list
 
 -- A freeze of any queue is taken under the next number, and comes last.
 
@@ -79,7 +73,7 @@ taken : answer setup at_freeze takes ≡ Some (result 10)
 unfolding row_of
 taken = refl
 
-its_freeze : (next setup at_freeze takes).freezes ≡ freeze_by 3 0 (Run 1) ∷ freeze_by 7 1 (Guest 2) ∷ freeze_by 10 1 (Run 1) ∷ []
+its_freeze : (next setup at_freeze takes).transport.freezes ≡ freeze_by 3 0 (Run 1) ∷ freeze_by 7 1 (Guest 2) ∷ freeze_by 10 1 (Run 1) ∷ []
 unfolding row_of
 its_freeze = refl
 
@@ -95,11 +89,11 @@ not_taken : answer setup full_queue takes ≡ Some (result 0)
 unfolding row_of
 not_taken = refl
 
-no_freeze_more : (next setup full_queue takes).freezes ≡ full_queue.freezes
+no_freeze_more : (next setup full_queue takes).transport.freezes ≡ full_queue.transport.freezes
 unfolding row_of
 no_freeze_more = refl
 
-no_number_used : (next setup full_queue takes).greatest_freeze ≡ 9
+no_number_used : (next setup full_queue takes).transport.greatest_freeze ≡ 9
 unfolding row_of
 no_number_used = refl
 
@@ -108,7 +102,7 @@ unfolding row_of
 one_still = refl
 
 -- that queue 1 is full is nothing to queue 0
-another_queue : answer setup (with_run (run_at 1 0 0 (3 ∷ []) false) full_queue.freezes 9) takes ≡ Some (result 10)
+another_queue : answer setup (with_run (run_at 1 0 0 (3 ∷ []) false) full_queue.transport.freezes 9) takes ≡ Some (result 10)
 unfolding row_of
 another_queue = refl
 
@@ -141,7 +135,7 @@ handed_over : answer setup at_release_after hands_over ≡ Some (result 0)
 unfolding row_of
 handed_over = refl
 
-its_timer : (next setup at_release_after hands_over).freezes ≡ freeze_by 3 1 (Timer 1500) ∷ freeze_by 7 1 (Guest 2) ∷ freeze_by 8 0 (Run 1) ∷ []
+its_timer : (next setup at_release_after hands_over).transport.freezes ≡ freeze_by 3 1 (Timer 1500) ∷ freeze_by 7 1 (Guest 2) ∷ freeze_by 8 0 (Run 1) ∷ []
 unfolding row_of
 its_timer = refl
 
@@ -154,7 +148,7 @@ too_early : answer setup (next setup at_release_after hands_over) (clock_reads 1
 unfolding row_of
 too_early = refl
 
-in_time : (next setup (next setup at_release_after hands_over) (clock_reads 1500)).freezes ≡ freeze_by 7 1 (Guest 2) ∷ freeze_by 8 0 (Run 1) ∷ []
+in_time : (next setup (next setup at_release_after hands_over) (clock_reads 1500)).transport.freezes ≡ freeze_by 7 1 (Guest 2) ∷ freeze_by 8 0 (Run 1) ∷ []
 unfolding row_of
 in_time = refl
 
@@ -191,7 +185,7 @@ finished : answer setup at_finish (ends 11) ≡ Some (result 0)
 unfolding row_of
 finished = refl
 
-gone : (next setup at_finish (ends 11)).live ≡ []
+gone : (next setup at_finish (ends 11)).transport.live ≡ []
 unfolding row_of
 gone = refl
 
@@ -199,11 +193,11 @@ its_code : (next setup at_finish (ends 11)).ended ≡ record { number = 1; code 
 unfolding row_of
 its_code = refl
 
-disposed_of : map (λ run. run.machine.disposed) (next setup at_finish (ends 11)).runs ≡ true ∷ []
+disposed_of : map (λ run. run.machine.disposed) (next setup at_finish (ends 11)).runs.list ≡ true ∷ []
 unfolding row_of
 disposed_of = refl
 
-its_freezes_stay : (next setup at_finish (ends 11)).freezes ≡ one_held
+its_freezes_stay : (next setup at_finish (ends 11)).transport.freezes ≡ one_held
 unfolding row_of
 its_freezes_stay = refl
 

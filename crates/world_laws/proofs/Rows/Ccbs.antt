@@ -12,7 +12,7 @@ use Rattle.world.specs.Lookups.{active_count}
 use Rattle.world.specs.Event.{private, executes, refused}
 use Rattle.world_laws.proofs.Rows.Words.{submit, dispatch, complete, guest_freeze, ccb_given, done, run_started}
 use Rattle.world.specs.Step.{step}
-use Rattle.world_laws.proofs.Rows.Worked.{program, one_queue, two_queues, with_freezes, with_ccbs, ccb_in, outcome_of, next, answer}
+use Rattle.world_laws.proofs.Rows.Worked.{answer, ccb_in, next, one_queue, outcome_of, program, running, transported, two_queues, with_ccbs, with_freezes}
 
 -- of three CCBs the one of the lowest priority number starts first, and of two with the same priority the first submitted
 abbrev three : HelperLimits → World
@@ -28,7 +28,7 @@ then_the_next l = refl
 abbrev two_started : HelperLimits → World
 two_started l = next (two_queues l) (next (two_queues l) (three l) (dispatch 1)) (dispatch 1)
 
-both_active : (l : HelperLimits) → active_count 1 (two_started l).live ≡ 2
+both_active : (l : HelperLimits) → active_count 1 (two_started l).transport.live ≡ 2
 both_active l = refl
 
 no_opening : (l : HelperLimits) → step (two_queues l) (two_started l) (dispatch 1) ≡ Some (refused NoOpening, two_started l)
@@ -87,7 +87,7 @@ not_active_success l = refl
 
 -- that run numbers are used up is told before that the CCB is not active, and after that it is not live
 abbrev no_run_left : World
-no_run_left = record one_waits { greatest_run = 4294967295 }
+no_run_left = record one_waits { runs = record one_waits.runs { greatest = 4294967295 } }
 
 limit_first : (l : HelperLimits) → step (one_queue l) no_run_left (complete (outcome_of 1 CommandTimeout)) ≡ Some (refused Limit, no_run_left)
 limit_first l = refl
@@ -97,14 +97,14 @@ unknown_before_limit l = refl
 
 -- a CCB that succeeded needs no run, and is finished with its code
 abbrev succeeds : World
-succeeds = record (with_ccbs (ccb_in 1 5 Active ∷ ccb_in 2 5 Waiting ∷ []) 2) { greatest_run = 4294967295 }
+succeeds = (running (λ r. record r { greatest = 4294967295 }) (with_ccbs (ccb_in 1 5 Active ∷ ccb_in 2 5 Waiting ∷ []) 2))
 
-success_ends : (l : HelperLimits) → step (one_queue l) succeeds (complete (outcome_of 1 RequestCompleted)) ≡ Some (done, record succeeds { live = ccb_in 2 5 Waiting ∷ []; ended = record { number = 1; code = 1 } ∷ [] })
+success_ends : (l : HelperLimits) → step (one_queue l) succeeds (complete (outcome_of 1 RequestCompleted)) ≡ Some (done, record succeeds { transport = record succeeds.transport { live = ccb_in 2 5 Waiting ∷ [] }; ended = record { number = 1; code = 1 } ∷ [] })
 success_ends l = refl
 
 -- 256 runs are the most
 abbrev many_runs : ℕ → World
-many_runs n = record (with_ccbs (ccb_in 1 5 Active ∷ []) 1) { runs = replicate n (record { number = 1; ccb = 7; queue = 0; program = program; machine = entry [] 0; out = true }) }
+many_runs n = (running (λ r. record r { list = replicate n (record { number = 1; ccb = 7; queue = 0; program = program; machine = entry [] 0; out = true }) }) (with_ccbs (ccb_in 1 5 Active ∷ []) 1))
 
 run_limit : (l : HelperLimits) → answer (one_queue l) (many_runs 256) (complete (outcome_of 1 CommandTimeout)) ≡ Some (refused Limit)
 run_limit l = refl
@@ -114,12 +114,12 @@ last_run l = refl
 
 -- where a further freeze meets a limit, the run starts without one, and nothing was frozen
 abbrev no_freeze_left : World
-no_freeze_left = record (with_ccbs (ccb_in 1 5 Active ∷ []) 1) { greatest_freeze = 4294967295 }
+no_freeze_left = (transported (λ t. record t { greatest_freeze = 4294967295 }) (with_ccbs (ccb_in 1 5 Active ∷ []) 1))
 
 freeze_limit : (l : HelperLimits) → answer (one_queue l) no_freeze_left (complete (outcome_of 1 CommandTimeout)) ≡ Some (run_started 1 0)
 freeze_limit l = refl
 
-nothing_frozen : (l : HelperLimits) → (next (one_queue l) no_freeze_left (complete (outcome_of 1 CommandTimeout))).freezes ≡ []
+nothing_frozen : (l : HelperLimits) → (next (one_queue l) no_freeze_left (complete (outcome_of 1 CommandTimeout))).transport.freezes ≡ []
 nothing_frozen l = refl
 
 -- a device never reports that a CCB is still in progress

@@ -13,7 +13,7 @@ use Rattle.world.specs.Event.{refused}
 use Rattle.world_laws.proofs.Rows.Words.{clock_reads, expired}
 use Rattle.world.specs.Step.{step}
 use Rattle.world.specs.Flat.{flat}
-use Rattle.world_laws.proofs.Rows.Worked.{one_queue, with_freezes, freeze_of}
+use Rattle.world_laws.proofs.Rows.Worked.{freeze_of, one_queue, transported, with_freezes}
 
 -- a timer's freeze of queue 0
 abbrev timed : ℕ → ℕ → Freeze
@@ -21,18 +21,18 @@ timed number due = record { number = number; place = device 0; holder = Timer du
 
 -- a guest's freeze between those of timers, and the clock at 1000
 abbrev three : World
-three = record (with_freezes (timed 1 1501 ∷ freeze_of 2 7 ∷ timed 4 1500 ∷ []) 4) { clock = 1000 }
+three = (transported (λ t. record t { clock = 1000 }) (with_freezes (timed 1 1501 ∷ freeze_of 2 7 ∷ timed 4 1500 ∷ []) 4))
 
 -- what is due exactly then goes, what is due later stays, and so does the guest's
-goes_at_its_time : (l : HelperLimits) → step (one_queue l) three (clock_reads 1500) ≡ Some (expired 1, record (with_freezes (timed 1 1501 ∷ freeze_of 2 7 ∷ []) 4) { clock = 1500 })
+goes_at_its_time : (l : HelperLimits) → step (one_queue l) three (clock_reads 1500) ≡ Some (expired 1, (transported (λ t. record t { clock = 1500 }) (with_freezes (timed 1 1501 ∷ freeze_of 2 7 ∷ []) 4)))
 goes_at_its_time l = refl
 
 -- none goes before its time
-none_goes : (l : HelperLimits) → step (one_queue l) three (clock_reads 1499) ≡ Some (expired 0, record three { clock = 1499 })
+none_goes : (l : HelperLimits) → step (one_queue l) three (clock_reads 1499) ≡ Some (expired 0, record three { transport = record three.transport { clock = 1499 } })
 none_goes l = refl
 
 -- all that are due go at once
-both_go : (l : HelperLimits) → step (one_queue l) three (clock_reads 9000) ≡ Some (expired 2, record (with_freezes (freeze_of 2 7 ∷ []) 4) { clock = 9000 })
+both_go : (l : HelperLimits) → step (one_queue l) three (clock_reads 9000) ≡ Some (expired 2, (transported (λ t. record t { clock = 9000 }) (with_freezes (freeze_of 2 7 ∷ []) 4)))
 both_go l = refl
 
 -- the clock may stand, and does not go back
@@ -43,7 +43,7 @@ goes_back : (l : HelperLimits) → step (one_queue l) three (clock_reads 999) �
 goes_back l = refl
 
 -- the last reading is 2 ^ 62
-last_one : (l : HelperLimits) → step (one_queue l) (with_freezes [] 4) (clock_reads 4611686018427387904) ≡ Some (expired 0, record (with_freezes [] 4) { clock = 4611686018427387904 })
+last_one : (l : HelperLimits) → step (one_queue l) (with_freezes [] 4) (clock_reads 4611686018427387904) ≡ Some (expired 0, (transported (λ t. record t { clock = 4611686018427387904 }) (with_freezes [] 4)))
 last_one l = refl
 
 no_later : (l : HelperLimits) → step (one_queue l) three (clock_reads 4611686018427387905) ≡ Some (refused Limit, three)

@@ -10,7 +10,7 @@ use Rattle.world.specs.Told.{plain}
 use Rattle.world.specs.Event.{call, Event, executes, instruction_of}
 use Rattle.world.specs.Step.{step}
 use Rattle.world.specs.Headline.{DisposesBy}
-use Rattle.world_laws.proofs.Rows.Worked.{with_freezes, ccb_in, next}
+use Rattle.world_laws.proofs.Rows.Worked.{ccb_in, next, running, transported, with_freezes}
 use Rattle.world_laws.proofs.Rows.Calls.{setup, run_at, ends}
 
 -- CCB 1 was started twice, timed out with sense bytes, and has so many retries
@@ -53,28 +53,22 @@ the_others = ccb_in 2 5 Waiting ∷ ccb_in 3 7 Active ∷ ccb_in 4 7 InRecovery 
 
 -- run 1 recovers CCB 1, and stands at a call of this helper with this number
 abbrev at_call : ℕ → ℕ → ℕ → World
-at_call helper number retries = record (with_freezes [] 0) {
-  live = failed retries ∷ the_others;
-  ended = record { number = 5; code = 4 } ∷ [];
-  runs = run_at helper number 0 [] false ∷ [];
-  greatest_ccb = 5;
-  greatest_run = 1;
-}
+at_call helper number retries = (transported (λ t. record t { live = failed retries ∷ the_others; greatest_ccb = 5 }) (running (λ r. record r { list = run_at helper number 0 [] false ∷ []; greatest = 1 }) ((record (with_freezes [] 0) { ended = record { number = 5; code = 4 } ∷ [] }))))
 
 abbrev requeues : Event
 requeues = executes 1 (call (plain helpers.Requeue))
 
 -- A CCB that is requeued waits, with the retries that the call names fewer; the others are as they were, and none ends.
 
-one_retry_fewer : (next setup (at_call 4 1 3) requeues).live ≡ waits 2 ∷ the_others
+one_retry_fewer : (next setup (at_call 4 1 3) requeues).transport.live ≡ waits 2 ∷ the_others
 unfolding row_of
 one_retry_fewer = refl
 
-no_retry_fewer : (next setup (at_call 4 0 3) requeues).live ≡ waits 3 ∷ the_others
+no_retry_fewer : (next setup (at_call 4 0 3) requeues).transport.live ≡ waits 3 ∷ the_others
 unfolding row_of
 no_retry_fewer = refl
 
-none_to_use : (next setup (at_call 4 1 0) requeues).live ≡ waits 0 ∷ the_others
+none_to_use : (next setup (at_call 4 1 0) requeues).transport.live ≡ waits 0 ∷ the_others
 unfolding row_of
 none_to_use = refl
 
@@ -113,7 +107,7 @@ is_requeued = record {
 
 -- A CCB that is finished is gone, and ends last, with the code; the others are as they were.
 
-finished : (next setup (at_call 5 11 3) (ends 11)).live ≡ the_others
+finished : (next setup (at_call 5 11 3) (ends 11)).transport.live ≡ the_others
 unfolding row_of
 finished = refl
 
@@ -130,10 +124,10 @@ is_finished = record {
 }
 
 -- it was in recovery until then
-found_failed : ccb_of 1 (at_call 4 1 3).live ≡ Some (failed 3)
+found_failed : ccb_of 1 (at_call 4 1 3).transport.live ≡ Some (failed 3)
 found_failed = refl
 
 -- the run goes on, and has disposed of it
-disposed_of : map (λ run. run.machine.disposed) (next setup (at_call 4 1 3) requeues).runs ≡ true ∷ []
+disposed_of : map (λ run. run.machine.disposed) (next setup (at_call 4 1 3) requeues).runs.list ≡ true ∷ []
 unfolding row_of
 disposed_of = refl

@@ -88,18 +88,7 @@ what_they_stand_for = refl
 
 -- at the end there is neither a CCB nor a run, and a timer freezes queue 1
 abbrev at_end : World
-at_end = record {
-  live = [];
-  ended = record { number = 1; code = 11 } ∷ [];
-  freezes = record { number = 2; place = device 1; holder = Timer 1500 } ∷ [];
-  runs = [];
-  openings = 1 ∷ 1 ∷ [];
-  tables = [];
-  greatest_ccb = 1;
-  greatest_run = 1;
-  greatest_freeze = 2;
-  clock = 1000;
-}
+at_end = record { transport = record { live = []; freezes = record { number = 2; place = device 1; holder = Timer 1500 } ∷ []; openings = 1 ∷ 1 ∷ []; greatest_ccb = 1; greatest_freeze = 2; clock = 1000 }; runs = record { list = []; tables = []; greatest = 1 }; ended = record { number = 1; code = 11 } ∷ [] }
 
 it_runs : WorldRun setup events at_end
 unfolding row_of

@@ -27,7 +27,7 @@ is_parked : (l : HelperLimits) → answer (one_queue l) (out l) (parks 1) ≡ So
 is_parked l = refl
 
 -- it is the same world but for that
-same_but_out : (l : HelperLimits) → record (parked l) { runs = [] } ≡ record (out l) { runs = [] }
+same_but_out : (l : HelperLimits) → record (parked l) { runs = record (parked l).runs { list = [] } } ≡ record (out l) { runs = record (out l).runs { list = [] } }
 same_but_out l = refl
 
 -- a step of a parked run is no event, and of one that is out it is

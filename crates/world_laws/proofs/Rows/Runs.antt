@@ -26,7 +26,7 @@ use Rattle.world.specs.CcbLaws.{finished_in}
 use Rattle.world.specs.Headline.{steps_of, disposals_of, exits_of}
 use Rattle.world.specs.Flat.{flat}
 use Rattle.world.specs.TotalsOf.{TotalsOf}
-use Rattle.world_laws.proofs.Rows.Worked.{one_queue, outcome_of, next, answer}
+use Rattle.world_laws.proofs.Rows.Worked.{answer, next, one_queue, outcome_of, running}
 
 abbrev submitted_one : HelperLimits → World
 submitted_one l = next (one_queue l) (opening (one_queue l)) (submit 0 10 3)
@@ -55,29 +55,29 @@ at_exit l = next (one_queue l) (requeued_one l) (executes 1 private)
 -- at the end no freeze is there and no run, and the CCB waits, started once, with one retry fewer
 abbrev at_end : HelperLimits → World
 at_end l = record {
-  live = record {
-    ccb = record {
-      number = record { 0 = 1 };
-      queue = record { 0 = 0 };
-      priority = 10;
-      retries = 2;
-      attempts = 1;
-      status = RequestInProgress;
-      scsi = 0;
-      sense = [];
-      freeze_taken = false;
-    };
-    state = Waiting;
-  } ∷ [];
+  transport = record {
+    live = record {
+      ccb = record {
+        number = record { 0 = 1 };
+        queue = record { 0 = 0 };
+        priority = 10;
+        retries = 2;
+        attempts = 1;
+        status = RequestInProgress;
+        scsi = 0;
+        sense = [];
+        freeze_taken = false;
+      };
+      state = Waiting;
+    } ∷ [];
+    freezes = [];
+    openings = 2 ∷ [];
+    greatest_ccb = 1;
+    greatest_freeze = 1;
+    clock = 0;
+  };
+  runs = record { list = []; tables = map zero_table l.table_lengths; greatest = 1 };
   ended = [];
-  freezes = [];
-  runs = [];
-  openings = 2 ∷ [];
-  tables = map zero_table l.table_lengths;
-  greatest_ccb = 1;
-  greatest_run = 1;
-  greatest_freeze = 1;
-  clock = 0;
 }
 
 -- the six records that a transport makes of it
@@ -159,11 +159,11 @@ unfolding it_runs
 it_gave l = refl
 
 -- in between the queue was frozen by the run, and its CCB was in recovery
-its_freeze : (l : HelperLimits) → (failed l).freezes ≡ record { number = 1; place = device 0; holder = Run 1 } ∷ []
+its_freeze : (l : HelperLimits) → (failed l).transport.freezes ≡ record { number = 1; place = device 0; holder = Run 1 } ∷ []
 its_freeze l = refl
 
 -- the run is that of the CCB that failed, at its start and at its exit
-its_ccb : (l : HelperLimits) → (map (λ run. run.ccb) (failed l).runs ≡ 1 ∷ []) × (map (λ run. run.ccb) (at_exit l).runs ≡ 1 ∷ [])
+its_ccb : (l : HelperLimits) → (map (λ run. run.ccb) (failed l).runs.list ≡ 1 ∷ []) × (map (λ run. run.ccb) (at_exit l).runs.list ≡ 1 ∷ [])
 unfolding row_of
 its_ccb l = (refl, refl)
 
@@ -215,7 +215,7 @@ no_other_run l = refl
 abbrev parked : LiveRun → LiveRun
 parked run = record run { out = false }
 
-not_out : (l : HelperLimits) → step (one_queue l) (record (failed l) { runs = map parked (failed l).runs }) (executes 1 private) ≡ None
+not_out : (l : HelperLimits) → step (one_queue l) ((running (λ r. record r { list = map parked (failed l).runs.list }) (failed l))) (executes 1 private) ≡ None
 not_out l = refl
 
 -- the first run made the CCB wait again, which is started again and then succeeds; it ends with its code

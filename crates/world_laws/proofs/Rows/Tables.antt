@@ -14,14 +14,14 @@ use Rattle.world.specs.Told.{plain}
 use Rattle.world.specs.Event.{call, Event, executes, result, refused}
 use Rattle.world_laws.proofs.Rows.Words.{dispatch, clock_reads, ccb_given}
 use Rattle.world.specs.Step.{step}
-use Rattle.world_laws.proofs.Rows.Worked.{two_queues, with_freezes, ccb_in, next, answer}
+use Rattle.world_laws.proofs.Rows.Worked.{answer, ccb_in, next, running, transported, two_queues, with_freezes}
 
 -- two queues, a table of two words and one of three
 abbrev setup : Setup
 setup = two_queues (of_queues 2 (2 ∷ 3 ∷ []))
 
 -- at the opening all words are 0
-all_zero : (opening setup).tables ≡ (0 ∷ 0 ∷ []) ∷ (0 ∷ 0 ∷ 0 ∷ []) ∷ []
+all_zero : (opening setup).runs.tables ≡ (0 ∷ 0 ∷ []) ∷ (0 ∷ 0 ∷ 0 ∷ []) ∷ []
 all_zero = refl
 
 -- the run of queue 0 stands at a call of this helper with these arguments
@@ -45,15 +45,7 @@ run_at number helper first second third = record {
 
 -- these runs are live, with these tables, and the clock is at 1000
 abbrev with_runs : List LiveRun → List (List ℕ) → World
-with_runs runs tables = record (with_freezes [] 0) {
-  live = ccb_in 1 5 InRecovery ∷ [];
-  runs = runs;
-  openings = 2 ∷ 2 ∷ [];
-  tables = tables;
-  greatest_ccb = 1;
-  greatest_run = 2;
-  clock = 1000;
-}
+with_runs runs tables = (transported (λ t. record t { live = ccb_in 1 5 InRecovery ∷ []; openings = 2 ∷ 2 ∷ []; greatest_ccb = 1; clock = 1000 }) (running (λ r. record r { list = runs; tables = tables; greatest = 2 }) (with_freezes [] 0)))
 
 abbrev asks : ℕ → HelperName → Event
 asks run helper = executes run (call (plain helper))
@@ -67,7 +59,7 @@ old_word : answer setup before_put (asks 1 helpers.TablePut) ≡ Some (result 9)
 unfolding row_of
 old_word = refl
 
-one_word : (next setup before_put (asks 1 helpers.TablePut)).tables ≡ (5 ∷ 6 ∷ []) ∷ (7 ∷ 8 ∷ 77 ∷ []) ∷ []
+one_word : (next setup before_put (asks 1 helpers.TablePut)).runs.tables ≡ (5 ∷ 6 ∷ []) ∷ (7 ∷ 8 ∷ 77 ∷ []) ∷ []
 unfolding row_of
 one_word = refl
 
@@ -79,7 +71,7 @@ read_after : answer setup (next setup before_put (asks 1 helpers.TablePut)) (ask
 unfolding row_of
 read_after = refl
 
-reading_leaves_it : (next setup before_put (asks 2 helpers.TableGet)).tables ≡ before_put.tables
+reading_leaves_it : (next setup before_put (asks 2 helpers.TableGet)).runs.tables ≡ before_put.runs.tables
 unfolding row_of
 reading_leaves_it = refl
 
@@ -92,20 +84,20 @@ it_wraps : answer setup before_add (asks 1 helpers.TableAdd) ≡ Some (result 1)
 unfolding row_of
 it_wraps = refl
 
-wrapped : (next setup before_add (asks 1 helpers.TableAdd)).tables ≡ (5 ∷ 1 ∷ []) ∷ (7 ∷ 8 ∷ 9 ∷ []) ∷ []
+wrapped : (next setup before_add (asks 1 helpers.TableAdd)).runs.tables ≡ (5 ∷ 1 ∷ []) ∷ (7 ∷ 8 ∷ 9 ∷ []) ∷ []
 unfolding row_of
 wrapped = refl
 
-it_grows : answer setup (with_runs (run_at 1 8 1 0 3 ∷ []) before_add.tables) (asks 1 helpers.TableAdd) ≡ Some (result 10)
+it_grows : answer setup (with_runs (run_at 1 8 1 0 3 ∷ []) before_add.runs.tables) (asks 1 helpers.TableAdd) ≡ Some (result 10)
 unfolding row_of
 it_grows = refl
 
 -- there is no table 2, and no third word of the first
-no_table : step setup (with_runs (run_at 1 6 2 0 0 ∷ []) before_add.tables) (asks 1 helpers.TableGet) ≡ None
+no_table : step setup (with_runs (run_at 1 6 2 0 0 ∷ []) before_add.runs.tables) (asks 1 helpers.TableGet) ≡ None
 unfolding row_of
 no_table = refl
 
-no_word : step setup (with_runs (run_at 1 7 0 2 0 ∷ []) before_add.tables) (asks 1 helpers.TablePut) ≡ None
+no_word : step setup (with_runs (run_at 1 7 0 2 0 ∷ []) before_add.runs.tables) (asks 1 helpers.TablePut) ≡ None
 unfolding row_of
 no_word = refl
 
@@ -122,13 +114,13 @@ after_a_reading = refl
 -- A run sets the openings of its own queue, and is told how many there were.
 
 abbrev two_active : World
-two_active = record (with_runs (run_at 1 12 1 0 0 ∷ []) []) { live = ccb_in 1 5 InRecovery ∷ ccb_in 2 5 Active ∷ ccb_in 3 5 Active ∷ ccb_in 4 5 Waiting ∷ []; openings = 3 ∷ 2 ∷ []; greatest_ccb = 4 }
+two_active = (transported (λ t. record t { live = ccb_in 1 5 InRecovery ∷ ccb_in 2 5 Active ∷ ccb_in 3 5 Active ∷ ccb_in 4 5 Waiting ∷ []; openings = 3 ∷ 2 ∷ []; greatest_ccb = 4 }) (with_runs (run_at 1 12 1 0 0 ∷ []) []))
 
 old_openings : answer setup two_active (asks 1 helpers.SetOpenings) ≡ Some (result 3)
 unfolding row_of
 old_openings = refl
 
-its_own_queue : (next setup two_active (asks 1 helpers.SetOpenings)).openings ≡ 1 ∷ 2 ∷ []
+its_own_queue : (next setup two_active (asks 1 helpers.SetOpenings)).transport.openings ≡ 1 ∷ 2 ∷ []
 unfolding row_of
 its_own_queue = refl
 
@@ -140,7 +132,7 @@ no_start : answer setup (next setup two_active (asks 1 helpers.SetOpenings)) (di
 unfolding row_of
 no_start = refl
 
-all_stay : (next setup two_active (asks 1 helpers.SetOpenings)).live ≡ two_active.live
+all_stay : (next setup two_active (asks 1 helpers.SetOpenings)).transport.live ≡ two_active.transport.live
 unfolding row_of
 all_stay = refl
 
@@ -150,7 +142,7 @@ unfolding row_of
 other_queue = refl
 
 -- 1 to 255 are openings
-most : (next setup (with_runs (run_at 1 12 255 0 0 ∷ []) []) (asks 1 helpers.SetOpenings)).openings ≡ 255 ∷ 2 ∷ []
+most : (next setup (with_runs (run_at 1 12 255 0 0 ∷ []) []) (asks 1 helpers.SetOpenings)).transport.openings ≡ 255 ∷ 2 ∷ []
 unfolding row_of
 most = refl
 

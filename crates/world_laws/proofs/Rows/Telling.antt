@@ -9,14 +9,11 @@ use Rattle.world.specs.World.{LiveRun, World}
 use Rattle.world.specs.QueueInfo.{queue_info, info_bytes}
 use Rattle.world.specs.Told.{plain, traces}
 use Rattle.world.specs.RunSteps.{answers, step_request, may_call}
-use Rattle.world_laws.proofs.Rows.Worked.{with_ccbs, freeze_of, ccb_in}
+use Rattle.world_laws.proofs.Rows.Worked.{ccb_in, freeze_of, transported, with_ccbs}
 
 -- queue 0 has three freezes, two active CCBs, one that waits, one in recovery, and two openings
 abbrev busy : World
-busy = record (with_ccbs (ccb_in 1 5 Active ∷ ccb_in 2 5 Waiting ∷ ccb_in 3 5 InRecovery ∷ ccb_in 4 5 Active ∷ []) 4) {
-  freezes = freeze_of 1 7 ∷ freeze_of 2 7 ∷ freeze_of 3 8 ∷ [];
-  greatest_freeze = 3;
-}
+busy = (transported (λ t. record t { freezes = freeze_of 1 7 ∷ freeze_of 2 7 ∷ freeze_of 3 8 ∷ []; greatest_freeze = 3 }) (with_ccbs (ccb_in 1 5 Active ∷ ccb_in 2 5 Waiting ∷ ccb_in 3 5 InRecovery ∷ ccb_in 4 5 Active ∷ []) 4))
 
 busy_bytes : info_bytes (queue_info busy 0) ≡ 3 ∷ 0 ∷ 0 ∷ 0 ∷ 2 ∷ 0 ∷ 0 ∷ 0 ∷ 1 ∷ 0 ∷ 0 ∷ 0 ∷ 2 ∷ 0 ∷ 0 ∷ 0 ∷ []
 busy_bytes = refl

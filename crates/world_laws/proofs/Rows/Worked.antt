@@ -19,7 +19,7 @@ use Rattle.bpf_insn.specs.declared.program.Slot.TheVariants.{First}
 use Rattle.table_store.specs.Tables.{zero_table}
 use Rattle.world.specs.declared.ccb_state.CcbState.{CcbState}
 use Rattle.freeze_ledger.specs.Places.{device}
-use Rattle.world.specs.World.{QueueSetup, Setup, LiveCcb, World}
+use Rattle.world.specs.World.{QueueSetup, Setup, LiveCcb, World, Transport, Runs}
 use Rattle.world.specs.Event.{Event, Reply}
 use Rattle.world.specs.Step.{step}
 
@@ -50,37 +50,22 @@ two_queues limits = record { limits = of_helpers limits; queues = queue_of 1 ∷
 
 -- with the tables as they are at the opening
 abbrev pub zero_tables : HelperLimits → World → World
-zero_tables limits world = record world { tables = map zero_table limits.table_lengths }
+zero_tables limits world = record world { runs = record world.runs { tables = map zero_table limits.table_lengths } }
+
+-- the world with another transport, or with other runs
+abbrev pub transported : (Transport → Transport) → World → World
+transported change world = record world { transport = change world.transport }
+
+abbrev pub running : (Runs → Runs) → World → World
+running change world = record world { runs = change world.runs }
 
 -- the world of one queue with these freezes, and without tables
 abbrev pub with_freezes : List Freeze → ℕ → World
-with_freezes freezes greatest = record {
-  live = [];
-  ended = [];
-  freezes = freezes;
-  runs = [];
-  openings = 2 ∷ [];
-  tables = [];
-  greatest_ccb = 0;
-  greatest_run = 0;
-  greatest_freeze = greatest;
-  clock = 0;
-}
+with_freezes freezes greatest = record { transport = record { live = []; freezes = freezes; openings = 2 ∷ []; greatest_ccb = 0; greatest_freeze = greatest; clock = 0 }; runs = record { list = []; tables = []; greatest = 0 }; ended = [] }
 
 -- the world of one queue with these CCBs, and without tables
 abbrev pub with_ccbs : List LiveCcb → ℕ → World
-with_ccbs live greatest = record {
-  live = live;
-  ended = [];
-  freezes = [];
-  runs = [];
-  openings = 2 ∷ [];
-  tables = [];
-  greatest_ccb = greatest;
-  greatest_run = 0;
-  greatest_freeze = 0;
-  clock = 0;
-}
+with_ccbs live greatest = record { transport = record { live = live; freezes = []; openings = 2 ∷ []; greatest_ccb = greatest; greatest_freeze = 0; clock = 0 }; runs = record { list = []; tables = []; greatest = 0 }; ended = [] }
 
 -- a guest's freeze of queue 0
 abbrev pub freeze_of : ℕ → ℕ → Freeze

@@ -29,20 +29,20 @@ pub no_some : {A : Type 0} (o : Option A) (x : A) → o ≡ None → o ≡ Some 
 no_some o x none some = let bad : None ≡ Some x = sym none ∙ some in cc
 
 -- the runs are as they were, so none is new
-none_new : (before after : World) (number : ℕ) (run : LiveRun) → after.runs ≡ before.runs → run_of number before.runs ≡ None → run_of number after.runs ≡ Some run → ⊥
-none_new before after number run e none some = no_some (run_of number after.runs) run (ap (run_of number) e ∙ none) some
+none_new : (before after : World) (number : ℕ) (run : LiveRun) → after.runs.list ≡ before.runs.list → run_of number before.runs.list ≡ None → run_of number after.runs.list ≡ Some run → ⊥
+none_new before after number run e none some = no_some (run_of number after.runs.list) run (ap (run_of number) e ∙ none) some
 
 -- one was changed in its place
-none_new_changed : (before after : World) (number : ℕ) (run old new : LiveRun) → run_of new.number before.runs ≡ Some old → after.runs ≡ with_run new before.runs → run_of number before.runs ≡ None → run_of number after.runs ≡ Some run → ⊥
+none_new_changed : (before after : World) (number : ℕ) (run old new : LiveRun) → run_of new.number before.runs.list ≡ Some old → after.runs.list ≡ with_run new before.runs.list → run_of number before.runs.list ≡ None → run_of number after.runs.list ≡ Some run → ⊥
 none_new_changed before after number run old new found e none some =
-    no_some (run_of number after.runs) run
-    (ap (run_of number) e ∙ (put_other run_key new number before.runs (λ same. no_some (run_of number before.runs) old none (subst (λ (n : ℕ). run_of n before.runs ≡ Some old) same found)) ∙ none))
+    no_some (run_of number after.runs.list) run
+    (ap (run_of number) e ∙ (put_other run_key new number before.runs.list (λ same. no_some (run_of number before.runs.list) old none (subst (λ (n : ℕ). run_of n before.runs.list ≡ Some old) same found)) ∙ none))
     some
 
-newly_from : (setup : Setup) (before : World) (event : Event) (reply : Reply) (after : World) (number : ℕ) (run : LiveRun) (it : (fresh : LiveRun) × Begins setup before event reply after fresh) → run_of number before.runs ≡ None → run_of number after.runs ≡ Some run → Newly setup before event reply after number run
+newly_from : (setup : Setup) (before : World) (event : Event) (reply : Reply) (after : World) (number : ℕ) (run : LiveRun) (it : (fresh : LiveRun) × Begins setup before event reply after fresh) → run_of number before.runs.list ≡ None → run_of number after.runs.list ≡ Some run → Newly setup before event reply after number run
 newly_from setup before event reply after number run it none some =
-    elim (found_in_push run_key number before.runs it.0 run (sym (ap (run_of number) it.1.runs_is) ∙ some)) [
-      | inl there ↦ absurd (no_some (run_of number before.runs) run none there)
+    elim (found_in_push run_key number before.runs.list it.0 run (sym (ap (run_of number) it.1.runs_is) ∙ some)) [
+      | inl there ↦ absurd (no_some (run_of number before.runs.list) run none there)
       | inr last ↦ record {
         number_is = sym last.1 ∙ ap (λ (r : LiveRun). r.number) it.1.run_is;
         begins = subst (Begins setup before event reply after) (sym last.0) it.1;
@@ -50,15 +50,15 @@ newly_from setup before event reply after number run it none some =
     ]
 
 -- a run that was not there, and is now, begins
-pub new_run : (setup : Setup) (before : World) (event : Event) (reply : Reply) (after : World) (number : ℕ) (run : LiveRun) → RunMove setup before event reply after → run_of number before.runs ≡ None → run_of number after.runs ≡ Some run → Newly setup before event reply after number run
+pub new_run : (setup : Setup) (before : World) (event : Event) (reply : Reply) (after : World) (number : ℕ) (run : LiveRun) → RunMove setup before event reply after → run_of number before.runs.list ≡ None → run_of number after.runs.list ≡ Some run → Newly setup before event reply after number run
 new_run setup before event reply after number run (runs_stay e g quiet) none some = absurd (none_new before after number run e none some)
 new_run setup before event reply after number run (run_enters fresh begins known room g) none some = newly_from setup before event reply after number run (fresh, begins) none some
 new_run setup before event reply after number run (run_changes old new found queue_is program_is e g quiet its) none some = absurd (none_new_changed before after number run old new found e none some)
 new_run setup before event reply after number run (run_leaves other found e g quiet its) none some =
     let is = ap (run_of number) e in
     absurd (elim (cases_eq other.number number) [
-      | inl same ↦ no_some (run_of number after.runs) run (is ∙ subst (λ (n : ℕ). run_of number (leave run_key n before.runs) ≡ None) (sym same) (leave_same run_key number before.runs)) some
-      | inr apart ↦ no_some (run_of number after.runs) run (is ∙ (leave_other run_key other.number number before.runs apart ∙ none)) some
+      | inl same ↦ no_some (run_of number after.runs.list) run (is ∙ subst (λ (n : ℕ). run_of number (leave run_key n before.runs.list) ≡ None) (sym same) (leave_same run_key number before.runs.list)) some
+      | inr apart ↦ no_some (run_of number after.runs.list) run (is ∙ (leave_other run_key other.number number before.runs.list apart ∙ none)) some
     ])
 
 -- a completion that is answered by the number of a run starts it
@@ -96,7 +96,7 @@ begins_at_entry setup before event reply after run it =
       bytes = (context.size, context.each);
       number = elim it.freezes_is [
         | inl none ↦ omega (arith, none.0)
-        | inr some_one ↦ let room = room_from (Device it.live.ccb.queue) before.freezes before.greatest_freeze some_one.1 in omega (arith, some_one.0, room.numbers)
+        | inr some_one ↦ let room = room_from (Device it.live.ccb.queue) before.transport.freezes before.transport.greatest_freeze some_one.1 in omega (arith, some_one.0, room.numbers)
       ];
       is = ap (λ (r : LiveRun). r.machine) it.run_is;
     }

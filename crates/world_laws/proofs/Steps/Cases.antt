@@ -54,30 +54,27 @@ pub record Submits (setup : Setup) (before : World) (event : Event) (reply : Rep
   pub event_is : event ≡ called (Submit queue priority retries)
   pub known : queue.0 < queue_count setup
   pub room : ccb_meets_limit queue.0 before ≡ false
-  pub reply_is : reply ≡ replies (answers.Ccb (record { 0 = before.greatest_ccb + 1 }))
-  pub after_is : after ≡ record before {
-    live = before.live ++ record { ccb = submitted (record { 0 = before.greatest_ccb + 1 }) queue priority retries; state = Waiting } ∷ [];
-    greatest_ccb = before.greatest_ccb + 1;
-  }
+  pub reply_is : reply ≡ replies (answers.Ccb (record { 0 = before.transport.greatest_ccb + 1 }))
+  pub after_is : after ≡ record before { transport = record before.transport { live = before.transport.live ++ record { ccb = submitted (record { 0 = before.transport.greatest_ccb + 1 }) queue priority retries; state = Waiting } ∷ []; greatest_ccb = before.transport.greatest_ccb + 1 } }
 
 -- a CCB that waits starts
 pub record Dispatches (setup : Setup) (before : World) (event : Event) (reply : Reply) (after : World) : Type 0 where
   pub queue : QueueId
   pub event_is : event ≡ called (Dispatch queue)
   pub known : queue.0 < queue_count setup
-  pub thawed : frozen (Device queue) before.freezes ≡ 0
-  pub opening : active_count queue.0 before.live < slice_index before.openings queue.0
+  pub thawed : frozen (Device queue) before.transport.freezes ≡ 0
+  pub opening : active_count queue.0 before.transport.live < slice_index before.transport.openings queue.0
   pub next : LiveCcb
-  pub next_is : next_waiting queue.0 before.live ≡ Some next
+  pub next_is : next_waiting queue.0 before.transport.live ≡ Some next
   pub reply_is : reply ≡ replies (answers.Ccb next.ccb.number)
-  pub after_is : after ≡ record before { live = with_ccb (record { ccb = started next.ccb; state = Active }) before.live }
+  pub after_is : after ≡ record before { transport = record before.transport { live = with_ccb (record { ccb = started next.ccb; state = Active }) before.transport.live } }
 
 -- an active CCB is finished
 pub record Finishes (before : World) (event : Event) (reply : Reply) (after : World) : Type 0 where
   pub outcome : Outcome
   pub event_is : event ≡ called (Complete outcome)
   pub live : LiveCcb
-  pub found : ccb_of outcome.ccb.0 before.live ≡ Some live
+  pub found : ccb_of outcome.ccb.0 before.transport.live ≡ Some live
   pub is_active : is_active live.state ≡ true
   pub success : is_success outcome.status ≡ true
   pub reply_is : reply ≡ replies answers.Done
@@ -89,7 +86,7 @@ pub record Fails (before : World) (event : Event) : Type 0 where
   pub event_is : event ≡ called (Complete outcome)
   pub completion : is_completion outcome ≡ true
   pub live : LiveCcb
-  pub found : ccb_of outcome.ccb.0 before.live ≡ Some live
+  pub found : ccb_of outcome.ccb.0 before.transport.live ≡ Some live
   pub is_active : is_active live.state ≡ true
   pub failure : is_success outcome.status ≡ false
   pub room : run_meets_limit before ≡ false
@@ -97,13 +94,13 @@ pub record Fails (before : World) (event : Event) : Type 0 where
 -- with a freeze
 pub record Recovers (setup : Setup) (before : World) (event : Event) (reply : Reply) (after : World) : Type 0 where
   pub fails : Fails before event
-  pub free : meets_limit (Device fails.live.ccb.queue) before.freezes before.greatest_freeze ≡ false
-  pub starts_is : (reply, after) ≡ run_starts setup (froze before (Device fails.live.ccb.queue) (Run (before.greatest_run + 1))) (completed fails.live.ccb fails.outcome true) (before.greatest_freeze + 1)
+  pub free : meets_limit (Device fails.live.ccb.queue) before.transport.freezes before.transport.greatest_freeze ≡ false
+  pub starts_is : (reply, after) ≡ run_starts setup (froze before (Device fails.live.ccb.queue) (Run (before.runs.greatest + 1))) (completed fails.live.ccb fails.outcome true) (before.transport.greatest_freeze + 1)
 
 -- without one
 pub record RecoversUnfrozen (setup : Setup) (before : World) (event : Event) (reply : Reply) (after : World) : Type 0 where
   pub fails : Fails before event
-  pub full : meets_limit (Device fails.live.ccb.queue) before.freezes before.greatest_freeze ≡ true
+  pub full : meets_limit (Device fails.live.ccb.queue) before.transport.freezes before.transport.greatest_freeze ≡ true
   pub starts_is : (reply, after) ≡ run_starts setup before (completed fails.live.ccb fails.outcome false) 0
 
 -- a guest freezes a place
@@ -112,8 +109,8 @@ pub record Freezes (setup : Setup) (before : World) (event : Event) (reply : Rep
   pub guest : ℕ
   pub event_is : event ≡ called (GuestFreeze place guest)
   pub known : is_unknown setup place ≡ false
-  pub room : meets_limit place before.freezes before.greatest_freeze ≡ false
-  pub reply_is : reply ≡ replies (answers.Freeze (before.greatest_freeze + 1))
+  pub room : meets_limit place before.transport.freezes before.transport.greatest_freeze ≡ false
+  pub reply_is : reply ≡ replies (answers.Freeze (before.transport.greatest_freeze + 1))
   pub after_is : after ≡ froze before place (Guest guest)
 
 -- a guest's freeze of that number goes
@@ -121,9 +118,9 @@ pub record Releases (before : World) (event : Event) (reply : Reply) (after : Wo
   pub number : ℕ
   pub event_is : event ≡ called (GuestRelease number)
   pub freeze : Freeze
-  pub entry : entry_of number before.freezes ≡ Some freeze
+  pub entry : entry_of number before.transport.freezes ≡ Some freeze
   pub guests : is_guest freeze.holder ≡ true
-  pub reply_is : reply ≡ replies (answers.Left (frozen_with freeze (without number before.freezes)))
+  pub reply_is : reply ≡ replies (answers.Left (frozen_with freeze (without number before.transport.freezes)))
   pub after_is : after ≡ thawed before number
 
 -- the clock is read: the freezes whose timers are due go
@@ -131,8 +128,8 @@ pub record ReadsClock (before : World) (event : Event) (reply : Reply) (after : 
   pub reading : ℕ
   pub event_is : event ≡ called (Clock reading)
   pub within : reading ≤ last_reading
-  pub on : before.clock ≤ reading
-  pub reply_is : reply ≡ replies (answers.Removed (length (due_at reading before.freezes)))
+  pub on : before.transport.clock ≤ reading
+  pub reply_is : reply ≡ replies (answers.Removed (length (due_at reading before.transport.freezes)))
   pub after_is : after ≡ clock_at before reading
 
 -- a run is parked, or out again
@@ -140,10 +137,10 @@ pub record Turns (before : World) (event : Event) (reply : Reply) (after : World
   pub number : ℕ
   pub run : LiveRun
   pub out : Bool
-  pub found : run_of number before.runs ≡ Some run
+  pub found : run_of number before.runs.list ≡ Some run
   pub its : is_turn_of number event ≡ true
   pub idle : (other : ℕ) → instruction_of other event ≡ None
-  pub moves : (later : World) → later.freezes ≡ before.freezes → MovesCounts before event (replies answers.Ok) later
+  pub moves : (later : World) → later.transport.freezes ≡ before.transport.freezes → MovesCounts before event (replies answers.Ok) later
   pub ends : finished_by before event (replies answers.Ok) ≡ []
   pub taken : (other : ℕ) → taken_by other event (replies answers.Ok) ≡ []
   pub reply_is : reply ≡ replies answers.Ok
@@ -170,7 +167,7 @@ refused_case setup before event reply after refusal idle moves ends taken e =
     refuses (record { refusal = refusal; idle = idle; moves = moves; ends = ends; taken = taken; reply_is = ap (λ (x : Reply × World). x.0) e; after_is = ap (λ (x : Reply × World). x.1) e })
 
 -- a CCB that waits
-starts_next : (setup : Setup) (before : World) (queue : QueueId) (reply : Reply) (after : World) (o : Option LiveCcb) → next_waiting queue.0 before.live ≡ o → queue.0 < queue_count setup → frozen (Device queue) before.freezes ≡ 0 → active_count queue.0 before.live < slice_index before.openings queue.0 → option_map (starts before) o ≡ Some (reply, after) → Case setup before (called (Dispatch queue)) reply after
+starts_next : (setup : Setup) (before : World) (queue : QueueId) (reply : Reply) (after : World) (o : Option LiveCcb) → next_waiting queue.0 before.transport.live ≡ o → queue.0 < queue_count setup → frozen (Device queue) before.transport.freezes ≡ 0 → active_count queue.0 before.transport.live < slice_index before.transport.openings queue.0 → option_map (starts before) o ≡ Some (reply, after) → Case setup before (called (Dispatch queue)) reply after
 starts_next setup before queue reply after None next_is known cold free e = absurd cc
 starts_next setup before queue reply after (Some next) next_is known cold free e =
     let last = some_is _ _ e in
@@ -187,7 +184,7 @@ starts_next setup before queue reply after (Some next) next_is known cold free e
     })
 
 -- a CCB that is active: finished or in recovery
-completes_one : (setup : Setup) (before : World) (outcome : Outcome) (reply : Reply) (after : World) → is_completion outcome ≡ true → (o : Option LiveCcb) → ccb_of outcome.ccb.0 before.live ≡ o → (not (is_success outcome.status) && run_meets_limit before) ≡ false → not (works o) ≡ false → option_map (completes setup before outcome) o ≡ Some (reply, after) → Case setup before (called (Complete outcome)) reply after
+completes_one : (setup : Setup) (before : World) (outcome : Outcome) (reply : Reply) (after : World) → is_completion outcome ≡ true → (o : Option LiveCcb) → ccb_of outcome.ccb.0 before.transport.live ≡ o → (not (is_success outcome.status) && run_meets_limit before) ≡ false → not (works o) ≡ false → option_map (completes setup before outcome) o ≡ Some (reply, after) → Case setup before (called (Complete outcome)) reply after
 completes_one setup before outcome reply after good None found room busy e = absurd cc
 completes_one setup before outcome reply after good (Some live) found room busy e =
     let third = some_is _ _ e in
@@ -218,20 +215,20 @@ completes_one setup before outcome reply after good (Some live) found room busy 
             failure = failure;
             room = roomy;
           } in
-          elim (cases_Bool (meets_limit (Device live.ccb.queue) before.freezes before.greatest_freeze)) [
-            | inl full ↦ recovers_unfrozen (record { fails = fails; full = full; starts_is = fourth ∙ cond-true (meets_limit (Device live.ccb.queue) before.freezes before.greatest_freeze) _ _ full })
-            | inr free ↦ recovers_one (record { fails = fails; free = free; starts_is = fourth ∙ cond-false (meets_limit (Device live.ccb.queue) before.freezes before.greatest_freeze) _ _ free })
+          elim (cases_Bool (meets_limit (Device live.ccb.queue) before.transport.freezes before.transport.greatest_freeze)) [
+            | inl full ↦ recovers_unfrozen (record { fails = fails; full = full; starts_is = fourth ∙ cond-true (meets_limit (Device live.ccb.queue) before.transport.freezes before.transport.greatest_freeze) _ _ full })
+            | inr free ↦ recovers_one (record { fails = fails; free = free; starts_is = fourth ∙ cond-false (meets_limit (Device live.ccb.queue) before.transport.freezes before.transport.greatest_freeze) _ _ free })
           ]
     ]
 
-guest_release_found : (before : World) (number : ℕ) (reply : Reply) (after : World) (o : Option Freeze) → entry_of number before.freezes ≡ o → guest_releases before o ≡ Some (reply, after) → Releases before (called (GuestRelease number)) reply after
+guest_release_found : (before : World) (number : ℕ) (reply : Reply) (after : World) (o : Option Freeze) → entry_of number before.transport.freezes ≡ o → guest_releases before o ≡ Some (reply, after) → Releases before (called (GuestRelease number)) reply after
 guest_release_found before number reply after None entry e = absurd cc
 guest_release_found before number reply after (Some f) entry e =
     elim (cases_Bool (is_guest f.holder)) [
       | inl guests ↦
-          let named : f.number ≡ number = found_key freeze_key number before.freezes f entry in
-          let last : ◌≡◌ {A = Reply × World} (reply, after) (replies (answers.Left (frozen_with f (without number before.freezes))), thawed before number) =
-          some_is _ _ (sym (cond-true (is_guest f.holder) _ _ guests) ∙ e) ∙ ap (λ (n : ℕ). let x : Reply × World = (replies (answers.Left (frozen_with f (without n before.freezes))), thawed before n) in x) named in
+          let named : f.number ≡ number = found_key freeze_key number before.transport.freezes f entry in
+          let last : ◌≡◌ {A = Reply × World} (reply, after) (replies (answers.Left (frozen_with f (without number before.transport.freezes))), thawed before number) =
+          some_is _ _ (sym (cond-true (is_guest f.holder) _ _ guests) ∙ e) ∙ ap (λ (n : ℕ). let x : Reply × World = (replies (answers.Left (frozen_with f (without n before.transport.freezes))), thawed before n) in x) named in
           record {
             number = number;
             event_is = refl;
@@ -246,9 +243,9 @@ guest_release_found before number reply after (Some f) entry e =
 
 -- a guest's release
 pub guest_release_parts : (setup : Setup) (before : World) (number : ℕ) (reply : Reply) (after : World) → WorldStep setup before (called (GuestRelease number)) reply after → Releases before (called (GuestRelease number)) reply after
-guest_release_parts setup before number reply after e = guest_release_found before number reply after (entry_of number before.freezes) refl e
+guest_release_parts setup before number reply after e = guest_release_found before number reply after (entry_of number before.transport.freezes) refl e
 
-parks_one : (setup : Setup) (before : World) (number : ℕ) (reply : Reply) (after : World) (o : Option LiveRun) → run_of number before.runs ≡ o → parks before o ≡ Some (reply, after) → Case setup before (called (Park number)) reply after
+parks_one : (setup : Setup) (before : World) (number : ℕ) (reply : Reply) (after : World) (o : Option LiveRun) → run_of number before.runs.list ≡ o → parks before o ≡ Some (reply, after) → Case setup before (called (Park number)) reply after
 parks_one setup before number reply after None found e = absurd cc
 parks_one setup before number reply after (Some run) found e =
     elim (cases_Bool run.out) [
@@ -270,7 +267,7 @@ parks_one setup before number reply after (Some run) found e =
       | inr parked ↦ let none = sym (cond-false run.out _ _ parked) ∙ e in absurd cc
     ]
 
-resumes_one : (setup : Setup) (before : World) (number : ℕ) (reply : Reply) (after : World) (o : Option LiveRun) → run_of number before.runs ≡ o → option_map (resumes before) o ≡ Some (reply, after) → Case setup before (called (Resume number)) reply after
+resumes_one : (setup : Setup) (before : World) (number : ℕ) (reply : Reply) (after : World) (o : Option LiveRun) → run_of number before.runs.list ≡ o → option_map (resumes before) o ≡ Some (reply, after) → Case setup before (called (Resume number)) reply after
 resumes_one setup before number reply after None found e = absurd cc
 resumes_one setup before number reply after (Some run) found e =
     let last = some_is _ _ e in
@@ -310,7 +307,7 @@ call_case setup before (Dispatch queue) reply after e =
     elim (by_refusals (refusals_of setup before (Dispatch queue)) before _ reply after e) [
       | inl it ↦ refused_case setup before (called (Dispatch queue)) reply after it.refusal (λ n. refl) refl refl (λ n. refl) it.is
       | inr goes ↦
-          starts_next setup before queue reply after (next_waiting queue.0 before.live) refl (leb-false _ _ goes.0.0)
+          starts_next setup before queue reply after (next_waiting queue.0 before.transport.live) refl (leb-false _ _ goes.0.0)
           (let none = ltb-false _ _ goes.0.1.0 in omega (arith, none)) (leb-false _ _ goes.0.1.1.0) goes.1
     ]
 call_case setup before (Complete outcome) reply after e =
@@ -319,7 +316,7 @@ call_case setup before (Complete outcome) reply after e =
           elim (by_refusals (refusals_of setup before (Complete outcome)) before _ reply after (sym (cond-true (is_completion outcome) _ _ good) ∙ e)) [
             | inl it ↦ refused_case setup before (called (Complete outcome)) reply after it.refusal (λ n. refl) refl refl (λ n. refl) it.is
             | inr goes ↦
-                completes_one setup before outcome reply after good (ccb_of outcome.ccb.0 before.live) refl goes.0.1.0 goes.0.1.1.0 goes.1
+                completes_one setup before outcome reply after good (ccb_of outcome.ccb.0 before.transport.live) refl goes.0.1.0 goes.0.1.1.0 goes.1
           ]
       | inr bad ↦ let none = sym (cond-false (is_completion outcome) _ _ bad) ∙ e in absurd cc
     ]
@@ -353,11 +350,11 @@ call_case setup before (Clock reading) reply after e =
             after_is = ap (λ (x : Reply × World). x.1) last;
           })
     ]
-call_case setup before (Park number) reply after e = parks_one setup before number reply after (run_of number before.runs) refl e
+call_case setup before (Park number) reply after e = parks_one setup before number reply after (run_of number before.runs.list) refl e
 call_case setup before (Resume number) reply after e =
     elim (by_refusals (refusals_of setup before (Resume number)) before _ reply after e) [
       | inl it ↦ refused_case setup before (called (Resume number)) reply after it.refusal (λ n. refl) refl refl (λ n. refl) it.is
-      | inr goes ↦ resumes_one setup before number reply after (run_of number before.runs) refl goes.1
+      | inr goes ↦ resumes_one setup before number reply after (run_of number before.runs.list) refl goes.1
     ]
 
 pub case_of : (setup : Setup) (before : World) (event : Event) (reply : Reply) (after : World) → WorldStep setup before event reply after → Case setup before event reply after

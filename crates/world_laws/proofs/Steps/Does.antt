@@ -47,9 +47,9 @@ pub record LeavesFreezes (setup : Setup) (before : World) (run : LiveRun) (reque
   pub allowed : AnswersFrom setup before run → IsAnswer run.machine request given
   pub held : (answered request given run.machine).held ≡ run.machine.held
   pub taken : (other number : ℕ) → taken_by other (executes number (call (told_of request))) (result given.r0) ≡ []
-  pub moves : (number : ℕ) (after : World) → Calls before number request → after.freezes ≡ before.freezes → MovesCounts before (executes number (call (told_of request))) (result given.r0) after
-  pub freezes_is : between.freezes ≡ before.freezes
-  pub greatest_is : between.greatest_freeze ≡ before.greatest_freeze
+  pub moves : (number : ℕ) (after : World) → Calls before number request → after.transport.freezes ≡ before.transport.freezes → MovesCounts before (executes number (call (told_of request))) (result given.r0) after
+  pub freezes_is : between.transport.freezes ≡ before.transport.freezes
+  pub greatest_is : between.transport.greatest_freeze ≡ before.transport.greatest_freeze
 
 -- the run takes a new one
 pub record TakesOne (setup : Setup) (before : World) (run : LiveRun) (request : Request) (given : Answer) (between : World) : Type 0 where
@@ -57,10 +57,10 @@ pub record TakesOne (setup : Setup) (before : World) (run : LiveRun) (request : 
   pub machine_is : (row_of request.helper).machine ≡ changes.Holds
   pub gives_is : (row_of request.helper).gives ≡ NewFreeze
   pub known : request.arguments.first < setup.limits.queues
-  pub room : meets_limit (device request.arguments.first) before.freezes before.greatest_freeze ≡ false
-  pub given_is : given ≡ answer_number (before.greatest_freeze + 1)
-  pub freezes_is : between.freezes ≡ (froze before (device request.arguments.first) (Run run.number)).freezes
-  pub greatest_is : between.greatest_freeze ≡ before.greatest_freeze + 1
+  pub room : meets_limit (device request.arguments.first) before.transport.freezes before.transport.greatest_freeze ≡ false
+  pub given_is : given ≡ answer_number (before.transport.greatest_freeze + 1)
+  pub freezes_is : between.transport.freezes ≡ (froze before (device request.arguments.first) (Run run.number)).transport.freezes
+  pub greatest_is : between.transport.greatest_freeze ≡ before.transport.greatest_freeze + 1
 
 -- one that the run holds goes
 pub record GivesOneBack (before : World) (run : LiveRun) (request : Request) (given : Answer) (between : World) : Type 0 where
@@ -68,11 +68,11 @@ pub record GivesOneBack (before : World) (run : LiveRun) (request : Request) (gi
   pub machine_is : (row_of request.helper).machine ≡ changes.GivesUp
   pub gives_is : (row_of request.helper).gives ≡ Number 0 254
   pub freeze : Freeze
-  pub entry : entry_of request.arguments.first before.freezes ≡ Some freeze
+  pub entry : entry_of request.arguments.first before.transport.freezes ≡ Some freeze
   pub its : is_run run.number freeze.holder ≡ true
-  pub given_is : given ≡ answer_number (frozen_with freeze (without request.arguments.first before.freezes))
-  pub freezes_is : between.freezes ≡ without request.arguments.first before.freezes
-  pub greatest_is : between.greatest_freeze ≡ before.greatest_freeze
+  pub given_is : given ≡ answer_number (frozen_with freeze (without request.arguments.first before.transport.freezes))
+  pub freezes_is : between.transport.freezes ≡ without request.arguments.first before.transport.freezes
+  pub greatest_is : between.transport.greatest_freeze ≡ before.transport.greatest_freeze
 
 -- one that the run holds is a timer's from now on
 pub record HandsOneOver (before : World) (run : LiveRun) (request : Request) (given : Answer) (between : World) : Type 0 where
@@ -80,11 +80,11 @@ pub record HandsOneOver (before : World) (run : LiveRun) (request : Request) (gi
   pub machine_is : (row_of request.helper).machine ≡ changes.GivesUp
   pub gives_is : (row_of request.helper).gives ≡ Number 0 0
   pub freeze : Freeze
-  pub entry : entry_of request.arguments.first before.freezes ≡ Some freeze
+  pub entry : entry_of request.arguments.first before.transport.freezes ≡ Some freeze
   pub its : is_run run.number freeze.holder ≡ true
   pub given_is : given ≡ answer_number 0
-  pub freezes_is : between.freezes ≡ handed_over request.arguments.first (before.clock + request.arguments.second) before.freezes
-  pub greatest_is : between.greatest_freeze ≡ before.greatest_freeze
+  pub freezes_is : between.transport.freezes ≡ handed_over request.arguments.first (before.transport.clock + request.arguments.second) before.transport.freezes
+  pub greatest_is : between.transport.greatest_freeze ≡ before.transport.greatest_freeze
 
 pub data FreezeDeed (setup : Setup) (before : World) (run : LiveRun) (request : Request) (given : Answer) (between : World) : Type 0 where
   leaves_freezes : LeavesFreezes setup before run request given between → FreezeDeed setup before run request given between
@@ -99,15 +99,15 @@ pub record LeavesCcbs (before : World) (run : LiveRun) (request : Request) (give
   pub calm : is_disposing (told_of request) ≡ false
   pub ends_none : (number : ℕ) (reply : Reply) → finished_by before (executes number (call (told_of request))) reply ≡ []
   pub disposed : (answered request given run.machine).disposed ≡ run.machine.disposed
-  pub live_is : between.live ≡ before.live
+  pub live_is : between.transport.live ≡ before.transport.live
   pub ended_is : between.ended ≡ before.ended
-  pub greatest_is : between.greatest_ccb ≡ before.greatest_ccb
+  pub greatest_is : between.transport.greatest_ccb ≡ before.transport.greatest_ccb
 
 -- the run's CCB is there and not disposed of
 pub record HasItsCcb (before : World) (run : LiveRun) : Type 0 where
   pub fresh : run.machine.disposed ≡ false
   pub live : LiveCcb
-  pub found : ccb_of run.ccb before.live ≡ Some live
+  pub found : ccb_of run.ccb before.transport.live ≡ Some live
 
 -- it waits again
 pub record RequeuesOne (before : World) (run : LiveRun) (request : Request) (between : World) : Type 0 where
@@ -115,9 +115,9 @@ pub record RequeuesOne (before : World) (run : LiveRun) (request : Request) (bet
   pub machine_is : (row_of request.helper).machine ≡ changes.Disposes
   pub told_is : told_of request ≡ plain request.helper
   pub its : HasItsCcb before run
-  pub live_is : between.live ≡ with_ccb (record { ccb = requeued its.live.ccb request.arguments.first; state = Waiting }) before.live
+  pub live_is : between.transport.live ≡ with_ccb (record { ccb = requeued its.live.ccb request.arguments.first; state = Waiting }) before.transport.live
   pub ended_is : between.ended ≡ before.ended
-  pub greatest_is : between.greatest_ccb ≡ before.greatest_ccb
+  pub greatest_is : between.transport.greatest_ccb ≡ before.transport.greatest_ccb
 
 -- it ends with the code that is told
 pub record EndsOne (before : World) (run : LiveRun) (request : Request) (between : World) : Type 0 where
@@ -125,9 +125,9 @@ pub record EndsOne (before : World) (run : LiveRun) (request : Request) (between
   pub machine_is : (row_of request.helper).machine ≡ changes.Disposes
   pub told_is : told_of request ≡ finishes request.helper request.arguments.first
   pub its : HasItsCcb before run
-  pub live_is : between.live ≡ (ended_with before its.live.ccb request.arguments.first).live
+  pub live_is : between.transport.live ≡ (ended_with before its.live.ccb request.arguments.first).transport.live
   pub ended_is : between.ended ≡ (ended_with before its.live.ccb request.arguments.first).ended
-  pub greatest_is : between.greatest_ccb ≡ before.greatest_ccb
+  pub greatest_is : between.transport.greatest_ccb ≡ before.transport.greatest_ccb
 
 pub data CcbDeed (before : World) (run : LiveRun) (request : Request) (given : Answer) (between : World) : Type 0 where
   leaves_ccbs : LeavesCcbs before run request given between → CcbDeed before run request given between
@@ -136,11 +136,11 @@ pub data CcbDeed (before : World) (run : LiveRun) (request : Request) (given : A
 
 -- What it does to the openings and the tables: one number is set, or none. No call touches the runs or the clock.
 pub record LeavesTheRest (before between : World) : Type 0 where
-  pub openings : OpeningsMove before.openings between.openings
-  pub tables : TablesMove before.tables between.tables
-  pub runs_is : between.runs ≡ before.runs
-  pub greatest_is : between.greatest_run ≡ before.greatest_run
-  pub clock_is : between.clock ≡ before.clock
+  pub openings : OpeningsMove before.transport.openings between.transport.openings
+  pub tables : TablesMove before.runs.tables between.runs.tables
+  pub runs_is : between.runs.list ≡ before.runs.list
+  pub greatest_is : between.runs.greatest ≡ before.runs.greatest
+  pub clock_is : between.transport.clock ≡ before.transport.clock
 
 -- All that a call does, with its answer.
 pub record Does (setup : Setup) (before : World) (run : LiveRun) (request : Request) (step : Reply × World) : Type 0 where

@@ -46,15 +46,15 @@ pub device_known : (setup : Setup) (queue : ℕ) → queue < queue_count setup �
 device_known setup queue below = grind (arith, below)
 
 -- the queue of a live CCB exists
-pub known_queue : (setup : Setup) (world : World) → CcbLimits setup world → (number : ℕ) (live : LiveCcb) → ccb_of number world.live ≡ Some live → live.ccb.queue.0 < queue_count setup
-known_queue setup world kept number live found = all_found ccb_key (λ (x : LiveCcb). x.ccb.queue.0 < queue_count setup) number world.live live kept.queues found
+pub known_queue : (setup : Setup) (world : World) → CcbLimits setup world → (number : ℕ) (live : LiveCcb) → ccb_of number world.transport.live ≡ Some live → live.ccb.queue.0 < queue_count setup
+known_queue setup world kept number live found = all_found ccb_key (λ (x : LiveCcb). x.ccb.queue.0 < queue_count setup) number world.transport.live live kept.queues found
 
 -- where nothing is finished nothing ended
 pub none_ended : (before after : World) (event : Event) (reply : Reply) → finished_by before event reply ≡ [] → after.ended ≡ before.ended → after.ended ≡ before.ended ++ finished_by before event reply
 none_ended before after event reply none e = e ∙ sym (ap (λ (l : List EndedCcb). before.ended ++ l) none ∙ append-nil before.ended)
 
 -- an event that is no instruction is none of any run
-idle_acts : (before : World) (event : Event) → ((run : ℕ) → instruction_of run event ≡ None) → (run : ℕ) (instruction : Instruction) → instruction_of run event ≡ Some instruction → IsSome (run_of run before.runs)
+idle_acts : (before : World) (event : Event) → ((run : ℕ) → instruction_of run event ≡ None) → (run : ℕ) (instruction : Instruction) → instruction_of run event ≡ Some instruction → IsSome (run_of run before.runs.list)
 idle_acts before event idle run instruction e = absurd (let bad : None ≡ Some instruction = sym (idle run) ∙ e in cc)
 
 -- one that is, is one of the run that executes it, which is live
@@ -69,7 +69,7 @@ is_its_step before event instruction it = ap is_some (its_instruction before eve
 
 -- also by the number that the run bears
 pub its_own_step : (before : World) (event : Event) (instruction : Instruction) → (it : Executes before event instruction) → is_step_of it.run.number event ≡ true
-its_own_step before event instruction it = subst (λ (k : ℕ). is_step_of k event ≡ true) (sym (found_key run_key it.number before.runs it.run it.found)) (is_its_step before event instruction it)
+its_own_step before event instruction it = subst (λ (k : ℕ). is_step_of k event ≡ true) (sym (found_key run_key it.number before.runs.list it.run it.found)) (is_its_step before event instruction it)
 
 -- so it is the run's own event
 step_is_own : (event : Event) (run : ℕ) → is_step_of run event ≡ true → is_own_of run event ≡ true
@@ -78,13 +78,13 @@ step_is_own event run its = ap (λ (b : Bool). b || is_turn_of run event) its
 -- and so are its park and its resume
 turn_is_own : (before : World) (event : Event) (reply : Reply) (after : World) → (it : Turns before event reply after) → is_own_of it.run.number event ≡ true
 turn_is_own before event reply after it =
-    subst (λ (k : ℕ). is_own_of k event ≡ true) (sym (found_key run_key it.number before.runs it.run it.found))
+    subst (λ (k : ℕ). is_own_of k event ≡ true) (sym (found_key run_key it.number before.runs.list it.run it.found))
     (ap (λ (o : Option Instruction). is_some o || is_turn_of it.number event) (it.idle it.number) ∙ it.its)
 
-executes_acts : (before : World) (event : Event) (instruction : Instruction) → Executes before event instruction → (run : ℕ) (other : Instruction) → instruction_of run event ≡ Some other → IsSome (run_of run before.runs)
+executes_acts : (before : World) (event : Event) (instruction : Instruction) → Executes before event instruction → (run : ℕ) (other : Instruction) → instruction_of run event ≡ Some other → IsSome (run_of run before.runs.list)
 executes_acts before event instruction it run other e =
     elim (cases_eq it.number run) [
-      | inl same ↦ subst (λ (k : ℕ). IsSome (run_of k before.runs)) same (subst (λ (o : Option LiveRun). IsSome o) (sym it.found) refl)
+      | inl same ↦ subst (λ (k : ℕ). IsSome (run_of k before.runs.list)) same (subst (λ (o : Option LiveRun). IsSome o) (sym it.found) refl)
       | inr apart ↦ absurd (let bad : None ≡ Some other = sym (not_others before event instruction run it apart) ∙ e in cc)
     ]
 
@@ -129,21 +129,21 @@ due_is_none reading r (Timer due) e = refl
 due_is_none reading r (Guest guest) e = refl
 
 -- a run that begins is found by its number
-pub begun_found : (setup : Setup) (before : World) (event : Event) (reply : Reply) (after : World) (run : LiveRun) → RunLimits setup before → Begins setup before event reply after run → run_of (before.greatest_run + 1) after.runs ≡ Some run
+pub begun_found : (setup : Setup) (before : World) (event : Event) (reply : Reply) (after : World) (run : LiveRun) → RunLimits setup before → Begins setup before event reply after run → run_of (before.runs.greatest + 1) after.runs.list ≡ Some run
 begun_found setup before event reply after run kept it =
-    let named : run.number ≡ before.greatest_run + 1 = ap (λ (r : LiveRun). r.number) it.run_is in
-    let none = missing_high run_key 0 before.runs before.greatest_run (before.greatest_run + 1) (omega arith) kept.rising in
-    ap (run_of (before.greatest_run + 1)) it.runs_is
-    ∙ (missing_push run_key (before.greatest_run + 1) before.runs run none ∙ at_head run_key (before.greatest_run + 1) run [] named)
+    let named : run.number ≡ before.runs.greatest + 1 = ap (λ (r : LiveRun). r.number) it.run_is in
+    let none = missing_high run_key 0 before.runs.list before.runs.greatest (before.runs.greatest + 1) (omega arith) kept.rising in
+    ap (run_of (before.runs.greatest + 1)) it.runs_is
+    ∙ (missing_push run_key (before.runs.greatest + 1) before.runs.list run none ∙ at_head run_key (before.runs.greatest + 1) run [] named)
 
 -- its freeze, and no other run's, comes with it
-comes_begun : (setup : Setup) (before : World) (event : Event) (reply : Reply) (after : World) (run : LiveRun) → RunLimits setup before → Begins setup before event reply after run → Comes before event after (Run (before.greatest_run + 1))
+comes_begun : (setup : Setup) (before : World) (event : Event) (reply : Reply) (after : World) (run : LiveRun) → RunLimits setup before → Begins setup before event reply after run → Comes before event after (Run (before.runs.greatest + 1))
 comes_begun setup before event reply after run kept it =
     let there = begun_found setup before event reply after run kept it in
     record {
       whose = λ other its. inl (sym (eqb-true _ _ its));
       live = λ other its.
-          subst (λ (k : ℕ). IsSome (run_of k after.runs)) (eqb-true _ _ its) (subst (λ (o : Option LiveRun). IsSome o) (sym there) refl);
+          subst (λ (k : ℕ). IsSome (run_of k after.runs.list)) (eqb-true _ _ its) (subst (λ (o : Option LiveRun). IsSome o) (sym there) refl);
     }
 
 -- its queue exists
@@ -163,12 +163,12 @@ begins_frozen setup before event reply after it = (
     found = it.fails.found;
     is_active = it.fails.is_active;
     taken = true;
-    freeze = before.greatest_freeze + 1;
+    freeze = before.transport.greatest_freeze + 1;
     run_is = refl;
     reply_is = ap (λ (x : Reply × World). x.0) it.starts_is;
-    live_is = ap (λ (x : Reply × World). x.1.live) it.starts_is;
-    runs_is = ap (λ (x : Reply × World). x.1.runs) it.starts_is;
-    freezes_is = inr (refl, it.free, ap (λ (x : Reply × World). x.1.freezes) it.starts_is);
+    live_is = ap (λ (x : Reply × World). x.1.transport.live) it.starts_is;
+    runs_is = ap (λ (x : Reply × World). x.1.runs.list) it.starts_is;
+    freezes_is = inr (refl, it.free, ap (λ (x : Reply × World). x.1.transport.freezes) it.starts_is);
   },
 )
 
@@ -186,9 +186,9 @@ begins_unfrozen setup before event reply after it = (
     freeze = 0;
     run_is = refl;
     reply_is = ap (λ (x : Reply × World). x.0) it.starts_is;
-    live_is = ap (λ (x : Reply × World). x.1.live) it.starts_is;
-    runs_is = ap (λ (x : Reply × World). x.1.runs) it.starts_is;
-    freezes_is = inl (refl, ap (λ (x : Reply × World). x.1.freezes) it.starts_is);
+    live_is = ap (λ (x : Reply × World). x.1.transport.live) it.starts_is;
+    runs_is = ap (λ (x : Reply × World). x.1.runs.list) it.starts_is;
+    freezes_is = inl (refl, ap (λ (x : Reply × World). x.1.transport.freezes) it.starts_is);
   },
 )
 
@@ -202,9 +202,9 @@ given_to_other run number freeze apart = ap (λ (b : Bool). cond (b && not (eqb 
 -- Calls of helpers.
 
 -- the run that calls goes on with the answer, and the others stand
-pub call_runs : (setup : Setup) (before : World) (event : Event) (reply : Reply) (after : World) → (it : Asks setup before event reply after) → after.runs ≡ with_run (record it.it.run { machine = answered it.request it.given it.it.run.machine }) before.runs
+pub call_runs : (setup : Setup) (before : World) (event : Event) (reply : Reply) (after : World) → (it : Asks setup before event reply after) → after.runs.list ≡ with_run (record it.it.run { machine = answered it.request it.given it.it.run.machine }) before.runs.list
 call_runs setup before event reply after it =
-    ap (λ (x : Reply × World). x.1.runs) it.answer ∙ ap (with_run (record it.it.run { machine = answered it.request it.given it.it.run.machine })) it.rest.runs_is
+    ap (λ (x : Reply × World). x.1.runs.list) it.answer ∙ ap (with_run (record it.it.run { machine = answered it.request it.given it.it.run.machine })) it.rest.runs_is
 
 -- what it gives to a run, by its request and its answer alone
 pub call_takes : (setup : Setup) (before : World) (event : Event) (reply : Reply) (after : World) → (it : Asks setup before event reply after) → (run : ℕ) (given : Answer) → it.given ≡ given → taken_by run event reply ≡ taken_by run (executes it.it.number (call (told_of it.request))) (result given.r0)
@@ -225,35 +225,35 @@ its_ccb before event instruction it its =
       run = it.run;
       found = it.found;
       its = is_its_step before event instruction it;
-      ccb_is = found_key ccb_key it.run.ccb before.live its.live its.found;
+      ccb_is = found_key ccb_key it.run.ccb before.transport.live its.live its.found;
       fresh = its.fresh;
     })
 
 call_ccbs : (setup : Setup) (before : World) (event : Event) (reply : Reply) (after : World) → (it : Asks setup before event reply after) → CcbDeed before it.it.run it.request it.given it.between → CcbMove setup before event reply after × (after.ended ≡ before.ended ++ finished_by before event reply)
 call_ccbs setup before event reply after it (leaves_ccbs deed) =
-    let live_is : after.live ≡ before.live = ap (λ (x : Reply × World). x.1.live) it.answer ∙ deed.live_is in
-    let greatest_is : after.greatest_ccb ≡ before.greatest_ccb = ap (λ (x : Reply × World). x.1.greatest_ccb) it.answer ∙ deed.greatest_is in
+    let live_is : after.transport.live ≡ before.transport.live = ap (λ (x : Reply × World). x.1.transport.live) it.answer ∙ deed.live_is in
+    let greatest_is : after.transport.greatest_ccb ≡ before.transport.greatest_ccb = ap (λ (x : Reply × World). x.1.transport.greatest_ccb) it.answer ∙ deed.greatest_is in
     let ended_is : after.ended ≡ before.ended = ap (λ (x : Reply × World). x.1.ended) it.answer ∙ deed.ended_is in
     let none : finished_by before event reply ≡ [] = finished_by_call setup before event reply after (told_of it.request) it refl ∙ deed.ends_none it.it.number reply in
     (ccbs_stay live_is greatest_is none, none_ended before after event reply none ended_is)
 call_ccbs setup before event reply after it (requeues_one deed) =
     let new : LiveCcb = record { ccb = requeued deed.its.live.ccb it.request.arguments.first; state = Waiting } in
-    let live_is : after.live ≡ with_ccb new before.live = ap (λ (x : Reply × World). x.1.live) it.answer ∙ deed.live_is in
-    let greatest_is : after.greatest_ccb ≡ before.greatest_ccb = ap (λ (x : Reply × World). x.1.greatest_ccb) it.answer ∙ deed.greatest_is in
+    let live_is : after.transport.live ≡ with_ccb new before.transport.live = ap (λ (x : Reply × World). x.1.transport.live) it.answer ∙ deed.live_is in
+    let greatest_is : after.transport.greatest_ccb ≡ before.transport.greatest_ccb = ap (λ (x : Reply × World). x.1.transport.greatest_ccb) it.answer ∙ deed.greatest_is in
     let ended_is : after.ended ≡ before.ended = ap (λ (x : Reply × World). x.1.ended) it.answer ∙ deed.ended_is in
     let none : finished_by before event reply ≡ [] = finished_by_call setup before event reply after (plain it.request.helper) it deed.told_is in (
-      ccb_changes deed.its.live new (ccb_found _ before.live deed.its.live deed.its.found) refl (inl refl) (its_ccb before event _ it.it deed.its) live_is greatest_is none,
+      ccb_changes deed.its.live new (ccb_found _ before.transport.live deed.its.live deed.its.found) refl (inl refl) (its_ccb before event _ it.it deed.its) live_is greatest_is none,
       none_ended before after event reply none ended_is,
     )
 call_ccbs setup before event reply after it (ends_one deed) =
     let old : LiveCcb = deed.its.live in
-    let live_is : after.live ≡ leave ccb_key old.ccb.number.0 before.live = ap (λ (x : Reply × World). x.1.live) it.answer ∙ deed.live_is in
-    let greatest_is : after.greatest_ccb ≡ before.greatest_ccb = ap (λ (x : Reply × World). x.1.greatest_ccb) it.answer ∙ deed.greatest_is in
-    let named : old.ccb.number.0 ≡ it.it.run.ccb = found_key ccb_key it.it.run.ccb before.live old deed.its.found in
+    let live_is : after.transport.live ≡ leave ccb_key old.ccb.number.0 before.transport.live = ap (λ (x : Reply × World). x.1.transport.live) it.answer ∙ deed.live_is in
+    let greatest_is : after.transport.greatest_ccb ≡ before.transport.greatest_ccb = ap (λ (x : Reply × World). x.1.transport.greatest_ccb) it.answer ∙ deed.greatest_is in
+    let named : old.ccb.number.0 ≡ it.it.run.ccb = found_key ccb_key it.it.run.ccb before.transport.live old deed.its.found in
     let one : finished_by before event reply ≡ one_ended old.ccb.number.0 it.request.arguments.first =
     finished_by_call setup before event reply after (finishes it.request.helper it.request.arguments.first) it deed.told_is
     ∙ (ap (finished_by_run it.request.arguments.first) it.it.found ∙ ap (λ (n : ℕ). one_ended n it.request.arguments.first) (sym named)) in (
-      ccb_leaves old.ccb.number.0 it.request.arguments.first old (ccb_found _ before.live old deed.its.found) (its_ccb before event _ it.it deed.its) live_is greatest_is one,
+      ccb_leaves old.ccb.number.0 it.request.arguments.first old (ccb_found _ before.transport.live old deed.its.found) (its_ccb before event _ it.it deed.its) live_is greatest_is one,
       ap (λ (x : Reply × World). x.1.ended) it.answer ∙ (deed.ended_is ∙ sym (ap (λ (l : List EndedCcb). before.ended ++ l) one)),
     )
 
@@ -264,42 +264,42 @@ its_freeze before event instruction it freeze its run held =
 
 call_freezes : (setup : Setup) (before : World) (event : Event) (reply : Reply) (after : World) → KeepsLists setup before → (it : Asks setup before event reply after) → FreezeDeed setup before it.it.run it.request it.given it.between → FreezeMove setup before event after
 call_freezes setup before event reply after kept it (leaves_freezes deed) =
-    freezes_stay (ap (λ (x : Reply × World). x.1.freezes) it.answer ∙ deed.freezes_is) (ap (λ (x : Reply × World). x.1.greatest_freeze) it.answer ∙ deed.greatest_is)
+    freezes_stay (ap (λ (x : Reply × World). x.1.transport.freezes) it.answer ∙ deed.freezes_is) (ap (λ (x : Reply × World). x.1.transport.greatest_freeze) it.answer ∙ deed.greatest_is)
 call_freezes setup before event reply after kept it (takes_one deed) =
-    let named : it.it.run.number ≡ it.it.number = found_key run_key it.it.number before.runs it.it.run it.it.found in
+    let named : it.it.run.number ≡ it.it.number = found_key run_key it.it.number before.runs.list it.it.run it.it.found in
     freeze_enters (device it.request.arguments.first) (Run it.it.run.number) (λ agreed. device_known setup it.request.arguments.first (omega (arith, deed.known, agreed))) deed.room
-    (ap (λ (x : Reply × World). x.1.freezes) it.answer ∙ deed.freezes_is) (ap (λ (x : Reply × World). x.1.greatest_freeze) it.answer ∙ deed.greatest_is)
+    (ap (λ (x : Reply × World). x.1.transport.freezes) it.answer ∙ deed.freezes_is) (ap (λ (x : Reply × World). x.1.transport.greatest_freeze) it.answer ∙ deed.greatest_is)
     (record {
       whose = λ run its. inr (subst (λ (k : ℕ). is_step_of k event ≡ true) (eqb-true _ _ its) (its_own_step before event _ it.it));
       live = λ run its.
-          subst (λ (k : ℕ). IsSome (run_of k after.runs)) (eqb-true _ _ its)
+          subst (λ (k : ℕ). IsSome (run_of k after.runs.list)) (eqb-true _ _ its)
           (subst (λ (o : Option LiveRun). IsSome o)
-          (sym (ap (run_of it.it.run.number) (call_runs setup before event reply after it) ∙ put_same run_key (record it.it.run { machine = answered it.request it.given it.it.run.machine }) before.runs it.it.run (run_found _ before.runs it.it.run it.it.found)))
+          (sym (ap (run_of it.it.run.number) (call_runs setup before event reply after it) ∙ put_same run_key (record it.it.run { machine = answered it.request it.given it.it.run.machine }) before.runs.list it.it.run (run_found _ before.runs.list it.it.run it.it.found)))
           refl);
     })
 call_freezes setup before event reply after kept it (gives_one_back deed) =
-    freezes_leave (λ (f : Freeze). eqb f.number it.request.arguments.first) (ap (λ (x : Reply × World). x.1.freezes) it.answer ∙ deed.freezes_is) (ap (λ (x : Reply × World). x.1.greatest_freeze) it.answer ∙ deed.greatest_is)
+    freezes_leave (λ (f : Freeze). eqb f.number it.request.arguments.first) (ap (λ (x : Reply × World). x.1.transport.freezes) it.answer ∙ deed.freezes_is) (ap (λ (x : Reply × World). x.1.transport.greatest_freeze) it.answer ∙ deed.greatest_is)
     (λ n f entry goes run held.
-    let named : deed.freeze.number ≡ it.request.arguments.first = found_key freeze_key it.request.arguments.first before.freezes deed.freeze deed.entry in
-    let same = same_entry before.freezes n it.request.arguments.first f deed.freeze entry deed.entry (eqb-true _ _ goes ∙ sym named) in
+    let named : deed.freeze.number ≡ it.request.arguments.first = found_key freeze_key it.request.arguments.first before.transport.freezes deed.freeze deed.entry in
+    let same = same_entry before.transport.freezes n it.request.arguments.first f deed.freeze entry deed.entry (eqb-true _ _ goes ∙ sym named) in
     its_freeze before event _ it.it f (subst (λ (x : Freeze). is_run it.it.run.number x.holder ≡ true) (sym same) deed.its) run held)
 call_freezes setup before event reply after kept it (hands_one_over deed) =
     let old : Freeze = deed.freeze in
-    let due : ℕ = before.clock + it.request.arguments.second in
-    let named : old.number ≡ it.request.arguments.first = found_key freeze_key it.request.arguments.first before.freezes old deed.entry in
+    let due : ℕ = before.transport.clock + it.request.arguments.second in
+    let named : old.number ≡ it.request.arguments.first = found_key freeze_key it.request.arguments.first before.transport.freezes old deed.entry in
     freeze_changes old (record old { holder = Timer due })
-    (subst (λ (n : ℕ). entry_of n before.freezes ≡ Some old) (sym named) deed.entry) refl
-    (ap (λ (x : Reply × World). x.1.freezes) it.answer ∙ (deed.freezes_is ∙ handed_is_put it.request.arguments.first due 0 before.freezes before.greatest_freeze old kept.freezes.numbered deed.entry))
-    (ap (λ (x : Reply × World). x.1.greatest_freeze) it.answer ∙ deed.greatest_is)
+    (subst (λ (n : ℕ). entry_of n before.transport.freezes ≡ Some old) (sym named) deed.entry) refl
+    (ap (λ (x : Reply × World). x.1.transport.freezes) it.answer ∙ (deed.freezes_is ∙ handed_is_put it.request.arguments.first due 0 before.transport.freezes before.transport.greatest_freeze old kept.freezes.numbered deed.entry))
+    (ap (λ (x : Reply × World). x.1.transport.greatest_freeze) it.answer ∙ deed.greatest_is)
     (record { owned = run_is_owned it.it.run.number old.holder deed.its; timed = refl; whose = λ run held. its_freeze before event _ it.it old deed.its run held })
 
 -- what it is answered from
 call_answers : (setup : Setup) (before : World) (event : Event) (reply : Reply) (after : World) → Asks setup before event reply after → AnswerMove before after
 call_answers setup before event reply after it =
     record {
-      openings = subst (OpeningsMove before.openings) (sym (ap (λ (x : Reply × World). x.1.openings) it.answer)) it.rest.openings;
-      tables = subst (TablesMove before.tables) (sym (ap (λ (x : Reply × World). x.1.tables) it.answer)) it.rest.tables;
-      clock = inl (ap (λ (x : Reply × World). x.1.clock) it.answer ∙ it.rest.clock_is);
+      openings = subst (OpeningsMove before.transport.openings) (sym (ap (λ (x : Reply × World). x.1.transport.openings) it.answer)) it.rest.openings;
+      tables = subst (TablesMove before.runs.tables) (sym (ap (λ (x : Reply × World). x.1.runs.tables) it.answer)) it.rest.tables;
+      clock = inl (ap (λ (x : Reply × World). x.1.transport.clock) it.answer ∙ it.rest.clock_is);
     }
 
 -- what a call takes it takes for its own run
@@ -317,7 +317,7 @@ call_taken setup before event reply after run idle it deed = by_deed deed
 
     by_deed : FreezeDeed setup before it.it.run it.request it.given it.between → taken_by run event reply ≡ []
     by_deed (leaves_freezes deed) = call_takes setup before event reply after it run it.given refl ∙ deed.taken run it.it.number
-    by_deed (takes_one deed) = by_row NewFreeze _ deed.gives_is deed.given_is ∙ given_to_other run it.it.number (before.greatest_freeze + 1) not_own
+    by_deed (takes_one deed) = by_row NewFreeze _ deed.gives_is deed.given_is ∙ given_to_other run it.it.number (before.transport.greatest_freeze + 1) not_own
     by_deed (gives_one_back deed) = by_row (Number 0 254) _ deed.gives_is deed.given_is
     by_deed (hands_one_over deed) = by_row (Number 0 0) _ deed.gives_is deed.given_is
 
@@ -326,50 +326,50 @@ pub effect_of : (setup : Setup) (before : World) (event : Event) (reply : Reply)
 effect_of setup before event reply after kept (refuses it) =
     let none : finished_by before event reply ≡ [] = ap (finished_by before event) it.reply_is ∙ it.ends in
     record {
-      ccbs = ccbs_stay (ap (λ (w : World). w.live) it.after_is) (ap (λ (w : World). w.greatest_ccb) it.after_is) none;
+      ccbs = ccbs_stay (ap (λ (w : World). w.transport.live) it.after_is) (ap (λ (w : World). w.transport.greatest_ccb) it.after_is) none;
       ended = none_ended before after event reply none (ap (λ (w : World). w.ended) it.after_is);
-      freezes = freezes_stay (ap (λ (w : World). w.freezes) it.after_is) (ap (λ (w : World). w.greatest_freeze) it.after_is);
-      runs = runs_stay (ap (λ (w : World). w.runs) it.after_is) (ap (λ (w : World). w.greatest_run) it.after_is) (ap tells_start it.reply_is);
-      answers = answers_stay before after (ap (λ (w : World). w.openings) it.after_is) (ap (λ (w : World). w.tables) it.after_is) (ap (λ (w : World). w.clock) it.after_is);
+      freezes = freezes_stay (ap (λ (w : World). w.transport.freezes) it.after_is) (ap (λ (w : World). w.transport.greatest_freeze) it.after_is);
+      runs = runs_stay (ap (λ (w : World). w.runs.list) it.after_is) (ap (λ (w : World). w.runs.greatest) it.after_is) (ap tells_start it.reply_is);
+      answers = answers_stay before after (ap (λ (w : World). w.transport.openings) it.after_is) (ap (λ (w : World). w.runs.tables) it.after_is) (ap (λ (w : World). w.transport.clock) it.after_is);
       taken = λ run given idle. ap (taken_by run event) it.reply_is ∙ it.taken run;
       acts = idle_acts before event it.idle;
     }
 effect_of setup before event reply after kept (submits it) =
     let none : finished_by before event reply ≡ [] = ap (λ (x : Event). finished_by before x reply) it.event_is in
     record {
-      ccbs = ccb_enters it.queue it.priority it.retries it.known it.room (ap (λ (w : World). w.live) it.after_is) (ap (λ (w : World). w.greatest_ccb) it.after_is) none;
+      ccbs = ccb_enters it.queue it.priority it.retries it.known it.room (ap (λ (w : World). w.transport.live) it.after_is) (ap (λ (w : World). w.transport.greatest_ccb) it.after_is) none;
       ended = none_ended before after event reply none (ap (λ (w : World). w.ended) it.after_is);
-      freezes = freezes_stay (ap (λ (w : World). w.freezes) it.after_is) (ap (λ (w : World). w.greatest_freeze) it.after_is);
-      runs = runs_stay (ap (λ (w : World). w.runs) it.after_is) (ap (λ (w : World). w.greatest_run) it.after_is) (ap tells_start it.reply_is);
-      answers = answers_stay before after (ap (λ (w : World). w.openings) it.after_is) (ap (λ (w : World). w.tables) it.after_is) (ap (λ (w : World). w.clock) it.after_is);
+      freezes = freezes_stay (ap (λ (w : World). w.transport.freezes) it.after_is) (ap (λ (w : World). w.transport.greatest_freeze) it.after_is);
+      runs = runs_stay (ap (λ (w : World). w.runs.list) it.after_is) (ap (λ (w : World). w.runs.greatest) it.after_is) (ap tells_start it.reply_is);
+      answers = answers_stay before after (ap (λ (w : World). w.transport.openings) it.after_is) (ap (λ (w : World). w.runs.tables) it.after_is) (ap (λ (w : World). w.transport.clock) it.after_is);
       taken = λ run given idle. λ i. taken_by run (it.event_is i) (it.reply_is i);
       acts = idle_acts before event (λ run. ap (instruction_of run) it.event_is);
     }
 effect_of setup before event reply after kept (dispatches it) =
     let none : finished_by before event reply ≡ [] = ap (λ (x : Event). finished_by before x reply) it.event_is in
-    let next = next_found it.queue.0 before.live before.greatest_ccb it.next kept.ccbs.rising it.next_is in
+    let next = next_found it.queue.0 before.transport.live before.transport.greatest_ccb it.next kept.ccbs.rising it.next_is in
     record {
       ccbs = ccb_changes it.next (record { ccb = started it.next.ccb; state = Active }) next.found refl
-          (inr (subst (λ (q : ℕ). active_count q before.live < slice_index before.openings q) (sym next.queue_is) it.opening))
-          (inl (idle_waits it.next.state next.waits)) (ap (λ (w : World). w.live) it.after_is) (ap (λ (w : World). w.greatest_ccb) it.after_is) none;
+          (inr (subst (λ (q : ℕ). active_count q before.transport.live < slice_index before.transport.openings q) (sym next.queue_is) it.opening))
+          (inl (idle_waits it.next.state next.waits)) (ap (λ (w : World). w.transport.live) it.after_is) (ap (λ (w : World). w.transport.greatest_ccb) it.after_is) none;
       ended = none_ended before after event reply none (ap (λ (w : World). w.ended) it.after_is);
-      freezes = freezes_stay (ap (λ (w : World). w.freezes) it.after_is) (ap (λ (w : World). w.greatest_freeze) it.after_is);
-      runs = runs_stay (ap (λ (w : World). w.runs) it.after_is) (ap (λ (w : World). w.greatest_run) it.after_is) (ap tells_start it.reply_is);
-      answers = answers_stay before after (ap (λ (w : World). w.openings) it.after_is) (ap (λ (w : World). w.tables) it.after_is) (ap (λ (w : World). w.clock) it.after_is);
+      freezes = freezes_stay (ap (λ (w : World). w.transport.freezes) it.after_is) (ap (λ (w : World). w.transport.greatest_freeze) it.after_is);
+      runs = runs_stay (ap (λ (w : World). w.runs.list) it.after_is) (ap (λ (w : World). w.runs.greatest) it.after_is) (ap tells_start it.reply_is);
+      answers = answers_stay before after (ap (λ (w : World). w.transport.openings) it.after_is) (ap (λ (w : World). w.runs.tables) it.after_is) (ap (λ (w : World). w.transport.clock) it.after_is);
       taken = λ run given idle. λ i. taken_by run (it.event_is i) (it.reply_is i);
       acts = idle_acts before event (λ run. ap (instruction_of run) it.event_is);
     }
 effect_of setup before event reply after kept (finishes_one it) =
-    let named : it.live.ccb.number.0 ≡ it.outcome.ccb.0 = found_key ccb_key it.outcome.ccb.0 before.live it.live it.found in
+    let named : it.live.ccb.number.0 ≡ it.outcome.ccb.0 = found_key ccb_key it.outcome.ccb.0 before.transport.live it.live it.found in
     let by : finished_by before event reply ≡ one_ended it.outcome.ccb.0 (code_of it.outcome.status) =
     ap (λ (x : Event). finished_by before x reply) it.event_is ∙ ap (finished_by before (called (Complete it.outcome))) it.reply_is in
     let one : finished_by before event reply ≡ one_ended it.live.ccb.number.0 (code_of it.outcome.status) = by ∙ ap (λ (n : ℕ). one_ended n (code_of it.outcome.status)) (sym named) in
     record {
-      ccbs = ccb_leaves it.live.ccb.number.0 (code_of it.outcome.status) it.live (ccb_found _ before.live it.live it.found) (inl (idle_works it.live.state it.is_active)) (ap (λ (w : World). w.live) it.after_is) (ap (λ (w : World). w.greatest_ccb) it.after_is) one;
+      ccbs = ccb_leaves it.live.ccb.number.0 (code_of it.outcome.status) it.live (ccb_found _ before.transport.live it.live it.found) (inl (idle_works it.live.state it.is_active)) (ap (λ (w : World). w.transport.live) it.after_is) (ap (λ (w : World). w.transport.greatest_ccb) it.after_is) one;
       ended = ap (λ (w : World). w.ended) it.after_is ∙ sym (ap (λ (l : List EndedCcb). before.ended ++ l) one);
-      freezes = freezes_stay (ap (λ (w : World). w.freezes) it.after_is) (ap (λ (w : World). w.greatest_freeze) it.after_is);
-      runs = runs_stay (ap (λ (w : World). w.runs) it.after_is) (ap (λ (w : World). w.greatest_run) it.after_is) (ap tells_start it.reply_is);
-      answers = answers_stay before after (ap (λ (w : World). w.openings) it.after_is) (ap (λ (w : World). w.tables) it.after_is) (ap (λ (w : World). w.clock) it.after_is);
+      freezes = freezes_stay (ap (λ (w : World). w.transport.freezes) it.after_is) (ap (λ (w : World). w.transport.greatest_freeze) it.after_is);
+      runs = runs_stay (ap (λ (w : World). w.runs.list) it.after_is) (ap (λ (w : World). w.runs.greatest) it.after_is) (ap tells_start it.reply_is);
+      answers = answers_stay before after (ap (λ (w : World). w.transport.openings) it.after_is) (ap (λ (w : World). w.runs.tables) it.after_is) (ap (λ (w : World). w.transport.clock) it.after_is);
       taken = λ run given idle. λ i. taken_by run (it.event_is i) (it.reply_is i);
       acts = idle_acts before event (λ run. ap (instruction_of run) it.event_is);
     }
@@ -381,13 +381,13 @@ effect_of setup before event reply after kept (recovers_one it) =
     ap (λ (x : Event). finished_by before x reply) it.fails.event_is ∙ ap (finished_by before (called (Complete it.fails.outcome))) parts.0 in
     record {
       ccbs = ccb_changes it.fails.live (record { ccb = completed it.fails.live.ccb it.fails.outcome true; state = InRecovery })
-          (ccb_found _ before.live it.fails.live it.fails.found) refl (inl refl) (inl (idle_works it.fails.live.state it.fails.is_active))
-          (ap (λ (w : World). w.live) parts.1) (ap (λ (w : World). w.greatest_ccb) parts.1) none;
+          (ccb_found _ before.transport.live it.fails.live it.fails.found) refl (inl refl) (inl (idle_works it.fails.live.state it.fails.is_active))
+          (ap (λ (w : World). w.transport.live) parts.1) (ap (λ (w : World). w.transport.greatest_ccb) parts.1) none;
       ended = none_ended before after event reply none (ap (λ (w : World). w.ended) parts.1);
-      freezes = freeze_enters (Device it.fails.live.ccb.queue) (Run (before.greatest_run + 1)) (λ agreed. device_known setup it.fails.live.ccb.queue.0 known) it.free (ap (λ (w : World). w.freezes) parts.1) (ap (λ (w : World). w.greatest_freeze) parts.1) (comes_begun setup before event reply after begun.0 kept.runs begun.1);
-      runs = run_enters begun.0 begun.1 (known_begun setup before event reply after begun.0 kept.ccbs begun.1) it.fails.room (ap (λ (w : World). w.greatest_run) parts.1);
-      answers = answers_stay before after (ap (λ (w : World). w.openings) parts.1) (ap (λ (w : World). w.tables) parts.1) (ap (λ (w : World). w.clock) parts.1);
-      taken = λ run given idle. (λ i. taken_by run (it.fails.event_is i) (parts.0 i)) ∙ given_to_other run (before.greatest_run + 1) (before.greatest_freeze + 1) (λ e. omega (arith, e, given));
+      freezes = freeze_enters (Device it.fails.live.ccb.queue) (Run (before.runs.greatest + 1)) (λ agreed. device_known setup it.fails.live.ccb.queue.0 known) it.free (ap (λ (w : World). w.transport.freezes) parts.1) (ap (λ (w : World). w.transport.greatest_freeze) parts.1) (comes_begun setup before event reply after begun.0 kept.runs begun.1);
+      runs = run_enters begun.0 begun.1 (known_begun setup before event reply after begun.0 kept.ccbs begun.1) it.fails.room (ap (λ (w : World). w.runs.greatest) parts.1);
+      answers = answers_stay before after (ap (λ (w : World). w.transport.openings) parts.1) (ap (λ (w : World). w.runs.tables) parts.1) (ap (λ (w : World). w.transport.clock) parts.1);
+      taken = λ run given idle. (λ i. taken_by run (it.fails.event_is i) (parts.0 i)) ∙ given_to_other run (before.runs.greatest + 1) (before.transport.greatest_freeze + 1) (λ e. omega (arith, e, given));
       acts = idle_acts before event (λ run. ap (instruction_of run) it.fails.event_is);
     }
 effect_of setup before event reply after kept (recovers_unfrozen it) =
@@ -398,54 +398,54 @@ effect_of setup before event reply after kept (recovers_unfrozen it) =
     ap (λ (x : Event). finished_by before x reply) it.fails.event_is ∙ ap (finished_by before (called (Complete it.fails.outcome))) parts.0 in
     record {
       ccbs = ccb_changes it.fails.live (record { ccb = completed it.fails.live.ccb it.fails.outcome false; state = InRecovery })
-          (ccb_found _ before.live it.fails.live it.fails.found) refl (inl refl) (inl (idle_works it.fails.live.state it.fails.is_active))
-          (ap (λ (w : World). w.live) parts.1) (ap (λ (w : World). w.greatest_ccb) parts.1) none;
+          (ccb_found _ before.transport.live it.fails.live it.fails.found) refl (inl refl) (inl (idle_works it.fails.live.state it.fails.is_active))
+          (ap (λ (w : World). w.transport.live) parts.1) (ap (λ (w : World). w.transport.greatest_ccb) parts.1) none;
       ended = none_ended before after event reply none (ap (λ (w : World). w.ended) parts.1);
-      freezes = freezes_stay (ap (λ (w : World). w.freezes) parts.1) (ap (λ (w : World). w.greatest_freeze) parts.1);
-      runs = run_enters begun.0 begun.1 (known_begun setup before event reply after begun.0 kept.ccbs begun.1) it.fails.room (ap (λ (w : World). w.greatest_run) parts.1);
-      answers = answers_stay before after (ap (λ (w : World). w.openings) parts.1) (ap (λ (w : World). w.tables) parts.1) (ap (λ (w : World). w.clock) parts.1);
-      taken = λ run given idle. (λ i. taken_by run (it.fails.event_is i) (parts.0 i)) ∙ given_to_other run (before.greatest_run + 1) 0 (λ e. omega (arith, e, given));
+      freezes = freezes_stay (ap (λ (w : World). w.transport.freezes) parts.1) (ap (λ (w : World). w.transport.greatest_freeze) parts.1);
+      runs = run_enters begun.0 begun.1 (known_begun setup before event reply after begun.0 kept.ccbs begun.1) it.fails.room (ap (λ (w : World). w.runs.greatest) parts.1);
+      answers = answers_stay before after (ap (λ (w : World). w.transport.openings) parts.1) (ap (λ (w : World). w.runs.tables) parts.1) (ap (λ (w : World). w.transport.clock) parts.1);
+      taken = λ run given idle. (λ i. taken_by run (it.fails.event_is i) (parts.0 i)) ∙ given_to_other run (before.runs.greatest + 1) 0 (λ e. omega (arith, e, given));
       acts = idle_acts before event (λ run. ap (instruction_of run) it.fails.event_is);
     }
 effect_of setup before event reply after kept (freezes_one it) =
     let none : finished_by before event reply ≡ [] = ap (λ (x : Event). finished_by before x reply) it.event_is in
     record {
-      ccbs = ccbs_stay (ap (λ (w : World). w.live) it.after_is) (ap (λ (w : World). w.greatest_ccb) it.after_is) none;
+      ccbs = ccbs_stay (ap (λ (w : World). w.transport.live) it.after_is) (ap (λ (w : World). w.transport.greatest_ccb) it.after_is) none;
       ended = none_ended before after event reply none (ap (λ (w : World). w.ended) it.after_is);
-      freezes = freeze_enters it.place (Guest it.guest) (λ agreed. it.known) it.room (ap (λ (w : World). w.freezes) it.after_is) (ap (λ (w : World). w.greatest_freeze) it.after_is)
+      freezes = freeze_enters it.place (Guest it.guest) (λ agreed. it.known) it.room (ap (λ (w : World). w.transport.freezes) it.after_is) (ap (λ (w : World). w.transport.greatest_freeze) it.after_is)
           (record { whose = λ run its. absurd (let bad : false ≡ true = its in cc); live = λ run its. absurd (let bad : false ≡ true = its in cc) });
-      runs = runs_stay (ap (λ (w : World). w.runs) it.after_is) (ap (λ (w : World). w.greatest_run) it.after_is) (ap tells_start it.reply_is);
-      answers = answers_stay before after (ap (λ (w : World). w.openings) it.after_is) (ap (λ (w : World). w.tables) it.after_is) (ap (λ (w : World). w.clock) it.after_is);
+      runs = runs_stay (ap (λ (w : World). w.runs.list) it.after_is) (ap (λ (w : World). w.runs.greatest) it.after_is) (ap tells_start it.reply_is);
+      answers = answers_stay before after (ap (λ (w : World). w.transport.openings) it.after_is) (ap (λ (w : World). w.runs.tables) it.after_is) (ap (λ (w : World). w.transport.clock) it.after_is);
       taken = λ run given idle. λ i. taken_by run (it.event_is i) (it.reply_is i);
       acts = idle_acts before event (λ run. ap (instruction_of run) it.event_is);
     }
 effect_of setup before event reply after kept (releases_one it) =
     let none : finished_by before event reply ≡ [] = ap (λ (x : Event). finished_by before x reply) it.event_is in
     record {
-      ccbs = ccbs_stay (ap (λ (w : World). w.live) it.after_is) (ap (λ (w : World). w.greatest_ccb) it.after_is) none;
+      ccbs = ccbs_stay (ap (λ (w : World). w.transport.live) it.after_is) (ap (λ (w : World). w.transport.greatest_ccb) it.after_is) none;
       ended = none_ended before after event reply none (ap (λ (w : World). w.ended) it.after_is);
-      freezes = freezes_leave (λ (f : Freeze). eqb f.number it.number) (ap (λ (w : World). w.freezes) it.after_is) (ap (λ (w : World). w.greatest_freeze) it.after_is)
+      freezes = freezes_leave (λ (f : Freeze). eqb f.number it.number) (ap (λ (w : World). w.transport.freezes) it.after_is) (ap (λ (w : World). w.transport.greatest_freeze) it.after_is)
           (λ n f entry goes run its.
-          let same = same_entry before.freezes n it.number f it.freeze entry it.entry (eqb-true _ _ goes ∙ sym (found_key freeze_key it.number before.freezes it.freeze it.entry)) in
+          let same = same_entry before.transport.freezes n it.number f it.freeze entry it.entry (eqb-true _ _ goes ∙ sym (found_key freeze_key it.number before.transport.freezes it.freeze it.entry)) in
           let other : is_run run f.holder ≡ false = guest_is_none run f.holder (subst (λ (x : Freeze). is_guest x.holder ≡ true) (sym same) it.guests) in
           absurd (let bad : false ≡ true = sym other ∙ its in cc));
-      runs = runs_stay (ap (λ (w : World). w.runs) it.after_is) (ap (λ (w : World). w.greatest_run) it.after_is) (ap tells_start it.reply_is);
-      answers = answers_stay before after (ap (λ (w : World). w.openings) it.after_is) (ap (λ (w : World). w.tables) it.after_is) (ap (λ (w : World). w.clock) it.after_is);
+      runs = runs_stay (ap (λ (w : World). w.runs.list) it.after_is) (ap (λ (w : World). w.runs.greatest) it.after_is) (ap tells_start it.reply_is);
+      answers = answers_stay before after (ap (λ (w : World). w.transport.openings) it.after_is) (ap (λ (w : World). w.runs.tables) it.after_is) (ap (λ (w : World). w.transport.clock) it.after_is);
       taken = λ run given idle. λ i. taken_by run (it.event_is i) (it.reply_is i);
       acts = idle_acts before event (λ run. ap (instruction_of run) it.event_is);
     }
 effect_of setup before event reply after kept (reads_clock it) =
     let none : finished_by before event reply ≡ [] = ap (λ (x : Event). finished_by before x reply) it.event_is in
     record {
-      ccbs = ccbs_stay (ap (λ (w : World). w.live) it.after_is) (ap (λ (w : World). w.greatest_ccb) it.after_is) none;
+      ccbs = ccbs_stay (ap (λ (w : World). w.transport.live) it.after_is) (ap (λ (w : World). w.transport.greatest_ccb) it.after_is) none;
       ended = none_ended before after event reply none (ap (λ (w : World). w.ended) it.after_is);
-      freezes = freezes_leave (λ (f : Freeze). is_due it.reading f.holder) (ap (λ (w : World). w.freezes) it.after_is) (ap (λ (w : World). w.greatest_freeze) it.after_is)
+      freezes = freezes_leave (λ (f : Freeze). is_due it.reading f.holder) (ap (λ (w : World). w.transport.freezes) it.after_is) (ap (λ (w : World). w.transport.greatest_freeze) it.after_is)
           (λ n f entry goes run its. absurd (let bad : false ≡ true = sym (due_is_none it.reading run f.holder goes) ∙ its in cc));
-      runs = runs_stay (ap (λ (w : World). w.runs) it.after_is) (ap (λ (w : World). w.greatest_run) it.after_is) (ap tells_start it.reply_is);
+      runs = runs_stay (ap (λ (w : World). w.runs.list) it.after_is) (ap (λ (w : World). w.runs.greatest) it.after_is) (ap tells_start it.reply_is);
       answers = record {
-        openings = openings_stay (ap (λ (w : World). w.openings) it.after_is);
-        tables = tables_stay (ap (λ (w : World). w.tables) it.after_is);
-        clock = let is : after.clock ≡ it.reading = ap (λ (w : World). w.clock) it.after_is in inr (rw is it.on, rw is it.within);
+        openings = openings_stay (ap (λ (w : World). w.transport.openings) it.after_is);
+        tables = tables_stay (ap (λ (w : World). w.runs.tables) it.after_is);
+        clock = let is : after.transport.clock ≡ it.reading = ap (λ (w : World). w.transport.clock) it.after_is in inr (rw is it.on, rw is it.within);
       };
       taken = λ run given idle. λ i. taken_by run (it.event_is i) (it.reply_is i);
       acts = idle_acts before event (λ run. ap (instruction_of run) it.event_is);
@@ -453,22 +453,22 @@ effect_of setup before event reply after kept (reads_clock it) =
 effect_of setup before event reply after kept (turns_one it) =
     let none : finished_by before event reply ≡ [] = ap (finished_by before event) it.reply_is ∙ it.ends in
     record {
-      ccbs = ccbs_stay (ap (λ (w : World). w.live) it.after_is) (ap (λ (w : World). w.greatest_ccb) it.after_is) none;
+      ccbs = ccbs_stay (ap (λ (w : World). w.transport.live) it.after_is) (ap (λ (w : World). w.transport.greatest_ccb) it.after_is) none;
       ended = none_ended before after event reply none (ap (λ (w : World). w.ended) it.after_is);
-      freezes = freezes_stay (ap (λ (w : World). w.freezes) it.after_is) (ap (λ (w : World). w.greatest_freeze) it.after_is);
-      runs = run_changes it.run (record it.run { out = it.out }) (run_found _ before.runs it.run it.found) refl refl (ap (λ (w : World). w.runs) it.after_is) (ap (λ (w : World). w.greatest_run) it.after_is) (ap tells_start it.reply_is) (turn_is_own before event reply after it);
-      answers = answers_stay before after (ap (λ (w : World). w.openings) it.after_is) (ap (λ (w : World). w.tables) it.after_is) (ap (λ (w : World). w.clock) it.after_is);
+      freezes = freezes_stay (ap (λ (w : World). w.transport.freezes) it.after_is) (ap (λ (w : World). w.transport.greatest_freeze) it.after_is);
+      runs = run_changes it.run (record it.run { out = it.out }) (run_found _ before.runs.list it.run it.found) refl refl (ap (λ (w : World). w.runs.list) it.after_is) (ap (λ (w : World). w.runs.greatest) it.after_is) (ap tells_start it.reply_is) (turn_is_own before event reply after it);
+      answers = answers_stay before after (ap (λ (w : World). w.transport.openings) it.after_is) (ap (λ (w : World). w.runs.tables) it.after_is) (ap (λ (w : World). w.transport.clock) it.after_is);
       taken = λ run given idle. ap (taken_by run event) it.reply_is ∙ it.taken run;
       acts = idle_acts before event it.idle;
     }
 effect_of setup before event reply after kept (goes_on_one it) =
     let none : finished_by before event reply ≡ [] = ap (λ (x : Event). finished_by before x reply) it.it.event_is in
     record {
-      ccbs = ccbs_stay (ap (λ (w : World). w.live) it.after_is) (ap (λ (w : World). w.greatest_ccb) it.after_is) none;
+      ccbs = ccbs_stay (ap (λ (w : World). w.transport.live) it.after_is) (ap (λ (w : World). w.transport.greatest_ccb) it.after_is) none;
       ended = none_ended before after event reply none (ap (λ (w : World). w.ended) it.after_is);
-      freezes = freezes_stay (ap (λ (w : World). w.freezes) it.after_is) (ap (λ (w : World). w.greatest_freeze) it.after_is);
-      runs = run_changes it.it.run (record it.it.run { machine = it.machine }) (run_found _ before.runs it.it.run it.it.found) refl refl (ap (λ (w : World). w.runs) it.after_is) (ap (λ (w : World). w.greatest_run) it.after_is) (ap tells_start it.reply_is) (step_is_own event _ (its_own_step before event _ it.it));
-      answers = answers_stay before after (ap (λ (w : World). w.openings) it.after_is) (ap (λ (w : World). w.tables) it.after_is) (ap (λ (w : World). w.clock) it.after_is);
+      freezes = freezes_stay (ap (λ (w : World). w.transport.freezes) it.after_is) (ap (λ (w : World). w.transport.greatest_freeze) it.after_is);
+      runs = run_changes it.it.run (record it.it.run { machine = it.machine }) (run_found _ before.runs.list it.it.run it.it.found) refl refl (ap (λ (w : World). w.runs.list) it.after_is) (ap (λ (w : World). w.runs.greatest) it.after_is) (ap tells_start it.reply_is) (step_is_own event _ (its_own_step before event _ it.it));
+      answers = answers_stay before after (ap (λ (w : World). w.transport.openings) it.after_is) (ap (λ (w : World). w.runs.tables) it.after_is) (ap (λ (w : World). w.transport.clock) it.after_is);
       taken = λ run given idle. λ i. taken_by run (it.it.event_is i) (it.reply_is i);
       acts = executes_acts before event _ it.it;
     }
@@ -479,7 +479,7 @@ effect_of setup before event reply after kept (asks_one it) =
       ccbs = ccbs.0;
       ended = ccbs.1;
       freezes = call_freezes setup before event reply after kept it it.freezes;
-      runs = run_changes it.it.run (record it.it.run { machine = answered it.request it.given it.it.run.machine }) (run_found _ before.runs it.it.run it.it.found) refl refl (call_runs setup before event reply after it) (ap (λ (w : World). w.greatest_run) parts.1 ∙ it.rest.greatest_is) (ap tells_start parts.0) (step_is_own event _ (its_own_step before event _ it.it));
+      runs = run_changes it.it.run (record it.it.run { machine = answered it.request it.given it.it.run.machine }) (run_found _ before.runs.list it.it.run it.it.found) refl refl (call_runs setup before event reply after it) (ap (λ (w : World). w.runs.greatest) parts.1 ∙ it.rest.greatest_is) (ap tells_start parts.0) (step_is_own event _ (its_own_step before event _ it.it));
       answers = call_answers setup before event reply after it;
       taken = λ run given idle. call_taken setup before event reply after run idle it it.freezes;
       acts = executes_acts before event _ it.it;
@@ -487,11 +487,11 @@ effect_of setup before event reply after kept (asks_one it) =
 effect_of setup before event reply after kept (exits it) =
     let none : finished_by before event reply ≡ [] = ap (λ (x : Event). finished_by before x reply) it.it.event_is in
     record {
-      ccbs = ccbs_stay (ap (λ (w : World). w.live) it.after_is) (ap (λ (w : World). w.greatest_ccb) it.after_is) none;
+      ccbs = ccbs_stay (ap (λ (w : World). w.transport.live) it.after_is) (ap (λ (w : World). w.transport.greatest_ccb) it.after_is) none;
       ended = none_ended before after event reply none (ap (λ (w : World). w.ended) it.after_is);
-      freezes = freezes_stay (ap (λ (w : World). w.freezes) it.after_is) (ap (λ (w : World). w.greatest_freeze) it.after_is);
-      runs = run_leaves it.it.run (run_found _ before.runs it.it.run it.it.found) (ap (λ (w : World). w.runs) it.after_is) (ap (λ (w : World). w.greatest_run) it.after_is) (ap tells_start it.reply_is) (step_is_own event _ (its_own_step before event _ it.it));
-      answers = answers_stay before after (ap (λ (w : World). w.openings) it.after_is) (ap (λ (w : World). w.tables) it.after_is) (ap (λ (w : World). w.clock) it.after_is);
+      freezes = freezes_stay (ap (λ (w : World). w.transport.freezes) it.after_is) (ap (λ (w : World). w.transport.greatest_freeze) it.after_is);
+      runs = run_leaves it.it.run (run_found _ before.runs.list it.it.run it.it.found) (ap (λ (w : World). w.runs.list) it.after_is) (ap (λ (w : World). w.runs.greatest) it.after_is) (ap tells_start it.reply_is) (step_is_own event _ (its_own_step before event _ it.it));
+      answers = answers_stay before after (ap (λ (w : World). w.transport.openings) it.after_is) (ap (λ (w : World). w.runs.tables) it.after_is) (ap (λ (w : World). w.transport.clock) it.after_is);
       taken = λ run given idle. λ i. taken_by run (it.it.event_is i) (it.reply_is i);
       acts = executes_acts before event _ it.it;
     }

@@ -53,19 +53,19 @@ turned run out = record run { out = out }
 -- What an instruction by which a run goes on does to the freezes that the run holds: nothing, or the run takes one, or one
 -- of them goes or gets another holder.
 pub data Holding (before : World) (event : Event) (reply : Reply) (after : World) (number : ℕ) (run : LiveRun) (instruction : Instruction) (machine : MachineState) : Type 0 where
-  holds_the_same : machine.held ≡ run.machine.held → after.freezes ≡ before.freezes → given_up (Some instruction) (request_at run.program run.machine) ≡ [] → taken_by number event reply ≡ [] → Holding before event reply after number run instruction machine
-  holds_one_more : (freeze : Freeze) → freeze.number ≡ before.greatest_freeze + 1 → is_run number freeze.holder ≡ true → machine.held ≡ run.machine.held ++ freeze.number ∷ [] → after.freezes ≡ before.freezes ++ freeze ∷ [] → after.greatest_freeze ≡ before.greatest_freeze + 1 → given_up (Some instruction) (request_at run.program run.machine) ≡ [] → taken_by number event reply ≡ freeze.number ∷ [] → Holding before event reply after number run instruction machine
-  holds_one_fewer : (wanted : ℕ) (freeze : Freeze) → entry_of wanted before.freezes ≡ Some freeze → is_run number freeze.holder ≡ true → machine.held ≡ held_without run.machine.held wanted → entries_of number after.freezes ≡ entries_of number (without wanted before.freezes) → given_up (Some instruction) (request_at run.program run.machine) ≡ wanted ∷ [] → taken_by number event reply ≡ [] → Holding before event reply after number run instruction machine
+  holds_the_same : machine.held ≡ run.machine.held → after.transport.freezes ≡ before.transport.freezes → given_up (Some instruction) (request_at run.program run.machine) ≡ [] → taken_by number event reply ≡ [] → Holding before event reply after number run instruction machine
+  holds_one_more : (freeze : Freeze) → freeze.number ≡ before.transport.greatest_freeze + 1 → is_run number freeze.holder ≡ true → machine.held ≡ run.machine.held ++ freeze.number ∷ [] → after.transport.freezes ≡ before.transport.freezes ++ freeze ∷ [] → after.transport.greatest_freeze ≡ before.transport.greatest_freeze + 1 → given_up (Some instruction) (request_at run.program run.machine) ≡ [] → taken_by number event reply ≡ freeze.number ∷ [] → Holding before event reply after number run instruction machine
+  holds_one_fewer : (wanted : ℕ) (freeze : Freeze) → entry_of wanted before.transport.freezes ≡ Some freeze → is_run number freeze.holder ≡ true → machine.held ≡ held_without run.machine.held wanted → entries_of number after.transport.freezes ≡ entries_of number (without wanted before.transport.freezes) → given_up (Some instruction) (request_at run.program run.machine) ≡ wanted ∷ [] → taken_by number event reply ≡ [] → Holding before event reply after number run instruction machine
 
 -- And to its CCB: nothing, or the run disposes of it.
 pub data Disposing (before after : World) (run : LiveRun) (instruction : Instruction) (machine : MachineState) : Type 0 where
-  leaves_its_ccb : machine.disposed ≡ run.machine.disposed → after.live ≡ before.live → is_disposal (Some instruction) ≡ false → Disposing before after run instruction machine
+  leaves_its_ccb : machine.disposed ≡ run.machine.disposed → after.transport.live ≡ before.transport.live → is_disposal (Some instruction) ≡ false → Disposing before after run instruction machine
   disposes_of_it : run.machine.disposed ≡ false → machine.disposed ≡ true → is_disposal (Some instruction) ≡ true → Disposing before after run instruction machine
 
 pub data Fate (before : World) (event : Event) (reply : Reply) (after : World) (number : ℕ) (run : LiveRun) : Type 0 where
-  stands : (out : Bool) → instruction_of number event ≡ None → run_of number after.runs ≡ Some (turned run out) → Fate before event reply after number run
-  goes : (instruction : Instruction) (machine : MachineState) → instruction_of number event ≡ Some instruction → is_exit (Some instruction) ≡ false → Steps run.program run.machine machine → run_of number after.runs ≡ Some (machine_of run machine) → Holding before event reply after number run instruction machine → Disposing before after run instruction machine → Fate before event reply after number run
-  leaves_world : (r0 : ℕ) → instruction_of number event ≡ Some exit → exit_at run.program run.machine ≡ Some r0 → run_of number after.runs ≡ None → taken_by number event reply ≡ [] → Fate before event reply after number run
+  stands : (out : Bool) → instruction_of number event ≡ None → run_of number after.runs.list ≡ Some (turned run out) → Fate before event reply after number run
+  goes : (instruction : Instruction) (machine : MachineState) → instruction_of number event ≡ Some instruction → is_exit (Some instruction) ≡ false → Steps run.program run.machine machine → run_of number after.runs.list ≡ Some (machine_of run machine) → Holding before event reply after number run instruction machine → Disposing before after run instruction machine → Fate before event reply after number run
+  leaves_world : (r0 : ℕ) → instruction_of number event ≡ Some exit → exit_at run.program run.machine ≡ Some r0 → run_of number after.runs.list ≡ None → taken_by number event reply ≡ [] → Fate before event reply after number run
 
 -- two runs of one number are one
 pub same_run : (runs : List LiveRun) (n m : ℕ) (a b : LiveRun) → n ≡ m → run_of n runs ≡ Some a → run_of m runs ≡ Some b → a ≡ b
@@ -84,61 +84,61 @@ changed_other : (runs later : List LiveRun) (number : ℕ) (new : LiveRun) → l
 changed_other runs later number new e apart = ap (run_of number) e ∙ put_other run_key new number runs apart
 
 -- the count after a release is at most 254
-pub count_after : (setup : Setup) (before : World) (number : ℕ) (freeze : Freeze) → FreezeLimits setup before → entry_of number before.freezes ≡ Some freeze → frozen_with freeze (without freeze.number before.freezes) ≤ 254
+pub count_after : (setup : Setup) (before : World) (number : ℕ) (freeze : Freeze) → FreezeLimits setup before → entry_of number before.transport.freezes ≡ Some freeze → frozen_with freeze (without freeze.number before.transport.freezes) ≤ 254
 count_after setup before number freeze kept entry =
-    let is = entry_bounds 0 before.freezes before.greatest_freeze number freeze kept.numbered entry in
-    let fewer = frozen_without freeze.place 0 before.freezes before.greatest_freeze freeze.number freeze kept.numbered (subst (λ (n : ℕ). entry_of n before.freezes ≡ Some freeze) (sym is.0) entry) in
+    let is = entry_bounds 0 before.transport.freezes before.transport.greatest_freeze number freeze kept.numbered entry in
+    let fewer = frozen_without freeze.place 0 before.transport.freezes before.transport.greatest_freeze freeze.number freeze kept.numbered (subst (λ (n : ℕ). entry_of n before.transport.freezes ≡ Some freeze) (sym is.0) entry) in
     let one : cond {A = ℕ} (is_place freeze.place freeze.place) 1 0 ≡ 1 = ap (λ (b : Bool). cond {A = ℕ} b 1 0) (place_itself freeze.place) in
     omega (arith, fewer, one, kept.a_place freeze.place)
 
 -- the runs are as they were
-unchanged : (before : World) (event : Event) (reply : Reply) (after : World) (number : ℕ) (run : LiveRun) → run_of number before.runs ≡ Some run → instruction_of number event ≡ None → after.runs ≡ before.runs → Fate before event reply after number run
+unchanged : (before : World) (event : Event) (reply : Reply) (after : World) (number : ℕ) (run : LiveRun) → run_of number before.runs.list ≡ Some run → instruction_of number event ≡ None → after.runs.list ≡ before.runs.list → Fate before event reply after number run
 unchanged before event reply after number run found idle e = stands run.out idle (ap (run_of number) e ∙ found)
 
 -- a run goes on, and the others stand
-one_goes : (before : World) (event : Event) (reply : Reply) (after : World) (instruction : Instruction) (it : Executes before event instruction) (machine : MachineState) → after.runs ≡ with_run (machine_of it.run machine) before.runs → is_exit (Some instruction) ≡ false → Steps it.run.program it.run.machine machine → Holding before event reply after it.number it.run instruction machine → Disposing before after it.run instruction machine → (number : ℕ) (run : LiveRun) → run_of number before.runs ≡ Some run → Fate before event reply after number run
+one_goes : (before : World) (event : Event) (reply : Reply) (after : World) (instruction : Instruction) (it : Executes before event instruction) (machine : MachineState) → after.runs.list ≡ with_run (machine_of it.run machine) before.runs.list → is_exit (Some instruction) ≡ false → Steps it.run.program it.run.machine machine → Holding before event reply after it.number it.run instruction machine → Disposing before after it.run instruction machine → (number : ℕ) (run : LiveRun) → run_of number before.runs.list ≡ Some run → Fate before event reply after number run
 one_goes before event reply after instruction it machine runs_is no_exit steps holding disposing number run found =
-    let named : it.run.number ≡ it.number = found_key run_key it.number before.runs it.run it.found in
+    let named : it.run.number ≡ it.number = found_key run_key it.number before.runs.list it.run it.found in
     elim (cases_eq it.number number) [
       | inl its ↦
-          let same : it.run ≡ run = same_run before.runs it.number number it.run run its it.found found in
+          let same : it.run ≡ run = same_run before.runs.list it.number number it.run run its it.found found in
           let own : Fate before event reply after it.number it.run =
-          goes instruction machine (its_instruction before event instruction it) no_exit steps (changed_same before.runs after.runs it.number it.run (machine_of it.run machine) refl it.found runs_is) holding disposing in
+          goes instruction machine (its_instruction before event instruction it) no_exit steps (changed_same before.runs.list after.runs.list it.number it.run (machine_of it.run machine) refl it.found runs_is) holding disposing in
           subst (λ (n : ℕ). Fate before event reply after n run) its (subst (λ (r : LiveRun). Fate before event reply after it.number r) same own)
       | inr apart ↦
           stands run.out (not_others before event instruction number it apart)
-          (changed_other before.runs after.runs number (machine_of it.run machine) runs_is (λ e. apart (sym named ∙ e)) ∙ found)
+          (changed_other before.runs.list after.runs.list number (machine_of it.run machine) runs_is (λ e. apart (sym named ∙ e)) ∙ found)
     ]
 
 -- a run is parked, or out again, and the others stand
-one_turns : (before : World) (event : Event) (reply : Reply) (after : World) (it : Turns before event reply after) (number : ℕ) (run : LiveRun) → run_of number before.runs ≡ Some run → Fate before event reply after number run
+one_turns : (before : World) (event : Event) (reply : Reply) (after : World) (it : Turns before event reply after) (number : ℕ) (run : LiveRun) → run_of number before.runs.list ≡ Some run → Fate before event reply after number run
 one_turns before event reply after it number run found =
-    let named : it.run.number ≡ it.number = found_key run_key it.number before.runs it.run it.found in
-    let runs_is : after.runs ≡ with_run (turned it.run it.out) before.runs = ap (λ (w : World). w.runs) it.after_is in
+    let named : it.run.number ≡ it.number = found_key run_key it.number before.runs.list it.run it.found in
+    let runs_is : after.runs.list ≡ with_run (turned it.run it.out) before.runs.list = ap (λ (w : World). w.runs.list) it.after_is in
     elim (cases_eq it.number number) [
       | inl its ↦
-          let same : it.run ≡ run = same_run before.runs it.number number it.run run its it.found found in
+          let same : it.run ≡ run = same_run before.runs.list it.number number it.run run its it.found found in
           let own : Fate before event reply after it.number it.run =
-          stands it.out (it.idle it.number) (changed_same before.runs after.runs it.number it.run (turned it.run it.out) refl it.found runs_is) in
+          stands it.out (it.idle it.number) (changed_same before.runs.list after.runs.list it.number it.run (turned it.run it.out) refl it.found runs_is) in
           subst (λ (n : ℕ). Fate before event reply after n run) its (subst (λ (r : LiveRun). Fate before event reply after it.number r) same own)
-      | inr apart ↦ stands run.out (it.idle number) (changed_other before.runs after.runs number (turned it.run it.out) runs_is (λ e. apart (sym named ∙ e)) ∙ found)
+      | inr apart ↦ stands run.out (it.idle number) (changed_other before.runs.list after.runs.list number (turned it.run it.out) runs_is (λ e. apart (sym named ∙ e)) ∙ found)
     ]
 
 -- Calls of helpers.
 
 -- the answer is one that the run may get
-call_allowed : (setup : Setup) (before : World) (run : LiveRun) (request : Request) (given : Answer) (between : World) → AnswersFrom setup before run → run.machine.held ≡ held_by run.number before.freezes → FreezeDeed setup before run request given between → IsAnswer run.machine request given
+call_allowed : (setup : Setup) (before : World) (run : LiveRun) (request : Request) (given : Answer) (between : World) → AnswersFrom setup before run → run.machine.held ≡ held_by run.number before.transport.freezes → FreezeDeed setup before run request given between → IsAnswer run.machine request given
 call_allowed setup before run request given between from held (leaves_freezes deed) = deed.allowed from
 call_allowed setup before run request given between from held (takes_one deed) =
-    let room = room_from (device request.arguments.first) before.freezes before.greatest_freeze deed.room in
-    let fresh : is_held run.machine.held (before.greatest_freeze + 1) ≡ false =
-    ap (λ (ns : List ℕ). is_held ns (before.greatest_freeze + 1)) held ∙ none_above run.number (before.greatest_freeze + 1) before.freezes before.greatest_freeze from.kept.freezes.numbered (omega arith) in
+    let room = room_from (device request.arguments.first) before.transport.freezes before.transport.greatest_freeze deed.room in
+    let fresh : is_held run.machine.held (before.transport.greatest_freeze + 1) ≡ false =
+    ap (λ (ns : List ℕ). is_held ns (before.transport.greatest_freeze + 1)) held ∙ none_above run.number (before.transport.greatest_freeze + 1) before.transport.freezes before.transport.greatest_freeze from.kept.freezes.numbered (omega arith) in
     rw (deed.gives_is, deed.machine_is, deed.given_is) (inr (omega arith, omega (arith, room.numbers), fresh), tt)
 call_allowed setup before run request given between from held (gives_one_back deed) =
     let number : ℕ = request.arguments.first in
-    let named : deed.freeze.number ≡ number = found_key freeze_key number before.freezes deed.freeze deed.entry in
+    let named : deed.freeze.number ≡ number = found_key freeze_key number before.transport.freezes deed.freeze deed.entry in
     rw (deed.gives_is, deed.machine_is, deed.given_is)
-    ((omega arith, subst (λ (n : ℕ). frozen_with deed.freeze (without n before.freezes) ≤ 254) named (count_after setup before number deed.freeze from.kept.freezes deed.entry)), tt)
+    ((omega arith, subst (λ (n : ℕ). frozen_with deed.freeze (without n before.transport.freezes) ≤ 254) named (count_after setup before number deed.freeze from.kept.freezes deed.entry)), tt)
 call_allowed setup before run request given between from held (hands_one_over deed) = rw (deed.gives_is, deed.machine_is, deed.given_is) ((omega arith, omega arith), tt)
 
 -- what the run holds with the answer
@@ -152,10 +152,10 @@ call_holding setup before event reply after kept it = by_deed
     run = it.it.run
 
     named : run.number ≡ number
-    named = found_key run_key number before.runs run it.it.found
+    named = found_key run_key number before.runs.list run it.it.found
 
-    freezes_is : after.freezes ≡ it.between.freezes
-    freezes_is = ap (λ (x : Reply × World). x.1.freezes) it.answer
+    freezes_is : after.transport.freezes ≡ it.between.transport.freezes
+    freezes_is = ap (λ (x : Reply × World). x.1.transport.freezes) it.answer
 
     number_in_R1 : ℕ
     number_in_R1 = it.request.arguments.first
@@ -173,11 +173,11 @@ call_holding setup before event reply after kept it = by_deed
     by_deed (leaves_freezes deed) =
         holds_the_same deed.held (freezes_is ∙ deed.freezes_is) (ap asked it.call_is ∙ deed.keeps) (call_takes setup before event reply after it number it.given refl ∙ deed.taken number number)
     by_deed (takes_one deed) =
-        let next : ℕ = before.greatest_freeze + 1 in
+        let next : ℕ = before.transport.greatest_freeze + 1 in
         let above : eqb next 0 ≡ false = ne_eqb _ _ (λ e. omega (arith, e)) in
         holds_one_more (record { number = next; place = device number_in_R1; holder = Run run.number }) refl (eq-eqb _ _ named)
         (held_as changes.Holds (answer_number next) deed.machine_is deed.given_is ∙ cond-false (eqb next 0) run.machine.held (run.machine.held ++ next ∷ []) above)
-        (freezes_is ∙ deed.freezes_is) (ap (λ (x : Reply × World). x.1.greatest_freeze) it.answer ∙ deed.greatest_is) (given_as changes.Holds deed.machine_is)
+        (freezes_is ∙ deed.freezes_is) (ap (λ (x : Reply × World). x.1.transport.greatest_freeze) it.answer ∙ deed.greatest_is) (given_as changes.Holds deed.machine_is)
         (takes NewFreeze (answer_number next) deed.gives_is deed.given_is
         ∙ cond-true (eqb number number && not (eqb next 0)) (next ∷ []) [] (and_from (eqb number number) (not (eqb next 0)) (eq-eqb number number refl) (not_from_false _ above)))
     by_deed (gives_one_back deed) =
@@ -185,13 +185,13 @@ call_holding setup before event reply after kept it = by_deed
         (held_as changes.GivesUp it.given deed.machine_is refl) (ap (entries_of number) (freezes_is ∙ deed.freezes_is)) (given_as changes.GivesUp deed.machine_is)
         (takes (Number 0 254) it.given deed.gives_is refl)
     by_deed (hands_one_over deed) =
-        let due : ℕ = before.clock + it.request.arguments.second in
+        let due : ℕ = before.transport.clock + it.request.arguments.second in
         let new : Freeze = record deed.freeze { holder = Timer due } in
-        let is_number : deed.freeze.number ≡ number_in_R1 = found_key freeze_key number_in_R1 before.freezes deed.freeze deed.entry in
+        let is_number : deed.freeze.number ≡ number_in_R1 = found_key freeze_key number_in_R1 before.transport.freezes deed.freeze deed.entry in
         holds_one_fewer number_in_R1 deed.freeze deed.entry (subst (λ (n : ℕ). is_run n deed.freeze.holder ≡ true) named deed.its)
         (held_as changes.GivesUp it.given deed.machine_is refl)
-        (ap (entries_of number) (freezes_is ∙ (deed.freezes_is ∙ handed_is_put number_in_R1 due 0 before.freezes before.greatest_freeze deed.freeze kept.numbered deed.entry))
-        ∙ (entries_put number new before.freezes refl ∙ ap (λ (n : ℕ). entries_of number (without n before.freezes)) is_number))
+        (ap (entries_of number) (freezes_is ∙ (deed.freezes_is ∙ handed_is_put number_in_R1 due 0 before.transport.freezes before.transport.greatest_freeze deed.freeze kept.numbered deed.entry))
+        ∙ (entries_put number new before.transport.freezes refl ∙ ap (λ (n : ℕ). entries_of number (without n before.transport.freezes)) is_number))
         (given_as changes.GivesUp deed.machine_is)
         (takes (Number 0 0) it.given deed.gives_is refl)
 
@@ -201,53 +201,53 @@ disposed_by setup before event reply after it is =
     ap (λ (c : Change). (changed_by c it.request.arguments it.given (after_call it.it.run.machine it.given.r0)).disposed) is
 
 call_disposing : (setup : Setup) (before : World) (event : Event) (reply : Reply) (after : World) → (it : Asks setup before event reply after) → CcbDeed before it.it.run it.request it.given it.between → Disposing before after it.it.run (call (told_of it.request)) (answered it.request it.given it.it.run.machine)
-call_disposing setup before event reply after it (leaves_ccbs deed) = leaves_its_ccb deed.disposed (ap (λ (x : Reply × World). x.1.live) it.answer ∙ deed.live_is) deed.calm
+call_disposing setup before event reply after it (leaves_ccbs deed) = leaves_its_ccb deed.disposed (ap (λ (x : Reply × World). x.1.transport.live) it.answer ∙ deed.live_is) deed.calm
 call_disposing setup before event reply after it (requeues_one deed) = disposes_of_it deed.its.fresh (disposed_by setup before event reply after it deed.machine_is) (disposes_by changes.Disposes it.request deed.machine_is)
 call_disposing setup before event reply after it (ends_one deed) = disposes_of_it deed.its.fresh (disposed_by setup before event reply after it deed.machine_is) (disposes_by changes.Disposes it.request deed.machine_is)
 
-pub fate_of : (setup : Setup) (before : World) (event : Event) (reply : Reply) (after : World) (number : ℕ) (run : LiveRun) → IsLawful setup → KeepsLimits setup before → HoldsWhatEntriesSay before → run_of number before.runs ≡ Some run → Case setup before event reply after → Fate before event reply after number run
-fate_of setup before event reply after number run lawful kept held found (refuses it) = unchanged before event reply after number run found (it.idle number) (ap (λ (w : World). w.runs) it.after_is)
-fate_of setup before event reply after number run lawful kept held found (submits it) = unchanged before event reply after number run found (ap (instruction_of number) it.event_is) (ap (λ (w : World). w.runs) it.after_is)
-fate_of setup before event reply after number run lawful kept held found (dispatches it) = unchanged before event reply after number run found (ap (instruction_of number) it.event_is) (ap (λ (w : World). w.runs) it.after_is)
-fate_of setup before event reply after number run lawful kept held found (finishes_one it) = unchanged before event reply after number run found (ap (instruction_of number) it.event_is) (ap (λ (w : World). w.runs) it.after_is)
+pub fate_of : (setup : Setup) (before : World) (event : Event) (reply : Reply) (after : World) (number : ℕ) (run : LiveRun) → IsLawful setup → KeepsLimits setup before → HoldsWhatEntriesSay before → run_of number before.runs.list ≡ Some run → Case setup before event reply after → Fate before event reply after number run
+fate_of setup before event reply after number run lawful kept held found (refuses it) = unchanged before event reply after number run found (it.idle number) (ap (λ (w : World). w.runs.list) it.after_is)
+fate_of setup before event reply after number run lawful kept held found (submits it) = unchanged before event reply after number run found (ap (instruction_of number) it.event_is) (ap (λ (w : World). w.runs.list) it.after_is)
+fate_of setup before event reply after number run lawful kept held found (dispatches it) = unchanged before event reply after number run found (ap (instruction_of number) it.event_is) (ap (λ (w : World). w.runs.list) it.after_is)
+fate_of setup before event reply after number run lawful kept held found (finishes_one it) = unchanged before event reply after number run found (ap (instruction_of number) it.event_is) (ap (λ (w : World). w.runs.list) it.after_is)
 fate_of setup before event reply after number run lawful kept held found (recovers_one it) =
-    stands run.out (ap (instruction_of number) it.fails.event_is) (ap (λ (x : Reply × World). run_of number x.1.runs) it.starts_is ∙ found_push run_key number before.runs _ run found)
+    stands run.out (ap (instruction_of number) it.fails.event_is) (ap (λ (x : Reply × World). run_of number x.1.runs.list) it.starts_is ∙ found_push run_key number before.runs.list _ run found)
 fate_of setup before event reply after number run lawful kept held found (recovers_unfrozen it) =
-    stands run.out (ap (instruction_of number) it.fails.event_is) (ap (λ (x : Reply × World). run_of number x.1.runs) it.starts_is ∙ found_push run_key number before.runs _ run found)
-fate_of setup before event reply after number run lawful kept held found (freezes_one it) = unchanged before event reply after number run found (ap (instruction_of number) it.event_is) (ap (λ (w : World). w.runs) it.after_is)
-fate_of setup before event reply after number run lawful kept held found (releases_one it) = unchanged before event reply after number run found (ap (instruction_of number) it.event_is) (ap (λ (w : World). w.runs) it.after_is)
-fate_of setup before event reply after number run lawful kept held found (reads_clock it) = unchanged before event reply after number run found (ap (instruction_of number) it.event_is) (ap (λ (w : World). w.runs) it.after_is)
+    stands run.out (ap (instruction_of number) it.fails.event_is) (ap (λ (x : Reply × World). run_of number x.1.runs.list) it.starts_is ∙ found_push run_key number before.runs.list _ run found)
+fate_of setup before event reply after number run lawful kept held found (freezes_one it) = unchanged before event reply after number run found (ap (instruction_of number) it.event_is) (ap (λ (w : World). w.runs.list) it.after_is)
+fate_of setup before event reply after number run lawful kept held found (releases_one it) = unchanged before event reply after number run found (ap (instruction_of number) it.event_is) (ap (λ (w : World). w.runs.list) it.after_is)
+fate_of setup before event reply after number run lawful kept held found (reads_clock it) = unchanged before event reply after number run found (ap (instruction_of number) it.event_is) (ap (λ (w : World). w.runs.list) it.after_is)
 fate_of setup before event reply after number run lawful kept held found (turns_one it) = one_turns before event reply after it number run found
 fate_of setup before event reply after number run lawful kept held found (goes_on_one it) =
     let same = private_keeps it.it.run.program it.it.run.machine it.machine it.step in
-    one_goes before event reply after private it.it it.machine (ap (λ (w : World). w.runs) it.after_is) refl (inl it.step)
-    (holds_the_same same.held (ap (λ (w : World). w.freezes) it.after_is) refl (λ i. taken_by it.it.number (it.it.event_is i) (it.reply_is i)))
-    (leaves_its_ccb same.disposed (ap (λ (w : World). w.live) it.after_is) refl)
+    one_goes before event reply after private it.it it.machine (ap (λ (w : World). w.runs.list) it.after_is) refl (inl it.step)
+    (holds_the_same same.held (ap (λ (w : World). w.transport.freezes) it.after_is) refl (λ i. taken_by it.it.number (it.it.event_is i) (it.reply_is i)))
+    (leaves_its_ccb same.disposed (ap (λ (w : World). w.transport.live) it.after_is) refl)
     number run found
 fate_of setup before event reply after number run lawful kept held found (asks_one it) =
-    let named : it.it.run.number ≡ it.it.number = found_key run_key it.it.number before.runs it.it.run it.it.found in
-    let holds : it.it.run.machine.held ≡ held_by it.it.run.number before.freezes = held.machines it.it.number it.it.run it.it.found ∙ ap (λ (n : ℕ). held_by n before.freezes) (sym named) in
-    let known : it.it.run.queue < queue_count setup = all_found run_key (λ (r : LiveRun). r.queue < queue_count setup) it.it.number before.runs it.it.run kept.runs.queues it.it.found in
+    let named : it.it.run.number ≡ it.it.number = found_key run_key it.it.number before.runs.list it.it.run it.it.found in
+    let holds : it.it.run.machine.held ≡ held_by it.it.run.number before.transport.freezes = held.machines it.it.number it.it.run it.it.found ∙ ap (λ (n : ℕ). held_by n before.transport.freezes) (sym named) in
+    let known : it.it.run.queue < queue_count setup = all_found run_key (λ (r : LiveRun). r.queue < queue_count setup) it.it.number before.runs.list it.it.run kept.runs.queues it.it.found in
     one_goes before event reply after (call (told_of it.request)) it.it (answered it.request it.given it.it.run.machine) (call_runs setup before event reply after it) refl
     (inr (it.request, it.given, it.call_is, (call_allowed setup before it.it.run it.request it.given it.between (record { lawful = lawful; kept = kept; queue = known }) holds it.freezes, refl)))
     (call_holding setup before event reply after kept.freezes it it.freezes) (call_disposing setup before event reply after it it.ccbs)
     number run found
 fate_of setup before event reply after number run lawful kept held found (exits it) =
-    let named : it.it.run.number ≡ it.it.number = found_key run_key it.it.number before.runs it.it.run it.it.found in
-    let runs_is : after.runs ≡ leave run_key it.it.run.number before.runs = ap (λ (w : World). w.runs) it.after_is in
+    let named : it.it.run.number ≡ it.it.number = found_key run_key it.it.number before.runs.list it.it.run it.it.found in
+    let runs_is : after.runs.list ≡ leave run_key it.it.run.number before.runs.list = ap (λ (w : World). w.runs.list) it.after_is in
     elim (cases_eq it.it.number number) [
       | inl its ↦
-          let same : it.it.run ≡ run = same_run before.runs it.it.number number it.it.run run its it.it.found found in
+          let same : it.it.run ≡ run = same_run before.runs.list it.it.number number it.it.run run its it.it.found found in
           leaves_world it.r0 (subst (λ (n : ℕ). instruction_of n event ≡ Some exit) its (its_instruction before event exit it.it))
           (subst (λ (r : LiveRun). exit_at r.program r.machine ≡ Some it.r0) same it.exit_is)
-          (ap (run_of number) runs_is ∙ subst (λ (n : ℕ). run_of number (leave run_key n before.runs) ≡ None) (sym (named ∙ its)) (leave_same run_key number before.runs))
+          (ap (run_of number) runs_is ∙ subst (λ (n : ℕ). run_of number (leave run_key n before.runs.list) ≡ None) (sym (named ∙ its)) (leave_same run_key number before.runs.list))
           (λ i. taken_by number (it.it.event_is i) (it.reply_is i))
       | inr apart ↦
           stands run.out (not_others before event exit number it.it apart)
-          (ap (run_of number) runs_is ∙ (leave_other run_key it.it.run.number number before.runs (λ e. apart (sym named ∙ e)) ∙ found))
+          (ap (run_of number) runs_is ∙ (leave_other run_key it.it.run.number number before.runs.list (λ e. apart (sym named ∙ e)) ∙ found))
     ]
 
 -- there is no run of the number before, and one after: it begins
 pub record Newly (setup : Setup) (before : World) (event : Event) (reply : Reply) (after : World) (number : ℕ) (run : LiveRun) : Type 0 where
-  pub number_is : number ≡ before.greatest_run + 1
+  pub number_is : number ≡ before.runs.greatest + 1
   pub begins : Begins setup before event reply after run

@@ -38,15 +38,15 @@ second_as limits m request o is rule =
     subst (λ (x : Option Asked). meets limits m request.arguments x request.arguments.second ≡ true) is (rule_parts limits m request rule).second
 
 -- tables are as long as the limits say
-has_word : (setup : Setup) (world : World) (table index : ℕ) → AnswerLimits setup world → ltb table (length setup.limits.table_lengths) ≡ true → ltb index (slice_index_or setup.limits.table_lengths table 0) ≡ true → HasWord world.tables table index
+has_word : (setup : Setup) (world : World) (table index : ℕ) → AnswerLimits setup world → ltb table (length setup.limits.table_lengths) ≡ true → ltb index (slice_index_or setup.limits.table_lengths table 0) ≡ true → HasWord world.runs.tables table index
 has_word setup world table index kept first second =
-    let many : length setup.limits.table_lengths ≡ length world.tables = sym (ap (λ (ns : List ℕ). length ns) kept.lengths) ∙ length-map world.tables (λ (t : List ℕ). length t) in
-    let there : table < length world.tables = omega (arith, ltb-true _ _ first, many) in
-    let long : slice_index_or setup.limits.table_lengths table 0 ≡ length (slice_index_or world.tables table []) =
-    sym (ap (λ (ns : List ℕ). slice_index_or ns table 0) kept.lengths) ∙ get_or-map (λ (t : List ℕ). length t) world.tables table [] 0 there in
+    let many : length setup.limits.table_lengths ≡ length world.runs.tables = sym (ap (λ (ns : List ℕ). length ns) kept.lengths) ∙ length-map world.runs.tables (λ (t : List ℕ). length t) in
+    let there : table < length world.runs.tables = omega (arith, ltb-true _ _ first, many) in
+    let long : slice_index_or setup.limits.table_lengths table 0 ≡ length (slice_index_or world.runs.tables table []) =
+    sym (ap (λ (ns : List ℕ). slice_index_or ns table 0) kept.lengths) ∙ get_or-map (λ (t : List ℕ). length t) world.runs.tables table [] 0 there in
     (there, omega (arith, ltb-true _ _ second, long))
 
-pub word_there : (setup : Setup) (world : World) (m : MachineState) (request : Request) → AnswerLimits setup world → (asks request.helper).first ≡ Some Table → (asks request.helper).second ≡ Some Index → meets_rule setup.limits m request ≡ true → HasWord world.tables request.arguments.first request.arguments.second
+pub word_there : (setup : Setup) (world : World) (m : MachineState) (request : Request) → AnswerLimits setup world → (asks request.helper).first ≡ Some Table → (asks request.helper).second ≡ Some Index → meets_rule setup.limits m request ≡ true → HasWord world.runs.tables request.arguments.first request.arguments.second
 word_there setup world m request kept first second rule =
     has_word setup world request.arguments.first request.arguments.second kept
     (first_as setup.limits m request (Some Table) first rule) (second_as setup.limits m request (Some Index) second rule)

@@ -20,7 +20,7 @@ pub record Executes (before : World) (event : Event) (instruction : Instruction)
   pub number : ℕ
   pub event_is : event ≡ executes number instruction
   pub run : LiveRun
-  pub found : run_of number before.runs ≡ Some run
+  pub found : run_of number before.runs.list ≡ Some run
   pub out : run.out ≡ true
 
 -- a private one
@@ -86,7 +86,7 @@ pub record Instructs (limits : HelperLimits) (before : World) (number : ℕ) (in
   pub it : Executes before (executes number instruction) instruction
   pub step : step_run limits before it.run instruction ≡ Some (reply, after)
 
-executes_found : (limits : HelperLimits) (before : World) (number : ℕ) (instruction : Instruction) (reply : Reply) (after : World) (o : Option LiveRun) → run_of number before.runs ≡ o → step_executes limits before instruction o ≡ Some (reply, after) → Instructs limits before number instruction reply after
+executes_found : (limits : HelperLimits) (before : World) (number : ℕ) (instruction : Instruction) (reply : Reply) (after : World) (o : Option LiveRun) → run_of number before.runs.list ≡ o → step_executes limits before instruction o ≡ Some (reply, after) → Instructs limits before number instruction reply after
 executes_found limits before number instruction reply after None found e = absurd cc
 executes_found limits before number instruction reply after (Some run) found e =
     elim (cases_Bool run.out) [
@@ -98,7 +98,7 @@ executes_found limits before number instruction reply after (Some run) found e =
     ]
 
 pub executes_parts : (setup : Setup) (before : World) (number : ℕ) (instruction : Instruction) (reply : Reply) (after : World) → WorldStep setup before (executes number instruction) reply after → Instructs setup.limits before number instruction reply after
-executes_parts setup before number instruction reply after e = executes_found setup.limits before number instruction reply after (run_of number before.runs) refl e
+executes_parts setup before number instruction reply after e = executes_found setup.limits before number instruction reply after (run_of number before.runs.list) refl e
 
 pub private_parts : (setup : Setup) (before : World) (number : ℕ) (reply : Reply) (after : World) → WorldStep setup before (executes number private) reply after → GoesOn before (executes number private) reply after
 private_parts setup before number reply after e =

@@ -20,7 +20,7 @@ known_there list queues queue known = subst (λ (n : ℕ). queue < n) (length-ma
 pub same_info : (a b : QueueInfo) → a.frozen ≡ b.frozen → a.active ≡ b.active → a.waiting ≡ b.waiting → a.openings ≡ b.openings → a ≡ b
 same_info a b f k w o = λ i. record { frozen = f i; active = k i; waiting = w i; openings = o i }
 
-pub info_is : (list : ListState) (queues : List QueueState) (queue : ℕ) (world : World) (own : QueueState) (info : QueueInfo) → KeepsTable list queues → queue < length queues → own ≡ queue_at queues queue → info.frozen ≡ frozen (device queue) world.freezes → info.active ≡ own.active → info.waiting ≡ length own.waiting → info.openings ≡ own.openings → info ≡ queue_info (with_ccbs (seen list queues) world) queue
+pub info_is : (list : ListState) (queues : List QueueState) (queue : ℕ) (world : World) (own : QueueState) (info : QueueInfo) → KeepsTable list queues → queue < length queues → own ≡ queue_at queues queue → info.frozen ≡ frozen (device queue) world.transport.freezes → info.active ≡ own.active → info.waiting ≡ length own.waiting → info.openings ≡ own.openings → info ≡ queue_info (with_ccbs (seen list queues) world) queue
 info_is list queues queue world own info h known is freezes active waiting openings =
     let told = is ∙ h.told queue known in
     same_info info (queue_info (with_ccbs (seen list queues) world) queue) freezes (active ∙ ap (λ (q : QueueState). q.active) told)

@@ -56,9 +56,9 @@ new_ccb number queue priority retries = record { ccb = submitted (record { 0 = n
 
 abbrev pub given : World → ℕ → ℕ → ℕ → Reply × World
 given world queue priority retries =
-    let number = world.greatest_ccb + 1 in (
+    let number = world.transport.greatest_ccb + 1 in (
       replies (answers.Ccb (record { 0 = number })),
-      record world { live = world.live ++ new_ccb number queue priority retries ∷ []; greatest_ccb = number },
+      record world { transport = record world.transport { live = world.transport.live ++ new_ccb number queue priority retries ∷ []; greatest_ccb = number } },
     )
 
 pub submit_given : (setup : Setup) (world : World) (queue priority retries : ℕ) → queue < queue_count setup → ccb_meets_limit queue world ≡ false → step_call setup world (Submit (record { 0 = queue }) priority retries) ≡ Some (given world queue priority retries)
@@ -70,19 +70,19 @@ abbrev chosen : World → Option LiveCcb → Option (Reply × World)
 chosen world next = cond (is_none next) (Some (refused NothingWaits, world)) (option_map (starts world) next)
 
 -- where the queue has no fault, its next CCB starts
-pub dispatch_starts : (setup : Setup) (world : World) (queue openings : ℕ) → queue < queue_count setup → get_or world.openings queue 0 ≡ openings → start_fault (frozen (device queue) world.freezes) (queue_state_of queue openings world.live) ≡ None → step_call setup world (Dispatch (record { 0 = queue })) ≡ chosen world (next_waiting queue world.live)
+pub dispatch_starts : (setup : Setup) (world : World) (queue openings : ℕ) → queue < queue_count setup → get_or world.transport.openings queue 0 ≡ openings → start_fault (frozen (device queue) world.transport.freezes) (queue_state_of queue openings world.transport.live) ≡ None → step_call setup world (Dispatch (record { 0 = queue })) ≡ chosen world (next_waiting queue world.transport.live)
 dispatch_starts setup world queue openings known openings_are e =
-    elim (cases_eq (frozen (device queue) world.freezes) 0) [
+    elim (cases_eq (frozen (device queue) world.transport.freezes) 0) [
       | inr apart ↦ absurd (let bad : Some fault.Frozen ≡ None = sym (cond-true _ _ _ (not_from_false _ (ne_eqb _ _ apart))) ∙ e in cc)
       | inl none ↦
-          let later : cond (leb openings (active_count queue world.live)) (Some fault.NoOpening) (cond (eqb (length (queue_state_of queue openings world.live).waiting) 0) (Some fault.NothingWaits) None) ≡ None =
+          let later : cond (leb openings (active_count queue world.transport.live)) (Some fault.NoOpening) (cond (eqb (length (queue_state_of queue openings world.transport.live).waiting) 0) (Some fault.NothingWaits) None) ≡ None =
           sym (cond-false _ _ _ (not_from_true _ (eq-eqb _ _ none))) ∙ e in
-          elim (cases_Bool (leb openings (active_count queue world.live))) [
+          elim (cases_Bool (leb openings (active_count queue world.transport.live))) [
             | inl full ↦ absurd (let bad : Some fault.NoOpening ≡ None = sym (cond-true _ _ _ full) ∙ later in cc)
             | inr room ↦
                 cond-false (leb (queue_count setup) queue) _ _ (lt-leb _ _ known)
-                ∙ (cond-false (ltb 0 (frozen (device queue) world.freezes)) _ _ (le-ltb _ _ (omega (arith, none)))
-                ∙ cond-false (leb (get_or world.openings queue 0) (active_count queue world.live)) _ _ (ap (λ (o : ℕ). leb o (active_count queue world.live)) openings_are ∙ room))
+                ∙ (cond-false (ltb 0 (frozen (device queue) world.transport.freezes)) _ _ (le-ltb _ _ (omega (arith, none)))
+                ∙ cond-false (leb (get_or world.transport.openings queue 0) (active_count queue world.transport.live)) _ _ (ap (λ (o : ℕ). leb o (active_count queue world.transport.live)) openings_are ∙ room))
           ]
     ]
 
@@ -128,9 +128,9 @@ submit_reply setup world list after queues queues_after queue priority retries n
     submit_given setup (with_ccbs (seen list queues) world) queue priority retries (known_to setup queues queue known count) (no_limit list queues queue world h known roomy open_to)
     ∙ (ap (answered world list queues queue priority retries) (sym number_is) ∙ ap (with_number world (record { 0 = number })) (sym seen_is))
 
-pub dispatch_reply : (setup : Setup) (world : World) (list after : ListState) (queues queues_after : List QueueState) (queue freezes : ℕ) (number : CcbId) (next : LiveCcb) (ccb : Ccb) → KeepsTable list queues → queue < length queues → queue_count setup ≡ length (map (λ (q : QueueState). q.openings) queues) → freezes ≡ frozen (device queue) world.freezes → start_fault freezes (queue_at queues queue) ≡ None → Dispatched queue list number next ccb → seen after queues_after ≡ seen (listed_as list.greatest (with_ccb (as_active (started next.ccb)) list.live)) queues → step_call setup (with_ccbs (seen list queues) world) (Dispatch (record { 0 = queue })) ≡ Some (replies (answers.Ccb number), with_ccbs (seen after queues_after) world)
+pub dispatch_reply : (setup : Setup) (world : World) (list after : ListState) (queues queues_after : List QueueState) (queue freezes : ℕ) (number : CcbId) (next : LiveCcb) (ccb : Ccb) → KeepsTable list queues → queue < length queues → queue_count setup ≡ length (map (λ (q : QueueState). q.openings) queues) → freezes ≡ frozen (device queue) world.transport.freezes → start_fault freezes (queue_at queues queue) ≡ None → Dispatched queue list number next ccb → seen after queues_after ≡ seen (listed_as list.greatest (with_ccb (as_active (started next.ccb)) list.live)) queues → step_call setup (with_ccbs (seen list queues) world) (Dispatch (record { 0 = queue })) ≡ Some (replies (answers.Ccb number), with_ccbs (seen after queues_after) world)
 dispatch_reply setup world list after queues queues_after queue freezes number next ccb h known count freezes_are no_fault d seen_is =
-    let fault_is : start_fault (frozen (device queue) world.freezes) (queue_state_of queue (queue_at queues queue).openings list.live) ≡ None =
+    let fault_is : start_fault (frozen (device queue) world.transport.freezes) (queue_state_of queue (queue_at queues queue).openings list.live) ≡ None =
     subst (λ (f : ℕ). start_fault f (queue_state_of queue (queue_at queues queue).openings list.live) ≡ None) freezes_are
     (subst (λ (q : QueueState). start_fault freezes q ≡ None) (h.told queue known) no_fault) in
     dispatch_starts setup (with_ccbs (seen list queues) world) queue (queue_at queues queue).openings (known_to setup queues queue known count) (openings_at queues queue) fault_is

@@ -15,4 +15,10 @@ no_ccbs = record { live = []; openings = []; greatest = 0 }
 
 -- the world with these CCBs
 abbrev pub with_ccbs : CcbsState → World → World
-with_ccbs state world = record world { live = state.live; openings = state.openings; greatest_ccb = state.greatest }
+with_ccbs state world = record world {
+  transport = record world.transport {
+    live = state.live;
+    openings = state.openings;
+    greatest_ccb = state.greatest;
+  };
+}

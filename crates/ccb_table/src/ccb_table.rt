@@ -99,7 +99,7 @@ impl CcbTable {
     /// as it has openings, Q4 where none waits. A refusal changes nothing.
     pub fn dispatch(&mut self, queue: QueueId, ledger: &Ledger) -> Result<CcbId, CallRefusal>
         requires { ledger.now.queues ≡ length self.old.openings }
-        ensures step { (setup : Setup) (world : World) → queue_count setup ≡ length self.old.openings → world.freezes ≡ ledger.now.freezes → step_call setup (with_ccbs self.old world) (Dispatch queue) ≡ Some (replies (ccb_answer result), with_ccbs self.new world) }
+        ensures step { (setup : Setup) (world : World) → queue_count setup ≡ length self.old.openings → world.transport.freezes ≡ ledger.now.freezes → step_call setup (with_ccbs self.old world) (Dispatch queue) ≡ Some (replies (ccb_answer result), with_ccbs self.new world) }
     {
         if queue.0 as usize >= self.queues.len() {
             return Err(CallRefusal::Unknown);
@@ -169,7 +169,7 @@ impl CcbTable {
     pub fn queue_info(&self, queue: QueueId, ledger: &Ledger) -> QueueInfo
         requires known { queue.0 < length self.now.openings }
         requires queues { ledger.now.queues ≡ length self.now.openings }
-        ensures { (world : World) → world.freezes ≡ ledger.now.freezes → result ≡ queue_info (with_ccbs self.now world) queue.0 }
+        ensures { (world : World) → world.transport.freezes ≡ ledger.now.freezes → result ≡ queue_info (with_ccbs self.now world) queue.0 }
     {
         let own = self.queues.get(queue);
         let (waiting, active, _) = own.counts();

@@ -97,7 +97,7 @@ module _ (ccbs : CcbsState) (old : RecoveryState) (place : ℕ) (segment : Segme
       record {
         lawful = a.kept.run.lawful;
         kept = here.sound.kept;
-        queue = all_found run_key (λ (r : LiveRun). r.queue < queue_count a.setup) a.out.it.number (between ccbs old segment a.setup a.history a.out.it).runs run here.sound.kept.runs.queues here.there;
+        queue = all_found run_key (λ (r : LiveRun). r.queue < queue_count a.setup) a.out.it.number (between ccbs old segment a.setup a.history a.out.it).runs.list run here.sound.kept.runs.queues here.there;
       }
 
   -- A number is told, and nothing done.

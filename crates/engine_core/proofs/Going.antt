@@ -77,16 +77,16 @@ reaches_further setup later more recoveries after number run machine kept on =
     (reached.0, subst (λ (p : List Slot). Reached p reached.0 machine) on.program_is reached.1)
 
 -- it is out, and is under the setup if it was before
-pub goes_out : (setup : Setup) (before after : World) (number : ℕ) (run moved : RunState) (machine : MachineState) → number ≡ run.number → GoesFurther before.runs after.runs number run.program.program machine → moved ≡ record run { machine = machine } → (moved.number ≡ run.number) × (moved.program ≡ run.program) × IsOut after moved × (IsOutUnder setup before run → IsOutUnder setup after moved)
+pub goes_out : (setup : Setup) (before after : World) (number : ℕ) (run moved : RunState) (machine : MachineState) → number ≡ run.number → GoesFurther before.runs.list after.runs.list number run.program.program machine → moved ≡ record run { machine = machine } → (moved.number ≡ run.number) × (moved.program ≡ run.program) × IsOut after moved × (IsOutUnder setup before run → IsOutUnder setup after moved)
 goes_out setup before after number run moved machine named on moved_is =
     let out : IsOut after (record run { machine = machine }) =
-    record { it = with_machine on.it machine; found = ap (λ (n : ℕ). run_of n after.runs) (sym named) ∙ on.moved; out = on.out; program_is = on.program_is; machine_is = refl } in
+    record { it = with_machine on.it machine; found = ap (λ (n : ℕ). run_of n after.runs.list) (sym named) ∙ on.moved; out = on.out; program_is = on.program_is; machine_is = refl } in
     subst (λ (m : RunState). (m.number ≡ run.number) × (m.program ≡ run.program) × IsOut after m × (IsOutUnder setup before run → IsOutUnder setup after m)) (sym moved_is) (
       refl,
       refl,
       out,
       λ under.
-          let both : Some under.out.it ≡ Some on.it = sym under.out.found ∙ (ap (λ (n : ℕ). run_of n before.runs) (sym named) ∙ on.found) in
+          let both : Some under.out.it ≡ Some on.it = sym under.out.found ∙ (ap (λ (n : ℕ). run_of n before.runs.list) (sym named) ∙ on.found) in
           let same : under.out.it ≡ on.it = cc in
           record { out = out; budget = under.budget ∙ ap (λ (x : LiveRun). (queue_setup setup x.queue).budget) same; limits = under.limits },
     )

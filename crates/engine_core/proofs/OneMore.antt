@@ -20,7 +20,7 @@ pub once : (setup : Setup) (before world : World) (call : Call) (answer : CallAn
 once setup before world call answer ccbs recoveries step fields = record { world = world; leads = (world, step, refl); fields = fields }
 
 -- one that is about CCBs alone
-pub by_ccbs : (setup : Setup) (history : List Record) (ccbs more : CcbsState) (recoveries : RecoveryState) (call : Call) (answer : CallAnswer) → ((setup : Setup) (world : World) → queue_count setup ≡ length ccbs.openings → world.freezes ≡ recoveries.freezes → step_call setup (with_ccbs ccbs world) call ≡ Some (replies answer, with_ccbs more world)) → KeepsEngine setup history ccbs recoveries → LeadsTo setup (world_of setup history ccbs recoveries) (events_of (Called answer call)) more recoveries
+pub by_ccbs : (setup : Setup) (history : List Record) (ccbs more : CcbsState) (recoveries : RecoveryState) (call : Call) (answer : CallAnswer) → ((setup : Setup) (world : World) → queue_count setup ≡ length ccbs.openings → world.transport.freezes ≡ recoveries.freezes → step_call setup (with_ccbs ccbs world) call ≡ Some (replies answer, with_ccbs more world)) → KeepsEngine setup history ccbs recoveries → LeadsTo setup (world_of setup history ccbs recoveries) (events_of (Called answer call)) more recoveries
 by_ccbs setup history ccbs more recoveries call answer step kept =
     let before : World = world_of setup history ccbs recoveries in
     once setup before (with_ccbs more before) call answer more recoveries (step setup before (opening_count setup history ccbs recoveries kept) refl) refl

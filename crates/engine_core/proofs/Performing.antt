@@ -63,7 +63,7 @@ submits queue priority retries ccbs more recoveries (Err refusal) step setup = r
   room = tt;
 }
 
-pub dispatches : (queue : QueueId) (ccbs more : CcbsState) (recoveries : RecoveryState) (answer : Result CcbId CallRefusal) → ((setup : Setup) (world : World) → queue_count setup ≡ length ccbs.openings → world.freezes ≡ recoveries.freezes → step_call setup (with_ccbs ccbs world) (its.Dispatch queue) ≡ Some (replies (ccb_answer answer), with_ccbs more world)) → (setup : Setup) → Performs setup (Dispatch queue) ccbs recoveries more recoveries (ccb_reply answer) (Called (ccb_answer answer) (its.Dispatch queue))
+pub dispatches : (queue : QueueId) (ccbs more : CcbsState) (recoveries : RecoveryState) (answer : Result CcbId CallRefusal) → ((setup : Setup) (world : World) → queue_count setup ≡ length ccbs.openings → world.transport.freezes ≡ recoveries.freezes → step_call setup (with_ccbs ccbs world) (its.Dispatch queue) ≡ Some (replies (ccb_answer answer), with_ccbs more world)) → (setup : Setup) → Performs setup (Dispatch queue) ccbs recoveries more recoveries (ccb_reply answer) (Called (ccb_answer answer) (its.Dispatch queue))
 dispatches queue ccbs more recoveries (Ok ccb) step setup = record {
   is = refl;
   fits = tt;

@@ -23,21 +23,21 @@ abbrev pub with_machine : LiveRun → MachineState → LiveRun
 with_machine run machine = record run { machine = machine }
 
 -- the private instructions of a run that is out
-pub private_leads : (setup : Setup) (n : ℕ) (world : World) (high : ℕ) (run : LiveRun) (to : MachineState) → AreRising 0 (map run_key world.runs) high → run_of run.number world.runs ≡ Some run → run.out ≡ true → PrivateSteps run.program n run.machine to → Leads setup world (replicate n (executes run.number private, went_on)) (goes_on world run to)
+pub private_leads : (setup : Setup) (n : ℕ) (world : World) (high : ℕ) (run : LiveRun) (to : MachineState) → AreRising 0 (map run_key world.runs.list) high → run_of run.number world.runs.list ≡ Some run → run.out ≡ true → PrivateSteps run.program n run.machine to → Leads setup world (replicate n (executes run.number private, went_on)) (goes_on world run to)
 private_leads setup zero world high run to rising found out same =
-    let stays : put run_key run world.runs ≡ world.runs = put_self run_key 0 world.runs high run rising found in
+    let stays : put run_key run world.runs.list ≡ world.runs.list = put_self run_key 0 world.runs.list high run rising found in
     let moved : goes_on world run to ≡ goes_on world run run.machine = ap (goes_on world run) (sym same) in
-    let here : goes_on world run run.machine ≡ world = ap (λ (runs : List LiveRun). record world { runs = runs }) stays in
+    let here : goes_on world run run.machine ≡ world = ap (λ (runs : List LiveRun). record world { runs = record world.runs { list = runs } }) stays in
     sym (moved ∙ here)
 private_leads setup (suc n) world high run to rising found out (next, first, rest) =
     let between : World = goes_on world run next in
     let then_run : LiveRun = with_machine run next in
     let step : WorldStep setup world (executes run.number private) went_on between =
     ap (step_executes setup.limits world private) found ∙ (cond-true run.out (step_run setup.limits world run private) None out ∙ ap (option_map (λ (m : MachineState). (went_on, goes_on world run m))) first) in
-    let keys : map run_key between.runs ≡ map run_key world.runs = put_keys run_key then_run world.runs in
-    let later = private_leads setup n between high then_run to (subst (λ (ns : List ℕ). AreRising 0 ns high) (sym keys) rising) (put_same run_key then_run world.runs run found) out rest in
+    let keys : map run_key between.runs.list ≡ map run_key world.runs.list = put_keys run_key then_run world.runs.list in
+    let later = private_leads setup n between high then_run to (subst (λ (ns : List ℕ). AreRising 0 ns high) (sym keys) rising) (put_same run_key then_run world.runs.list run found) out rest in
     let end : goes_on between then_run to ≡ goes_on world run to =
-    ap (λ (runs : List LiveRun). record world { runs = runs }) (put_put run_key then_run (with_machine run to) world.runs refl) in
+    ap (λ (runs : List LiveRun). record world { runs = record world.runs { list = runs } }) (put_put run_key then_run (with_machine run to) world.runs.list refl) in
     (between, step, subst (λ (w : World). Leads setup between (replicate n (executes run.number private, went_on)) w) end later)
 
 -- with the stop behind them they are what an advance's record stands for

@@ -34,7 +34,7 @@ pub data StandsLawfully (run : LiveRun) (limits : HelperLimits) (stop : Stop) : 
 same_stop : (a b : Stop) → Some a ≡ Some b → b ≡ a
 same_stop a b e = cc
 
-pub stands_lawfully : (setup : Setup) (world : World) (number : ℕ) (run : LiveRun) (stop : Stop) → IsLawful setup → IsSound setup world → run_of number world.runs ≡ Some run → stop_at run.program run.machine ≡ Some stop → StandsLawfully run setup.limits stop
+pub stands_lawfully : (setup : Setup) (world : World) (number : ℕ) (run : LiveRun) (stop : Stop) → IsLawful setup → IsSound setup world → run_of number world.runs.list ≡ Some run → stop_at run.program run.machine ≡ Some stop → StandsLawfully run setup.limits stop
 stands_lawfully setup world number run stop lawful sound found at =
     let goes = reached_goes setup lawful world sound.kept.runs number run found (sound.reached number run found) in
     elim (progress_lem run.program setup.limits run.machine goes) [
@@ -52,20 +52,20 @@ stands_lawfully setup world number run stop lawful sound found at =
 -- the freeze that a run gives back is there, and is its own
 pub record GivesBack (world : World) (run : LiveRun) (freeze : ℕ) : Type 0 where
   pub entry : Freeze
-  pub found : entry_of freeze world.freezes ≡ Some entry
+  pub found : entry_of freeze world.transport.freezes ≡ Some entry
   pub number_is : entry.number ≡ freeze
-  pub bound : freeze ≤ world.greatest_freeze
+  pub bound : freeze ≤ world.transport.greatest_freeze
   pub its : is_run run.number entry.holder ≡ true
 
-pub gives_back : (setup : Setup) (world : World) (run : LiveRun) (freeze : ℕ) → IsSound setup world → run_of run.number world.runs ≡ Some run → is_held run.machine.held freeze ≡ true → GivesBack world run freeze
+pub gives_back : (setup : Setup) (world : World) (run : LiveRun) (freeze : ℕ) → IsSound setup world → run_of run.number world.runs.list ≡ Some run → is_held run.machine.held freeze ≡ true → GivesBack world run freeze
 gives_back setup world run freeze sound found held =
-    let among = among_is run.number freeze 0 world.freezes world.greatest_freeze sound.kept.freezes.numbered
+    let among = among_is run.number freeze 0 world.transport.freezes world.transport.greatest_freeze sound.kept.freezes.numbered
     (sym (ap (λ (ns : List ℕ). is_held ns freeze) (sound.held.machines run.number run found)) ∙ held) in
-    let bounds = entry_bounds 0 world.freezes world.greatest_freeze freeze among.0 sound.kept.freezes.numbered among.1 in
+    let bounds = entry_bounds 0 world.transport.freezes world.transport.greatest_freeze freeze among.0 sound.kept.freezes.numbered among.1 in
     record { entry = among.0; found = among.1; number_is = bounds.0; bound = bounds.2; its = among.2 }
 
 -- its call is a step, where it leads somewhere
-pub call_step : (setup : Setup) (world : World) (run : LiveRun) (request : Request) (p : Reply × World) → run_of run.number world.runs ≡ Some run → run.out ≡ true → request_at run.program run.machine ≡ Some request → meets_rule setup.limits run.machine request ≡ true → step_request world run request ≡ Some p → WorldStep setup world (executes run.number (call (told_of request))) p.0 p.1
+pub call_step : (setup : Setup) (world : World) (run : LiveRun) (request : Request) (p : Reply × World) → run_of run.number world.runs.list ≡ Some run → run.out ≡ true → request_at run.program run.machine ≡ Some request → meets_rule setup.limits run.machine request ≡ true → step_request world run request ≡ Some p → WorldStep setup world (executes run.number (call (told_of request))) p.0 p.1
 call_step setup world run request p found out call_is rule leads =
     ap (step_executes setup.limits world (call (told_of request))) found
     ∙ (cond-true run.out (step_run setup.limits world run (call (told_of request))) None out
@@ -73,7 +73,7 @@ call_step setup world run request p found out call_is rule leads =
     ∙ (cond-true (may_call setup.limits run (told_of request) request) (step_request world run request) None (and_from _ _ (told_itself (told_of request)) rule) ∙ leads)))
 
 -- its exit is a step
-pub exit_step : (setup : Setup) (world : World) (run : LiveRun) (r0 : ℕ) → run_of run.number world.runs ≡ Some run → run.out ≡ true → exit_at run.program run.machine ≡ Some r0 → WorldStep setup world (executes run.number exit) (result r0) (ends world run)
+pub exit_step : (setup : Setup) (world : World) (run : LiveRun) (r0 : ℕ) → run_of run.number world.runs.list ≡ Some run → run.out ≡ true → exit_at run.program run.machine ≡ Some r0 → WorldStep setup world (executes run.number exit) (result r0) (ends world run)
 exit_step setup world run r0 found out exit_is =
     ap (step_executes setup.limits world exit) found ∙ (cond-true run.out (step_run setup.limits world run exit) None out ∙ ap (option_map _) exit_is)
 
@@ -82,5 +82,5 @@ none_held [] e = refl
 none_held (freeze ∷ freezes) e = absurd (let bad : (freeze.number ∷ map (λ (freeze : Freeze). freeze.number) freezes) ≡ [] = e in cc)
 
 -- a run that holds nothing is named by no entry
-pub holds_nothing : (setup : Setup) (world : World) (run : LiveRun) → IsSound setup world → run_of run.number world.runs ≡ Some run → run.machine.held ≡ [] → entries_of run.number world.freezes ≡ []
-holds_nothing setup world run sound found none = none_held (entries_of run.number world.freezes) (sym (sound.held.machines run.number run found) ∙ none)
+pub holds_nothing : (setup : Setup) (world : World) (run : LiveRun) → IsSound setup world → run_of run.number world.runs.list ≡ Some run → run.machine.held ≡ [] → entries_of run.number world.transport.freezes ≡ []
+holds_nothing setup world run sound found none = none_held (entries_of run.number world.transport.freezes) (sym (sound.held.machines run.number run found) ∙ none)

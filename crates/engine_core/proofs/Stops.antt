@@ -41,22 +41,22 @@ use Rattle.engine_core.proofs.Standing.{StandsLawfully, at_call, at_exit, stands
 pub record Arrives (setup : Setup) (world : World) (number : ℕ) (segment : SegmentState) (run : LiveRun) : Type 0 where
   pub number_is : run.number ≡ number
   pub out : run.out ≡ true
-  pub there : run_of run.number (goes_on world run segment.to).runs ≡ Some (at_stop run segment)
+  pub there : run_of run.number (goes_on world run segment.to).runs.list ≡ Some (at_stop run segment)
   pub sound : IsSound setup (goes_on world run segment.to)
   pub stands : StandsLawfully (at_stop run segment) setup.limits segment.stop
   pub further : (after : World) (stop : StoppedAt) (r0 : ℕ) → WorldStep setup (goes_on world run segment.to) (executes run.number (stop_of stop)) (result r0) after → Leads setup world (events_of (Advance number segment.steps stop r0)) after
 
-pub arrives : (setup : Setup) (world : World) (number : ℕ) (program : List Slot) (segment : SegmentState) → IsLawful setup → IsSound setup world → IsSegment segment → (out : IsOutAs world.runs number program segment) → Arrives setup world number segment out.it
+pub arrives : (setup : Setup) (world : World) (number : ℕ) (program : List Slot) (segment : SegmentState) → IsLawful setup → IsSound setup world → IsSegment segment → (out : IsOutAs world.runs.list number program segment) → Arrives setup world number segment out.it
 arrives setup world number program segment lawful sound is admitted =
     let run : LiveRun = admitted.it in
-    let named : run.number ≡ number = found_key run_key number world.runs run admitted.found in
-    let found : run_of run.number world.runs ≡ Some run = subst (λ (n : ℕ). run_of n world.runs ≡ Some run) (sym named) admitted.found in
+    let named : run.number ≡ number = found_key run_key number world.runs.list run admitted.found in
+    let found : run_of run.number world.runs.list ≡ Some run = subst (λ (n : ℕ). run_of n world.runs.list ≡ Some run) (sym named) admitted.found in
     let way : PrivateSteps run.program is.private run.machine segment.to =
     subst (λ (p : List Slot). PrivateSteps p is.private run.machine segment.to) admitted.next.segment_program_is
     (subst (λ (m : MachineState). PrivateSteps segment.program.program is.private m segment.to) admitted.next.start_is is.way) in
     let between : World = goes_on world run segment.to in
-    let leads = private_leads setup is.private world world.greatest_run run segment.to sound.kept.runs.rising found admitted.out way in
-    let there : run_of run.number between.runs ≡ Some (at_stop run segment) = put_same run_key (at_stop run segment) world.runs run found in
+    let leads = private_leads setup is.private world world.runs.greatest run segment.to sound.kept.runs.rising found admitted.out way in
+    let there : run_of run.number between.runs.list ≡ Some (at_stop run segment) = put_same run_key (at_stop run segment) world.runs.list run found in
     let sound_there = leads_sound setup world _ between lawful leads sound in
     let at : stop_at run.program segment.to ≡ Some segment.stop = subst (λ (p : List Slot). stop_at p segment.to ≡ Some segment.stop) admitted.next.segment_program_is is.stands in
     record {
@@ -107,22 +107,22 @@ call_leads setup world number segment run request given ccbs recoveries it stop 
       world = after;
       leads = it.further after (recorded (told_of request)) given.r0
           (subst (λ (i : Instruction). WorldStep setup between (executes run.number i) (result given.r0) after) (sym (told_is (told_of request))) step);
-      fields = ap (λ (w : World). record w { runs = with_run made w.runs }) does.fields
+      fields = ap (λ (w : World). record w { runs = record w.runs { list = with_run made w.runs.list } }) does.fields
           ∙ ap (λ (runs : List LiveRun). with_ccbs ccbs (with_recoveries (record recoveries { runs = runs }) after)) (put_put run_key standing made recoveries.runs refl);
     }
 
 -- the exit: no entry names the run
-pub nothing_held : (setup : Setup) (world : World) (number : ℕ) (segment : SegmentState) (run : LiveRun) (r0 : ℕ) → Arrives setup world number segment run → segment.stop ≡ Exit r0 → entries_of run.number world.freezes ≡ []
+pub nothing_held : (setup : Setup) (world : World) (number : ℕ) (segment : SegmentState) (run : LiveRun) (r0 : ℕ) → Arrives setup world number segment run → segment.stop ≡ Exit r0 → entries_of run.number world.transport.freezes ≡ []
 nothing_held setup world number segment run r0 it stop =
     let stands = exit_stop (at_stop run segment) setup.limits segment.stop r0 stop it.stands in
     holds_nothing setup (goes_on world run segment.to) (at_stop run segment) it.sound it.there stands.1
 
-pub exit_leads : (setup : Setup) (world : World) (number : ℕ) (segment : SegmentState) (run : LiveRun) (r0 : ℕ) → Arrives setup world number segment run → segment.stop ≡ Exit r0 → Leads setup world (events_of (Advance number segment.steps at_exit_stop r0)) (record world { runs = leave run_key run.number world.runs })
+pub exit_leads : (setup : Setup) (world : World) (number : ℕ) (segment : SegmentState) (run : LiveRun) (r0 : ℕ) → Arrives setup world number segment run → segment.stop ≡ Exit r0 → Leads setup world (events_of (Advance number segment.steps at_exit_stop r0)) (record world { runs = record world.runs { list = leave run_key run.number world.runs.list } })
 exit_leads setup world number segment run r0 it stop =
     let standing : LiveRun = at_stop run segment in
     let between : World = goes_on world run segment.to in
     let stands = exit_stop standing setup.limits segment.stop r0 stop it.stands in
     let step = exit_step setup between standing r0 it.there it.out stands.0 in
-    let end : ends between standing ≡ record world { runs = leave run_key run.number world.runs } =
-    ap (λ (runs : List LiveRun). record world { runs = runs }) (leave_put run_key standing world.runs) in
+    let end : ends between standing ≡ record world { runs = record world.runs { list = leave run_key run.number world.runs.list } } =
+    ap (λ (runs : List LiveRun). record world { runs = record world.runs { list = runs } }) (leave_put run_key standing world.runs.list) in
     subst (Leads setup world (events_of (Advance number segment.steps at_exit_stop r0))) end (it.further (ends between standing) at_exit_stop r0 step)

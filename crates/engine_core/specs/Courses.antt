@@ -19,7 +19,7 @@ takes setup world outcome (Recover ccb) = recovers setup world ccb outcome
 
 -- the CCB is the one that is completed, and active
 abbrev pub IsActive : World → Outcome → Ccb → Type 0
-IsActive world outcome ccb = ccb_of outcome.ccb.0 world.live ≡ Some (record { ccb = ccb; state = Active })
+IsActive world outcome ccb = ccb_of outcome.ccb.0 world.transport.live ≡ Some (record { ccb = ccb; state = Active })
 
 -- what each course needs is there
 abbrev pub IsOpen : World → Outcome → Course → Type 0

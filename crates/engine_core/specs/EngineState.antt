@@ -18,16 +18,16 @@ pub record EngineState : Type 0 where
 -- the fields, read as a world: what ended is what the steps of the history ended
 abbrev pub world_of : Setup → List Record → CcbsState → RecoveryState → World
 world_of setup history ccbs recoveries = record {
-  live = ccbs.live;
+  transport = record {
+    live = ccbs.live;
+    openings = ccbs.openings;
+    freezes = recoveries.freezes;
+    greatest_ccb = ccbs.greatest;
+    greatest_freeze = recoveries.greatest_freeze;
+    clock = recoveries.clock;
+  };
+  runs = record { list = recoveries.runs; greatest = recoveries.greatest_run; tables = recoveries.tables };
   ended = (world_after setup (opening setup) (flat history)).ended;
-  freezes = recoveries.freezes;
-  runs = recoveries.runs;
-  openings = ccbs.openings;
-  greatest_ccb = ccbs.greatest;
-  greatest_run = recoveries.greatest_run;
-  greatest_freeze = recoveries.greatest_freeze;
-  clock = recoveries.clock;
-  tables = recoveries.tables;
 }
 
 -- these are the CCBs, freezes, runs and tables of the world
@@ -51,4 +51,4 @@ pub record Records (old new : EngineState) (answer : Record) : Type 0 where
 
 -- a guest's freeze is this one, by its number, queue and holder
 abbrev pub GuestHolds : World → Freeze → Type 0
-GuestHolds world freeze = Contains world.freezes freeze × (is_guest freeze.holder ≡ true)
+GuestHolds world freeze = Contains world.transport.freezes freeze × (is_guest freeze.holder ≡ true)

@@ -180,14 +180,14 @@ Fits event (replied.OutOfMemory back) = (is_park event ≡ false) × (back ≡ o
 
 -- C4 and C6: no such run is out with this program and in this machine, or no guest's freeze is the token's
 abbrev pub IsUnfit : World → Event → Type 0
-IsUnfit world (Advance run segment) = IsOutAs world.runs run.number run.program.program segment.now → ⊥
+IsUnfit world (Advance run segment) = IsOutAs world.runs.list run.number run.program.program segment.now → ⊥
 IsUnfit world (GuestRelease token) = GuestHolds world token → ⊥
 IsUnfit world (Park run) = IsOut world run → ⊥
 IsUnfit world event = ⊥
 
 -- and that it is fit
 abbrev pub IsFit : World → Event → Type 0
-IsFit world (Advance run segment) = IsOutAs world.runs run.number run.program.program segment.now
+IsFit world (Advance run segment) = IsOutAs world.runs.list run.number run.program.program segment.now
 IsFit world (GuestRelease token) = GuestHolds world token
 IsFit world (Park run) = IsOut world run
 IsFit world event = Unit {0}

@@ -19,7 +19,7 @@ IsReached run = (n : ℕ) × Reached run.program.program n run.machine
 -- the run is live and out in the world, with this program and this machine
 pub record IsOut (world : World) (run : RunState) : Type 0 where
   pub it : LiveRun
-  pub found : run_of run.number world.runs ≡ Some it
+  pub found : run_of run.number world.runs.list ≡ Some it
   pub out : it.out ≡ true
   pub program_is : it.program ≡ run.program.program
   pub machine_is : it.machine ≡ run.machine

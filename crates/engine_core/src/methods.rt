@@ -107,8 +107,8 @@ impl Engine {
     ) -> Result<AdvanceAnswer, (AdvanceFault, Run, Segment)>
         ensures answered { IfOk result (λ answer. Records self.old self.new (Advance run.number segment.steps (stopped_at segment.stop) (r0_of answer))) }
         ensures goes { IfOk result (GoesOrEnds self.old.setup self.old.world self.new.world run segment) }
-        ensures admitted { MatchResult result (λ _. IsOutAs self.old.world.runs run.number run.program.program segment)
-            (λ fault. AdmitsUnlessTold fault.0 (IsOutAs self.old.world.runs run.number run.program.program segment)) }
+        ensures admitted { MatchResult result (λ _. IsOutAs self.old.world.runs.list run.number run.program.program segment)
+            (λ fault. AdmitsUnlessTold fault.0 (IsOutAs self.old.world.runs.list run.number run.program.program segment)) }
         ensures back { IfErr result (λ fault. (fault.1 ≡ run) × (fault.2 ≡ segment) × (self.new ≡ self.old)) }
         ensures run { IsRun self.new }
     {
@@ -126,8 +126,8 @@ impl Engine {
     ) -> Result<AdvanceAnswer, (AdvanceFault, Run)>
         ensures answered { IfOk result (λ answer. Records self.old self.new (Advance run.number segment.now.steps (stopped_at segment.now.stop) (r0_of answer))) }
         ensures goes { IfOk result (GoesOrEnds self.old.setup self.old.world self.new.world run segment.now) }
-        ensures admitted { MatchResult result (λ _. IsOutAs self.old.world.runs run.number run.program.program segment.now)
-            (λ fault. AdmitsUnlessTold fault.0 (IsOutAs self.old.world.runs run.number run.program.program segment.now)) }
+        ensures admitted { MatchResult result (λ _. IsOutAs self.old.world.runs.list run.number run.program.program segment.now)
+            (λ fault. AdmitsUnlessTold fault.0 (IsOutAs self.old.world.runs.list run.number run.program.program segment.now)) }
         ensures back { IfErr result (λ fault. (fault.1 ≡ run) × (self.new ≡ self.old)) }
         ensures run { IsRun self.new }
     {

@@ -59,7 +59,7 @@ started_world ledger runs greatest clock tables ccb outcome program t world =
     let after = completed ccb outcome (is_some t) in
     with_recoveries
     (state_of (took ledger t) (with_started runs (greatest + 1) ccb program (entry (context_of after) (told t))) (greatest + 1) clock tables)
-    (record world { live = with_ccb (record { ccb = after; state = InRecovery }) world.live })
+    (record world { transport = record world.transport { live = with_ccb (record { ccb = after; state = InRecovery }) world.transport.live } })
 
 pub starts_so : (setup : Setup) (world : World) (ledger : LedgerState) (runs : List LiveRun) (greatest clock : ℕ) (tables : List (List ℕ)) (ccb : Ccb) (outcome : Outcome) (program : List Slot) (t : Option Freeze) → (IsNone t ↔ IsTrue (meets_limit (Device ccb.queue) ledger.freezes ledger.greatest)) → IfSome t (λ f. f ≡ next_freeze ledger (Device ccb.queue) (Run (greatest + 1))) → (queue_setup setup ccb.queue.0).program ≡ program → recovers setup (with_recoveries (state_of ledger runs greatest clock tables) world) ccb outcome ≡ (replies (answers.Started (greatest + 1) (told t)), started_world ledger runs greatest clock tables ccb outcome program t world)
 starts_so setup world ledger runs greatest clock tables ccb outcome program None limit next is =

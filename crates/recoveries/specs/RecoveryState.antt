@@ -42,12 +42,12 @@ no_recoveries queues lengths = record {
 -- the world with these freezes, runs and tables, and this clock
 abbrev pub with_recoveries : RecoveryState → World → World
 with_recoveries state world = record world {
-  freezes = state.freezes;
-  runs = state.runs;
-  greatest_freeze = state.greatest_freeze;
-  greatest_run = state.greatest_run;
-  clock = state.clock;
-  tables = state.tables;
+  transport = record world.transport {
+    freezes = state.freezes;
+    greatest_freeze = state.greatest_freeze;
+    clock = state.clock;
+  };
+  runs = record { list = state.runs; greatest = state.greatest_run; tables = state.tables };
 }
 
 -- the ledger of the freezes

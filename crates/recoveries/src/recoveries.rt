@@ -287,7 +287,7 @@ impl Recoveries {
         requires room { (world : World) → run_meets_limit (with_recoveries self.old world) ≡ false }
         ensures step { (setup : Setup) (world : World) → (queue_setup setup ccb.old.queue.0).program ≡ (arc_value program).program →
             recovers setup (with_recoveries self.old world) ccb.old completion.now
-            ≡ (replies (answers.Started result.run result.freeze), with_recoveries self.new (record world { live = with_ccb (record { ccb = ccb.new; state = InRecovery }) world.live })) }
+            ≡ (replies (answers.Started result.run result.freeze), with_recoveries self.new (record world { transport = record world.transport { live = with_ccb (record { ccb = ccb.new; state = InRecovery }) world.transport.live } })) }
         ensures entry { IsEntry machine.new }
         ensures machine { run_of result.run self.new.runs ≡ Some (run_for result.run ccb.old (arc_value program).program machine.new) }
         ensures ccb { (taken : Bool) × (ccb.new ≡ completed ccb.old completion.now taken) }

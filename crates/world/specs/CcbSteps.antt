@@ -35,14 +35,23 @@ submits world queue priority retries =
     let number = world.transport.greatest_ccb + 1 in
     let ccb = submitted (record { 0 = number }) queue priority retries in (
       replies (answers.Ccb (record { 0 = number })),
-      record world { transport = record world.transport { live = world.transport.live ++ record { ccb = ccb; state = Waiting } ∷ []; greatest_ccb = number } },
+      record world {
+        transport = record world.transport {
+          live = world.transport.live ++ record { ccb = ccb; state = Waiting } ∷ [];
+          greatest_ccb = number;
+        };
+      },
     )
 
 -- a CCB that waits is active, and was started once more
 abbrev pub starts : World → LiveCcb → Reply × World
 starts world next = (
   replies (answers.Ccb next.ccb.number),
-  record world { transport = record world.transport { live = with_ccb (record { ccb = started next.ccb; state = Active }) world.transport.live } },
+  record world {
+    transport = record world.transport {
+      live = with_ccb (record { ccb = started next.ccb; state = Active }) world.transport.live;
+    };
+  },
 )
 
 -- the status needs no recovery
@@ -55,7 +64,12 @@ run_meets_limit world = nat_le most_runs (length world.runs.list) || nat_le last
 
 -- the CCB is gone, and its final code is kept
 abbrev pub ended_with : World → Ccb → ℕ → World
-ended_with world ccb code = record world { transport = record world.transport { live = filter (λ live. not (live.ccb.number.0 == ccb.number.0)) world.transport.live }; ended = world.ended ++ record { number = ccb.number.0; code = code } ∷ [] }
+ended_with world ccb code = record world {
+  transport = record world.transport {
+    live = filter (λ live. not (live.ccb.number.0 == ccb.number.0)) world.transport.live;
+  };
+  ended = world.ended ++ record { number = ccb.number.0; code = code } ∷ [];
+}
 
 -- it is gone with the code of its status
 abbrev pub finishes : World → Ccb → CamStatus → World

@@ -27,7 +27,12 @@ frozen_with freeze freezes = frozen freeze.place freezes
 abbrev pub froze : World → Place → Holder → World
 froze world place holder =
     let number = world.transport.greatest_freeze + 1 in
-    record world { transport = record world.transport { freezes = world.transport.freezes ++ record { number = number; place = place; holder = holder } ∷ []; greatest_freeze = number } }
+    record world {
+      transport = record world.transport {
+        freezes = world.transport.freezes ++ record { number = number; place = place; holder = holder } ∷ [];
+        greatest_freeze = number;
+      };
+    }
 
 -- without the freeze of this number
 abbrev pub thawed : World → ℕ → World
@@ -35,7 +40,9 @@ thawed world number = record world { transport = record world.transport { freeze
 
 -- with a timer that is due then as the holder of the freeze of this number
 abbrev pub timed : World → ℕ → ℕ → World
-timed world number due = record world { transport = record world.transport { freezes = handed_over number due world.transport.freezes } }
+timed world number due = record world {
+  transport = record world.transport { freezes = handed_over number due world.transport.freezes };
+}
 
 -- a guest holds a new freeze of the place
 abbrev pub guest_freezes : World → Place → ℕ → Reply × World
@@ -50,7 +57,9 @@ guest_releases world (Some freeze) =
 
 -- the clock reads this, and the freezes whose timers are due are gone
 abbrev pub clock_at : World → ℕ → World
-clock_at world reading = record world { transport = record world.transport { freezes = not_due_at reading world.transport.freezes; clock = reading } }
+clock_at world reading = record world {
+  transport = record world.transport { freezes = not_due_at reading world.transport.freezes; clock = reading };
+}
 
 -- the reply is how many these are
 abbrev pub reads_clock : World → ℕ → Reply × World

@@ -7,7 +7,9 @@ use Rattle.world.specs.Event.{Reply, replies}
 
 -- the run is out or parked, and all else is as it was
 abbrev pub with_out : World → LiveRun → Bool → World
-with_out world run out = record world { runs = record world.runs { list = with_run (record run { out = out }) world.runs.list } }
+with_out world run out = record world {
+  runs = record world.runs { list = with_run (record run { out = out }) world.runs.list };
+}
 
 -- no event unless the run is live and out; it is parked
 abbrev pub parks : World → Option LiveRun → Option (Reply × World)

@@ -34,7 +34,9 @@ is_run number (Guest guest) = false
 
 -- the run's machine is now this one
 abbrev pub goes_on : World → LiveRun → MachineState → World
-goes_on world run machine = record world { runs = record world.runs { list = with_run (record run { machine = machine }) world.runs.list } }
+goes_on world run machine = record world {
+  runs = record world.runs { list = with_run (record run { machine = machine }) world.runs.list };
+}
 
 -- the run's call is answered
 abbrev pub answers : World → LiveRun → Request → Answer → Reply × World
@@ -71,7 +73,8 @@ abbrev pub requeues : World → LiveRun → Request → Option LiveCcb → Optio
 requeues world run request None = None
 requeues world run request (Some live) =
     let again : LiveCcb = record { ccb = requeued live.ccb request.arguments.first; state = Waiting } in
-    Some (answers (record world { transport = record world.transport { live = with_ccb again world.transport.live } }) run request (answer_number 0))
+    let after = record world { transport = record world.transport { live = with_ccb again world.transport.live } } in
+    Some (answers after run request (answer_number 0))
 
 -- the run's CCB is gone, with this final code
 abbrev pub finishes : World → LiveRun → Request → Option LiveCcb → Option (Reply × World)
@@ -84,7 +87,11 @@ its_word world request = word_at world.runs.tables request.arguments.first reque
 
 -- the tables with this in its place
 abbrev pub with_its_word : World → Request → ℕ → World
-with_its_word world request word = record world { runs = record world.runs { tables = with_word world.runs.tables request.arguments.first request.arguments.second word } }
+with_its_word world request word = record world {
+  runs = record world.runs {
+    tables = with_word world.runs.tables request.arguments.first request.arguments.second word;
+  };
+}
 
 -- a word of a table is read
 abbrev pub gets : World → LiveRun → Request → Reply × World
@@ -105,7 +112,8 @@ adds world run request =
 -- the run's queue has so many openings from now on, and the answer is how many it had
 abbrev pub opens : World → LiveRun → Request → Reply × World
 opens world run request =
-    let after = record world { transport = record world.transport { openings = slice_set world.transport.openings run.queue request.arguments.first } } in
+    let openings = slice_set world.transport.openings run.queue request.arguments.first in
+    let after = record world { transport = record world.transport { openings = openings } } in
     answers after run request (answer_number (slice_index world.transport.openings run.queue))
 
 -- what the run's queue has, as 16 bytes from the address on
@@ -141,7 +149,9 @@ step_helper limits world run told request = if may_call limits run told request 
 
 -- the run is gone
 abbrev pub ends : World → LiveRun → World
-ends world run = record world { runs = record world.runs { list = filter (λ other. not (other.number == run.number)) world.runs.list } }
+ends world run = record world {
+  runs = record world.runs { list = filter (λ other. not (other.number == run.number)) world.runs.list };
+}
 
 -- no event unless the machine stands at such an instruction
 abbrev pub step_run : HelperLimits → World → LiveRun → Instruction → Option (Reply × World)

@@ -49,7 +49,7 @@ module _ (ccbs : CcbsState) (old : RecoveryState) (place : ℕ) (segment : Segme
               world = thawed before freeze;
               step = deed_step before run request deeds.GiveBack is
                   ∙ (ap (releases before run request) there.found
-                  ∙ (cond-true (is_run run.number there.entry.holder) (Some (answers (thawed before freeze) run request (answer_number (frozen_with there.entry (thawed before freeze).freezes)))) None there.its
+                  ∙ (cond-true (is_run run.number there.entry.holder) (Some (answers (thawed before freeze) run request (answer_number (frozen_with there.entry (thawed before freeze).transport.freezes)))) None there.its
                   ∙ ap (λ (k : ℕ). Some (answers (thawed before freeze) run request (answer_number k))) (sym (count_is there.entry there.found))));
               fields = ap (λ (r : RecoveryState). with_ccbs ccbs (with_recoveries (record r { runs = with_run run r.runs }) (thawed before freeze))) (sym after_is);
             };

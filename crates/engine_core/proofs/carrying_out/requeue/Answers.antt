@@ -38,7 +38,7 @@ module _ (ccbs : CcbsState) (old : RecoveryState) (place : ℕ) (segment : Segme
             let its = has_its_ccb ccbs old place segment request it n b setup history kept requeuing.its.fresh in
             let run : LiveRun = at_stop b.out.it segment in
             let before : World = between ccbs old segment setup history b.out.it in
-            let end : World = record before { live = with_ccb (record { ccb = requeued its.live.ccb request.arguments.first; state = Waiting }) before.live } in
+            let end : World = record before { transport = record before.transport { live = with_ccb (record { ccb = requeued its.live.ccb request.arguments.first; state = Waiting }) before.transport.live } } in
             record {
               world = end;
               step = deed_step before run request deeds.Requeue is ∙ ap (requeues before run request) its.found;

@@ -31,7 +31,7 @@ module _ (ccbs : CcbsState) (old : RecoveryState) (place : ℕ) (segment : Segme
         step = λ n b setup history kept.
             let run : LiveRun = at_stop b.out.it segment in
             let before : World = between ccbs old segment setup history b.out.it in
-            let end : World = record before { openings = slice_set before.openings run.queue request.arguments.first } in
+            let end : World = record before { transport = record before.transport { openings = slice_set before.transport.openings run.queue request.arguments.first } } in
             let own : run.queue ≡ queue = sym (queue_is b.out.it b.there) in
             record {
               world = end;

@@ -19,7 +19,7 @@ use Rattle.engine_core.proofs.Calls.{is_answer, deed_step, between, queue_there,
 use Rattle.engine_core.proofs.carrying_out.tell_queue.Goals as goal
 
 module _ (ccbs : CcbsState) (old : RecoveryState) (place : ℕ) (segment : SegmentState) (request : Request) (it : IsCalled ccbs old place segment request) (is : (row_of request.helper).deed ≡ deeds.TellQueue) where
-  told_queue : (queue : ℕ) (info : Info) (bytes : List ℕ) → ((run : LiveRun) → HasRunAt old.runs place run → queue ≡ run.queue) → ((world : World) → world.freezes ≡ old.freezes → info ≡ queue_info (with_ccbs ccbs world) queue) → bytes ≡ info_bytes info → Does place segment request (record { r0 = 0; written = Some (record { address = request.arguments.first; bytes = bytes }) }) ccbs old ccbs old
+  told_queue : (queue : ℕ) (info : Info) (bytes : List ℕ) → ((run : LiveRun) → HasRunAt old.runs place run → queue ≡ run.queue) → ((world : World) → world.transport.freezes ≡ old.freezes → info ≡ queue_info (with_ccbs ccbs world) queue) → bytes ≡ info_bytes info → Does place segment request (record { r0 = 0; written = Some (record { address = request.arguments.first; bytes = bytes }) }) ccbs old ccbs old
   told_queue queue info bytes queue_is info_is bytes_is =
       let address : ℕ = request.arguments.first in
       let columns = suits deeds.TellQueue request is in

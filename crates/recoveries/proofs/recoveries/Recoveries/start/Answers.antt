@@ -87,10 +87,10 @@ returns-clause-step c =
     rw (← c.self.view_is) (λ setup world is.
     starts_so setup world c.self.inside.ledger (lives_of c.self.inside.runs.items) c.self.inside.greatest_run c.self.inside.clock c.self.inside.tables c.args.ccb.now c.args.completion.now (arc_value c.args.program).program c.take-token.result c.take-token.ensures.limit c.take-token.ensures.token is
     ∙ sym (
-    ap (λ (n : ℕ). (replies (answers.Started number n), with_recoveries (state_of c.take-token.new.self (lives_of c.push_reserved.new.self.items) number c.self.inside.clock c.self.inside.tables) (record world { live = with_ccb (record { ccb = c.complete.new.self; state = InRecovery }) world.live }))) c.taken_at_start-freeze.ensures.number
-    ∙ (ap (λ (l : LedgerState). (replies (answers.Started number (told c.take-token.result)), with_recoveries (state_of l (lives_of c.push_reserved.new.self.items) number c.self.inside.clock c.self.inside.tables) (record world { live = with_ccb (record { ccb = c.complete.new.self; state = InRecovery }) world.live }))) (ledger_is c)
-    ∙ (ap (λ (ls : List LiveRun). (replies (answers.Started number (told c.take-token.result)), with_recoveries (state_of after ls number c.self.inside.clock c.self.inside.tables) (record world { live = with_ccb (record { ccb = c.complete.new.self; state = InRecovery }) world.live }))) (runs_are c)
-    ∙ ap (λ (x : Ccb). (replies (answers.Started number (told c.take-token.result)), with_recoveries (state_of after (with_started (lives_of c.self.inside.runs.items) number c.args.ccb.now (arc_value c.args.program).program (entry (context_of (completed c.args.ccb.now c.args.completion.now (is_some c.take-token.result))) (told c.take-token.result))) number c.self.inside.clock c.self.inside.tables) (record world { live = with_ccb (record { ccb = x; state = InRecovery }) world.live }))) (ccb_is c)))))
+    ap (λ (n : ℕ). (replies (answers.Started number n), with_recoveries (state_of c.take-token.new.self (lives_of c.push_reserved.new.self.items) number c.self.inside.clock c.self.inside.tables) (record world { transport = record world.transport { live = with_ccb (record { ccb = c.complete.new.self; state = InRecovery }) world.transport.live } }))) c.taken_at_start-freeze.ensures.number
+    ∙ (ap (λ (l : LedgerState). (replies (answers.Started number (told c.take-token.result)), with_recoveries (state_of l (lives_of c.push_reserved.new.self.items) number c.self.inside.clock c.self.inside.tables) (record world { transport = record world.transport { live = with_ccb (record { ccb = c.complete.new.self; state = InRecovery }) world.transport.live } }))) (ledger_is c)
+    ∙ (ap (λ (ls : List LiveRun). (replies (answers.Started number (told c.take-token.result)), with_recoveries (state_of after ls number c.self.inside.clock c.self.inside.tables) (record world { transport = record world.transport { live = with_ccb (record { ccb = c.complete.new.self; state = InRecovery }) world.transport.live } }))) (runs_are c)
+    ∙ ap (λ (x : Ccb). (replies (answers.Started number (told c.take-token.result)), with_recoveries (state_of after (with_started (lives_of c.self.inside.runs.items) number c.args.ccb.now (arc_value c.args.program).program (entry (context_of (completed c.args.ccb.now c.args.completion.now (is_some c.take-token.result))) (told c.take-token.result))) number c.self.inside.clock c.self.inside.tables) (record world { transport = record world.transport { live = with_ccb (record { ccb = x; state = InRecovery }) world.transport.live } }))) (ccb_is c)))))
 
 pub returns-clause-machine : goal.returns-clause-machine
 returns-clause-machine c =

@@ -13,7 +13,7 @@ use Rattle.engine_core.specs.declared.reply.Reply.{Reply}
 use Rattle.engine_core.specs.declared.reply.Reply.TheVariants.{Given, Refused, Unfit, OutOfMemory}
 use Rattle.engine_core.specs.Invariant.{HasRoom, KeepsEngine}
 use Rattle.engine_core.specs.Performing.{FitsAt, IsRoomFor, LeavesRoom, Performs, world_with}
-use Rattle.engine_core.specs.Replies.{IsFit, IsUnfit, ToldFit, may_be_unfit, record_of}
+use Rattle.engine_core.specs.Replies.{IsFit, IsUnfit, ToldFit, owns, record_of}
 use Rattle.engine_core.proofs.Parking.{room_to_park}
 use Rattle.engine_core.proofs.Recording.{Goes, goes, kept_sound}
 
@@ -34,17 +34,17 @@ pub unless_err : {A B : Type 0} (r : Result A B) (fact : Type 0) → is_err r �
 unless_err (Ok it) fact failed holds = holds
 unless_err (Err fault) fact failed holds = absurd (let bad : true ≡ false = failed in cc)
 
--- only what may be unfit is
-pub unfit_may : (event : Event) (world : World) → IsUnfit world event → may_be_unfit event ≡ true
-unfit_may (Submit queue priority retries) world unfit = absurd unfit
-unfit_may (Dispatch queue) world unfit = absurd unfit
-unfit_may (Complete completion) world unfit = absurd unfit
-unfit_may (Advance run segment) world unfit = refl
-unfit_may (Clock reading) world unfit = absurd unfit
-unfit_may (GuestFreeze place guest) world unfit = absurd unfit
-unfit_may (GuestRelease token) world unfit = refl
-unfit_may (Park run) world unfit = refl
-unfit_may (Resume run) world unfit = absurd unfit
+-- what owns nothing fits always
+pub unfit_owns : (event : Event) (world : World) → IsUnfit world event → owns event ≡ true
+unfit_owns (Submit queue priority retries) world unfit = absurd (unfit tt)
+unfit_owns (Dispatch queue) world unfit = absurd (unfit tt)
+unfit_owns (Complete completion) world unfit = absurd (unfit tt)
+unfit_owns (Advance run segment) world unfit = refl
+unfit_owns (Clock reading) world unfit = absurd (unfit tt)
+unfit_owns (GuestFreeze place guest) world unfit = absurd (unfit tt)
+unfit_owns (GuestRelease token) world unfit = refl
+unfit_owns (Park run) world unfit = refl
+unfit_owns (Resume run) world unfit = absurd (unfit tt)
 
 -- what was found fits
 pub fit_at : (event : Event) (place : ℕ) (ccbs : CcbsState) (recoveries : RecoveryState) (world : World) → FitsAt place recoveries event → IsFit (world_with ccbs recoveries world) event

@@ -2,7 +2,6 @@
 use Rattle.std.specs.Prelude.{◌≡◌, ℕ, Bool, true, false, Option, Some, None, MatchOption, Result, Ok, Err}
 use Rattle.std.specs.Option.{option_map}
 use Rattle.ccb.specs.declared.CcbId.{CcbId}
-use Rattle.freeze_ledger.specs.declared.freeze.Freeze.{Freeze as TheFreeze}
 use Rattle.freeze_ledger.specs.declared.freeze.Holder.TheVariants.{Guest}
 use Rattle.calls.specs.declared.call.Call.{Call}
 use Rattle.calls.specs.declared.call.Call.TheVariants as its
@@ -156,41 +155,31 @@ record_of event (replied.OutOfMemory back) = None
 abbrev pub IsRecorded : EngineState → Event → Reply → EngineState → Type 0
 IsRecorded old event reply new = MatchOption (record_of event reply) (new ≡ old) (λ told. Records old new told)
 
--- an advance, a release and a park are carried out or unfit, and never refused
-abbrev pub may_be_refused : Event → Bool
-may_be_refused (Advance run segment) = false
-may_be_refused (GuestRelease token) = false
-may_be_refused (Park run) = false
-may_be_refused event = true
+-- the event owns a run or a token
+abbrev pub owns : Event → Bool
+owns (Advance run segment) = true
+owns (GuestRelease token) = true
+owns (Park run) = true
+owns event = false
 
--- what is unfit, or finds no memory, is of an event that may be so
-abbrev pub may_be_unfit : Event → Bool
-may_be_unfit (Advance run segment) = true
-may_be_unfit (GuestRelease token) = true
-may_be_unfit (Park run) = true
-may_be_unfit event = false
-
--- The event can be replied to so: it gives what it may, and what it owned comes back where it is not carried out. A park
--- takes no memory.
+-- The event can be replied to so: it gives what it may. What owns something is carried out or unfit, and never refused, and
+-- that comes back where it is not carried out; what owns nothing is never unfit. A park takes no memory.
 abbrev pub Fits : Event → Reply → Type 0
 Fits event (replied.Given given) = Suits event given
-Fits event (replied.Refused refusal) = may_be_refused event ≡ true
-Fits event (replied.Unfit back) = (may_be_unfit event ≡ true) × (back ≡ owned event)
+Fits event (replied.Refused refusal) = owns event ≡ false
+Fits event (replied.Unfit back) = (owns event ≡ true) × (back ≡ owned event)
 Fits event (replied.OutOfMemory back) = (is_park event ≡ false) × (back ≡ owned event)
 
--- C4 and C6: no such run is out with this program and in this machine, or no guest's freeze is the token's
-abbrev pub IsUnfit : World → Event → Type 0
-IsUnfit world (Advance run segment) = IsOutAs world.runs.list run.number run.program.program segment.now → ⊥
-IsUnfit world (GuestRelease token) = GuestHolds world token → ⊥
-IsUnfit world (Park run) = IsOut world run → ⊥
-IsUnfit world event = ⊥
-
--- and that it is fit
+-- the run is out with this program and in this machine, or a guest's freeze is the token's; other events fit always
 abbrev pub IsFit : World → Event → Type 0
 IsFit world (Advance run segment) = IsOutAs world.runs.list run.number run.program.program segment.now
 IsFit world (GuestRelease token) = GuestHolds world token
 IsFit world (Park run) = IsOut world run
 IsFit world event = Unit {0}
+
+-- C4 and C6: it does not fit
+abbrev pub IsUnfit : World → Event → Type 0
+IsUnfit world event = IsFit world event → ⊥
 
 -- it is told to be unfit exactly where it is
 abbrev pub ToldFit : World → Event → Reply → Type 0
@@ -225,10 +214,6 @@ IsMemory reply = ⊥
 abbrev pub ccb_reply : Result CcbId CallRefusal → Reply
 ccb_reply (Ok ccb) = replied.Given (Ccb ccb)
 ccb_reply (Err refusal) = replied.Refused refusal
-
-abbrev pub freeze_reply : Result TheFreeze CallRefusal → Reply
-freeze_reply (Ok token) = replied.Given (Freeze token)
-freeze_reply (Err refusal) = replied.Refused refusal
 
 abbrev pub removed_reply : Result ℕ CallRefusal → Reply
 removed_reply (Ok count) = replied.Given (Removed count)

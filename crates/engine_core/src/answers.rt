@@ -1,9 +1,7 @@
-// What the engine's calls answer beside their values, and what is recorded of that. It relies on `calls` for answers and
-// refusals.
+// What the engine's methods answer beside their values. It relies on `calls` for refusals, and on `run` for runs.
 
 use crate::run::Run;
 use calls::CallRefusal;
-use std::alloc::AllocError;
 use thiserror::Error;
 
 /// Why a call was not carried out.
@@ -15,17 +13,6 @@ pub enum CallFault {
     /// The call is refused, and the refusal is recorded.
     #[error("{0}")]
     Refused(CallRefusal),
-}
-
-impl From<AllocError> for CallFault {
-    ghost use Rattle.std.specs.Prelude.{◌≡◌};
-    ghost use Rattle.engine_core.specs.declared.answers.CallFault.TheVariants.{OutOfMemory};
-
-    ghost from_gives = { λ _ fault. fault ≡ OutOfMemory };
-
-    fn from(_: AllocError) -> Self {
-        CallFault::OutOfMemory
-    }
 }
 
 /// Why a freeze was not given back. The engine is as before.

@@ -1,7 +1,7 @@
 use Rattle.std.proofs.Common.{length, refl, sym, ◌∙◌, rules, arith}
 use Rattle.std.specs.Prelude.{vec_capacity}
 use Rattle.engine_core.specs.EngineState.{world_of}
-use Rattle.engine_core.proofs.Answering.{few_runs, fit_at, on_err, performed, room_behind, room_to_tell, told_fit, unfit_may, unless_err}
+use Rattle.engine_core.proofs.Answering.{few_runs, fit_at, on_err, performed, room_behind, room_to_tell, told_fit, unfit_owns, unless_err}
 use Rattle.engine_core.proofs.Parking.{room_kept}
 use Rattle.engine_core.proofs.engine.Engine.answer.Goals as goal
 
@@ -10,7 +10,7 @@ use Rattle.engine_core.proofs.engine.Engine.answer.Goals as goal
 pub returns-in_default-clause-fits : goal.returns-in_default-clause-fits
 returns-in_default-clause-fits c =
     let before = world_of c.self.inside.config c.self.inside.history.items c.self.inside.parts.ccbs c.self.inside.parts.recoveries in
-    (unfit_may c.args.event _ (c.in_default.ensures.unfit before), c.owned.ensures)
+    (unfit_owns c.args.event _ (c.in_default.ensures.unfit before), c.owned.ensures)
 
 pub returns-in_default-clause-fit : goal.returns-in_default-clause-fit
 returns-in_default-clause-fit c = rw (← c.self.view_is)

@@ -3,10 +3,9 @@ use Rattle.std.proofs.Common.{◌≡◌, ℕ, ◌+◌, ◌<◌, ◌≤◌, true,
 use Rattle.std.specs.Prelude.{IfOk, IfNone, IsSome, OnErr}
 use Rattle.std.specs.Result.{is_err}
 use Rattle.std.proofs.lemmas.List.Sums.{count_by-le-length}
-use Rattle.ccb_table.specs.CcbsState.{CcbsState}
-use Rattle.recoveries.specs.RecoveryState.{RecoveryState}
+use Rattle.runs.specs.RunsState.{RunsState}
 use Rattle.calls.specs.declared.record.Record.{Record}
-use Rattle.world.specs.World.{Setup, LiveRun, World}
+use Rattle.world.specs.World.{Transport, Setup, LiveRun, World}
 use Rattle.engine_core.specs.declared.event.Event.{Event}
 use Rattle.engine_core.specs.declared.event.Event.TheVariants.{Submit, Dispatch, Complete, Advance, Clock, GuestFreeze, GuestRelease, Park, Resume}
 use Rattle.engine_core.specs.declared.reply.Reply.{Reply}
@@ -47,16 +46,16 @@ unfit_owns (Park run) world unfit = refl
 unfit_owns (Resume run) world unfit = absurd (unfit tt)
 
 -- what was found fits
-pub fit_at : (event : Event) (place : ℕ) (ccbs : CcbsState) (recoveries : RecoveryState) (world : World) → FitsAt place recoveries event → IsFit (world_with ccbs recoveries world) event
-fit_at (Submit queue priority retries) place ccbs recoveries world fit = tt
-fit_at (Dispatch queue) place ccbs recoveries world fit = tt
-fit_at (Complete completion) place ccbs recoveries world fit = tt
-fit_at (Advance run segment) place ccbs recoveries world fit = fit.0
-fit_at (Clock reading) place ccbs recoveries world fit = tt
-fit_at (GuestFreeze its guest) place ccbs recoveries world fit = tt
-fit_at (GuestRelease token) place ccbs recoveries world fit = fit
-fit_at (Park run) place ccbs recoveries world fit = record { it = fit.0.it; found = fit.0.found; out = fit.0.recorded.0; program_is = sym fit.0.recorded.1; machine_is = sym fit.0.recorded.2 }
-fit_at (Resume run) place ccbs recoveries world fit = tt
+pub fit_at : (event : Event) (place : ℕ) (transport : Transport) (runs : RunsState) (world : World) → FitsAt place transport runs event → IsFit (world_with transport runs world) event
+fit_at (Submit queue priority retries) place transport runs world fit = tt
+fit_at (Dispatch queue) place transport runs world fit = tt
+fit_at (Complete completion) place transport runs world fit = tt
+fit_at (Advance run segment) place transport runs world fit = fit.0
+fit_at (Clock reading) place transport runs world fit = tt
+fit_at (GuestFreeze its guest) place transport runs world fit = tt
+fit_at (GuestRelease token) place transport runs world fit = fit
+fit_at (Park run) place transport runs world fit = record { it = fit.0.it; found = fit.0.found; out = fit.0.recorded.0; program_is = sym fit.0.recorded.1; machine_is = sym fit.0.recorded.2 }
+fit_at (Resume run) place transport runs world fit = tt
 
 -- a reply that is recorded does not tell that the event is unfit
 pub told_fit : (event : Event) (reply : Reply) (told : Record) (world : World) → record_of event reply ≡ Some told → IsFit world event → ToldFit world event reply
@@ -66,39 +65,37 @@ told_fit event (Unfit back) told world is fit = absurd (let bad : None ≡ Some 
 told_fit event (OutOfMemory back) told world is fit = fit
 
 -- there is room for its record
-pub room_to_tell : (event : Event) (place : ℕ) (recoveries : RecoveryState) (records was capacity : ℕ) → FitsAt place recoveries event → HasRoom records was recoveries.runs → was ≤ capacity → IsRoomFor event records capacity → records < capacity
-room_to_tell (Submit queue priority retries) place recoveries records was capacity fit had more room = omega (arith, room)
-room_to_tell (Dispatch queue) place recoveries records was capacity fit had more room = omega (arith, room)
-room_to_tell (Complete completion) place recoveries records was capacity fit had more room = omega (arith, room)
-room_to_tell (Advance run segment) place recoveries records was capacity fit had more room = omega (arith, room)
-room_to_tell (Clock reading) place recoveries records was capacity fit had more room = omega (arith, room)
-room_to_tell (GuestFreeze its guest) place recoveries records was capacity fit had more room = omega (arith, room)
-room_to_tell (GuestRelease token) place recoveries records was capacity fit had more room = omega (arith, room)
-room_to_tell (Park run) place recoveries records was capacity fit had more room =
-    let one = room_to_park records was run.number recoveries.runs fit.0.it had fit.0.found fit.0.recorded.0 in
+pub room_to_tell : (event : Event) (place : ℕ) (transport : Transport) (runs : RunsState) (records was capacity : ℕ) → FitsAt place transport runs event → HasRoom records was runs.runs.list → was ≤ capacity → IsRoomFor event records capacity → records < capacity
+room_to_tell (Submit queue priority retries) place transport runs records was capacity fit had more room = omega (arith, room)
+room_to_tell (Dispatch queue) place transport runs records was capacity fit had more room = omega (arith, room)
+room_to_tell (Complete completion) place transport runs records was capacity fit had more room = omega (arith, room)
+room_to_tell (Advance run segment) place transport runs records was capacity fit had more room = omega (arith, room)
+room_to_tell (Clock reading) place transport runs records was capacity fit had more room = omega (arith, room)
+room_to_tell (GuestFreeze its guest) place transport runs records was capacity fit had more room = omega (arith, room)
+room_to_tell (GuestRelease token) place transport runs records was capacity fit had more room = omega (arith, room)
+room_to_tell (Park run) place transport runs records was capacity fit had more room =
+    let one = room_to_park records was run.number runs.runs.list fit.0.it had fit.0.found fit.0.recorded.0 in
     omega (arith, one, more)
-room_to_tell (Resume run) place recoveries records was capacity fit had more room = omega (arith, room)
+room_to_tell (Resume run) place transport runs records was capacity fit had more room = omega (arith, room)
 
 -- and behind it for that of a park of each run that is out
 few_out : (runs : List LiveRun) (records capacity : ℕ) → records + 257 ≤ capacity → length runs ≤ 256 → HasRoom (records + 1) capacity runs
 few_out runs records capacity room few = omega (arith, room, few, count_by-le-length (λ (run : LiveRun). run.out) runs)
 
-pub room_behind : (event : Event) (old new : RecoveryState) (records was capacity : ℕ) → LeavesRoom event old new → length new.runs ≤ 256 → HasRoom records was old.runs → was ≤ capacity → IsRoomFor event records capacity → HasRoom (records + 1) capacity new.runs
-room_behind (Submit queue priority retries) old new records was capacity leaves few had more room = few_out new.runs records capacity room few
-room_behind (Dispatch queue) old new records was capacity leaves few had more room = few_out new.runs records capacity room few
-room_behind (Complete completion) old new records was capacity leaves few had more room = few_out new.runs records capacity room few
-room_behind (Advance run segment) old new records was capacity leaves few had more room = few_out new.runs records capacity room few
-room_behind (Clock reading) old new records was capacity leaves few had more room = few_out new.runs records capacity room few
-room_behind (GuestFreeze its guest) old new records was capacity leaves few had more room = few_out new.runs records capacity room few
-room_behind (GuestRelease token) old new records was capacity leaves few had more room = few_out new.runs records capacity room few
+pub room_behind : (event : Event) (old new : List LiveRun) (records was capacity : ℕ) → LeavesRoom event old new → length new ≤ 256 → HasRoom records was old → was ≤ capacity → IsRoomFor event records capacity → HasRoom (records + 1) capacity new
+room_behind (Submit queue priority retries) old new records was capacity leaves few had more room = few_out new records capacity room few
+room_behind (Dispatch queue) old new records was capacity leaves few had more room = few_out new records capacity room few
+room_behind (Complete completion) old new records was capacity leaves few had more room = few_out new records capacity room few
+room_behind (Advance run segment) old new records was capacity leaves few had more room = few_out new records capacity room few
+room_behind (Clock reading) old new records was capacity leaves few had more room = few_out new records capacity room few
+room_behind (GuestFreeze its guest) old new records was capacity leaves few had more room = few_out new records capacity room few
+room_behind (GuestRelease token) old new records was capacity leaves few had more room = few_out new records capacity room few
 room_behind (Park run) old new records was capacity leaves few had more room = leaves records capacity (omega (arith, had, more))
-room_behind (Resume run) old new records was capacity leaves few had more room = few_out new.runs records capacity room few
+room_behind (Resume run) old new records was capacity leaves few had more room = few_out new records capacity room few
 
 -- the engine behind an event that was performed
-pub performed : (setup : Setup) (history later : List Record) (event : Event) (ccbs : CcbsState) (old : RecoveryState) (more : CcbsState) (new : RecoveryState) (reply : Reply) (told : Record) → KeepsEngine setup history ccbs old → later ≡ history ++ told ∷ [] → Performs setup event ccbs old more new reply told → Goes setup history later ccbs more old new told
-performed setup history later event ccbs old more new reply told kept is it =
-    let leads = it.leads history kept in
-    goes setup history later ccbs more old new told leads.world kept is it.queues leads.leads leads.fields
+pub performed : (setup : Setup) (history later : List Record) (event : Event) (transport : Transport) (old : RunsState) (more : Transport) (new : RunsState) (reply : Reply) (told : Record) → KeepsEngine setup history transport old → later ≡ history ++ told ∷ [] → Performs setup event transport old more new reply told → Goes setup history later transport more old new told
+performed setup history later event transport old more new reply told kept is it = goes setup history later transport more old new told kept is (it.tokens history kept) (it.leads history kept)
 
-pub few_runs : (setup : Setup) (history : List Record) (ccbs : CcbsState) (recoveries : RecoveryState) → KeepsEngine setup history ccbs recoveries → length recoveries.runs ≤ 256
-few_runs setup history ccbs recoveries kept = (kept_sound setup history ccbs recoveries kept).kept.runs.all
+pub few_runs : (setup : Setup) (history : List Record) (transport : Transport) (runs : RunsState) → KeepsEngine setup history transport runs → length runs.runs.list ≤ 256
+few_runs setup history transport runs kept = (kept_sound setup history transport runs kept).kept.runs.all

@@ -1,6 +1,6 @@
 -- What a call of a helper may rely on where its segment stops, and what it answers where it only reads. What each deed does
 -- stands beside its function (`carrying_out`).
-use Rattle.std.proofs.Common.{◌≡◌, ℕ, ◌<◌, ◌≤◌, List, length, true, false, Option, Some, refl, ap, sym, subst, ◌∙◌, arith}
+use Rattle.std.proofs.Common.{◌≡◌, ℕ, ◌<◌, ◌≤◌, List, length, map, true, false, Option, Some, refl, ap, sym, subst, ◌∙◌, arith}
 use Rattle.std.proofs.lemmas.Bool.{and_parts}
 use Rattle.helpers.specs.declared.columns.Asked.{Asked}
 use Rattle.helpers.specs.declared.columns.Needs.{Needs}
@@ -16,22 +16,27 @@ use Rattle.bpf_semantics.specs.Calls.{is_held, meets, meets_need, meets_rule}
 use Rattle.bpf_semantics.specs.MachineState.{MachineState}
 use Rattle.bpf_semantics.specs.Step.{IsAnswer, IsGiven, IsWritten}
 use Rattle.interpreter.specs.Segments.{SegmentState}
-use Rattle.ccb_table.specs.CcbsState.{CcbsState}
-use Rattle.recoveries.specs.RecoveryState.{RecoveryState}
-use Rattle.recoveries.specs.RunPlaces.{HasRunAt, HoldsFreeze}
+use Rattle.runs.specs.RunsState.{RunsState, tokens_at}
+use Rattle.runs.specs.Tokens.{AreTokensWith}
+use Rattle.ccb.specs.Rising.{AreRising}
+use Rattle.freeze_ledger.specs.declared.freeze.Freeze.{Freeze}
+use Rattle.freeze_ledger.specs.Freezes.{entry_of}
+use Rattle.world.proofs.Lists.Entries.{FreezesRise}
+use Rattle.runs.specs.RunPlaces.{HasRunAt}
 use Rattle.table_store.specs.Tables.{HasWord}
 use Rattle.world.specs.declared.ccb_state.CcbState.TheVariants.{InRecovery}
 use Rattle.calls.specs.declared.record.Record.{Record}
 use Rattle.world.specs.Limits.{AnswerLimits}
-use Rattle.world.specs.World.{Setup, queue_count, LiveCcb, LiveRun, World}
+use Rattle.world.specs.World.{Transport, Setup, queue_count, LiveCcb, LiveRun, World}
 use Rattle.world.specs.Lookups.{ccb_of}
-use Rattle.world.specs.RunSteps.{goes_on, answers, by_deed}
-use Rattle.world.specs.FreezeLaws.{held_by}
+use Rattle.world.specs.RunSteps.{is_run, goes_on, answers, by_deed}
+use Rattle.world.specs.FreezeLaws.{entries_of, held_by}
 use Rattle.world.proofs.Lists.Each.{all_found}
 use Rattle.world.proofs.Steps.Moves.{run_key}
 use Rattle.engine_core.specs.EngineState.{world_of}
 use Rattle.engine_core.specs.Invariant.{KeepsEngine}
 use Rattle.engine_core.proofs.Recording.{kept_sound, opening_count}
+use Rattle.engine_core.proofs.Holding.{own_found, own_rise, tokens_here}
 use Rattle.engine_core.proofs.Standing.{GivesBack, gives_back}
 use Rattle.engine_core.proofs.StopEnds.{arrival, rule_of}
 use Rattle.helpers.specs.declared.columns.Gives.TheVariants.{Number}
@@ -70,98 +75,123 @@ pub deed_step : (world : World) (run : LiveRun) (request : Request) (deed : Deed
 deed_step world run request deed is = ap (λ (d : Deed). by_deed d world run request) is
 
 -- the world in which the run stands at its stop
-abbrev pub between : CcbsState → RecoveryState → SegmentState → Setup → List Record → LiveRun → World
-between ccbs old segment setup history run = goes_on (world_of setup history ccbs old) run segment.to
+abbrev pub between : Transport → RunsState → SegmentState → Setup → List Record → LiveRun → World
+between transport old segment setup history run = goes_on (world_of setup history transport old.runs) run segment.to
 
-module _ (ccbs : CcbsState) (old : RecoveryState) (place : ℕ) (segment : SegmentState) (request : Request) (it : IsCalled ccbs old place segment request) where
+module _ (transport : Transport) (old : RunsState) (place : ℕ) (segment : SegmentState) (request : Request) (it : IsCalled transport old place segment request) where
   -- what the machine holds is what the entries say of the run
-  pub held_are : (number : ℕ) (a : IsAdmitted ccbs old number place segment) → segment.to.held ≡ held_by a.out.it.number old.freezes
+  pub held_are : (number : ℕ) (a : IsAdmitted transport old number place segment) → segment.to.held ≡ held_by a.out.it.number transport.freezes
   held_are number a =
-      let here = arrival ccbs old place segment it.segment_is number a a.setup a.history a.kept in
+      let here = arrival transport old place segment it.segment_is number a a.setup a.history a.kept in
       here.sound.held.machines a.out.it.number (at_stop a.out.it segment) here.there
 
   -- the rule of the call
   pub rule : meets_rule it.admitted.setup.limits segment.to request ≡ true
-  rule = rule_of ccbs old place segment it.segment_is it.number it.admitted request it.stop
+  rule = rule_of transport old place segment it.segment_is it.number it.admitted request it.stop
 
   -- what the openings, the tables and the clock are
-  pub answer_limits : AnswerLimits it.admitted.setup (world_of it.admitted.setup it.admitted.history ccbs old)
-  answer_limits = (kept_sound it.admitted.setup it.admitted.history ccbs old it.admitted.kept).kept.answers
+  pub answer_limits : AnswerLimits it.admitted.setup (world_of it.admitted.setup it.admitted.history transport old.runs)
+  answer_limits = (kept_sound it.admitted.setup it.admitted.history transport old it.admitted.kept).kept.answers
 
   -- what the answer may be taken from
-  pub answers_from : AnswersFrom it.admitted.setup (between ccbs old segment it.admitted.setup it.admitted.history it.admitted.out.it) (at_stop it.admitted.out.it segment)
+  pub answers_from : AnswersFrom it.admitted.setup (between transport old segment it.admitted.setup it.admitted.history it.admitted.out.it) (at_stop it.admitted.out.it segment)
   answers_from =
       let a = it.admitted in
-      let here = arrival ccbs old place segment it.segment_is it.number a a.setup a.history a.kept in
+      let here = arrival transport old place segment it.segment_is it.number a a.setup a.history a.kept in
       let run : LiveRun = at_stop a.out.it segment in
       record {
         lawful = a.kept.run.lawful;
         kept = here.sound.kept;
-        queue = all_found run_key (λ (r : LiveRun). r.queue < queue_count a.setup) a.out.it.number (between ccbs old segment a.setup a.history a.out.it).runs.list run here.sound.kept.runs.queues here.there;
+        queue = all_found run_key (λ (r : LiveRun). r.queue < queue_count a.setup) a.out.it.number (between transport old segment a.setup a.history a.out.it).runs.list run here.sound.kept.runs.queues here.there;
       }
 
   -- A number is told, and nothing done.
-  pub told : (deed : Deed) → (row_of request.helper).deed ≡ deed → (answer : World → LiveRun → Request → ℕ) (least most : ℕ) → Reads deed answer least most → (r0 : ℕ) → ((number : ℕ) (b : IsAdmitted ccbs old number place segment) (setup : Setup) (history : List Record) → r0 ≡ answer (between ccbs old segment setup history b.out.it) (at_stop b.out.it segment) request) → Does place segment request (answer_number r0) ccbs old ccbs old
+  pub told : (deed : Deed) → (row_of request.helper).deed ≡ deed → (answer : World → LiveRun → Request → ℕ) (least most : ℕ) → Reads deed answer least most → (r0 : ℕ) → ((number : ℕ) (b : IsAdmitted transport old number place segment) (setup : Setup) (history : List Record) → r0 ≡ answer (between transport old segment setup history b.out.it) (at_stop b.out.it segment) request) → Does place segment request (answer_number r0) transport old transport old
   told deed is answer least most reading r0 r0_is =
       let a = it.admitted in
       let columns = reading.columns request is in
-      let range = reading.within a.setup (between ccbs old segment a.setup a.history a.out.it) (at_stop a.out.it segment) request answers_from in
+      let range = reading.within a.setup (between transport old segment a.setup a.history a.out.it) (at_stop a.out.it segment) request answers_from in
       record {
         allowed = is_answer segment.to request (answer_number r0) (Number least most) changes.Nothing columns.gives_is columns.machine_is
             (subst (λ (n : ℕ). (least ≤ n) × (n ≤ most)) (sym (r0_is it.number a a.setup a.history)) range) tt;
-        runs = refl;
-        queues = refl;
+        list = refl;
+        tokens = a.kept.tokens;
         step = λ n b setup history kept.
             let run : LiveRun = at_stop b.out.it segment in
-            let before : World = between ccbs old segment setup history b.out.it in
+            let before : World = between transport old segment setup history b.out.it in
             record {
               world = before;
               step = deed_step before run request deed is
                   ∙ (reading.step before run request ∙ ap (λ (k : ℕ). Some (answers before run request (answer_number k))) (sym (r0_is n b setup history)));
-              fields = refl;
+              is = refl;
             };
       }
 
   -- A freeze that the run gives up is there, and is the run's.
-  pub given_up : (number freeze : ℕ) (a : IsAdmitted ccbs old number place segment) (setup : Setup) (history : List Record) → KeepsEngine setup history ccbs old → is_held segment.to.held freeze ≡ true → GivesBack (between ccbs old segment setup history a.out.it) (at_stop a.out.it segment) freeze
+  pub given_up : (number freeze : ℕ) (a : IsAdmitted transport old number place segment) (setup : Setup) (history : List Record) → KeepsEngine setup history transport old → is_held segment.to.held freeze ≡ true → GivesBack (between transport old segment setup history a.out.it) (at_stop a.out.it segment) freeze
   given_up number freeze a setup history kept held =
-      let here = arrival ccbs old place segment it.segment_is number a setup history kept in
-      gives_back setup (between ccbs old segment setup history a.out.it) (at_stop a.out.it segment) freeze here.sound here.there held
+      let here = arrival transport old place segment it.segment_is number a setup history kept in
+      gives_back setup (between transport old segment setup history a.out.it) (at_stop a.out.it segment) freeze here.sound here.there held
 
   pub record IsGivingUp (freeze : ℕ) : Type 0 where
     pub held : is_held segment.to.held freeze ≡ true
-    pub holds : HoldsFreeze old place freeze
+    pub run : LiveRun
+    pub there : HasRunAt old.runs.list place run
+    pub entry : Freeze
+    pub found : entry_of freeze transport.freezes ≡ Some entry
+    pub its : is_run run.number entry.holder ≡ true
+    pub number_is : entry.number ≡ freeze
     pub bound : freeze < 4294967296
+    pub numbered : FreezesRise 0 transport.freezes transport.greatest_freeze
+    pub rising : AreRising 0 (map run_key old.runs.list) old.runs.greatest
+    pub token : AreTokensWith (tokens_at old place) (entries_of run.number transport.freezes) freeze
+    pub token_is : token.entry ≡ entry
 
   pub giving_up : (freeze : ℕ) → is_held segment.to.held freeze ≡ true → IsGivingUp freeze
   giving_up freeze held =
       let a = it.admitted in
       let its = given_up it.number freeze a a.setup a.history a.kept held in
-      let sound = kept_sound a.setup a.history ccbs old a.kept in
+      let sound = kept_sound a.setup a.history transport old a.kept in
+      let numbered : FreezesRise 0 transport.freezes transport.greatest_freeze = sound.kept.freezes.numbered in
       record {
         held = held;
-        holds = record { run = a.out.it; there = a.there; entry = its.entry; found = its.found; its = its.its };
+        run = a.out.it;
+        there = a.there;
+        entry = its.entry;
+        found = its.found;
+        its = its.its;
+        number_is = its.number_is;
         bound = omega (arith, its.bound, sound.kept.freezes.numbers);
+        numbered = numbered;
+        rising = sound.kept.runs.rising;
+        token = record {
+          are = tokens_here transport.freezes old place a.out.it a.kept.tokens a.there;
+          high = transport.greatest_freeze;
+          rising = own_rise transport.freezes a.out.it.number transport.greatest_freeze numbered;
+          entry = its.entry;
+          found = own_found transport.freezes a.out.it.number freeze its.entry its.found its.its;
+        };
+        token_is = refl;
       }
 
   -- The CCB that the run disposes of is in recovery.
   pub record HasItsCcb (run : LiveRun) : Type 0 where
     pub live : LiveCcb
-    pub found : ccb_of run.ccb ccbs.live ≡ Some live
+    pub found : ccb_of run.ccb transport.live ≡ Some live
     pub state : live.state ≡ InRecovery
 
-  pub has_its_ccb : (number : ℕ) (a : IsAdmitted ccbs old number place segment) (setup : Setup) (history : List Record) → KeepsEngine setup history ccbs old → segment.to.disposed ≡ false → HasItsCcb a.out.it
+  pub has_its_ccb : (number : ℕ) (a : IsAdmitted transport old number place segment) (setup : Setup) (history : List Record) → KeepsEngine setup history transport old → segment.to.disposed ≡ false → HasItsCcb a.out.it
   has_its_ccb number a setup history kept fresh =
-      let here = arrival ccbs old place segment it.segment_is number a setup history kept in
+      let here = arrival transport old place segment it.segment_is number a setup history kept in
       let its = here.sound.recovering.ccbs a.out.it.number (at_stop a.out.it segment) here.there fresh in
       record { live = its.live; found = its.found; state = its.state }
 
   pub record IsDisposing : Type 0 where
     pub fresh : segment.to.disposed ≡ false
     pub run : LiveRun
-    pub there : HasRunAt old.runs place run
+    pub there : HasRunAt old.runs.list place run
     pub live : LiveCcb
-    pub found : ccb_of run.ccb ccbs.live ≡ Some live
+    pub found : ccb_of run.ccb transport.live ≡ Some live
     pub state : live.state ≡ InRecovery
 
   pub disposing : segment.to.disposed ≡ false → IsDisposing
@@ -171,16 +201,13 @@ module _ (ccbs : CcbsState) (old : RecoveryState) (place : ℕ) (segment : Segme
       record { fresh = fresh; run = a.out.it; there = a.there; live = its.live; found = its.found; state = its.state }
 
   -- A word of a table that the call names is there.
-  pub its_word_there : (third : Option Asked) → NamesWord third (row_of request.helper) → HasWord old.tables request.arguments.first request.arguments.second
-  its_word_there third columns = word_named it.admitted.setup (world_of it.admitted.setup it.admitted.history ccbs old) segment.to request third answer_limits columns rule
+  pub its_word_there : (third : Option Asked) → NamesWord third (row_of request.helper) → HasWord old.runs.tables request.arguments.first request.arguments.second
+  its_word_there third columns = word_named it.admitted.setup (world_of it.admitted.setup it.admitted.history transport old.runs) segment.to request third answer_limits columns rule
 
   -- The run's queue is there.
-  pub queue_there : (queue : ℕ) → ((run : LiveRun) → HasRunAt old.runs place run → queue ≡ run.queue) → queue < length ccbs.openings
+  pub queue_there : (queue : ℕ) → ((run : LiveRun) → HasRunAt old.runs.list place run → queue ≡ run.queue) → queue < length transport.openings
   queue_there queue queue_is =
       let a = it.admitted in
-      let sound = kept_sound a.setup a.history ccbs old a.kept in
-      let known = all_found run_key (λ (r : LiveRun). r.queue < queue_count a.setup) it.number old.runs a.out.it sound.kept.runs.queues a.out.found in
-      omega (arith, known, queue_is a.out.it a.there, opening_count a.setup a.history ccbs old a.kept)
-
-  pub queues_there : old.queues ≡ length ccbs.openings
-  queues_there = it.admitted.kept.queues ∙ opening_count it.admitted.setup it.admitted.history ccbs old it.admitted.kept
+      let sound = kept_sound a.setup a.history transport old a.kept in
+      let known = all_found run_key (λ (r : LiveRun). r.queue < queue_count a.setup) it.number old.runs.list a.out.it sound.kept.runs.queues a.out.found in
+      omega (arith, known, queue_is a.out.it a.there, opening_count a.setup a.history transport old a.kept)

@@ -4,20 +4,19 @@ use Rattle.bpf_insn.specs.declared.program.Slot.{Slot}
 use Rattle.bpf_semantics.specs.MachineState.{MachineState}
 use Rattle.bpf_semantics.specs.Reached.{Reached}
 use Rattle.interpreter.specs.Segments.{SegmentState}
-use Rattle.ccb_table.specs.CcbsState.{CcbsState}
-use Rattle.recoveries.specs.RecoveryState.{RecoveryState}
-use Rattle.recoveries.specs.RunPlaces.{HasRunAt}
-use Rattle.recoveries.specs.Admits.{IsOutAs}
+use Rattle.runs.specs.RunsState.{RunsState}
+use Rattle.runs.specs.RunPlaces.{HasRunAt}
+use Rattle.runs.specs.Admits.{IsOutAs}
 use Rattle.calls.specs.declared.record.Record.{Record}
 use Rattle.calls.specs.declared.record.Record.TheVariants.{Advance}
 use Rattle.calls.specs.declared.record.StoppedAt.{StoppedAt}
 use Rattle.helpers.specs.declared.request.Request.{Request}
 use Rattle.bpf_semantics.specs.declared.stop.Stop.{Stop}
 use Rattle.bpf_semantics.specs.declared.stop.Stop.TheVariants.{Helper}
-use Rattle.world.specs.World.{Setup, LiveRun, World, queue_setup}
+use Rattle.world.specs.World.{Transport, Setup, LiveRun, World, queue_setup}
 use Rattle.world.specs.Lookups.{run_of}
 use Rattle.engine_core.specs.RunState.{RunState, IsOut, IsOutUnder, IsReached}
-use Rattle.engine_core.specs.Invariant.{KeepsEngine}
+use Rattle.engine_core.specs.Invariant.{HoldEntries, KeepsEngine}
 use Rattle.engine_core.specs.TakingOver.{IsAdmitted, LeadsBy, GoesOn, GoesBy}
 use Rattle.engine_core.proofs.PrivateWays.{with_machine}
 use Rattle.engine_core.specs.Performing.{IsPlaced}
@@ -29,25 +28,25 @@ there runs number place program segment out at =
     let same : at.0 ≡ out.it = cc in
     subst (HasRunAt runs place) same at.2
 
-pub is_admitted : (setup : Setup) (history : List Record) (ccbs : CcbsState) (recoveries : RecoveryState) (number place : ℕ) (program : List Slot) (segment : SegmentState) → KeepsEngine setup history ccbs recoveries → IsOutAs recoveries.runs number program segment → IsPlaced recoveries.runs number place → IsAdmitted ccbs recoveries number place segment
-is_admitted setup history ccbs recoveries number place program segment kept out at = record {
+pub is_admitted : (setup : Setup) (history : List Record) (transport : Transport) (runs : RunsState) (number place : ℕ) (program : List Slot) (segment : SegmentState) → KeepsEngine setup history transport runs → IsOutAs runs.runs.list number program segment → IsPlaced runs.runs.list number place → IsAdmitted transport runs number place segment
+is_admitted setup history transport runs number place program segment kept out at = record {
   setup = setup;
   history = history;
   kept = kept;
   program = program;
   out = out;
-  there = there recoveries.runs number place program segment out at;
+  there = there runs.runs.list number place program segment out at;
 }
 
 -- the engine is kept by one that is taken over
-pub taken_over : (setup : Setup) (history : List Record) (ccbs more : CcbsState) (recoveries after : RecoveryState) (number place : ℕ) (program : List Slot) (segment : SegmentState) (stop : StoppedAt) (r0 : ℕ) → KeepsEngine setup history ccbs recoveries → after.queues ≡ recoveries.queues → IsOutAs recoveries.runs number program segment → IsPlaced recoveries.runs number place → LeadsBy stop r0 place segment ccbs recoveries more after → KeepsEngine setup (history ++ Advance number segment.steps stop r0 ∷ []) more after
-taken_over setup history ccbs more recoveries after number place program segment stop r0 kept same out at leads =
-    let it = leads number (is_admitted setup history ccbs recoveries number place program segment kept out at) setup history kept in
-    (goes setup history _ ccbs more recoveries after (Advance number segment.steps stop r0) it.world kept refl same it.leads it.fields).kept
+pub taken_over : (setup : Setup) (history : List Record) (transport more : Transport) (runs after : RunsState) (number place : ℕ) (program : List Slot) (segment : SegmentState) (stop : StoppedAt) (r0 : ℕ) → KeepsEngine setup history transport runs → HoldEntries more.freezes after → IsOutAs runs.runs.list number program segment → IsPlaced runs.runs.list number place → LeadsBy stop r0 place segment transport runs more after → KeepsEngine setup (history ++ Advance number segment.steps stop r0 ∷ []) more after
+taken_over setup history transport more runs after number place program segment stop r0 kept holds out at leads =
+    let it = leads number (is_admitted setup history transport runs number place program segment kept out at) setup history kept in
+    (goes setup history _ transport more runs after (Advance number segment.steps stop r0) kept refl holds it).kept
 
 -- it goes on unless it exited
-went_on : (stop : Stop) (r0 : ℕ) (recoveries after : RecoveryState) (place : ℕ) (request : Request) → stop ≡ Helper request → GoesBy stop r0 recoveries after place → GoesOn recoveries after place
-went_on stop r0 recoveries after place request is goes = subst (λ (s : Stop). GoesBy s r0 recoveries after place) is goes
+went_on : (stop : Stop) (r0 : ℕ) (runs after : List LiveRun) (place : ℕ) (request : Request) → stop ≡ Helper request → GoesBy stop r0 runs after place → GoesOn runs after place
+went_on stop r0 runs after place request is goes = subst (λ (s : Stop). GoesBy s r0 runs after place) is goes
 
 -- a run that goes on with this machine
 pub record GoesFurther (runs later : List LiveRun) (number : ℕ) (program : List Slot) (machine : MachineState) : Type 0 where
@@ -57,10 +56,10 @@ pub record GoesFurther (runs later : List LiveRun) (number : ℕ) (program : Lis
   pub program_is : it.program ≡ program
   pub moved : run_of number later ≡ Some (with_machine it machine)
 
-pub goes_further : (recoveries after : RecoveryState) (number place : ℕ) (program : List Slot) (segment : SegmentState) (stop : Stop) (r0 : ℕ) (machine : MachineState) → IsOutAs recoveries.runs number program segment → IsPlaced recoveries.runs number place → (request : Request) → stop ≡ Helper request → GoesBy stop r0 recoveries after place → ((it : LiveRun) → HasRunAt after.runs place it → machine ≡ it.machine) → GoesFurther recoveries.runs after.runs number program machine
-goes_further recoveries after number place program segment stop r0 machine out at request is goes read =
-    let on = went_on stop r0 recoveries after place request is goes in
-    let here = there recoveries.runs number place program segment out at in
+pub goes_further : (runs after : List LiveRun) (number place : ℕ) (program : List Slot) (segment : SegmentState) (stop : Stop) (r0 : ℕ) (machine : MachineState) → IsOutAs runs number program segment → IsPlaced runs number place → (request : Request) → stop ≡ Helper request → GoesBy stop r0 runs after place → ((it : LiveRun) → HasRunAt after place it → machine ≡ it.machine) → GoesFurther runs after number program machine
+goes_further runs after number place program segment stop r0 machine out at request is goes read =
+    let on = went_on stop r0 runs after place request is goes in
+    let here = there runs number place program segment out at in
     let same : machine ≡ on.machine = read (with_machine out.it on.machine) (on.stands out.it here) in
     record {
       it = out.it;
@@ -71,8 +70,8 @@ goes_further recoveries after number place program segment stop r0 machine out a
     }
 
 -- its program reaches its machine
-pub reaches_further : (setup : Setup) (later : List Record) (more : CcbsState) (recoveries after : RecoveryState) (number : ℕ) (run : RunState) (machine : MachineState) → KeepsEngine setup later more after → GoesFurther recoveries.runs after.runs number run.program.program machine → IsReached (record run { machine = machine })
-reaches_further setup later more recoveries after number run machine kept on =
+pub reaches_further : (setup : Setup) (later : List Record) (more : Transport) (runs after : RunsState) (number : ℕ) (run : RunState) (machine : MachineState) → KeepsEngine setup later more after → GoesFurther runs.runs.list after.runs.list number run.program.program machine → IsReached (record run { machine = machine })
+reaches_further setup later more runs after number run machine kept on =
     let reached = (kept_sound setup later more after kept).reached number (with_machine on.it machine) on.moved in
     (reached.0, subst (λ (p : List Slot). Reached p reached.0 machine) on.program_is reached.1)
 

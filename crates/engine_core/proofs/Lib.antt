@@ -1,3 +1,4 @@
+pub mod Holding
 pub mod Recording
 pub mod OneMore
 pub mod Parking

@@ -3,15 +3,14 @@ use Rattle.std.proofs.Common.{◌≡◌, ℕ, ◌+◌, ◌<◌, ◌≤◌, Bool,
 use Rattle.std.specs.Option.{option_map}
 use Rattle.std.proofs.lemmas.Bool.{cond-true, cond-false}
 use Rattle.ccb.specs.Rising.{AreRising}
-use Rattle.ccb_table.specs.CcbsState.{CcbsState, with_ccbs}
-use Rattle.recoveries.specs.RecoveryState.{RecoveryState, with_recoveries}
+use Rattle.runs.specs.RunsState.{RunsState}
 use Rattle.calls.specs.declared.record.Record.{Record}
 use Rattle.calls.specs.declared.call.Call.TheVariants.{Park, Resume}
 use Rattle.calls.specs.declared.call_answer.CallAnswer.TheVariants as answers
 use Rattle.calls.specs.declared.record.Record.TheVariants.{Called}
 use Rattle.calls.specs.declared.call_refusal.CallRefusal.TheVariants.{Unknown}
 use Rattle.bpf_semantics.specs.Reached.{Reached}
-use Rattle.world.specs.World.{LiveRun, Setup, World, queue_count, queue_setup}
+use Rattle.world.specs.World.{Transport, LiveRun, Setup, World, queue_count, queue_setup}
 use Rattle.world.specs.Lookups.{run_of, with_run}
 use Rattle.world.specs.Event.{Reply, replies, refused}
 use Rattle.world.specs.Flat.{events_of}
@@ -28,37 +27,37 @@ use Rattle.engine_core.proofs.OneMore.{once}
 use Rattle.engine_core.proofs.Recording.{kept_sound}
 
 -- the runs where this one is out or parked
-abbrev pub with_out_run : LiveRun → Bool → RecoveryState → RecoveryState
-with_out_run it out recoveries = record recoveries { runs = with_run (record it { out = out }) recoveries.runs }
+abbrev pub with_out_run : LiveRun → Bool → RunsState → RunsState
+with_out_run it out runs = record runs { runs = record runs.runs { list = with_run (record it { out = out }) runs.runs.list } }
 
-pub parks_run : (setup : Setup) (history : List Record) (ccbs : CcbsState) (recoveries after : RecoveryState) (number : ℕ) (it : LiveRun) → run_of number recoveries.runs ≡ Some it → it.out ≡ true → after ≡ with_out_run it false recoveries → LeadsTo setup (world_of setup history ccbs recoveries) (events_of (Called answers.Ok (Park number))) ccbs after
-parks_run setup history ccbs recoveries after number it found out same =
-    let before : World = world_of setup history ccbs recoveries in
-    once setup before (with_out before it false) (Park number) answers.Ok ccbs after
+pub parks_run : (setup : Setup) (history : List Record) (transport : Transport) (runs after : RunsState) (number : ℕ) (it : LiveRun) → run_of number runs.runs.list ≡ Some it → it.out ≡ true → after ≡ with_out_run it false runs → LeadsTo setup (world_of setup history transport runs.runs) (events_of (Called answers.Ok (Park number))) transport after.runs
+parks_run setup history transport runs after number it found out same =
+    let before : World = world_of setup history transport runs.runs in
+    once setup before (with_out before it false) (Park number) answers.Ok transport after.runs
     (ap (parks before) found ∙ cond-true it.out (Some (replies answers.Ok, with_out before it false)) None out)
-    (sym (ap (λ (r : RecoveryState). with_ccbs ccbs (with_recoveries r (with_out before it false))) same))
+    (sym (ap (λ (r : RunsState). record (with_out before it false) { transport = transport; runs = r.runs }) same))
 
 -- what is answered to a resume of this run, if there is one
 abbrev resumed : World → Option LiveRun → Option (Reply × World)
 resumed before it = unless_refused ((not (is_parked it), Unknown) ∷ []) before (option_map (resumes before) it)
 
-pub resumes_run : (setup : Setup) (history : List Record) (ccbs : CcbsState) (recoveries after : RecoveryState) (number : ℕ) (it : LiveRun) → run_of number recoveries.runs ≡ Some it → it.out ≡ false → after ≡ with_out_run it true recoveries → LeadsTo setup (world_of setup history ccbs recoveries) (events_of (Called answers.Ok (Resume number))) ccbs after
-resumes_run setup history ccbs recoveries after number it found out same =
-    let before : World = world_of setup history ccbs recoveries in
-    once setup before (with_out before it true) (Resume number) answers.Ok ccbs after
+pub resumes_run : (setup : Setup) (history : List Record) (transport : Transport) (runs after : RunsState) (number : ℕ) (it : LiveRun) → run_of number runs.runs.list ≡ Some it → it.out ≡ false → after ≡ with_out_run it true runs → LeadsTo setup (world_of setup history transport runs.runs) (events_of (Called answers.Ok (Resume number))) transport after.runs
+resumes_run setup history transport runs after number it found out same =
+    let before : World = world_of setup history transport runs.runs in
+    once setup before (with_out before it true) (Resume number) answers.Ok transport after.runs
     (ap (resumed before) found ∙ cond-false (not (not it.out)) _ _ (ap (λ (b : Bool). not (not b)) out))
-    (sym (ap (λ (r : RecoveryState). with_ccbs ccbs (with_recoveries r (with_out before it true))) same))
+    (sym (ap (λ (r : RunsState). record (with_out before it true) { transport = transport; runs = r.runs }) same))
 
 -- no run of that number is parked
 none_resumes : (before : World) (o : Option LiveRun) → ((it : LiveRun) → o ≡ Some it → it.out ≡ true) → resumed before o ≡ Some (refused Unknown, before)
 none_resumes before None none = refl
 none_resumes before (Some it) none = cond-true (not (not it.out)) _ _ (ap (λ (b : Bool). not (not b)) (none it refl))
 
-pub resumes_none : (setup : Setup) (history : List Record) (ccbs : CcbsState) (recoveries : RecoveryState) (number : ℕ) → ((it : LiveRun) → run_of number recoveries.runs ≡ Some it → it.out ≡ true) → LeadsTo setup (world_of setup history ccbs recoveries) (events_of (Called (answers.Refused Unknown) (Resume number))) ccbs recoveries
-resumes_none setup history ccbs recoveries number none =
-    let before : World = world_of setup history ccbs recoveries in
-    once setup before before (Resume number) (answers.Refused Unknown) ccbs recoveries
-    (none_resumes before (run_of number recoveries.runs) none) refl
+pub resumes_none : (setup : Setup) (history : List Record) (transport : Transport) (runs : RunsState) (number : ℕ) → ((it : LiveRun) → run_of number runs.runs.list ≡ Some it → it.out ≡ true) → LeadsTo setup (world_of setup history transport runs.runs) (events_of (Called (answers.Refused Unknown) (Resume number))) transport runs.runs
+resumes_none setup history transport runs number none =
+    let before : World = world_of setup history transport runs.runs in
+    once setup before before (Resume number) (answers.Refused Unknown) transport runs.runs
+    (none_resumes before (run_of number runs.runs.list) none) refl
 
 -- there is room for the record of the park of a run that is out
 pub room_to_park : (records capacity number : ℕ) (runs : List LiveRun) (it : LiveRun) → HasRoom records capacity runs → run_of number runs ≡ Some it → it.out ≡ true → records + 1 ≤ capacity
@@ -84,22 +83,22 @@ pub record IsKnownRun (setup : Setup) (it : LiveRun) : Type 0 where
   pub program : it.program ≡ (queue_setup setup it.queue).program
   pub reached : (n : ℕ) × Reached it.program n it.machine
 
-pub known_run : (setup : Setup) (history : List Record) (ccbs : CcbsState) (recoveries : RecoveryState) (number : ℕ) (it : LiveRun) → KeepsEngine setup history ccbs recoveries → run_of number recoveries.runs ≡ Some it → IsKnownRun setup it
-known_run setup history ccbs recoveries number it kept found =
-    let sound = kept_sound setup history ccbs recoveries kept in
+pub known_run : (setup : Setup) (history : List Record) (transport : Transport) (runs : RunsState) (number : ℕ) (it : LiveRun) → KeepsEngine setup history transport runs → run_of number runs.runs.list ≡ Some it → IsKnownRun setup it
+known_run setup history transport runs number it kept found =
+    let sound = kept_sound setup history transport runs kept in
     record {
-      queue = all_found run_key (λ (r : LiveRun). r.queue < queue_count setup) number recoveries.runs it sound.kept.runs.queues found;
-      program = all_found run_key (λ (r : LiveRun). r.program ≡ (queue_setup setup r.queue).program) number recoveries.runs it sound.kept.runs.programs found;
+      queue = all_found run_key (λ (r : LiveRun). r.queue < queue_count setup) number runs.runs.list it sound.kept.runs.queues found;
+      program = all_found run_key (λ (r : LiveRun). r.program ≡ (queue_setup setup r.queue).program) number runs.runs.list it sound.kept.runs.programs found;
       reached = sound.reached number it found;
     }
 
 -- a run that is out again is found so
-pub found_out : (recoveries after : RecoveryState) (number : ℕ) (it : LiveRun) → run_of number recoveries.runs ≡ Some it → after ≡ with_out_run it true recoveries → run_of number after.runs ≡ Some (record it { out = true })
-found_out recoveries after number it found same =
-    let its : it.number ≡ number = found_key run_key number recoveries.runs it found in
-    let there : run_of it.number (with_run (record it { out = true }) recoveries.runs) ≡ Some (record it { out = true }) = put_same run_key (record it { out = true }) recoveries.runs it (run_found number recoveries.runs it found) in
-    ap (λ (r : RecoveryState). run_of number r.runs) same
-    ∙ subst (λ (n : ℕ). run_of n (with_run (record it { out = true }) recoveries.runs) ≡ Some (record it { out = true })) its there
+pub found_out : (runs after : RunsState) (number : ℕ) (it : LiveRun) → run_of number runs.runs.list ≡ Some it → after ≡ with_out_run it true runs → run_of number after.runs.list ≡ Some (record it { out = true })
+found_out runs after number it found same =
+    let its : it.number ≡ number = found_key run_key number runs.runs.list it found in
+    let there : run_of it.number (with_run (record it { out = true }) runs.runs.list) ≡ Some (record it { out = true }) = put_same run_key (record it { out = true }) runs.runs.list it (run_found number runs.runs.list it found) in
+    ap (λ (r : RunsState). run_of number r.runs.list) same
+    ∙ subst (λ (n : ℕ). run_of n (with_run (record it { out = true }) runs.runs.list) ≡ Some (record it { out = true })) its there
 
 -- one record more, in the room that there is
 pub room_kept : (records capacity later more : ℕ) (runs : List LiveRun) → HasRoom (records + 1) capacity runs → later ≡ records + 1 → more ≡ capacity → HasRoom later more runs

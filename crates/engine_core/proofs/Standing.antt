@@ -77,7 +77,7 @@ pub exit_step : (setup : Setup) (world : World) (run : LiveRun) (r0 : ℕ) → r
 exit_step setup world run r0 found out exit_is =
     ap (step_executes setup.limits world exit) found ∙ (cond-true run.out (step_run setup.limits world run exit) None out ∙ ap (option_map _) exit_is)
 
-none_held : (freezes : List Freeze) → map (λ (freeze : Freeze). freeze.number) freezes ≡ [] → freezes ≡ []
+pub none_held : (freezes : List Freeze) → map (λ (freeze : Freeze). freeze.number) freezes ≡ [] → freezes ≡ []
 none_held [] e = refl
 none_held (freeze ∷ freezes) e = absurd (let bad : (freeze.number ∷ map (λ (freeze : Freeze). freeze.number) freezes) ≡ [] = e in cc)
 

@@ -11,14 +11,12 @@ use Rattle.bpf_semantics.specs.Step.{request_at, exit_at, answered}
 use Rattle.bpf_semantics.specs.Stops.{stop_at}
 use Rattle.bpf_semantics.specs.Reached.{PrivateSteps}
 use Rattle.interpreter.specs.Segments.{SegmentState, IsSegment}
-use Rattle.ccb_table.specs.CcbsState.{CcbsState, with_ccbs}
-use Rattle.recoveries.specs.RecoveryState.{RecoveryState, with_recoveries}
-use Rattle.recoveries.specs.Admits.{IsOutAs}
+use Rattle.runs.specs.Admits.{IsOutAs}
 use Rattle.bpf_insn.specs.declared.program.Slot.{Slot}
 use Rattle.calls.specs.declared.record.StoppedAt.{StoppedAt}
 use Rattle.calls.specs.declared.record.StoppedAt.TheVariants.{Exit as at_exit_stop}
 use Rattle.calls.specs.declared.record.Record.TheVariants.{Advance}
-use Rattle.world.specs.World.{Setup, LiveRun, World}
+use Rattle.world.specs.World.{Runs, Transport, Setup, LiveRun, World}
 use Rattle.world.specs.Lawful.{IsLawful}
 use Rattle.world.specs.Lookups.{run_of, with_run}
 use Rattle.world.specs.Told.{Told, plain, traces, finishes, told_of}
@@ -95,8 +93,8 @@ told_is (traces helper bytes) = refl
 told_is (finishes helper code) = refl
 
 -- a call that is carried out, and the run that goes on behind it
-pub call_leads : (setup : Setup) (world : World) (number : ℕ) (segment : SegmentState) (run : LiveRun) (request : Request) (given : Answer) (ccbs : CcbsState) (recoveries : RecoveryState) → Arrives setup world number segment run → segment.stop ≡ Helper request → IsCarriedOut (goes_on world run segment.to) (at_stop run segment) request given ccbs (record recoveries { runs = with_run (at_stop run segment) recoveries.runs }) → LeadsTo setup world (events_of (Advance number segment.steps (recorded (told_of request)) given.r0)) ccbs (record recoveries { runs = with_run (with_machine run (answered request given segment.to)) recoveries.runs })
-call_leads setup world number segment run request given ccbs recoveries it stop does =
+pub call_leads : (setup : Setup) (world : World) (number : ℕ) (segment : SegmentState) (run : LiveRun) (request : Request) (given : Answer) (transport : Transport) (runs : Runs) → Arrives setup world number segment run → segment.stop ≡ Helper request → IsCarriedOut (goes_on world run segment.to) (at_stop run segment) request given transport (record runs { list = with_run (at_stop run segment) runs.list }) → LeadsTo setup world (events_of (Advance number segment.steps (recorded (told_of request)) given.r0)) transport (record runs { list = with_run (with_machine run (answered request given segment.to)) runs.list })
+call_leads setup world number segment run request given transport runs it stop does =
     let standing : LiveRun = at_stop run segment in
     let made : LiveRun = with_machine run (answered request given segment.to) in
     let between : World = goes_on world run segment.to in
@@ -107,8 +105,8 @@ call_leads setup world number segment run request given ccbs recoveries it stop 
       world = after;
       leads = it.further after (recorded (told_of request)) given.r0
           (subst (λ (i : Instruction). WorldStep setup between (executes run.number i) (result given.r0) after) (sym (told_is (told_of request))) step);
-      fields = ap (λ (w : World). record w { runs = record w.runs { list = with_run made w.runs.list } }) does.fields
-          ∙ ap (λ (runs : List LiveRun). with_ccbs ccbs (with_recoveries (record recoveries { runs = runs }) after)) (put_put run_key standing made recoveries.runs refl);
+      is = ap (λ (w : World). record w { runs = record w.runs { list = with_run made w.runs.list } }) does.is
+          ∙ ap (λ (list : List LiveRun). record after { transport = transport; runs = record runs { list = list } }) (put_put run_key standing made runs.list refl);
     }
 
 -- the exit: no entry names the run

@@ -1,10 +1,8 @@
 -- What contracts see of an engine: its setup, its history, and the world that its fields are.
 use Rattle.std.specs.Prelude.{◌≡◌, true, List, [], ◌∷◌, ◌++◌, Contains}
 use Rattle.freeze_ledger.specs.declared.freeze.Freeze.{Freeze}
-use Rattle.ccb_table.specs.CcbsState.{CcbsState, with_ccbs}
-use Rattle.recoveries.specs.RecoveryState.{RecoveryState, with_recoveries}
 use Rattle.calls.specs.declared.record.Record.{Record}
-use Rattle.world.specs.World.{Setup, World, opening}
+use Rattle.world.specs.World.{Setup, Runs, Transport, World, opening}
 use Rattle.world.specs.Lawful.{IsLawful}
 use Rattle.world.specs.FreezeSteps.{is_guest}
 use Rattle.world.specs.WorldRun.{Leads, WorldRun, world_after}
@@ -16,23 +14,12 @@ pub record EngineState : Type 0 where
   pub world : World
 
 -- the fields, read as a world: what ended is what the steps of the history ended
-abbrev pub world_of : Setup → List Record → CcbsState → RecoveryState → World
-world_of setup history ccbs recoveries = record {
-  transport = record {
-    live = ccbs.live;
-    openings = ccbs.openings;
-    freezes = recoveries.freezes;
-    greatest_ccb = ccbs.greatest;
-    greatest_freeze = recoveries.greatest_freeze;
-    clock = recoveries.clock;
-  };
-  runs = record { list = recoveries.runs; greatest = recoveries.greatest_run; tables = recoveries.tables };
+abbrev pub world_of : Setup → List Record → Transport → Runs → World
+world_of setup history transport runs = record {
+  transport = transport;
+  runs = runs;
   ended = (world_after setup (opening setup) (flat history)).ended;
 }
-
--- these are the CCBs, freezes, runs and tables of the world
-abbrev pub IsWorldOf : World → CcbsState → RecoveryState → Type 0
-IsWorldOf world ccbs recoveries = world ≡ with_ccbs ccbs (with_recoveries recoveries world)
 
 abbrev pub opened : Setup → EngineState
 opened setup = record { setup = setup; history = []; world = opening setup }

@@ -1,15 +1,20 @@
 -- What an engine keeps.
-use Rattle.std.specs.Prelude.{◌≡◌, ℕ, ◌+◌, ◌≤◌, List, count_by}
-use Rattle.ccb_table.specs.CcbsState.{CcbsState}
-use Rattle.recoveries.specs.RecoveryState.{RecoveryState}
+use Rattle.std.specs.Prelude.{◌≡◌, ℕ, ◌+◌, ◌≤◌, List, count_by, map}
+use Rattle.freeze_ledger.specs.declared.freeze.Freeze.{Freeze}
+use Rattle.runs.specs.RunsState.{RunsState, tokens_of}
 use Rattle.calls.specs.declared.record.Record.{Record}
-use Rattle.world.specs.World.{Setup, LiveRun, queue_count}
+use Rattle.world.specs.World.{Setup, LiveRun, Transport}
+use Rattle.world.specs.FreezeLaws.{entries_of}
 use Rattle.engine_core.specs.EngineState.{world_of, IsRun}
 
-pub record KeepsEngine (setup : Setup) (history : List Record) (ccbs : CcbsState) (recoveries : RecoveryState) : Type 0 where
+-- what each live run has the right to give back are the entries that name it
+abbrev pub HoldEntries : List Freeze → RunsState → Type 0
+HoldEntries freezes state = state.tokens ≡ map (λ run. tokens_of (entries_of run.number freezes)) state.runs.list
+
+pub record KeepsEngine (setup : Setup) (history : List Record) (transport : Transport) (runs : RunsState) : Type 0 where
   -- the fields, read as a world, are the run of the stored history, over a setup of accepted programs
-  pub run : IsRun (record { setup = setup; history = history; world = world_of setup history ccbs recoveries })
-  pub queues : recoveries.queues ≡ queue_count setup
+  pub run : IsRun (record { setup = setup; history = history; world = world_of setup history transport runs.runs })
+  pub tokens : HoldEntries transport.freezes runs
 
 -- how many runs are out
 abbrev pub outs : List LiveRun → ℕ

@@ -10,7 +10,7 @@ use Rattle.calls.specs.declared.call_answer.CallAnswer.TheVariants as answers
 use Rattle.calls.specs.declared.call_refusal.CallRefusal.{CallRefusal}
 use Rattle.calls.specs.declared.record.Record.{Record}
 use Rattle.calls.specs.declared.record.Record.TheVariants.{Called, Advance as advanced}
-use Rattle.recoveries.specs.Admits.{IsOutAs}
+use Rattle.runs.specs.Admits.{IsOutAs}
 use Rattle.world.specs.World.{Setup, World}
 use Rattle.engine_core.specs.declared.answers.CompleteAnswer.{CompleteAnswer}
 use Rattle.engine_core.specs.declared.answers.CompleteAnswer.TheVariants as completes

@@ -10,101 +10,101 @@ use Rattle.bpf_semantics.specs.Step.{IsAnswer}
 use Rattle.bpf_semantics.specs.declared.stop.Stop.{Stop}
 use Rattle.bpf_semantics.specs.declared.stop.Stop.TheVariants.{Helper as at_helper, Exit as at_exit}
 use Rattle.interpreter.specs.Segments.{SegmentState, IsSegment}
-use Rattle.ccb_table.specs.CcbsState.{CcbsState}
-use Rattle.recoveries.specs.RecoveryState.{RecoveryState}
-use Rattle.recoveries.specs.RunPlaces.{HasRunAt}
-use Rattle.recoveries.specs.Admits.{IsOutAs}
+use Rattle.runs.specs.RunsState.{RunsState}
+use Rattle.runs.specs.RunPlaces.{HasRunAt}
+use Rattle.runs.specs.Admits.{IsOutAs}
 use Rattle.calls.specs.declared.record.StoppedAt.{StoppedAt}
 use Rattle.calls.specs.declared.record.Record.{Record}
 use Rattle.calls.specs.declared.record.Record.TheVariants.{Advance}
-use Rattle.world.specs.World.{Setup, LiveRun, World}
+use Rattle.world.specs.World.{Setup, LiveRun, Runs, Transport, World}
 use Rattle.world.specs.Lookups.{run_of, with_run}
 use Rattle.world.specs.Event.{Event, Reply}
 use Rattle.world.specs.RunSteps.{goes_on, answers, step_request}
 use Rattle.world.specs.WorldRun.{Leads}
 use Rattle.world.specs.Flat.{events_of}
-use Rattle.engine_core.specs.EngineState.{world_of, IsWorldOf}
-use Rattle.engine_core.specs.Invariant.{KeepsEngine}
+use Rattle.engine_core.specs.EngineState.{world_of}
+use Rattle.engine_core.specs.Invariant.{HoldEntries, KeepsEngine}
 
--- these are the CCBs and runs of an engine, in which the segment is the next stretch of the run at this place
-pub record IsAdmitted (ccbs : CcbsState) (recoveries : RecoveryState) (number place : ℕ) (segment : SegmentState) : Type 0 where
+-- these are the transport and the runs of an engine, in which the segment is the next stretch of the run at this place
+pub record IsAdmitted (transport : Transport) (runs : RunsState) (number place : ℕ) (segment : SegmentState) : Type 0 where
   pub setup : Setup
   pub history : List Record
-  pub kept : KeepsEngine setup history ccbs recoveries
+  pub kept : KeepsEngine setup history transport runs
   pub program : List Slot
-  pub out : IsOutAs recoveries.runs number program segment
-  pub there : HasRunAt recoveries.runs place out.it
+  pub out : IsOutAs runs.runs.list number program segment
+  pub there : HasRunAt runs.runs.list place out.it
 
--- the events lead to a world that has these CCBs, freezes and runs
-pub record LeadsTo (setup : Setup) (before : World) (events : List (Event × Reply)) (ccbs : CcbsState) (recoveries : RecoveryState) : Type 0 where
+-- the events lead to a world that has this transport and these runs
+pub record LeadsTo (setup : Setup) (before : World) (events : List (Event × Reply)) (transport : Transport) (runs : Runs) : Type 0 where
   pub world : World
   pub leads : Leads setup before events world
-  pub fields : IsWorldOf world ccbs recoveries
+  pub is : world ≡ record world { transport = transport; runs = runs }
 
--- The record of the run's advance stands for what leads from these CCBs and runs to those, in each engine that they
--- are of.
-abbrev pub LeadsBy : StoppedAt → ℕ → ℕ → SegmentState → CcbsState → RecoveryState → CcbsState → RecoveryState → Type 0
-LeadsBy stop r0 place segment ccbs recoveries more after =
-    (number : ℕ) → IsAdmitted ccbs recoveries number place segment →
-    (setup : Setup) (history : List Record) → KeepsEngine setup history ccbs recoveries →
-    LeadsTo setup (world_of setup history ccbs recoveries) (events_of (Advance number segment.steps stop r0)) more after
+-- The record of the run's advance stands for what leads from this transport and these runs to those, in each engine that
+-- they are of.
+abbrev pub LeadsBy : StoppedAt → ℕ → ℕ → SegmentState → Transport → RunsState → Transport → RunsState → Type 0
+LeadsBy stop r0 place segment transport runs more after =
+    (number : ℕ) → IsAdmitted transport runs number place segment →
+    (setup : Setup) (history : List Record) → KeepsEngine setup history transport runs →
+    LeadsTo setup (world_of setup history transport runs.runs) (events_of (Advance number segment.steps stop r0)) more after.runs
 
--- The call of a run that stands there gets this answer, in a world that has these CCBs, freezes and runs once the call is
+-- The call of a run that stands there gets this answer, in a world that has this transport and these runs once the call is
 -- carried out, but before the run goes on.
-pub record IsCarriedOut (before : World) (run : LiveRun) (request : Request) (given : Answer) (ccbs : CcbsState) (recoveries : RecoveryState) : Type 0 where
+pub record IsCarriedOut (before : World) (run : LiveRun) (request : Request) (given : Answer) (transport : Transport) (runs : Runs) : Type 0 where
   pub world : World
   pub step : step_request before run request ≡ Some (answers world run request given)
-  pub fields : IsWorldOf world ccbs recoveries
+  pub is : world ≡ record world { transport = transport; runs = runs }
 
 -- the run as it stands at the stop of its segment
 abbrev pub at_stop : LiveRun → SegmentState → LiveRun
 at_stop run segment = record run { machine = segment.to }
 
--- What a call does before its run goes on: it gets an answer that the run may get, and the runs are as they were. In each
--- engine of these CCBs and runs it is the world's step of the run that stands there.
-pub record Does (place : ℕ) (segment : SegmentState) (request : Request) (given : Answer) (ccbs : CcbsState) (recoveries : RecoveryState) (more : CcbsState) (after : RecoveryState) : Type 0 where
+-- What a call does before its run goes on: it gets an answer that the run may get, the live runs are as they were, and what
+-- each holds are the entries that name it. In each engine of this transport and these runs it is the world's step of the run
+-- that stands there.
+pub record Does (place : ℕ) (segment : SegmentState) (request : Request) (given : Answer) (transport : Transport) (runs : RunsState) (more : Transport) (after : RunsState) : Type 0 where
   pub allowed : IsAnswer segment.to request given
-  pub runs : after.runs ≡ recoveries.runs
-  pub queues : after.queues ≡ recoveries.queues
-  pub step : (number : ℕ) → (a : IsAdmitted ccbs recoveries number place segment) →
-      (setup : Setup) (history : List Record) → KeepsEngine setup history ccbs recoveries →
-      IsCarriedOut (goes_on (world_of setup history ccbs recoveries) a.out.it segment.to) (at_stop a.out.it segment) request given
-      more (record after { runs = with_run (at_stop a.out.it segment) after.runs })
+  pub list : after.runs.list ≡ runs.runs.list
+  pub tokens : HoldEntries more.freezes after
+  pub step : (number : ℕ) → (a : IsAdmitted transport runs number place segment) →
+      (setup : Setup) (history : List Record) → KeepsEngine setup history transport runs →
+      IsCarriedOut (goes_on (world_of setup history transport runs.runs) a.out.it segment.to) (at_stop a.out.it segment) request given
+      more (record after.runs { list = with_run (at_stop a.out.it segment) after.runs.list })
 
 -- The segment stops at this call, and is the next stretch of the run at this place.
-pub record IsCalled (ccbs : CcbsState) (recoveries : RecoveryState) (place : ℕ) (segment : SegmentState) (request : Request) : Type 0 where
+pub record IsCalled (transport : Transport) (runs : RunsState) (place : ℕ) (segment : SegmentState) (request : Request) : Type 0 where
   pub segment_is : IsSegment segment
   pub stop : segment.stop ≡ at_helper request
   pub number : ℕ
-  pub admitted : IsAdmitted ccbs recoveries number place segment
+  pub admitted : IsAdmitted transport runs number place segment
 
 -- the helper of the call does this deed
 abbrev pub IsOfDeed : Deed → Request → Type 0
 IsOfDeed deed request = (row_of request.helper).deed ≡ deed
 
--- a run at this place stands at such a call, with these CCBs
-abbrev pub AsksOf : Deed → CcbsState → RecoveryState → ℕ → Request → Type 0
-AsksOf deed ccbs recoveries place request = IsOfDeed deed request × ((segment : SegmentState) × IsCalled ccbs recoveries place segment request)
+-- a run at this place stands at such a call
+abbrev pub AsksOf : Deed → Transport → RunsState → ℕ → Request → Type 0
+AsksOf deed transport runs place request = IsOfDeed deed request × ((segment : SegmentState) × IsCalled transport runs place segment request)
 
--- with some CCBs
-abbrev pub Asks : Deed → RecoveryState → ℕ → Request → Type 0
-Asks deed recoveries place request = IsOfDeed deed request × ((ccbs : CcbsState) × (segment : SegmentState) × IsCalled ccbs recoveries place segment request)
+-- with some transport
+abbrev pub Asks : Deed → RunsState → ℕ → Request → Type 0
+Asks deed runs place request = IsOfDeed deed request × ((transport : Transport) × (segment : SegmentState) × IsCalled transport runs place segment request)
 
--- what is done is what such a call does, with these CCBs
-pub record AnswersOf (place : ℕ) (request : Request) (given : Answer) (ccbs : CcbsState) (recoveries : RecoveryState) (more : CcbsState) (after : RecoveryState) : Type 0 where
-  pub does : (segment : SegmentState) → IsCalled ccbs recoveries place segment request → Does place segment request given ccbs recoveries more after
+-- what is done is what such a call does
+pub record AnswersOf (place : ℕ) (request : Request) (given : Answer) (transport : Transport) (runs : RunsState) (more : Transport) (after : RunsState) : Type 0 where
+  pub does : (segment : SegmentState) → IsCalled transport runs place segment request → Does place segment request given transport runs more after
 
--- whatever CCBs there are, and all of them stay
-abbrev pub Answers : ℕ → Request → Answer → RecoveryState → RecoveryState → Type 0
-Answers place request given recoveries after = (ccbs : CcbsState) → AnswersOf place request given ccbs recoveries ccbs after
+-- whatever the transport is, and it stays
+abbrev pub Answers : ℕ → Request → Answer → RunsState → RunsState → Type 0
+Answers place request given runs after = (transport : Transport) → AnswersOf place request given transport runs transport after
 
 -- the run at this place goes on there with its next machine, and is otherwise as it was
-pub record GoesOn (recoveries after : RecoveryState) (place : ℕ) : Type 0 where
+pub record GoesOn (old new : List LiveRun) (place : ℕ) : Type 0 where
   pub machine : MachineState
-  pub stands : (it : LiveRun) → HasRunAt recoveries.runs place it → HasRunAt after.runs place (record it { machine = machine })
-  pub found : (number : ℕ) (it : LiveRun) → HasRunAt recoveries.runs place it → run_of number recoveries.runs ≡ Some it → run_of number after.runs ≡ Some (record it { machine = machine })
+  pub stands : (it : LiveRun) → HasRunAt old place it → HasRunAt new place (record it { machine = machine })
+  pub found : (number : ℕ) (it : LiveRun) → HasRunAt old place it → run_of number old ≡ Some it → run_of number new ≡ Some (record it { machine = machine })
 
 -- what becomes of the run, by the kind of its stop: it goes on, or it exited with this R0
-abbrev pub GoesBy : Stop → ℕ → RecoveryState → RecoveryState → ℕ → Type 0
-GoesBy (at_helper request) r0 recoveries after place = GoesOn recoveries after place
-GoesBy (at_exit value) r0 recoveries after place = r0 ≡ value
+abbrev pub GoesBy : Stop → ℕ → List LiveRun → List LiveRun → ℕ → Type 0
+GoesBy (at_helper request) r0 old new place = GoesOn old new place
+GoesBy (at_exit value) r0 old new place = r0 ≡ value

@@ -1,112 +1,123 @@
-// What the calls of helpers do, a function a deed. It relies on `recoveries` for the run, its freezes, the tables and the
-// clock, and on `ccb_table` for its CCB and its queue.
+// What the calls of helpers do, a function a deed. It relies on `transport` for the run's CCB, its queue, the freezes and
+// the clock, and on `runs` for the run, its tokens and the tables.
 
 ghost use Rattle.helpers.specs.declared.table.Deed.TheVariants as deeds;
 ghost use Rattle.interpreter.specs.Segments.{SegmentState};
 ghost use Rattle.engine_core.specs.TakingOver.{IsCalled, Asks, AsksOf, Answers, AnswersOf};
 
 use ccb::QueueId;
-use ccb_table::CcbTable;
+use freeze_ledger::{Holder, Place};
 use helpers::{Answer, Deed, Request, Written};
-use recoveries::Recoveries;
+use runs::Runs;
+use transport::Transport;
 
 /// Does what the call of a helper asks: its answer. What a call records is told by the record of the advance.
 pub(crate) fn carry_out(
-    ccbs: &mut CcbTable,
-    recoveries: &mut Recoveries,
+    transport: &mut Transport,
+    runs: &mut Runs,
     place: usize,
     request: &Request,
 ) -> Answer
-    requires { (segment : SegmentState) × IsCalled ccbs.old recoveries.old place segment request.now }
-    ensures { AnswersOf place request.now result ccbs.old recoveries.old ccbs.new recoveries.new }
+    requires { (segment : SegmentState) × IsCalled transport.old runs.old place segment request.now }
+    ensures { AnswersOf place request.now result transport.old runs.old transport.new runs.new }
 {
     match request.helper.row().deed {
-        Deed::Nothing => tell_history(recoveries, place, request),
-        Deed::Freeze => take_freeze(recoveries, place, request),
-        Deed::GiveBack => give_back(recoveries, place, request),
-        Deed::HandOver => hand_over(recoveries, place, request),
-        Deed::Requeue => requeue(ccbs, recoveries, place, request),
-        Deed::Finish => finish(ccbs, recoveries, place, request),
-        Deed::GetWord => get_word(recoveries, place, request),
-        Deed::PutWord => put_word(recoveries, place, request),
-        Deed::AddWord => add_word(recoveries, place, request),
-        Deed::TellQueue => tell_queue(ccbs, recoveries, place, request),
-        Deed::TellClock => tell_clock(recoveries, place, request),
-        Deed::SetOpenings => set_openings(ccbs, recoveries, place, request),
+        Deed::Nothing => tell_history(runs, place, request),
+        Deed::Freeze => take_freeze(transport, runs, place, request),
+        Deed::GiveBack => give_back(transport, runs, place, request),
+        Deed::HandOver => hand_over(transport, runs, place, request),
+        Deed::Requeue => requeue(transport, runs, place, request),
+        Deed::Finish => finish(transport, runs, place, request),
+        Deed::GetWord => get_word(runs, place, request),
+        Deed::PutWord => put_word(runs, place, request),
+        Deed::AddWord => add_word(runs, place, request),
+        Deed::TellQueue => tell_queue(transport, runs, place, request),
+        Deed::TellClock => tell_clock(transport, runs, place, request),
+        Deed::SetOpenings => set_openings(transport, runs, place, request),
     }
 }
 
 // Nothing but what the history tells: 0.
-fn tell_history(recoveries: &Recoveries, place: usize, request: &Request) -> Answer
-    requires { Asks deeds.Nothing recoveries.now place request.now }
-    ensures { Answers place request.now result recoveries.now recoveries.now }
+fn tell_history(runs: &Runs, place: usize, request: &Request) -> Answer
+    requires { Asks deeds.Nothing runs.now place request.now }
+    ensures { Answers place request.now result runs.now runs.now }
 {
     Answer::number(0)
 }
 
 // Freezes the queue that R1 names: the new freeze's number, or 0 at a limit.
-fn take_freeze(recoveries: &mut Recoveries, place: usize, request: &Request) -> Answer
-    requires { Asks deeds.Freeze recoveries.old place request.now }
-    ensures { Answers place request.now result recoveries.old recoveries.new }
+fn take_freeze(
+    transport: &mut Transport,
+    runs: &mut Runs,
+    place: usize,
+    request: &Request,
+) -> Answer
+    requires { AsksOf deeds.Freeze transport.old runs.old place request.now }
+    ensures { AnswersOf place request.now result transport.old runs.old transport.new runs.new }
 {
-    let queue = QueueId(request.arguments.first as u32);
-    let freeze = recoveries.take(place, queue);
-    Answer::number(u64::from(freeze))
+    let queue = Place::Device(QueueId(request.arguments.first as u32));
+    let holder = Holder::Run(runs.number(place));
+    match transport.take(queue, holder) {
+        Some(token) => Answer::number(u64::from(runs.hold(place, token))),
+        None => Answer::number(0),
+    }
 }
 
 // Gives the freeze that R1 names back: how many its queue has then.
-fn give_back(recoveries: &mut Recoveries, place: usize, request: &Request) -> Answer
-    requires { Asks deeds.GiveBack recoveries.old place request.now }
-    ensures { Answers place request.now result recoveries.old recoveries.new }
+fn give_back(transport: &mut Transport, runs: &mut Runs, place: usize, request: &Request) -> Answer
+    requires { AsksOf deeds.GiveBack transport.old runs.old place request.now }
+    ensures { AnswersOf place request.now result transport.old runs.old transport.new runs.new }
 {
-    let count = recoveries.release(place, request.arguments.first as u32);
+    let token = runs.let_go(place, request.arguments.first as u32);
+    let count = transport.give_back(token);
     Answer::number(u64::from(count))
 }
 
 // Hands the freeze that R1 names over to a timer, which is due in so many milliseconds as R2 says: 0.
-fn hand_over(recoveries: &mut Recoveries, place: usize, request: &Request) -> Answer
-    requires { Asks deeds.HandOver recoveries.old place request.now }
-    ensures { Answers place request.now result recoveries.old recoveries.new }
+fn hand_over(transport: &mut Transport, runs: &mut Runs, place: usize, request: &Request) -> Answer
+    requires { AsksOf deeds.HandOver transport.old runs.old place request.now }
+    ensures { AnswersOf place request.now result transport.old runs.old transport.new runs.new }
 {
     let arguments = request.arguments;
-    recoveries.hand_over(place, arguments.first as u32, arguments.second as u32);
+    let token = runs.let_go(place, arguments.first as u32);
+    transport.hand_over(token, arguments.second as u32);
     Answer::number(0)
 }
 
 // The run's CCB waits again, with so many retries fewer as R1 says: 0.
-fn requeue(ccbs: &mut CcbTable, recoveries: &Recoveries, place: usize, request: &Request) -> Answer
-    requires { AsksOf deeds.Requeue ccbs.old recoveries.now place request.now }
-    ensures { AnswersOf place request.now result ccbs.old recoveries.now ccbs.new recoveries.now }
+fn requeue(transport: &mut Transport, runs: &Runs, place: usize, request: &Request) -> Answer
+    requires { AsksOf deeds.Requeue transport.old runs.now place request.now }
+    ensures { AnswersOf place request.now result transport.old runs.now transport.new runs.now }
 {
-    ccbs.requeue(recoveries.ccb(place), request.arguments.first as u32);
+    transport.requeue(runs.ccb(place), request.arguments.first as u32);
     Answer::number(0)
 }
 
 // The run's CCB is gone, with the status code in R1: 0. The record of the advance tells the code.
-fn finish(ccbs: &mut CcbTable, recoveries: &Recoveries, place: usize, request: &Request) -> Answer
-    requires { AsksOf deeds.Finish ccbs.old recoveries.now place request.now }
-    ensures { AnswersOf place request.now result ccbs.old recoveries.now ccbs.new recoveries.now }
+fn finish(transport: &mut Transport, runs: &Runs, place: usize, request: &Request) -> Answer
+    requires { AsksOf deeds.Finish transport.old runs.now place request.now }
+    ensures { AnswersOf place request.now result transport.old runs.now transport.new runs.now }
 {
-    ccbs.finish(recoveries.ccb(place));
+    transport.finish(runs.ccb(place));
     Answer::number(0)
 }
 
 // The word of a table that R1 and R2 name.
-fn get_word(recoveries: &Recoveries, place: usize, request: &Request) -> Answer
-    requires { Asks deeds.GetWord recoveries.now place request.now }
-    ensures { Answers place request.now result recoveries.now recoveries.now }
+fn get_word(runs: &Runs, place: usize, request: &Request) -> Answer
+    requires { Asks deeds.GetWord runs.now place request.now }
+    ensures { Answers place request.now result runs.now runs.now }
 {
     let arguments = request.arguments;
-    Answer::number(recoveries.table_get(arguments.first as usize, arguments.second as usize))
+    Answer::number(runs.table_get(arguments.first as usize, arguments.second as usize))
 }
 
 // That word is now what R3 holds: the old word.
-fn put_word(recoveries: &mut Recoveries, place: usize, request: &Request) -> Answer
-    requires { Asks deeds.PutWord recoveries.old place request.now }
-    ensures { Answers place request.now result recoveries.old recoveries.new }
+fn put_word(runs: &mut Runs, place: usize, request: &Request) -> Answer
+    requires { Asks deeds.PutWord runs.old place request.now }
+    ensures { Answers place request.now result runs.old runs.new }
 {
     let arguments = request.arguments;
-    Answer::number(recoveries.table_put(
+    Answer::number(runs.table_put(
         arguments.first as usize,
         arguments.second as usize,
         arguments.third,
@@ -114,12 +125,12 @@ fn put_word(recoveries: &mut Recoveries, place: usize, request: &Request) -> Ans
 }
 
 // What R3 holds is added to that word: the new word.
-fn add_word(recoveries: &mut Recoveries, place: usize, request: &Request) -> Answer
-    requires { Asks deeds.AddWord recoveries.old place request.now }
-    ensures { Answers place request.now result recoveries.old recoveries.new }
+fn add_word(runs: &mut Runs, place: usize, request: &Request) -> Answer
+    requires { Asks deeds.AddWord runs.old place request.now }
+    ensures { Answers place request.now result runs.old runs.new }
 {
     let arguments = request.arguments;
-    Answer::number(recoveries.table_add(
+    Answer::number(runs.table_add(
         arguments.first as usize,
         arguments.second as usize,
         arguments.third,
@@ -127,11 +138,11 @@ fn add_word(recoveries: &mut Recoveries, place: usize, request: &Request) -> Ans
 }
 
 // What the run's queue has, from the address in R1 on: 0.
-fn tell_queue(ccbs: &CcbTable, recoveries: &Recoveries, place: usize, request: &Request) -> Answer
-    requires { AsksOf deeds.TellQueue ccbs.now recoveries.now place request.now }
-    ensures { AnswersOf place request.now result ccbs.now recoveries.now ccbs.now recoveries.now }
+fn tell_queue(transport: &Transport, runs: &Runs, place: usize, request: &Request) -> Answer
+    requires { AsksOf deeds.TellQueue transport.now runs.now place request.now }
+    ensures { AnswersOf place request.now result transport.now runs.now transport.now runs.now }
 {
-    let info = ccbs.queue_info(recoveries.queue(place), recoveries.ledger());
+    let info = transport.queue_info(runs.queue(place));
     let written = Written {
         address: request.arguments.first,
         bytes: info.to_bytes(),
@@ -143,23 +154,18 @@ fn tell_queue(ccbs: &CcbTable, recoveries: &Recoveries, place: usize, request: &
 }
 
 // The clock in milliseconds.
-fn tell_clock(recoveries: &Recoveries, place: usize, request: &Request) -> Answer
-    requires { Asks deeds.TellClock recoveries.now place request.now }
-    ensures { Answers place request.now result recoveries.now recoveries.now }
+fn tell_clock(transport: &Transport, runs: &Runs, place: usize, request: &Request) -> Answer
+    requires { AsksOf deeds.TellClock transport.now runs.now place request.now }
+    ensures { AnswersOf place request.now result transport.now runs.now transport.now runs.now }
 {
-    Answer::number(recoveries.clock())
+    Answer::number(transport.clock())
 }
 
 // The run's queue has so many openings as R1 says: how many it had.
-fn set_openings(
-    ccbs: &mut CcbTable,
-    recoveries: &Recoveries,
-    place: usize,
-    request: &Request,
-) -> Answer
-    requires { AsksOf deeds.SetOpenings ccbs.old recoveries.now place request.now }
-    ensures { AnswersOf place request.now result ccbs.old recoveries.now ccbs.new recoveries.now }
+fn set_openings(transport: &mut Transport, runs: &Runs, place: usize, request: &Request) -> Answer
+    requires { AsksOf deeds.SetOpenings transport.old runs.now place request.now }
+    ensures { AnswersOf place request.now result transport.old runs.now transport.new runs.now }
 {
-    let old = ccbs.set_openings(recoveries.queue(place), request.arguments.first as u8);
+    let old = transport.set_openings(runs.queue(place), request.arguments.first as u8);
     Answer::number(u64::from(old))
 }

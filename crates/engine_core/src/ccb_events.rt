@@ -1,8 +1,9 @@
-// The events that are about CCBs: a submission, a start and a completion. It relies on `ccb_table` for CCBs and their queues,
-// and on `course` for what becomes of a completed one.
+// The events that are about CCBs: a submission, a start and a completion. It relies on `transport` for CCBs and their
+// queues, and on `course` for what becomes of a completed one.
 
-ghost use Rattle.std.specs.Prelude.{◌≡◌, List, length, IfOk, IfErr};
+ghost use Rattle.std.specs.Prelude.{◌≡◌, List, IfOk, IfErr};
 ghost use Rattle.calls.specs.declared.record.Record.{Record as TheRecord};
+ghost use Rattle.runs.specs.RunsState.{RunsState};
 ghost use Rattle.world.specs.World.{Setup};
 ghost use Rattle.engine_core.specs.declared.event.Event.TheVariants.{Submit, Dispatch, Complete};
 ghost use Rattle.engine_core.specs.declared.reply.Back.TheVariants as back;
@@ -14,22 +15,21 @@ use crate::reply::{Back, Given, Reply};
 use crate::told::{ccb_told, refused};
 use calls::{Call, CallAnswer, CompletionRecord, Record};
 use ccb::{Completion, QueueId};
-use ccb_table::CcbTable;
 use engine_config::Config;
-use recoveries::Recoveries;
+use runs::Runs;
 use std::alloc::{AllocError, Global};
+use transport::Transport;
 
 /// A CCB waits, or C1, or C2.
 pub(crate) fn submit(
-    ccbs: &mut CcbTable,
-    recoveries: &Recoveries,
+    transport: &mut Transport,
     queue: QueueId,
     priority: u32,
     retries: u32,
 ) -> (Reply, Record)
-    ensures { (setup : Setup) → Performs setup (Submit queue priority retries) ccbs.old recoveries.now ccbs.new recoveries.now result.0 result.1 }
+    ensures { (setup : Setup) (runs : RunsState) → Performs setup (Submit queue priority retries) transport.old runs transport.new runs result.0 result.1 }
 {
-    let answer = ccbs.submit(queue, priority, retries);
+    let answer = transport.submit(queue, priority, retries);
     ccb_told(
         answer,
         Call::Submit {
@@ -41,15 +41,10 @@ pub(crate) fn submit(
 }
 
 /// The least CCB that waits is active, or C1, or Q2 to Q4.
-pub(crate) fn dispatch(
-    ccbs: &mut CcbTable,
-    recoveries: &Recoveries,
-    queue: QueueId,
-) -> (Reply, Record)
-    requires { recoveries.now.queues ≡ length ccbs.old.openings }
-    ensures { (setup : Setup) → Performs setup (Dispatch queue) ccbs.old recoveries.now ccbs.new recoveries.now result.0 result.1 }
+pub(crate) fn dispatch(transport: &mut Transport, queue: QueueId) -> (Reply, Record)
+    ensures { (setup : Setup) (runs : RunsState) → Performs setup (Dispatch queue) transport.old runs transport.new runs result.0 result.1 }
 {
-    let answer = ccbs.dispatch(queue, recoveries.ledger());
+    let answer = transport.dispatch(queue);
     ccb_told(answer, Call::Dispatch { queue })
 }
 
@@ -57,15 +52,15 @@ pub(crate) fn dispatch(
 pub(crate) fn complete(
     alloc: Global,
     config: &Config,
-    ccbs: &mut CcbTable,
-    recoveries: &mut Recoveries,
+    transport: &mut Transport,
+    runs: &mut Runs,
     completion: &Completion,
 ) -> Result<(Reply, Record), Back>
-    requires { (history : List TheRecord) × KeepsEngine config.now history ccbs.old recoveries.old }
-    ensures performs { IfOk result (λ it. Performs config.now (Complete completion.entry) ccbs.old recoveries.old ccbs.new recoveries.new it.0 it.1) }
-    ensures refused { IfErr result (λ owned. (ccbs.new ≡ ccbs.old) × (recoveries.new ≡ recoveries.old) × (owned ≡ back.Nothing)) }
+    requires { (history : List TheRecord) × KeepsEngine config.now history transport.old runs.old }
+    ensures performs { IfOk result (λ it. Performs config.now (Complete completion.entry) transport.old runs.old transport.new runs.new it.0 it.1) }
+    ensures refused { IfErr result (λ owned. (transport.new ≡ transport.old) × (runs.new ≡ runs.old) × (owned ≡ back.Nothing)) }
 {
-    let course = decide(ccbs, recoveries, completion);
+    let course = decide(transport, runs, completion);
     let Ok(kept) = CompletionRecord::new(alloc, completion) else {
         return Err(Back::Nothing);
     };
@@ -73,11 +68,11 @@ pub(crate) fn complete(
     match course {
         Course::Refuse(refusal) => Ok(refused(refusal, call)),
         Course::Finish(ccb) => {
-            ccbs.finish(ccb.number);
+            transport.finish(ccb.number);
             let answer = CallAnswer::Done;
             Ok((Reply::Given(Given::Done), Record::Called { answer, call }))
         }
-        Course::Recover(ccb) => match recover(config, ccbs, recoveries, ccb, completion) {
+        Course::Recover(ccb) => match recover(config, transport, runs, ccb, completion) {
             Ok((run, freeze)) => {
                 let answer = CallAnswer::Started {
                     run: run.number(),

@@ -1,10 +1,9 @@
-// What a completion asks for, and how a run starts. It relies on `ccb_table` for CCBs, on `recoveries` for runs and
-// their freezes, and on `config` for the program of a queue.
+// What a completion asks for, and how a run starts. It relies on `transport` for CCBs and
+// freezes, on `runs` for runs, and on `config` for the program of a queue.
 
-ghost use Rattle.std.specs.Prelude.{◌≡◌, ◌<◌, true, false, IfOk, OnErr};
+ghost use Rattle.std.specs.Prelude.{◌≡◌, ◌<◌, true, false, List, IfOk, OnErr};
+ghost use Rattle.calls.specs.declared.record.Record.{Record as TheRecord};
 ghost use Rattle.ccb.specs.Completion.{IsCompletion};
-ghost use Rattle.ccb_table.specs.CcbsState.{with_ccbs};
-ghost use Rattle.recoveries.specs.RecoveryState.{with_recoveries};
 ghost use Rattle.world.specs.World.{Setup, World, queue_count};
 ghost use Rattle.calls.specs.declared.call.Call.TheVariants.{Complete};
 ghost use Rattle.calls.specs.declared.call_answer.CallAnswer.TheVariants as answers;
@@ -12,16 +11,17 @@ ghost use Rattle.world.specs.Event.{replies};
 ghost use Rattle.world.specs.CcbSteps.{is_success, run_meets_limit, recovers};
 ghost use Rattle.world.specs.Step.{step_call};
 ghost use Rattle.engine_core.specs.Courses.{takes, IsActive, IsOpen};
+ghost use Rattle.engine_core.specs.Invariant.{HoldEntries, KeepsEngine};
 ghost use Rattle.engine_core.specs.RunState.{IsOutUnder};
 
 use crate::run::Run;
 use calls::CallRefusal;
 use ccb::{CamStatus, Ccb, Completion};
-use ccb_table::CcbTable;
 use engine_config::Config;
-use recoveries::Recoveries;
+use runs::Runs;
 use std::alloc::AllocError;
 use std::sync::Arc;
+use transport::Transport;
 
 /// What is to be done about a completion.
 #[derive(Drop)]
@@ -43,17 +43,17 @@ fn has_succeeded(completion: &Completion) -> bool
 
 /// C1 where the CCB is not live; C2 where the status asks for a run and a further one meets a limit; C3 where the
 /// CCB is not active; else it is finished, or recovered by a run.
-pub(crate) fn decide(ccbs: &CcbTable, recoveries: &Recoveries, completion: &Completion) -> Course
+pub(crate) fn decide(transport: &Transport, runs: &Runs, completion: &Completion) -> Course
     ensures step { (setup : Setup) (world : World) →
-        step_call setup (with_ccbs ccbs.now (with_recoveries recoveries.now world)) (Complete completion.now)
-        ≡ Some (takes setup (with_ccbs ccbs.now (with_recoveries recoveries.now world)) completion.now result) }
-    ensures ready { (world : World) → IsOpen (with_ccbs ccbs.now (with_recoveries recoveries.now world)) completion.now result }
+        step_call setup (record world { transport = transport.now; runs = runs.now.runs }) (Complete completion.now)
+        ≡ Some (takes setup (record world { transport = transport.now; runs = runs.now.runs }) completion.now result) }
+    ensures ready { (world : World) → IsOpen (record world { transport = transport.now; runs = runs.now.runs }) completion.now result }
 {
     let succeeded = has_succeeded(completion);
-    let Some(live) = ccbs.get(completion.ccb()) else {
+    let Some(live) = transport.get(completion.ccb()) else {
         return Course::Refuse(CallRefusal::Unknown);
     };
-    if !succeeded && recoveries.is_full() {
+    if !succeeded && runs.is_full() {
         return Course::Refuse(CallRefusal::Limit);
     }
     if !live.is_active() {
@@ -70,29 +70,28 @@ pub(crate) fn decide(ccbs: &CcbTable, recoveries: &Recoveries, completion: &Comp
 /// freeze, or 0 where that met a limit. Where memory is refused nothing changes.
 pub(crate) fn recover(
     config: &Config,
-    ccbs: &mut CcbTable,
-    recoveries: &mut Recoveries,
+    transport: &mut Transport,
+    runs: &mut Runs,
     ccb: Ccb,
     completion: &Completion,
 ) -> Result<(Run, u32), AllocError>
-    requires queues { queue_count config.now ≡ recoveries.old.queues }
-    requires known { ccb.queue.0 < recoveries.old.queues }
-    requires active { (world : World) → IsActive (with_ccbs ccbs.old world) completion.now ccb }
-    requires room { (world : World) → run_meets_limit (with_recoveries recoveries.old world) ≡ false }
+    requires kept { (history : List TheRecord) × KeepsEngine config.now history transport.old runs.old }
+    requires known { ccb.queue.0 < queue_count config.now }
+    requires active { (world : World) → IsActive (record world { transport = transport.old }) completion.now ccb }
+    requires room { (world : World) → run_meets_limit (record world { runs = runs.old.runs }) ≡ false }
     ensures step { IfOk result (λ started. (world : World) →
-        recovers config.now (with_ccbs ccbs.old (with_recoveries recoveries.old world)) ccb completion.now
-        ≡ (replies (answers.Started started.0.number started.1), with_ccbs ccbs.new (with_recoveries recoveries.new world))) }
-    ensures out { IfOk result (λ started. (world : World) → IsOutUnder config.now (with_recoveries recoveries.new world) started.0) }
-    ensures queues { recoveries.new.queues ≡ recoveries.old.queues }
-    ensures refused { OnErr result ((ccbs.new ≡ ccbs.old) × (recoveries.new ≡ recoveries.old)) }
+        recovers config.now (record world { transport = transport.old; runs = runs.old.runs }) ccb completion.now
+        ≡ (replies (answers.Started started.0.number started.1), record world { transport = transport.new; runs = runs.new.runs })) }
+    ensures out { IfOk result (λ started. (world : World) → IsOutUnder config.now (record world { runs = runs.new.runs }) started.0) }
+    ensures tokens { IfOk result (λ _. HoldEntries transport.new.freezes runs.new) }
+    ensures refused { OnErr result ((transport.new ≡ transport.old) × (runs.new ≡ runs.old)) }
 {
     let program = config.program(ccb.queue);
     let recorded = Arc::try_clone(program)?;
     let handed = Arc::try_clone(program)?;
-    let place = recoveries.place_for_machine()?;
-    let mut machine = recoveries.place_for_machine()?;
-    let mut ccb = ccb;
-    let started = recoveries.start(&mut ccb, completion, recorded, place, &mut machine);
-    ccbs.recover(ccb);
+    let place = runs.place_for_machine()?;
+    let mut machine = runs.place_for_machine()?;
+    let (ccb, token) = transport.fail(ccb, completion, runs.next_number());
+    let started = runs.start(&ccb, recorded, token, place, &mut machine);
     Ok((Run::new(started.run, handed, machine), started.freeze))
 }

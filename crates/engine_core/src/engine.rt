@@ -2,10 +2,9 @@
 // more: room for the record is taken first, and nothing is undone. It relies on `parts` for what an event needs and does, and
 // on `world` for what is recorded.
 
-ghost use Rattle.std.specs.Prelude.{◌≡◌, ◌+◌, ◌≤◌, ◌++◌, ◌∷◌, [], length, vec_capacity, false, IfOk, IfErr, OnErr, map};
-ghost use Rattle.ccb_table.specs.CcbsState.{no_ccbs};
-ghost use Rattle.recoveries.specs.RecoveryState.{no_recoveries};
-ghost use Rattle.world.specs.World.{queue_count};
+ghost use Rattle.std.specs.Prelude.{◌≡◌, ◌+◌, ◌≤◌, ◌++◌, ◌∷◌, [], length, vec_capacity, false, IfOk, IfErr, OnErr};
+ghost use Rattle.runs.specs.RunsState.{no_runs};
+ghost use Rattle.world.specs.World.{opening};
 ghost use Rattle.world.specs.TotalsOf.{TotalsOf, totals_in};
 ghost use Rattle.engine_core.specs.EngineState.{opened, IsRun};
 ghost use Rattle.engine_core.specs.Performing.{IsRoomFor};
@@ -15,11 +14,11 @@ use crate::event::Event;
 use crate::parts::Parts;
 use crate::reply::Reply;
 use calls::{Record, Totals, Trace};
-use ccb_table::CcbTable;
 use engine_config::Config;
-use recoveries::{MAX_RUNS, Recoveries};
+use runs::{MAX_RUNS, Runs};
 use std::alloc::{AllocError, Global};
 use std::marker::Model;
+use transport::Transport;
 
 /// The room that a call makes in the history: for its own record, and for one of each run, which may be parked behind it.
 const ROOM: usize = 1 + MAX_RUNS;
@@ -41,12 +40,12 @@ impl Model for Engine {
     ghost use Rattle.engine_core.specs.EngineState.{world_of};
     ghost use Rattle.engine_core.specs.Invariant.{KeepsEngine};
 
-    ghost view = { λ e. record { setup = e.config; history = e.history.items; world = world_of e.config e.history.items e.parts.ccbs e.parts.recoveries } };
+    ghost view = { λ e. record { setup = e.config; history = e.history.items; world = world_of e.config e.history.items e.parts.transport e.parts.runs.runs } };
 
     ghost use Rattle.std.specs.Prelude.{length, vec_capacity};
     ghost use Rattle.engine_core.specs.Invariant.{HasRoom};
 
-    ghost invariant = { λ e. KeepsEngine e.config e.history.items e.parts.ccbs e.parts.recoveries × HasRoom (length e.history.items) (vec_capacity e.history) e.parts.recoveries.runs };
+    ghost invariant = { λ e. KeepsEngine e.config e.history.items e.parts.transport e.parts.runs × HasRoom (length e.history.items) (vec_capacity e.history) e.parts.runs.runs.list };
 }
 
 // Makes room for the record of an event, and for one of each run, which may be parked behind it. For the record of a park
@@ -65,16 +64,18 @@ fn make_room(history: &mut Vec<Record>, event: &Event<'_>) -> Result<(), AllocEr
 }
 
 // The queues and tables of the configuration, with no CCB, no freeze and no run.
-fn rooms(alloc: Global, config: &Config) -> Result<(CcbTable, Recoveries), AllocError>
-    ensures ccbs { IfOk result (λ rooms. rooms.0 ≡ record no_ccbs { openings = map (λ queue. queue.openings) config.now.queues }) }
-    ensures recoveries { IfOk result (λ rooms. rooms.1 ≡ no_recoveries (queue_count config.now) config.now.limits.table_lengths) }
+fn rooms(alloc: Global, config: &Config) -> Result<Parts, AllocError>
+    ensures transport { IfOk result (λ parts. parts.transport ≡ (opening config.now).transport) }
+    ensures runs { IfOk result (λ parts. parts.runs ≡ no_runs config.now.limits.table_lengths) }
 {
-    let mut ccbs = CcbTable::with_room(alloc)?;
+    let mut openings = Vec::with_capacity(alloc, config.queues() as usize)?;
     for queue in 0..config.queues() {
-        ccbs.add_queue(config.openings(queue))?;
+        openings.push(config.openings(queue))?;
     }
-    let recoveries = Recoveries::with_room(alloc, config.queues(), config.table_lengths())?;
-    Ok((ccbs, recoveries))
+    Ok(Parts {
+        transport: Transport::with_room(alloc, &openings)?,
+        runs: Runs::with_room(alloc, config.table_lengths())?,
+    })
 }
 
 impl Engine {
@@ -86,9 +87,9 @@ impl Engine {
         ensures back { IfErr result (λ fault. fault.1 ≡ config) }
     {
         match rooms(alloc, &config) {
-            Ok((ccbs, recoveries)) => Ok(Engine {
+            Ok(parts) => Ok(Engine {
                 config,
-                parts: Parts { ccbs, recoveries },
+                parts,
                 history: Vec::new(alloc),
             }),
             Err(fault) => Err((fault, config)),
@@ -128,9 +129,9 @@ impl Engine {
     {
         Totals {
             history: self.history.len() as u64,
-            frozen: self.parts.recoveries.ledger().len() as u32,
-            active: self.parts.ccbs.active(),
-            runs: self.parts.recoveries.len(),
+            frozen: self.parts.transport.frozen(),
+            active: self.parts.transport.active(),
+            runs: self.parts.runs.len(),
         }
     }
 

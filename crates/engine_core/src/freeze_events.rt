@@ -1,7 +1,7 @@
-// The events that are about freezes and the clock. It relies on `recoveries` for both.
+// The events that are about freezes and the clock. It relies on `transport` for both.
 
 ghost use Rattle.std.specs.Prelude.{◌≡◌, Contains, true};
-ghost use Rattle.ccb_table.specs.CcbsState.{CcbsState};
+ghost use Rattle.runs.specs.RunsState.{RunsState};
 ghost use Rattle.world.specs.World.{Setup};
 ghost use Rattle.world.specs.FreezeSteps.{is_guest};
 ghost use Rattle.engine_core.specs.declared.event.Event.TheVariants.{Clock, GuestFreeze, GuestRelease};
@@ -11,14 +11,14 @@ use crate::reply::{Given, Reply};
 use crate::told::{refused, removed_told};
 use calls::{Call, CallAnswer, Record};
 use freeze_ledger::{FreezeToken, Place};
-use recoveries::Recoveries;
+use transport::Transport;
 
 /// A guest has a freeze more of the place, or C1, or C2.
-pub(crate) fn guest_freeze(recoveries: &mut Recoveries, place: Place, guest: u32) -> (Reply, Record)
-    ensures { (setup : Setup) (ccbs : CcbsState) → Performs setup (GuestFreeze place guest) ccbs recoveries.old ccbs recoveries.new result.0 result.1 }
+pub(crate) fn guest_freeze(transport: &mut Transport, place: Place, guest: u32) -> (Reply, Record)
+    ensures { (setup : Setup) (runs : RunsState) → Performs setup (GuestFreeze place guest) transport.old runs transport.new runs result.0 result.1 }
 {
     let call = Call::GuestFreeze { place, guest };
-    match recoveries.guest_freeze(place, guest) {
+    match transport.guest_freeze(place, guest) {
         Ok(token) => {
             let answer = CallAnswer::Freeze(token.number());
             (
@@ -31,14 +31,14 @@ pub(crate) fn guest_freeze(recoveries: &mut Recoveries, place: Place, guest: u32
 }
 
 /// A guest's freeze is given back.
-pub(crate) fn guest_release(recoveries: &mut Recoveries, token: FreezeToken) -> (Reply, Record)
-    requires { Contains recoveries.old.freezes token × (is_guest token.holder ≡ true) }
-    ensures { (setup : Setup) (ccbs : CcbsState) → Performs setup (GuestRelease token) ccbs recoveries.old ccbs recoveries.new result.0 result.1 }
+pub(crate) fn guest_release(transport: &mut Transport, token: FreezeToken) -> (Reply, Record)
+    requires { Contains transport.old.freezes token × (is_guest token.holder ≡ true) }
+    ensures { (setup : Setup) (runs : RunsState) → Performs setup (GuestRelease token) transport.old runs transport.new runs result.0 result.1 }
 {
     let call = Call::GuestRelease {
         freeze: token.number(),
     };
-    let count = recoveries.guest_release(token);
+    let count = transport.guest_release(token);
     let answer = CallAnswer::Left(count);
     (
         Reply::Given(Given::Left(count)),
@@ -47,9 +47,9 @@ pub(crate) fn guest_release(recoveries: &mut Recoveries, token: FreezeToken) -> 
 }
 
 /// The freezes go whose timers are due, or C2, or C5.
-pub(crate) fn read_clock(recoveries: &mut Recoveries, reading: u64) -> (Reply, Record)
-    ensures { (setup : Setup) (ccbs : CcbsState) → Performs setup (Clock reading) ccbs recoveries.old ccbs recoveries.new result.0 result.1 }
+pub(crate) fn read_clock(transport: &mut Transport, reading: u64) -> (Reply, Record)
+    ensures { (setup : Setup) (runs : RunsState) → Performs setup (Clock reading) transport.old runs transport.new runs result.0 result.1 }
 {
-    let answer = recoveries.read_clock(reading);
+    let answer = transport.read_clock(reading);
     removed_told(answer, Call::Clock { reading })
 }

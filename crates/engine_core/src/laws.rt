@@ -35,7 +35,7 @@ pub fn headline()
     ensures exact_counts { CountsAreEntries }
     ensures held { HeldAreEntries }
     ensures limits { LimitsAreKept }
-    ensures ccbs { EachIsLiveOrEnded }
+    ensures transport { EachIsLiveOrEnded }
     ensures starts { StartsKeepOpenings }
     ensures others { OthersLeaveIt }
     ensures parked { ParkedStaysAsItIs }

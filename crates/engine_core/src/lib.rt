@@ -1,6 +1,6 @@
 // The engine: one call at a time on the world's device queues, CCBs, freezes and recovery runs, each answer one
-// record of a history that is kept whole. It relies on `world` for what the calls mean, on `ccb_table` for CCBs and on
-// `recoveries` for runs and freezes.
+// record of a history that is kept whole. It relies on `world` for what the calls mean, on `transport` for CCBs, queues and
+// freezes, and on `runs` for runs.
 #![tactic(auto)]
 
 mod answers;

@@ -3,7 +3,7 @@
 
 ghost use Rattle.std.specs.Prelude.{◌≡◌, IfOk, IfErr, MatchResult};
 ghost use Rattle.freeze_ledger.specs.declared.freeze.Holder.TheVariants.{Guest};
-ghost use Rattle.recoveries.specs.Admits.{IsOutAs};
+ghost use Rattle.runs.specs.Admits.{IsOutAs};
 ghost use Rattle.freeze_ledger.specs.declared.place.Place.TheVariants.{Device};
 ghost use Rattle.calls.specs.declared.call.Call.TheVariants.{Submit, Dispatch, Complete, GuestFreeze, GuestRelease, Clock, Park, Resume};
 ghost use Rattle.calls.specs.declared.call_answer.CallAnswer.TheVariants as answers;

@@ -1,5 +1,5 @@
 // The parts of an engine beside its configuration and its history: what an event needs of them, and what it makes of them.
-// It relies on `ccb_table` for CCBs and their queues, and on `recoveries` for runs, freezes, tables and the clock.
+// It relies on `transport` for CCBs, queues, freezes and the clock, and on `runs` for runs and tables.
 
 ghost use Rattle.std.specs.Prelude.{◌≡◌, false, List, IfOk, IfNone, IfSome, IfErr};
 ghost use Rattle.calls.specs.declared.record.Record.{Record as TheRecord};
@@ -14,35 +14,35 @@ use crate::freeze_events::{guest_freeze, guest_release, read_clock};
 use crate::reply::{Back, Reply};
 use crate::run_events::{advance, park, resume};
 use calls::Record;
-use ccb_table::CcbTable;
 use engine_config::Config;
-use recoveries::Recoveries;
+use runs::Runs;
 use std::alloc::Global;
+use transport::Transport;
 
-/// CCBs with their queues, and freezes, runs, tables and clock.
+/// What CAM keeps, and the runs of recovery programs.
 #[derive(Drop)]
 pub(crate) struct Parts {
-    pub ccbs: CcbTable,
-    pub recoveries: Recoveries,
+    pub transport: Transport,
+    pub runs: Runs,
 }
 
 impl Parts {
     /// Where the run stands that an advance or a park is of (0 for other events), and `None`, which is C4 or C6, exactly
     /// where the run is not out as the event says, or no guest's freeze is the token's.
     pub(crate) fn fits(&self, event: &Event<'_>) -> Option<usize>
-        ensures fit { IfSome result (λ place. FitsAt place self.now.recoveries event.now) }
-        ensures unfit { IfNone result ((world : World) → IsUnfit (world_with self.now.ccbs self.now.recoveries world) event.now) }
+        ensures fit { IfSome result (λ place. FitsAt place self.now.transport self.now.runs event.now) }
+        ensures unfit { IfNone result ((world : World) → IsUnfit (world_with self.now.transport self.now.runs world) event.now) }
     {
         match event {
             Event::Advance { run, segment } => {
-                self.recoveries.admit(run.number(), run.program(), segment)
+                self.runs.admit(run.number(), run.program(), segment)
             }
             Event::Park { run } => {
-                self.recoveries
+                self.runs
                     .admit_run(run.number(), run.program(), run.machine())
             }
             Event::GuestRelease { token } => {
-                if self.recoveries.is_guests(token) {
+                if self.transport.is_guests(token) {
                     Some(0)
                 } else {
                     None
@@ -66,9 +66,9 @@ impl Parts {
         place: usize,
         event: Event<'_>,
     ) -> Result<(Reply, Record), Back>
-        requires of { (history : List TheRecord) × KeepsEngine config.now history self.old.ccbs self.old.recoveries }
-        requires fit { FitsAt place self.old.recoveries event }
-        ensures performs { IfOk result (λ it. Performs config.now event.entry self.old.ccbs self.old.recoveries self.new.ccbs self.new.recoveries it.0 it.1) }
+        requires of { (history : List TheRecord) × KeepsEngine config.now history self.old.transport self.old.runs }
+        requires fit { FitsAt place self.old.transport self.old.runs event }
+        ensures performs { IfOk result (λ it. Performs config.now event.entry self.old.transport self.old.runs self.new.transport self.new.runs it.0 it.1) }
         ensures refused { IfErr result (λ back. (self.new ≡ self.old) × (is_park event.entry ≡ false) × (back ≡ owned event.entry)) }
     {
         match event {
@@ -76,30 +76,30 @@ impl Parts {
                 queue,
                 priority,
                 retries,
-            } => Ok(submit(&mut self.ccbs, &self.recoveries, queue, priority, retries)),
-            Event::Dispatch { queue } => Ok(dispatch(&mut self.ccbs, &self.recoveries, queue)),
+            } => Ok(submit(&mut self.transport, queue, priority, retries)),
+            Event::Dispatch { queue } => Ok(dispatch(&mut self.transport, queue)),
             Event::Complete { completion } => complete(
                 alloc,
                 config,
-                &mut self.ccbs,
-                &mut self.recoveries,
+                &mut self.transport,
+                &mut self.runs,
                 completion,
             ),
             Event::Advance { run, segment } => advance(
                 alloc,
-                &mut self.ccbs,
-                &mut self.recoveries,
+                &mut self.transport,
+                &mut self.runs,
                 place,
                 run,
                 segment,
             ),
-            Event::Clock { reading } => Ok(read_clock(&mut self.recoveries, reading)),
+            Event::Clock { reading } => Ok(read_clock(&mut self.transport, reading)),
             Event::GuestFreeze { place, guest } => {
-                Ok(guest_freeze(&mut self.recoveries, place, guest))
+                Ok(guest_freeze(&mut self.transport, place, guest))
             }
-            Event::GuestRelease { token } => Ok(guest_release(&mut self.recoveries, token)),
-            Event::Park { run } => Ok(park(&mut self.recoveries, place, run)),
-            Event::Resume { run } => resume(config, &mut self.recoveries, run),
+            Event::GuestRelease { token } => Ok(guest_release(&mut self.transport, token)),
+            Event::Park { run } => Ok(park(&mut self.runs, place, run)),
+            Event::Resume { run } => resume(config, &mut self.runs, run),
         }
     }
 }

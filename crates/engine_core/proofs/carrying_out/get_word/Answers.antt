@@ -5,11 +5,11 @@ use Rattle.engine_core.proofs.carrying_out.get_word.Goals as goal
 
 pub table_get-requires : goal.table_get-requires
 table_get-requires c =
-    its_word_there c.requires.1.0 c.args.recoveries.now c.args.place c.requires.1.1 c.args.request.now c.requires.1.2 _ (suits deeds.GetWord c.args.request.now c.requires.0)
+    its_word_there c.requires.1.0 c.args.runs.now c.args.place c.requires.1.1 c.args.request.now c.requires.1.2 _ (suits deeds.GetWord c.args.request.now c.requires.0)
 
 pub returns : goal.returns
-returns c ccbs =
+returns c transport =
     record {
       does = λ segment it.
-          rw c.number.ensures (told ccbs c.args.recoveries.now c.args.place segment c.args.request.now it deeds.GetWord c.requires.0 _ _ _ get_word c.table_get.result (λ n b setup history. c.table_get.ensures));
+          rw c.number.ensures (told transport c.args.runs.now c.args.place segment c.args.request.now it deeds.GetWord c.requires.0 _ _ _ get_word c.table_get.result (λ n b setup history. c.table_get.ensures));
     }

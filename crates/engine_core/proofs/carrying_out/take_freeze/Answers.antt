@@ -1,23 +1,20 @@
-use Rattle.std.proofs.Common.{◌≡◌, ℕ, ◌+◌, ◌<◌, List, [], ◌∷◌, ◌++◌, length, true, false, Some, inl, inr, ap, sym, ◌∙◌, arith, ltb-true}
+use Rattle.std.proofs.Common.{◌≡◌, ℕ, ◌+◌, ◌<◌, List, [], ◌∷◌, ◌++◌, length, true, false, Some, inl, inr, refl, ap, sym, ◌∙◌, arith, ltb-true}
 use Rattle.std.proofs.lemmas.List.{length-map}
-use Rattle.std.proofs.lemmas.Bool.{cases_Bool, cond-true, cond-false}
-use Rattle.ccb.specs.declared.QueueId.{QueueId}
+use Rattle.std.proofs.lemmas.Bool.{cond-true, cond-false}
 use Rattle.freeze_ledger.specs.declared.freeze.Holder.TheVariants.{Run}
 use Rattle.freeze_ledger.specs.declared.freeze.Freeze.{Freeze}
 use Rattle.freeze_ledger.specs.Freezes.{meets_limit}
 use Rattle.helpers.specs.declared.table.Deed.TheVariants as deeds
-use Rattle.freeze_ledger.specs.declared.place.Place.TheVariants.{Device}
+use Rattle.std.specs.Prelude.{slice_set}
 use Rattle.freeze_ledger.specs.Places.{device}
 use Rattle.helpers.specs.declared.request.Request.{Request}
 use Rattle.helpers.specs.Table.{row_of, answer_number}
 use Rattle.bpf_semantics.specs.Calls.{is_held}
 use Rattle.bpf_semantics.specs.Step.{IsNewFreeze}
 use Rattle.interpreter.specs.Segments.{SegmentState}
-use Rattle.ccb_table.specs.CcbsState.{CcbsState, with_ccbs}
-use Rattle.recoveries.specs.RecoveryState.{RecoveryState, with_recoveries, taken_for}
-use Rattle.recoveries.specs.RunPlaces.{HasRunAt}
-use Rattle.calls.specs.declared.record.Record.{Record}
-use Rattle.world.specs.World.{Setup, LiveRun, World}
+use Rattle.runs.specs.RunsState.{RunsState, tokens_at}
+use Rattle.runs.specs.RunPlaces.{HasRunAt}
+use Rattle.world.specs.World.{Transport, LiveRun, World}
 use Rattle.world.specs.Lookups.{with_run}
 use Rattle.world.specs.FreezeSteps.{froze}
 use Rattle.world.specs.RunSteps.{answers}
@@ -26,117 +23,117 @@ use Rattle.world.proofs.Lists.HeldBy.{none_above}
 use Rattle.world_laws.proofs.Kept.{room_from}
 use Rattle.engine_core.proofs.Recording.{kept_sound}
 use Rattle.world_laws.proofs.Deeds.{suits}
-use Rattle.engine_core.specs.TakingOver.{IsCarriedOut, IsCalled, at_stop, Does}
+use Rattle.engine_core.specs.TakingOver.{IsCalled, at_stop, Does}
 use Rattle.engine_core.proofs.Calls.{is_ruled, is_answer, deed_step, between, held_are, rule}
+use Rattle.engine_core.proofs.Holding.{holds_one_more, same_freezes, tokens_here}
+use Rattle.engine_core.proofs.Recording.{opening_count}
+use Rattle.transport.specs.Freezing.{IsTaken, took}
 use Rattle.engine_core.proofs.carrying_out.take_freeze.Goals as goal
 
--- what the taking of a freeze left
-data Took (old after : RecoveryState) (run : ℕ) (queue : QueueId) (answer : ℕ) : Type 0 where
-  took_none : meets_limit (Device queue) old.freezes old.greatest_freeze ≡ true → answer ≡ 0 → after ≡ old → Took old after run queue answer
-  took_one : meets_limit (Device queue) old.freezes old.greatest_freeze ≡ false → answer ≡ old.greatest_freeze + 1 → after ≡ record old { freezes = old.freezes ++ record { number = old.greatest_freeze + 1; place = Device queue; holder = Run run } ∷ []; greatest_freeze = old.greatest_freeze + 1 } → Took old after run queue answer
-
-took : (old after : RecoveryState) (run : ℕ) (queue : QueueId) (answer : ℕ) → (answer, after) ≡ taken_for old run queue → Took old after run queue answer
-took old after run queue answer e =
-    elim (cases_Bool (meets_limit (Device queue) old.freezes old.greatest_freeze)) [
-      | inl full ↦
-          let is = e ∙ cond-true (meets_limit (Device queue) old.freezes old.greatest_freeze) _ _ full in
-          took_none full (ap (λ (p : ℕ × RecoveryState). p.0) is) (ap (λ (p : ℕ × RecoveryState). p.1) is)
-      | inr free ↦
-          let is = e ∙ cond-false (meets_limit (Device queue) old.freezes old.greatest_freeze) _ _ free in
-          took_one free (ap (λ (p : ℕ × RecoveryState). p.0) is) (ap (λ (p : ℕ × RecoveryState). p.1) is)
-    ]
-
-took_runs : (old after : RecoveryState) (run : ℕ) (queue : QueueId) (answer : ℕ) → Took old after run queue answer → (after.runs ≡ old.runs) × (after.queues ≡ old.queues)
-took_runs old after run queue answer (took_none full answer_is after_is) = (ap (λ (r : RecoveryState). r.runs) after_is, ap (λ (r : RecoveryState). r.queues) after_is)
-took_runs old after run queue answer (took_one free answer_is after_is) = (ap (λ (r : RecoveryState). r.runs) after_is, ap (λ (r : RecoveryState). r.queues) after_is)
-
-module _ (ccbs : CcbsState) (old : RecoveryState) (place : ℕ) (segment : SegmentState) (request : Request) (it : IsCalled ccbs old place segment request) (is : (row_of request.helper).deed ≡ deeds.Freeze) where
+module _ (transport : Transport) (old : RunsState) (place : ℕ) (segment : SegmentState) (request : Request) (it : IsCalled transport old place segment request) (is : (row_of request.helper).deed ≡ deeds.Freeze) where
   -- the queue is there, and the run has room for a freeze more
   record IsFreezing (queue : ℕ) : Type 0 where
     run : LiveRun
-    there : HasRunAt old.runs place run
-    few : length (entries_of run.number old.freezes) < 8
-    known : queue < old.queues
+    there : HasRunAt old.runs.list place run
+    few : length (tokens_at old place) < 8
+    known : queue < length transport.openings
     bound : queue < 4294967296
 
   freezing : IsFreezing request.arguments.first
   freezing =
       let a = it.admitted in
       let queue = request.arguments.first in
-      let ruled = is_ruled a.setup.limits segment.to request _ _ _ _ _ _ _ (suits deeds.Freeze request is) (rule ccbs old place segment request it) in
+      let ruled = is_ruled a.setup.limits segment.to request _ _ _ _ _ _ _ (suits deeds.Freeze request is) (rule transport old place segment request it) in
       let room = ltb-true (length segment.to.held) 8 ruled.needed in
       let known : queue < a.setup.limits.queues = ltb-true _ _ ruled.first_met in
+      let own : List Freeze = entries_of a.out.it.number transport.freezes in
       record {
         run = a.out.it;
         there = a.there;
-        few = omega (arith, room, ap length (held_are ccbs old place segment request it it.number a), length-map (entries_of a.out.it.number old.freezes) (λ (f : Freeze). f.number));
-        known = omega (arith, known, a.kept.run.lawful.agreed, a.kept.queues);
+        few = omega (arith, room, ap length (held_are transport old place segment request it it.number a), length-map own (λ (f : Freeze). f.number), ap length (tokens_here transport.freezes old place a.out.it a.kept.tokens a.there), length-map own (λ (f : Freeze). Some f));
+        known = omega (arith, known, a.kept.run.lawful.agreed, opening_count a.setup a.history transport old a.kept);
         bound = omega (arith, known, a.kept.run.lawful.agreed, a.kept.run.lawful.queue_number.1);
       }
 
-  -- a number that is given now is not held
-  new_freeze : (answer : ℕ) (after : RecoveryState) (queue : QueueId) → Took old after it.admitted.out.it.number queue answer → IsNewFreeze segment.to.held answer
-  new_freeze answer after queue (took_none full answer_is after_is) = inl answer_is
-  new_freeze answer after queue (took_one free answer_is after_is) =
-      let a = it.admitted in
-      let sound = kept_sound a.setup a.history ccbs old a.kept in
-      let room = room_from (Device queue) old.freezes old.greatest_freeze free in
-      let fresh : is_held segment.to.held (old.greatest_freeze + 1) ≡ false =
-      ap (λ (ns : List ℕ). is_held ns (old.greatest_freeze + 1)) (held_are ccbs old place segment request it it.number a)
-      ∙ none_above a.out.it.number (old.greatest_freeze + 1) old.freezes old.greatest_freeze sound.kept.freezes.numbered (omega arith) in
-      inr (omega (arith, answer_is), omega (arith, answer_is, room.numbers), ap (is_held segment.to.held) answer_is ∙ fresh)
-
-  takes_so : (answer : ℕ) (after : RecoveryState) (setup : Setup) (history : List Record) (run : LiveRun) → Took old after run.number (record { 0 = request.arguments.first }) answer → IsCarriedOut (between ccbs old segment setup history run) (at_stop run segment) request (answer_number answer) ccbs (record after { runs = with_run (at_stop run segment) after.runs })
-  takes_so answer after setup history run (took_none full answer_is after_is) =
-      let standing : LiveRun = at_stop run segment in
-      let before : World = between ccbs old segment setup history run in
-      record {
-        world = before;
-        step = deed_step before standing request deeds.Freeze is
-            ∙ (ap Some (cond-true (meets_limit (device request.arguments.first) old.freezes old.greatest_freeze) _ _ full
-            ∙ ap (λ (n : ℕ). answers before standing request (answer_number n)) (sym answer_is)));
-        fields = ap (λ (r : RecoveryState). with_ccbs ccbs (with_recoveries (record r { runs = with_run standing r.runs }) before)) (sym after_is);
-      }
-  takes_so answer after setup history run (took_one free answer_is after_is) =
-      let standing : LiveRun = at_stop run segment in
-      let before : World = between ccbs old segment setup history run in
-      let end : World = froze before (device request.arguments.first) (Run run.number) in
-      record {
-        world = end;
-        step = deed_step before standing request deeds.Freeze is
-            ∙ (ap Some (cond-false (meets_limit (device request.arguments.first) old.freezes old.greatest_freeze) _ _ free
-            ∙ ap (λ (n : ℕ). answers end standing request (answer_number n)) (sym answer_is)));
-        fields = ap (λ (r : RecoveryState). with_ccbs ccbs (with_recoveries (record r { runs = with_run standing r.runs }) end)) (sym after_is);
-      }
-
-  froze_one : (answer : ℕ) (after : RecoveryState) → ((run : LiveRun) → HasRunAt old.runs place run → (answer, after) ≡ taken_for old run.number (record { 0 = request.arguments.first })) → Does place segment request (answer_number answer) ccbs old ccbs after
-  froze_one answer after e =
-      let a = it.admitted in
-      let queue : QueueId = record { 0 = request.arguments.first } in
-      let left = took old after a.out.it.number queue answer (e a.out.it a.there) in
+  -- at a limit nothing is taken
+  froze_none : (more : Transport) → meets_limit (device request.arguments.first) transport.freezes transport.greatest_freeze ≡ true → more ≡ transport → Does place segment request (answer_number 0) transport old more old
+  froze_none more full more_is =
       let columns = suits deeds.Freeze request is in
       record {
-        allowed = is_answer segment.to request (answer_number answer) _ _ columns.gives_is columns.machine_is (new_freeze answer after queue left) tt;
-        runs = (took_runs old after a.out.it.number queue answer left).0;
-        queues = (took_runs old after a.out.it.number queue answer left).1;
-        step = λ n b setup history kept. takes_so answer after setup history b.out.it (took old after b.out.it.number queue answer (e b.out.it b.there));
+        allowed = is_answer segment.to request (answer_number 0) _ _ columns.gives_is columns.machine_is (inl refl) tt;
+        list = refl;
+        tokens = same_freezes transport.freezes more.freezes old it.admitted.kept.tokens (ap (λ (m : Transport). m.freezes) more_is);
+        step = λ n b setup history kept.
+            let standing : LiveRun = at_stop b.out.it segment in
+            let before : World = between transport old segment setup history b.out.it in
+            record {
+              world = before;
+              step = deed_step before standing request deeds.Freeze is
+                  ∙ ap Some (cond-true (meets_limit (device request.arguments.first) transport.freezes transport.greatest_freeze) _ _ full);
+              is = λ i. record before { transport = sym more_is i };
+            };
+      }
+
+  -- a number that is given now is not held
+  new_freeze : meets_limit (device request.arguments.first) transport.freezes transport.greatest_freeze ≡ false → (answer : ℕ) → answer ≡ transport.greatest_freeze + 1 → IsNewFreeze segment.to.held answer
+  new_freeze free answer answer_is =
+      let a = it.admitted in
+      let sound = kept_sound a.setup a.history transport old a.kept in
+      let room = room_from (device request.arguments.first) transport.freezes transport.greatest_freeze free in
+      let fresh : is_held segment.to.held (transport.greatest_freeze + 1) ≡ false =
+      ap (λ (ns : List ℕ). is_held ns (transport.greatest_freeze + 1)) (held_are transport old place segment request it it.number a)
+      ∙ none_above a.out.it.number (transport.greatest_freeze + 1) transport.freezes transport.greatest_freeze sound.kept.freezes.numbered (omega arith) in
+      inr (omega (arith, answer_is), omega (arith, answer_is, room.numbers), ap (is_held segment.to.held) answer_is ∙ fresh)
+
+  froze_one : (number answer : ℕ) (f : Freeze) (more : Transport) (after : RunsState) → ((run : LiveRun) → HasRunAt old.runs.list place run → number ≡ run.number) → IsTaken transport (device request.arguments.first) (Run number) (Some f) → more ≡ took transport (Some f) → answer ≡ f.number → after ≡ record old { tokens = slice_set old.tokens place (tokens_at old place ++ Some f ∷ []) } → Does place segment request (answer_number answer) transport old more after
+  froze_one number answer f more after named taken more_was told after_is =
+      let a = it.admitted in
+      let columns = suits deeds.Freeze request is in
+      let sound = kept_sound a.setup a.history transport old a.kept in
+      let answer_is : answer ≡ transport.greatest_freeze + 1 = told ∙ ap (λ (x : Freeze). x.number) taken.1 in
+      let runs_are : old.runs ≡ after.runs = sym (ap (λ (r : RunsState). r.runs) after_is) in
+      record {
+        allowed = is_answer segment.to request (answer_number answer) _ _ columns.gives_is columns.machine_is (new_freeze taken.0 answer answer_is) tt;
+        list = ap (λ (r : RunsState). r.runs.list) after_is;
+        tokens = holds_one_more transport.freezes more.freezes old after place old.runs.greatest a.out.it f a.kept.tokens a.there sound.kept.runs.rising
+            (ap (λ (x : Freeze). x.holder) taken.1 ∙ ap Run (named a.out.it a.there)) (ap (λ (m : Transport). m.freezes) more_was) after_is;
+        step = λ n b setup history kept.
+            let standing : LiveRun = at_stop b.out.it segment in
+            let before : World = between transport old segment setup history b.out.it in
+            let end : World = froze before (device request.arguments.first) (Run b.out.it.number) in
+            let f_is : f ≡ record { number = transport.greatest_freeze + 1; place = device request.arguments.first; holder = Run b.out.it.number } =
+            taken.1 ∙ ap (λ (k : ℕ). record { number = transport.greatest_freeze + 1; place = device request.arguments.first; holder = Run k }) (named b.out.it b.there) in
+            let more_is : end.transport ≡ more = sym (more_was ∙ ap (λ (x : Freeze). took transport (Some x)) f_is) in
+            record {
+              world = end;
+              step = deed_step before standing request deeds.Freeze is
+                  ∙ (ap Some (cond-false (meets_limit (device request.arguments.first) transport.freezes transport.greatest_freeze) _ _ taken.0
+                  ∙ ap (λ (k : ℕ). answers end standing request (answer_number k)) (sym answer_is)));
+              is = λ i. record end { transport = more_is i; runs = record (runs_are i) { list = with_run standing (runs_are i).list } };
+            };
       }
 
 pub overflow_cast-queue : goal.overflow_cast-queue
-overflow_cast-queue c = omega (arith, (freezing c.requires.1.0 c.args.recoveries.now c.args.place c.requires.1.1 c.args.request.now c.requires.1.2 c.requires.0).bound)
+overflow_cast-queue c = omega (arith, (freezing c.args.transport.now c.args.runs.now c.args.place c.requires.1.0 c.args.request.now c.requires.1.1 c.requires.0).bound)
 
-pub take-freeze-requires-clause-run : goal.take-freeze-requires-clause-run
-take-freeze-requires-clause-run c =
-    let its = freezing c.requires.1.0 c.args.recoveries.now c.args.place c.requires.1.1 c.args.request.now c.requires.1.2 c.requires.0 in
-    (its.run, its.there, its.few)
+pub take-requires : goal.take-requires
+take-requires c = (freezing c.args.transport.now c.args.runs.now c.args.place c.requires.1.0 c.args.request.now c.requires.1.1 c.requires.0).known
 
-pub take-freeze-requires-clause-known : goal.take-freeze-requires-clause-known
-take-freeze-requires-clause-known c = (freezing c.requires.1.0 c.args.recoveries.now c.args.place c.requires.1.1 c.args.request.now c.requires.1.2 c.requires.0).known
+pub hold-requires-clause-room : goal.hold-requires-clause-room
+hold-requires-clause-room c = (freezing c.args.transport.now c.args.runs.now c.args.place c.requires.1.0 c.args.request.now c.requires.1.1 c.requires.0).few
 
-pub returns : goal.returns
-returns c ccbs =
+pub returns-in-Some : goal.returns-in-Some
+returns-in-Some c =
     record {
       does = λ segment it.
-          rw (c.number.ensures, c.from.ensures)
-          (froze_one ccbs c.args.recoveries.now c.args.place segment c.args.request.now it c.requires.0 c.take-freeze.result c.take-freeze.new.self c.take-freeze.ensures);
+          rw (c.number-in-Some.ensures, c.from.ensures)
+          (froze_one c.args.transport.now c.args.runs.now c.args.place segment c.args.request.now it c.requires.0 c.number.result c.hold.result c.in-Some.token c.take.new.self c.hold.new.self c.number.ensures c.in-Some.ensures.taken c.in-Some.ensures.state c.hold.ensures.number c.hold.ensures.tokens);
+    }
+
+pub returns-in-None : goal.returns-in-None
+returns-in-None c =
+    record {
+      does = λ segment it.
+          rw c.number-in-None.ensures
+          (froze_none c.args.transport.now c.args.runs.now c.args.place segment c.args.request.now it c.requires.0 c.take.new.self c.in-None.ensures.taken c.in-None.ensures.state);
     }

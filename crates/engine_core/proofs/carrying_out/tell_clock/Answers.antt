@@ -4,8 +4,8 @@ use Rattle.engine_core.proofs.Calls.{told}
 use Rattle.engine_core.proofs.carrying_out.tell_clock.Goals as goal
 
 pub returns : goal.returns
-returns c ccbs =
+returns c =
     record {
       does = λ segment it.
-          rw c.number.ensures (told ccbs c.args.recoveries.now c.args.place segment c.args.request.now it deeds.TellClock c.requires.0 _ _ _ tell_clock c.clock.result (λ n b setup history. c.clock.ensures));
+          rw c.number.ensures (told c.args.transport.now c.args.runs.now c.args.place segment c.args.request.now it deeds.TellClock c.requires.0 _ _ _ tell_clock c.clock.result (λ n b setup history. c.clock.ensures));
     }

@@ -5,8 +5,8 @@ use Rattle.engine_core.proofs.Calls.{told}
 use Rattle.engine_core.proofs.carrying_out.tell_history.Goals as goal
 
 pub returns : goal.returns
-returns c ccbs =
+returns c transport =
     record {
       does = λ segment it.
-          rw c.number.ensures (told ccbs c.args.recoveries.now c.args.place segment c.args.request.now it deeds.Nothing c.requires.0 _ _ _ nothing 0 (λ n b setup history. refl));
+          rw c.number.ensures (told transport c.args.runs.now c.args.place segment c.args.request.now it deeds.Nothing c.requires.0 _ _ _ nothing 0 (λ n b setup history. refl));
     }

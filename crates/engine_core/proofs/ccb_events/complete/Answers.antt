@@ -1,4 +1,4 @@
-use Rattle.std.proofs.Common.{Some, refl, ap, ◌∙◌, arith}
+use Rattle.std.proofs.Common.{Some, refl, ap, ◌∙◌}
 use Rattle.world.specs.declared.ccb_state.CcbState.TheVariants.{Active}
 use Rattle.world.specs.World.{LiveCcb, World}
 use Rattle.world.specs.Event.{Reply}
@@ -12,27 +12,27 @@ use Rattle.engine_core.proofs.ccb_events.complete.Goals as goal
 
 pub returns-in-Refuse-clause-performs : goal.returns-in-Refuse-clause-performs
 returns-in-Refuse-clause-performs c = rw (c.refused.ensures, c.in-Ok.ensures.value)
-    (refuses_completion c.args.config.now c.args.ccbs.now c.args.recoveries.now c.args.completion c.in-Refuse.refusal (λ world. c.in-Refuse.ensures.step c.args.config.now world))
+    (refuses_completion c.args.config.now c.args.transport.now c.args.runs.now c.args.completion c.in-Refuse.refusal (λ world. c.in-Refuse.ensures.step c.args.config.now world))
 
 pub finish-requires : goal.finish-requires
 finish-requires c =
-    let before : World = world_of c.args.config.now c.requires.0 c.args.ccbs.now c.args.recoveries.now in
+    let before : World = world_of c.args.config.now c.requires.0 c.args.transport.now c.args.runs.now.runs in
     let it : LiveCcb = record { ccb = c.in-Finish.ccb; state = Active } in
-    (it, ccb_found c.args.completion.now.ccb.0 c.args.ccbs.now.live it (c.in-Finish.ensures.ready before), refl)
+    (it, ccb_found c.args.completion.now.ccb.0 c.args.transport.now.live it (c.in-Finish.ensures.ready before), refl)
 
 pub returns-in-Finish-clause-performs : goal.returns-in-Finish-clause-performs
 returns-in-Finish-clause-performs c = rw (c.in-Ok.ensures.value)
-    (finishes_ccb c.args.config.now c.args.ccbs.now c.finish.new.self c.args.recoveries.now c.args.completion c.in-Finish.ccb c.finish.ensures (λ world. c.in-Finish.ensures.step c.args.config.now world))
+    (finishes_ccb c.args.config.now c.args.transport.now c.finish.new.self c.args.runs.now c.args.completion c.in-Finish.ccb c.finish.ensures (λ world. c.in-Finish.ensures.step c.args.config.now world))
 
 -- a run that starts
 
 pub recover-requires-clause-known : goal.recover-requires-clause-known
 recover-requires-clause-known c =
-    let before : World = world_of c.args.config.now c.requires.0 c.args.ccbs.now c.args.recoveries.now in
+    let before : World = world_of c.args.config.now c.requires.0 c.args.transport.now c.args.runs.now.runs in
     let there : IsActive before c.args.completion.now c.in-Recover.ccb = (c.in-Recover.ensures.ready before).0 in
-    let sound = kept_sound c.args.config.now c.requires.0 c.args.ccbs.now c.args.recoveries.now c.requires.1 in
+    let sound = kept_sound c.args.config.now c.requires.0 c.args.transport.now c.args.runs.now c.requires.1 in
     let known = known_queue c.args.config.now before sound.kept.ccbs c.args.completion.now.ccb.0 (record { ccb = c.in-Recover.ccb; state = Active }) there in
-    omega (arith, known, c.requires.1.queues)
+    known
 
 pub recover-requires-clause-active : goal.recover-requires-clause-active
 recover-requires-clause-active c world = (c.in-Recover.ensures.ready world).0
@@ -42,6 +42,6 @@ recover-requires-clause-room c world = (c.in-Recover.ensures.ready world).1
 
 pub returns-in-Ok-recover-clause-performs : goal.returns-in-Ok-recover-clause-performs
 returns-in-Ok-recover-clause-performs c = rw (c.in-Ok.ensures.value)
-    (starts_run c.args.config.now c.args.ccbs.now c.recover.new.ccbs c.args.recoveries.now c.recover.new.recoveries c.args.completion c.in-Ok-recover.run' c.number.result c.in-Ok-recover.freeze c.number.ensures c.recover.ensures.queues
+    (starts_run c.args.config.now c.args.transport.now c.recover.new.transport c.args.runs.now c.recover.new.runs c.args.completion c.in-Ok-recover.run' c.number.result c.in-Ok-recover.freeze c.number.ensures c.in-Ok-recover.ensures.tokens
     (λ world. c.in-Recover.ensures.step c.args.config.now world ∙ ap (λ (p : Reply × World). Some p) (c.in-Ok-recover.ensures.step world))
     c.in-Ok-recover.ensures.out)

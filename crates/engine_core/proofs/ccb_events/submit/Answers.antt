@@ -2,5 +2,5 @@ use Rattle.engine_core.proofs.Performing.{submits}
 use Rattle.engine_core.proofs.ccb_events.submit.Goals as goal
 
 pub returns : goal.returns
-returns c setup = rw (c.ccb_told.ensures)
-    (submits c.args.queue c.args.priority c.args.retries c.args.ccbs.now c.submit-answer.new.self c.args.recoveries.now c.submit-answer.result c.submit-answer.ensures.step setup)
+returns c setup runs = rw (c.ccb_told.ensures)
+    (submits c.args.queue c.args.priority c.args.retries c.args.transport.now c.submit-answer.new.self c.submit-answer.result c.submit-answer.ensures.step c.submit-answer.ensures.freezes setup runs)

@@ -1,7 +1,5 @@
 use Rattle.std.proofs.Common.{◌≡◌, ◌⊎◌, true, false, Some, inl, inr, ap, sym, subst, ◌∙◌, rules}
 use Rattle.ccb.specs.declared.ccb.Ccb.{Ccb}
-use Rattle.ccb_table.specs.CcbsState.{with_ccbs}
-use Rattle.recoveries.specs.RecoveryState.{with_recoveries}
 use Rattle.world.specs.declared.ccb_state.CcbState.TheVariants.{Active}
 use Rattle.world.specs.World.{LiveCcb}
 use Rattle.world.specs.Lookups.{ccb_of}
@@ -16,44 +14,44 @@ use Rattle.engine_core.proofs.course.decide.Goals.{else-not-succeeded-via-then-n
 
 pub returns-in_default-clause-step : goal.returns-in_default-clause-step
 returns-in_default-clause-step c setup world =
-    at_unknown setup (with_ccbs c.args.ccbs.now (with_recoveries c.args.recoveries.now world)) c.args.completion.now c.has_succeeded-succeeded.ensures.reported (search rules)
+    at_unknown setup (record world { transport = c.args.transport.now; runs = c.args.runs.now.runs }) c.args.completion.now c.has_succeeded-succeeded.ensures.reported (search rules)
 
 pub returns-then-is_full-clause-step : goal.returns-then-is_full-clause-step
 returns-then-is_full-clause-step c setup world =
-    at_limit setup (with_ccbs c.args.ccbs.now (with_recoveries c.args.recoveries.now world)) c.args.completion.now c.in-Some.live c.has_succeeded-succeeded.ensures.reported
-    (search rules) (search rules) (sym (c.is_full.ensures (with_ccbs c.args.ccbs.now world)) ∙ c.if-is_full.true)
+    at_limit setup (record world { transport = c.args.transport.now; runs = c.args.runs.now.runs }) c.args.completion.now c.in-Some.live c.has_succeeded-succeeded.ensures.reported
+    (search rules) (search rules) (sym (c.is_full.ensures (record world { transport = c.args.transport.now })) ∙ c.if-is_full.true)
 
 pub returns-then-not-is_active-clause-step : goal.returns-then-not-is_active-clause-step
 returns-then-not-is_active-clause-step c setup world =
-    let room : (is_success c.args.completion.now.status ≡ true) ⊎ (run_meets_limit (with_ccbs c.args.ccbs.now (with_recoveries c.args.recoveries.now world)) ≡ false) = elim c.else-not-succeeded.branch [
-      | else-not-succeeded-via-then-not-succeeded+else-is_full w ↦ inr (sym (w.is_full.ensures (with_ccbs c.args.ccbs.now world)) ∙ w.if-is_full.false)
+    let room : (is_success c.args.completion.now.status ≡ true) ⊎ (run_meets_limit (record world { transport = c.args.transport.now; runs = c.args.runs.now.runs }) ≡ false) = elim c.else-not-succeeded.branch [
+      | else-not-succeeded-via-then-not-succeeded+else-is_full w ↦ inr (sym (w.is_full.ensures (record world { transport = c.args.transport.now })) ∙ w.if-is_full.false)
       | else-not-succeeded-via-else-not-succeeded w ↦ inl (search rules)
     ] in
-    at_idle setup (with_ccbs c.args.ccbs.now (with_recoveries c.args.recoveries.now world)) c.args.completion.now c.in-Some.live c.has_succeeded-succeeded.ensures.reported
+    at_idle setup (record world { transport = c.args.transport.now; runs = c.args.runs.now.runs }) c.args.completion.now c.in-Some.live c.has_succeeded-succeeded.ensures.reported
     (search rules) room (search rules)
 
 pub returns-then-succeeded-clause-step : goal.returns-then-succeeded-clause-step
 returns-then-succeeded-clause-step c setup world =
-    subst (λ (x : Ccb). step_call setup (with_ccbs c.args.ccbs.now (with_recoveries c.args.recoveries.now world)) (Complete c.args.completion.now) ≡ Some (replies answers.Done, finishes (with_ccbs c.args.ccbs.now (with_recoveries c.args.recoveries.now world)) x c.args.completion.now.status))
+    subst (λ (x : Ccb). step_call setup (record world { transport = c.args.transport.now; runs = c.args.runs.now.runs }) (Complete c.args.completion.now) ≡ Some (replies answers.Done, finishes (record world { transport = c.args.transport.now; runs = c.args.runs.now.runs }) x c.args.completion.now.status))
     (sym c.ccb-then-succeeded.ensures)
-    (at_success setup (with_ccbs c.args.ccbs.now (with_recoveries c.args.recoveries.now world)) c.args.completion.now c.in-Some.live c.has_succeeded-succeeded.ensures.reported (search rules) (search rules) (search rules))
+    (at_success setup (record world { transport = c.args.transport.now; runs = c.args.runs.now.runs }) c.args.completion.now c.in-Some.live c.has_succeeded-succeeded.ensures.reported (search rules) (search rules) (search rules))
 
 pub returns-else-succeeded-clause-step : goal.returns-else-succeeded-clause-step
 returns-else-succeeded-clause-step c setup world =
-    let room : run_meets_limit (with_ccbs c.args.ccbs.now (with_recoveries c.args.recoveries.now world)) ≡ false = elim c.else-not-succeeded.branch [
-      | else-not-succeeded-via-then-not-succeeded+else-is_full w ↦ sym (w.is_full.ensures (with_ccbs c.args.ccbs.now world)) ∙ w.if-is_full.false
+    let room : run_meets_limit (record world { transport = c.args.transport.now; runs = c.args.runs.now.runs }) ≡ false = elim c.else-not-succeeded.branch [
+      | else-not-succeeded-via-then-not-succeeded+else-is_full w ↦ sym (w.is_full.ensures (record world { transport = c.args.transport.now })) ∙ w.if-is_full.false
       | else-not-succeeded-via-else-not-succeeded w ↦ absurd (let bad : true ≡ false = sym w.if-not-succeeded.false ∙ c.if-succeeded.false in cc)
     ] in
-    subst (λ (x : Ccb). step_call setup (with_ccbs c.args.ccbs.now (with_recoveries c.args.recoveries.now world)) (Complete c.args.completion.now) ≡ Some (recovers setup (with_ccbs c.args.ccbs.now (with_recoveries c.args.recoveries.now world)) x c.args.completion.now))
+    subst (λ (x : Ccb). step_call setup (record world { transport = c.args.transport.now; runs = c.args.runs.now.runs }) (Complete c.args.completion.now) ≡ Some (recovers setup (record world { transport = c.args.transport.now; runs = c.args.runs.now.runs }) x c.args.completion.now))
     (sym c.ccb-else-succeeded.ensures)
-    (at_failure setup (with_ccbs c.args.ccbs.now (with_recoveries c.args.recoveries.now world)) c.args.completion.now c.in-Some.live c.has_succeeded-succeeded.ensures.reported (search rules) (search rules) (search rules) room)
+    (at_failure setup (record world { transport = c.args.transport.now; runs = c.args.runs.now.runs }) c.args.completion.now c.in-Some.live c.has_succeeded-succeeded.ensures.reported (search rules) (search rules) (search rules) room)
 
 pub returns-else-succeeded-clause-ready : goal.returns-else-succeeded-clause-ready
 returns-else-succeeded-clause-ready c world =
-    let room : run_meets_limit (with_ccbs c.args.ccbs.now (with_recoveries c.args.recoveries.now world)) ≡ false = elim c.else-not-succeeded.branch [
-      | else-not-succeeded-via-then-not-succeeded+else-is_full w ↦ sym (w.is_full.ensures (with_ccbs c.args.ccbs.now world)) ∙ w.if-is_full.false
+    let room : run_meets_limit (record world { transport = c.args.transport.now; runs = c.args.runs.now.runs }) ≡ false = elim c.else-not-succeeded.branch [
+      | else-not-succeeded-via-then-not-succeeded+else-is_full w ↦ sym (w.is_full.ensures (record world { transport = c.args.transport.now })) ∙ w.if-is_full.false
       | else-not-succeeded-via-else-not-succeeded w ↦ absurd (let bad : true ≡ false = sym w.if-not-succeeded.false ∙ c.if-succeeded.false in cc)
     ] in
-    let found : ccb_of c.args.completion.now.ccb.0 c.args.ccbs.now.live ≡ Some c.in-Some.live = search rules in
+    let found : ccb_of c.args.completion.now.ccb.0 c.args.transport.now.live ≡ Some c.in-Some.live = search rules in
     let active_one : c.in-Some.live ≡ record { ccb = c.in-Some.live.ccb; state = Active } = state_is c.in-Some.live (search rules) in
     (found ∙ (ap (λ (l : LiveCcb). Some l) active_one ∙ ap (λ (x : Ccb). Some (record { ccb = x; state = Active })) (sym c.ccb-else-succeeded.ensures)), room)

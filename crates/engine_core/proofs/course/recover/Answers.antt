@@ -1,50 +1,127 @@
-use Rattle.std.proofs.Common.{◌≡◌, Some, refl, ap, sym, ◌∙◌}
+use Rattle.std.proofs.Common.{◌≡◌, ℕ, ◌+◌, List, [], ◌∷◌, ◌++◌, Option, Some, None, refl, ap, sym, subst, ◌∙◌}
 use Rattle.std.specs.Arc.{arc_value}
+use Rattle.std.specs.Option.{is_some, option_to_list}
+use Rattle.std.proofs.lemmas.Bool.{cond-true, cond-false}
 use Rattle.ccb.specs.declared.ccb.Ccb.{Ccb}
-use Rattle.ccb_table.specs.CcbsState.{CcbsState, with_ccbs}
-use Rattle.recoveries.specs.RecoveryState.{RecoveryState, with_recoveries}
+use Rattle.ccb.specs.Completion.{Outcome}
+use Rattle.ccb.specs.Ccb.{completed}
+use Rattle.ccb.specs.Context.{context_of}
+use Rattle.freeze_ledger.specs.declared.freeze.Freeze.{Freeze}
+use Rattle.freeze_ledger.specs.declared.freeze.Holder.TheVariants.{Run}
+use Rattle.freeze_ledger.specs.declared.place.Place.{Place}
+use Rattle.freeze_ledger.specs.declared.place.Place.TheVariants.{Device}
+use Rattle.freeze_ledger.specs.Freezes.{meets_limit}
+use Rattle.bpf_insn.specs.declared.program.Slot.{Slot}
+use Rattle.bpf_semantics.specs.MachineState.{MachineState, entry}
+use Rattle.runs.specs.RunsState.{RunsState, told, tokens_of, run_for}
 use Rattle.accepted.specs.Verdict.{Verdict}
-use Rattle.world.specs.declared.ccb_state.CcbState.TheVariants.{Active}
-use Rattle.world.specs.World.{LiveCcb, opening, queue_setup}
-use Rattle.world.specs.Lookups.{ccb_of}
+use Rattle.transport.specs.Freezing.{IsTaken, took}
+use Rattle.world.specs.declared.ccb_state.CcbState.TheVariants.{Active, InRecovery}
+use Rattle.world.specs.World.{LiveRun, Runs, Setup, Transport, World, opening, queue_setup}
+use Rattle.world.specs.Lookups.{with_ccb}
 use Rattle.calls.specs.declared.call_answer.CallAnswer.TheVariants as answers
-use Rattle.world.specs.Event.{replies}
+use Rattle.world.specs.Event.{Reply, replies}
 use Rattle.world.specs.CcbSteps.{recovers, run_meets_limit}
 use Rattle.world.proofs.Steps.Moves.{ccb_found}
+use Rattle.engine_core.specs.EngineState.{world_of}
+use Rattle.engine_core.specs.Invariant.{HoldEntries}
 use Rattle.engine_core.specs.RunState.{RunState}
+use Rattle.engine_core.proofs.Holding.{run_started}
+use Rattle.engine_core.proofs.Recording.{kept_sound}
 use Rattle.engine_core.proofs.course.recover.Goals as goal
 
-pub recover-requires : goal.recover-requires
-recover-requires c =
-    let it : LiveCcb = record { ccb = c.args.ccb; state = Active } in
-    let there : ccb_of c.args.ccb.number.0 c.args.ccbs.now.live ≡ Some it =
-    ccb_found c.args.completion.now.ccb.0 c.args.ccbs.now.live it (c.requires.active (opening c.args.config.now)) in
-    (it, rw (c.start-started.ensures.ccb.1) there, refl, ap (λ (ccb : Ccb). ccb.queue) c.start-started.ensures.ccb.1)
+-- the CCB in recovery
+abbrev failed : World → Ccb → Outcome → Option Freeze → Transport
+failed world ccb outcome t =
+    record (took world.transport t) { live = with_ccb (record { ccb = completed ccb outcome (is_some t); state = InRecovery }) world.transport.live }
 
--- taking places changes nothing
-same_recoveries : (c : goal.After-new) → c.place_for_machine-2.new.self ≡ c.args.recoveries.now
-same_recoveries c = c.place_for_machine-2.ensures ∙ c.place_for_machine.ensures
+-- the run that starts
+abbrev begun : World → Ccb → Outcome → List Slot → Option Freeze → Runs
+begun world ccb outcome program t =
+    let number = world.runs.greatest + 1 in
+    record world.runs {
+      list = world.runs.list ++ run_for number ccb program (entry (context_of (completed ccb outcome (is_some t))) (told t)) ∷ [];
+      greatest = number;
+    }
 
-pub start-started-requires-clause-room : goal.start-started-requires-clause-room
-start-started-requires-clause-room c world =
-    ap (λ (recoveries : RecoveryState). run_meets_limit (with_recoveries recoveries world)) (c.place_for_machine-2.ensures ∙ c.place_for_machine.ensures)
-    ∙ c.requires.room world
+abbrev started : World → Ccb → Outcome → List Slot → Option Freeze → Reply × World
+started world ccb outcome program t = (
+  replies (answers.Started (world.runs.greatest + 1) (told t)),
+  record world { transport = failed world ccb outcome t; runs = begun world ccb outcome program t },
+)
+
+-- what a failed completion leads to, by what was taken
+recovers_so : (setup : Setup) (world : World) (ccb : Ccb) (outcome : Outcome) (program : List Slot) (t : Option Freeze) → IsTaken world.transport (Device ccb.queue) (Run (world.runs.greatest + 1)) t → (queue_setup setup ccb.queue.0).program ≡ program → recovers setup world ccb outcome ≡ started world ccb outcome program t
+recovers_so setup world ccb outcome program None full is =
+    cond-true (meets_limit (Device ccb.queue) world.transport.freezes world.transport.greatest_freeze) _ _ full
+    ∙ ap (λ (p : List Slot). started world ccb outcome p None) is
+recovers_so setup world ccb outcome program (Some f) taken is =
+    cond-false (meets_limit (Device ccb.queue) world.transport.freezes world.transport.greatest_freeze) _ _ taken.0
+    ∙ (ap (λ (p : List Slot). started world ccb outcome p (Some (record { number = world.transport.greatest_freeze + 1; place = Device ccb.queue; holder = Run (world.runs.greatest + 1) }))) is
+    ∙ ap (λ (g : Freeze). started world ccb outcome program (Some g)) (sym taken.1))
+
+holder_is : (transport : Transport) (place : Place) (number : ℕ) (t : Option Freeze) → IsTaken transport place (Run number) t → (f : Freeze) → t ≡ Some f → f.holder ≡ Run number
+holder_is transport place number None full f e = absurd (let bad : None ≡ Some f = e in cc)
+holder_is transport place number (Some g) taken f e =
+    let same : g ≡ f = cc in
+    ap (λ (x : Freeze). x.holder) (sym same) ∙ ap (λ (x : Freeze). x.holder) taken.1
+
+pub next_number-requires : goal.next_number-requires
+next_number-requires c world =
+    ap (λ (runs : RunsState). run_meets_limit (record world { runs = runs.runs })) (c.place_for_machine-2.ensures ∙ c.place_for_machine.ensures) ∙ c.requires.room world
+
+pub start-started-requires : goal.start-started-requires
+start-started-requires c world =
+    ap (λ (runs : RunsState). run_meets_limit (record world { runs = runs.runs })) (c.place_for_machine-2.ensures ∙ c.place_for_machine.ensures) ∙ c.requires.room world
+
+pub fail-ccb-requires : goal.fail-ccb-requires
+fail-ccb-requires c =
+    ccb_found c.args.completion.now.ccb.0 c.args.transport.now.live (record { ccb = c.args.ccb; state = Active }) (c.requires.active (opening c.args.config.now))
+
+run_is : (c : goal.After-new) → c.start-started.result.run ≡ c.args.runs.now.runs.greatest + 1
+run_is c = c.start-started.ensures.run ∙ ap (λ (runs : RunsState). runs.runs.greatest + 1) (c.place_for_machine-2.ensures ∙ c.place_for_machine.ensures)
+
+taken_is : (c : goal.After-new) → IsTaken c.args.transport.now (Device c.args.ccb.queue) (Run (c.args.runs.now.runs.greatest + 1)) c.fail-ccb.result.1
+taken_is c =
+    subst (λ (n : ℕ). IsTaken c.args.transport.now (Device c.args.ccb.queue) (Run n) c.fail-ccb.result.1)
+    (c.next_number.ensures ∙ ap (λ (runs : RunsState). runs.runs.greatest + 1) (c.place_for_machine-2.ensures ∙ c.place_for_machine.ensures)) c.fail-ccb.ensures.taken
 
 pub returns-clause-step : goal.returns-clause-step
 returns-clause-step c world =
-    let same : (queue_setup c.args.config.now c.args.ccb.queue.0).program ≡ (arc_value c.in_ok-recorded.recorded).program =
-    sym (ap (λ (v : Verdict). v.program) c.in_ok-recorded.ensures ∙ c.program-program.ensures.program) in
-    ap (λ (recoveries : RecoveryState). recovers c.args.config.now (with_ccbs c.args.ccbs.now (with_recoveries recoveries world)) c.args.ccb c.args.completion.now) (sym (same_recoveries c))
-    ∙ c.start-started.ensures.step c.args.config.now (with_ccbs c.args.ccbs.now world) same
-    ∙ (ap (λ (ccbs : CcbsState). (replies (answers.Started c.start-started.result.run c.start-started.result.freeze), with_ccbs ccbs (with_recoveries c.start-started.new.self world))) (sym c.recover.ensures)
-    ∙ ap (λ (run : RunState). (replies (answers.Started run.number c.start-started.result.freeze), with_ccbs c.recover.new.self (with_recoveries c.start-started.new.self world))) (sym c.new.ensures))
+    let at : World = record world { transport = c.args.transport.now; runs = c.args.runs.now.runs } in
+    let t : Option Freeze = c.fail-ccb.result.1 in
+    let ccb : Ccb = completed c.args.ccb c.args.completion.now (is_some t) in
+    let same : c.place_for_machine-2.new.self ≡ c.args.runs.now = c.place_for_machine-2.ensures ∙ c.place_for_machine.ensures in
+    let program : List Slot = (arc_value c.in_ok-recorded.recorded).program in
+    let program_is : (queue_setup c.args.config.now c.args.ccb.queue.0).program ≡ program = sym (ap (λ (v : Verdict). v.program) c.in_ok-recorded.ensures ∙ c.program-program.ensures.program) in
+    let machine_is : c.start-started.new.machine ≡ entry (context_of ccb) (told t) = c.start-started.ensures.machine ∙ ap (λ (b : Ccb). entry (context_of b) (told t)) c.fail-ccb.ensures.ccb in
+    let transport_is : c.fail-ccb.new.self ≡ failed at c.args.ccb c.args.completion.now t =
+    c.fail-ccb.ensures.state ∙ ap (λ (b : Ccb). record (took c.args.transport.now t) { live = with_ccb (record { ccb = b; state = InRecovery }) c.args.transport.now.live }) c.fail-ccb.ensures.ccb in
+    let begun_by : RunsState → ℕ → Ccb → MachineState → Runs = λ runs number b m. record runs.runs { list = runs.runs.list ++ run_for number b program m ∷ []; greatest = number } in
+    let runs_are : c.start-started.new.self.runs ≡ begun at c.args.ccb c.args.completion.now program t =
+    ap (λ (r : RunsState). r.runs) c.start-started.ensures.state ∙ (λ i. begun_by (same i) (run_is c i) (c.fail-ccb.ensures.ccb i) (machine_is i)) in
+    recovers_so c.args.config.now at c.args.ccb c.args.completion.now program t (taken_is c) program_is
+    ∙ sym (λ i. (replies (answers.Started ((ap (λ (r : RunState). r.number) c.new.ensures ∙ run_is c) i) (c.start-started.ensures.freeze i)), record world { transport = transport_is i; runs = runs_are i }))
 
 pub returns-clause-out : goal.returns-clause-out
 returns-clause-out c world =
     let program : (arc_value c.in_ok-recorded.recorded).program ≡ (arc_value c.in_ok-handed.handed).program =
     ap (λ (v : Verdict). v.program) (c.in_ok-recorded.ensures ∙ sym c.in_ok-handed.ensures) in
     rw (c.new.ensures) (record {
-      out = record { it = _; found = c.start-started.ensures.machine; out = refl; program_is = program; machine_is = refl };
-      budget = ap (λ (v : Verdict). v.budget) c.in_ok-handed.ensures ∙ c.program-program.ensures.budget;
+      out = record { it = _; found = c.start-started.ensures.found; out = refl; program_is = program; machine_is = refl };
+      budget = ap (λ (v : Verdict). v.budget) c.in_ok-handed.ensures
+          ∙ (c.program-program.ensures.budget ∙ ap (λ (b : Ccb). (queue_setup c.args.config.now b.queue.0).budget) (sym c.fail-ccb.ensures.ccb));
       limits = ap (λ (v : Verdict). v.limits) c.in_ok-handed.ensures ∙ c.program-program.ensures.limits;
     })
+
+pub returns-clause-tokens : goal.returns-clause-tokens
+returns-clause-tokens c =
+    let t : Option Freeze = c.fail-ccb.result.1 in
+    let same : c.place_for_machine-2.new.self ≡ c.args.runs.now = c.place_for_machine-2.ensures ∙ c.place_for_machine.ensures in
+    let before : World = world_of c.args.config.now c.requires.kept.0 c.args.transport.now c.args.runs.now.runs in
+    let it : LiveRun = run_for c.start-started.result.run c.fail-ccb.result.0 (arc_value c.in_ok-recorded.recorded).program c.start-started.new.machine in
+    subst (λ (fs : List Freeze). HoldEntries fs c.start-started.new.self) (sym (ap (λ (m : Transport). m.freezes) c.fail-ccb.ensures.state))
+    (run_started c.args.config.now before c.args.runs.now c.start-started.new.self t it (kept_sound c.args.config.now c.requires.kept.0 c.args.transport.now c.args.runs.now c.requires.kept.1) refl c.requires.kept.1.tokens
+    (holder_is c.args.transport.now (Device c.args.ccb.queue) (c.args.runs.now.runs.greatest + 1) t (taken_is c)) (run_is c)
+    (ap (λ (r : RunsState). r.runs.list) c.start-started.ensures.state ∙ ap (λ (r : RunsState). r.runs.list ++ it ∷ []) same)
+    (ap (λ (r : RunsState). r.tokens) c.start-started.ensures.state ∙ ap (λ (r : RunsState). r.tokens ++ tokens_of (option_to_list t) ∷ []) same))

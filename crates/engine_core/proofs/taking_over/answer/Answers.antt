@@ -1,60 +1,59 @@
-use Rattle.std.proofs.Common.{◌≡◌, ℕ, rules, ap, sym, subst, ◌∙◌}
+use Rattle.std.proofs.Common.{◌≡◌, ℕ, rules, sym, subst}
 use Rattle.helpers.specs.declared.request.Request.{Request}
 use Rattle.helpers.specs.declared.request.Answer.{Answer}
 use Rattle.bpf_semantics.specs.MachineState.{MachineState}
 use Rattle.bpf_semantics.specs.Step.{HasRoomFor, IsAnswer}
 use Rattle.bpf_semantics.specs.declared.stop.Stop.TheVariants.{Helper}
 use Rattle.interpreter.specs.Segments.{SegmentState, IsSegment, StandsAt}
-use Rattle.ccb_table.specs.CcbsState.{CcbsState}
-use Rattle.recoveries.specs.RecoveryState.{RecoveryState}
+use Rattle.runs.specs.RunsState.{RunsState}
+use Rattle.world.specs.World.{Transport}
 use Rattle.engine_core.specs.TakingOver.{IsAdmitted, IsCalled, AnswersOf, Does}
-use Rattle.engine_core.proofs.StopEnds.{stands_of, room_of, call_ends, still_there, goes_on_there}
+use Rattle.engine_core.proofs.StopEnds.{stands_of, room_of, call_ends, call_holds, still_there, goes_on_there}
 use Rattle.engine_core.proofs.taking_over.answer.Goals as goal
 
 -- the call at which the segment stops
-is_called : (ccbs : CcbsState) (old : RecoveryState) (place : ℕ) (segment : SegmentState) (request : Request) → segment.stop ≡ Helper request → IsSegment segment → ((number : ℕ) × IsAdmitted ccbs old number place segment) → IsCalled ccbs old place segment request
-is_called ccbs old place segment request stop is admitted = record { segment_is = is; stop = stop; number = admitted.0; admitted = admitted.1 }
+is_called : (transport : Transport) (old : RunsState) (place : ℕ) (segment : SegmentState) (request : Request) → segment.stop ≡ Helper request → IsSegment segment → ((number : ℕ) × IsAdmitted transport old number place segment) → IsCalled transport old place segment request
+is_called transport old place segment request stop is admitted = record { segment_is = is; stop = stop; number = admitted.0; admitted = admitted.1 }
 
 -- what it did
-done : (ccbs more : CcbsState) (old after : RecoveryState) (place : ℕ) (segment : SegmentState) (request : Request) (given : Answer) → AnswersOf place request given ccbs old more after → segment.stop ≡ Helper request → IsSegment segment → ((number : ℕ) × IsAdmitted ccbs old number place segment) → Does place segment request given ccbs old more after
-done ccbs more old after place segment request given answers stop is admitted = answers.does segment (is_called ccbs old place segment request stop is admitted)
+done : (transport more : Transport) (old after : RunsState) (place : ℕ) (segment : SegmentState) (request : Request) (given : Answer) → AnswersOf place request given transport old more after → segment.stop ≡ Helper request → IsSegment segment → ((number : ℕ) × IsAdmitted transport old number place segment) → Does place segment request given transport old more after
+done transport more old after place segment request given answers stop is admitted = answers.does segment (is_called transport old place segment request stop is admitted)
 
 pub carry_out-given-requires : goal.carry_out-given-requires
-carry_out-given-requires c = (c.args.segment.now, is_called c.args.ccbs.now c.args.recoveries.now c.args.place c.args.segment.now c.args.request.now c.requires.stop c.requires.segment c.requires.admitted)
+carry_out-given-requires c = (c.args.segment.now, is_called c.args.transport.now c.args.runs.now c.args.place c.args.segment.now c.args.request.now c.requires.stop c.requires.segment c.requires.admitted)
 
 pub go_on-requires-clause-run : goal.go_on-requires-clause-run
 go_on-requires-clause-run c =
-    let it = done c.args.ccbs.now c.carry_out-given.new.ccbs c.args.recoveries.now c.carry_out-given.new.recoveries c.args.place c.args.segment.now c.args.request.now c.carry_out-given.result c.carry_out-given.ensures c.requires.stop c.requires.segment c.requires.admitted in
+    let it = done c.args.transport.now c.carry_out-given.new.transport c.args.runs.now c.carry_out-given.new.runs c.args.place c.args.segment.now c.args.request.now c.carry_out-given.result c.carry_out-given.ensures c.requires.stop c.requires.segment c.requires.admitted in
     let run = c.requires.admitted.1.out.it in
-    (run, still_there c.args.recoveries.now c.carry_out-given.new.recoveries c.args.place run it.runs c.requires.admitted.1.there)
+    (run, still_there c.args.runs.now.runs.list c.carry_out-given.new.runs.runs.list c.args.place run it.list c.requires.admitted.1.there)
 
 pub go_on-requires-clause-stands : goal.go_on-requires-clause-stands
 go_on-requires-clause-stands c =
     subst (λ (m : MachineState). StandsAt m c.args.request.now) (sym c.to.ensures.value)
-    (stands_of c.args.ccbs.now c.args.recoveries.now c.args.place c.args.segment.now c.requires.segment c.requires.admitted.0 c.requires.admitted.1 c.args.request.now c.requires.stop)
+    (stands_of c.args.transport.now c.args.runs.now c.args.place c.args.segment.now c.requires.segment c.requires.admitted.0 c.requires.admitted.1 c.args.request.now c.requires.stop)
 
 pub go_on-requires-clause-room : goal.go_on-requires-clause-room
 go_on-requires-clause-room c =
     subst (λ (m : MachineState). HasRoomFor m c.args.request.now) (sym c.to.ensures.value)
-    (room_of c.args.ccbs.now c.args.recoveries.now c.args.place c.args.segment.now c.requires.segment c.requires.admitted.0 c.requires.admitted.1 c.args.request.now c.requires.stop)
+    (room_of c.args.transport.now c.args.runs.now c.args.place c.args.segment.now c.requires.segment c.requires.admitted.0 c.requires.admitted.1 c.args.request.now c.requires.stop)
 
 pub go_on-requires-clause-allowed : goal.go_on-requires-clause-allowed
 go_on-requires-clause-allowed c =
     subst (λ (m : MachineState). IsAnswer m c.args.request.now c.carry_out-given.result) (sym c.to.ensures.value)
-    (done c.args.ccbs.now c.carry_out-given.new.ccbs c.args.recoveries.now c.carry_out-given.new.recoveries c.args.place c.args.segment.now c.args.request.now c.carry_out-given.result c.carry_out-given.ensures c.requires.stop c.requires.segment c.requires.admitted).allowed
+    (done c.args.transport.now c.carry_out-given.new.transport c.args.runs.now c.carry_out-given.new.runs c.args.place c.args.segment.now c.args.request.now c.carry_out-given.result c.carry_out-given.ensures c.requires.stop c.requires.segment c.requires.admitted).allowed
 
 pub returns-clause-leads : goal.returns-clause-leads
 returns-clause-leads c =
-    let it = done c.args.ccbs.now c.carry_out-given.new.ccbs c.args.recoveries.now c.carry_out-given.new.recoveries c.args.place c.args.segment.now c.args.request.now c.carry_out-given.result c.carry_out-given.ensures c.requires.stop c.requires.segment c.requires.admitted in
-    call_ends c.args.ccbs.now c.carry_out-given.new.ccbs c.args.recoveries.now c.carry_out-given.new.recoveries c.go_on.new.self c.args.place c.args.segment.now c.args.request.now c.carry_out-given.result c.requires.segment c.requires.stop it (search rules)
+    let it = done c.args.transport.now c.carry_out-given.new.transport c.args.runs.now c.carry_out-given.new.runs c.args.place c.args.segment.now c.args.request.now c.carry_out-given.result c.carry_out-given.ensures c.requires.stop c.requires.segment c.requires.admitted in
+    call_ends c.args.transport.now c.carry_out-given.new.transport c.args.runs.now c.carry_out-given.new.runs c.go_on.new.self c.args.place c.args.segment.now c.args.request.now c.carry_out-given.result c.requires.segment c.requires.stop it (search rules)
 
 pub returns-clause-goes : goal.returns-clause-goes
 returns-clause-goes c =
-    let it = done c.args.ccbs.now c.carry_out-given.new.ccbs c.args.recoveries.now c.carry_out-given.new.recoveries c.args.place c.args.segment.now c.args.request.now c.carry_out-given.result c.carry_out-given.ensures c.requires.stop c.requires.segment c.requires.admitted in
-    goes_on_there c.args.recoveries.now c.carry_out-given.new.recoveries c.go_on.new.self c.args.place _ it.runs c.go_on.ensures.goes c.go_on.ensures.place
+    let it = done c.args.transport.now c.carry_out-given.new.transport c.args.runs.now c.carry_out-given.new.runs c.args.place c.args.segment.now c.args.request.now c.carry_out-given.result c.carry_out-given.ensures c.requires.stop c.requires.segment c.requires.admitted in
+    goes_on_there c.args.runs.now c.carry_out-given.new.runs c.go_on.new.self c.args.place _ it.list c.go_on.ensures.goes c.go_on.ensures.place
 
-pub returns-clause-queues : goal.returns-clause-queues
-returns-clause-queues c =
-    let it = done c.args.ccbs.now c.carry_out-given.new.ccbs c.args.recoveries.now c.carry_out-given.new.recoveries c.args.place c.args.segment.now c.args.request.now c.carry_out-given.result c.carry_out-given.ensures c.requires.stop c.requires.segment c.requires.admitted in
-    let run = c.requires.admitted.1.out.it in
-    ap (λ (r : RecoveryState). r.queues) (c.go_on.ensures.goes run (still_there c.args.recoveries.now c.carry_out-given.new.recoveries c.args.place run it.runs c.requires.admitted.1.there)) ∙ it.queues
+pub returns-clause-tokens : goal.returns-clause-tokens
+returns-clause-tokens c =
+    let it = done c.args.transport.now c.carry_out-given.new.transport c.args.runs.now c.carry_out-given.new.runs c.args.place c.args.segment.now c.args.request.now c.carry_out-given.result c.carry_out-given.ensures c.requires.stop c.requires.segment c.requires.admitted in
+    call_holds c.args.transport.now c.carry_out-given.new.transport c.args.runs.now c.carry_out-given.new.runs c.go_on.new.self c.args.place c.args.segment.now c.args.request.now c.carry_out-given.result c.requires.admitted.0 c.requires.admitted.1 it (search rules)

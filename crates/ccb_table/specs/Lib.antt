@@ -1,5 +1,0 @@
-pub mod CcbsState
-pub mod Listed
-pub mod Queues
-pub mod Refusals
-pub mod Invariant

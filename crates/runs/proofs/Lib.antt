@@ -1,0 +1,3 @@
+pub mod Records
+pub mod Tokens
+pub mod Kept

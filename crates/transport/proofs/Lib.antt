@@ -1,0 +1,10 @@
+pub mod Listed
+pub mod Pairs
+pub mod Told
+pub mod Next
+pub mod Kept
+pub mod Steps
+pub mod Replies
+pub mod Info
+pub mod Opened
+pub mod Failing

@@ -1,0 +1,58 @@
+use Rattle.std.proofs.Common.{◌≡◌, ◌<◌, length, Some, None, refl, ap, sym, subst, ◌∙◌, arith}
+use Rattle.std.specs.Result.{result_err}
+use Rattle.ccb.specs.Ccb.{started}
+use Rattle.dev_queue.specs.Faults.{start_fault}
+use Rattle.world.specs.declared.ccb_state.CcbState.{CcbState}
+use Rattle.world.specs.World.{queue_count, LiveCcb}
+use Rattle.world.specs.Lookups.{ccb_of, with_ccb}
+use Rattle.calls.specs.declared.call.Call.TheVariants.{Dispatch}
+use Rattle.calls.specs.declared.call_answer.CallAnswer.TheVariants as answers
+use Rattle.world.specs.Event.{replies}
+use Rattle.world.specs.Step.{step_call}
+use Rattle.world.specs.World.{Transport}
+use Rattle.transport.specs.Queues.{queue_at}
+use Rattle.transport.specs.Invariant.{seen}
+use Rattle.transport.proofs.Listed.{listed_as}
+use Rattle.transport.proofs.Steps.{next_one, dispatched, dispatched_after, kept_on}
+use Rattle.transport.proofs.Replies.{dispatch_reply}
+use Rattle.transport.proofs.transport.Transport.dispatch.Goals as goal
+
+pub unreachable-requires : goal.unreachable-requires
+unreachable-requires c =
+    let known : c.args.queue.0 < length c.self.inside.queues = omega (arith, c.if-queue-len.false, c.len.ensures) in
+    let s = next_one c.self.inside.ccbs c.self.inside.queues c.args.queue.0 c.in-Ok.number c.self.invariant.table known c.in-Ok.ensures.least in
+    let bad : None ≡ Some s.it = sym c.in_default.is ∙ (c.get.ensures ∙ s.found) in
+    cc
+
+pub change-requires : goal.change-requires
+change-requires c =
+    let known : c.args.queue.0 < length c.self.inside.queues = omega (arith, c.if-queue-len.false, c.len.ensures) in
+    let ccb_is : c.start-in-Ok.new.self.ccb ≡ started c.in-Some.next.ccb = ap (λ (l : LiveCcb). l.ccb) c.start-in-Ok.ensures in
+    let d = dispatched c.self.inside.ccbs c.self.inside.queues c.args.queue.0 c.in-Ok.number c.get.result c.in-Some.next c.start-in-Ok.new.self.ccb c.self.invariant.table known c.in-Ok.ensures.least c.get.ensures c.in-Some.is ccb_is in
+    (c.in-Some.next, subst (λ (l : LiveCcb). ccb_of l.ccb.number.0 c.self.inside.ccbs.live ≡ Some c.in-Some.next) (sym (ap (λ (s : CcbState). record { ccb = c.start-in-Ok.new.self.ccb; state = s }) (ap (λ (l : LiveCcb). l.state) c.start-in-Ok.ensures))) d.found)
+
+pub invariant_of-self-in-Ok : goal.invariant_of-self-in-Ok
+invariant_of-self-in-Ok c =
+    let known : c.args.queue.0 < length c.self.inside.queues = omega (arith, c.if-queue-len.false, c.len.ensures) in
+    let ccb_is : c.start-in-Ok.new.self.ccb ≡ started c.in-Some.next.ccb = ap (λ (l : LiveCcb). l.ccb) c.start-in-Ok.ensures in
+    let d = dispatched c.self.inside.ccbs c.self.inside.queues c.args.queue.0 c.in-Ok.number c.get.result c.in-Some.next c.start-in-Ok.new.self.ccb c.self.invariant.table known c.in-Ok.ensures.least c.get.ensures c.in-Some.is ccb_is in
+    kept_on c.self.inside.ledger c.self.inside.clock c.self.inside.ccbs c.change.new.self c.self.inside.queues c.start.new.self _ c.self.invariant
+    (dispatched_after c.self.inside.ledger c.self.inside.clock c.self.inside.ccbs c.change.new.self c.self.inside.queues c.start.new.self c.args.queue.0 c.in-Ok.number c.in-Some.next c.start-in-Ok.new.self.ccb c.self.invariant.table d ccb_is
+    (c.change.ensures ∙ ap (λ (l : LiveCcb). listed_as c.self.inside.ccbs.greatest (with_ccb l c.self.inside.ccbs.live)) (ap (λ (s : CcbState). record { ccb = c.start-in-Ok.new.self.ccb; state = s }) (ap (λ (l : LiveCcb). l.state) c.start-in-Ok.ensures))) c.in-Ok.ensures.started) refl
+
+pub returns-in-Some : goal.returns-in-Some
+returns-in-Some c = record {
+  step = λ setup world count.
+      let known : c.args.queue.0 < length c.self.inside.queues = omega (arith, c.if-queue-len.false, c.len.ensures) in
+      let ccb_is : c.start-in-Ok.new.self.ccb ≡ started c.in-Some.next.ccb = ap (λ (l : LiveCcb). l.ccb) c.start-in-Ok.ensures in
+      let d = dispatched c.self.inside.ccbs c.self.inside.queues c.args.queue.0 c.in-Ok.number c.get.result c.in-Some.next c.start-in-Ok.new.self.ccb c.self.invariant.table known c.in-Ok.ensures.least c.get.ensures c.in-Some.is ccb_is in
+      let after =
+      dispatched_after c.self.inside.ledger c.self.inside.clock c.self.inside.ccbs c.change.new.self c.self.inside.queues c.start.new.self c.args.queue.0 c.in-Ok.number c.in-Some.next c.start-in-Ok.new.self.ccb c.self.invariant.table d ccb_is
+      (c.change.ensures ∙ ap (λ (l : LiveCcb). listed_as c.self.inside.ccbs.greatest (with_ccb l c.self.inside.ccbs.live)) (ap (λ (s : CcbState). record { ccb = c.start-in-Ok.new.self.ccb; state = s }) (ap (λ (l : LiveCcb). l.state) c.start-in-Ok.ensures))) c.in-Ok.ensures.started in
+      let fault : start_fault c.count-freezes.result (queue_at c.self.inside.queues c.args.queue.0) ≡ None = sym c.start.ensures.fault ∙ ap result_err c.in-Ok.is in
+      subst (λ (s : Transport). step_call setup (record world { transport = s }) (Dispatch c.args.queue) ≡ Some (replies (answers.Ccb c.in-Ok.number), record world { transport = (seen c.change.new.self c.start.new.self c.self.inside.ledger c.self.inside.clock) })) c.self.view_is
+      (dispatch_reply c.self.inside.ledger c.self.inside.clock setup world c.self.inside.ccbs c.change.new.self c.self.inside.queues c.start.new.self c.args.queue.0 c.count-freezes.result c.in-Ok.number c.in-Some.next c.start-in-Ok.new.self.ccb c.self.invariant.table known
+      (subst (λ (s : Transport). queue_count setup ≡ length s.openings) (sym c.self.view_is) count)
+      c.count-freezes.ensures.entries fault d after.seen_is);
+  freezes = ap (λ (s : Transport). s.freezes) c.self.view_is;
+}

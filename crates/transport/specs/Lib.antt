@@ -1,0 +1,5 @@
+pub mod Listed
+pub mod Queues
+pub mod Refusals
+pub mod Invariant
+pub mod Freezing

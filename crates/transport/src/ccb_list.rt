@@ -1,0 +1,155 @@
+// The live CCBs as a plain list in the order of their numbers, reserved once. It relies on `live_ccb` for what
+// an entry is.
+
+ghost use Rattle.std.specs.Prelude.{◌≡◌, ℕ, ◌+◌, ◌<◌, ◌≤◌, ◌++◌, [], ◌∷◌, ◌==◌, not, length, map, filter, IfOk, IfSome, IfNone, Some, None, if◌then◌else◌};
+ghost use Rattle.std.specs.List.{AllWithin};
+ghost use Rattle.std.specs.List.Sorted.{IsNonDecreasingBy};
+ghost use Rattle.ccb.specs.Rising.{AreRising};
+ghost use Rattle.world.specs.Capacities.{most_ccbs};
+ghost use Rattle.world.specs.World.{LiveCcb as WorldCcb};
+ghost use Rattle.world.specs.Lookups.{ccb_of, with_ccb};
+ghost use Rattle.transport.specs.Listed.{ListState, no_live, is_full, all_active, IsPlaceOf};
+
+use crate::live_ccb::LiveCcb;
+use ccb::CcbId;
+use std::alloc::{AllocError, Global};
+use std::marker::Model;
+
+/// How many CCBs are live at a time, in all queues.
+const MAX_CCBS: usize = 4096;
+
+/// The live CCBs, the greatest number that was given, and how many are active. Contracts see the first two.
+#[derive(Drop)]
+pub(crate) struct CcbList {
+    ccbs: Vec<LiveCcb>,
+    greatest: u32,
+    active: u32,
+}
+
+impl Model for CcbList {
+    ghost use Rattle.transport.specs.Listed.{ListState, IsListed};
+
+    ghost Value = { ListState };
+
+    ghost view = { λ l. record { live = l.ccbs.items; greatest = l.greatest } };
+
+    ghost invariant = { λ l. IsListed l.ccbs l.greatest l.active };
+}
+
+// How many of these CCBs have a lower number: where the one of this number stands, if it is there.
+fn place_for(ccbs: &[LiveCcb], number: CcbId) -> usize
+    requires { IsNonDecreasingBy (λ (live : WorldCcb). live.ccb.number.0) ccbs.now }
+    ensures within { result ≤ length ccbs.now }
+    ensures lower { AllWithin (λ live. live.ccb.number.0 < number.0) ccbs.now 0 result }
+    ensures others { AllWithin (λ live. number.0 ≤ live.ccb.number.0) ccbs.now result (length ccbs.now) }
+{
+    ccbs.partition_point(|live| live.number().0 < number.0)
+}
+
+// Where the CCB of this number stands, if it is there.
+fn place_of(ccbs: &[LiveCcb], number: CcbId) -> Option<usize>
+    requires { (greatest : ℕ) × AreRising 0 (map (λ (live : WorldCcb). live.ccb.number.0) ccbs.now) greatest }
+    ensures found { IfSome result (IsPlaceOf number.0 ccbs.now) }
+    ensures none { IfNone result (ccb_of number.0 ccbs.now ≡ None) }
+{
+    let place = place_for(ccbs, number);
+    if place < ccbs.len() && ccbs[place].number() == number {
+        Some(place)
+    } else {
+        None
+    }
+}
+
+// How many CCBs are active after one that was, or was not, is or is not.
+fn moved(active: u32, was: bool, is: bool) -> u32
+    requires some { (if was then 1 else 0) ≤ active }
+    requires few { active ≤ most_ccbs }
+    ensures { result + (if was then 1 else 0) ≡ active + (if is then 1 else 0) }
+{
+    match (was, is) {
+        (true, false) => active - 1,
+        (false, true) => active + 1,
+        (true, true) | (false, false) => active,
+    }
+}
+
+impl CcbList {
+    /// No CCB, none was given a number, and there is room for 4096: no later call takes memory.
+    pub(crate) fn with_room(alloc: Global) -> Result<Self, AllocError>
+        ensures { IfOk result (λ list. list ≡ no_live) }
+    {
+        Ok(CcbList {
+            ccbs: Vec::with_capacity(alloc, MAX_CCBS)?,
+            greatest: 0,
+            active: 0,
+        })
+    }
+
+    /// Whether a further CCB has no room or no number.
+    pub(crate) fn is_full(&self) -> bool
+        ensures { result ≡ is_full self.now }
+    {
+        self.ccbs.len() >= MAX_CCBS || self.greatest == u32::MAX
+    }
+
+    /// The greatest number that was given, 0 before the first.
+    pub(crate) fn greatest(&self) -> u32
+        ensures { result ≡ self.now.greatest }
+    {
+        self.greatest
+    }
+
+    /// How many CCBs are active, at most 4096. It is a stored number.
+    pub(crate) fn active(&self) -> u32
+        ensures value { result ≡ all_active self.now.live }
+        ensures bound { result ≤ most_ccbs }
+    {
+        self.active
+    }
+
+    /// The CCB of this number.
+    pub(crate) fn get(&self, number: CcbId) -> Option<LiveCcb>
+        ensures { result ≡ ccb_of number.0 self.now.live }
+    {
+        let place = place_of(&self.ccbs, number)?;
+        Some(self.ccbs[place])
+    }
+
+    /// One CCB more, under the number after the greatest given.
+    pub(crate) fn enter(&mut self, live: LiveCcb)
+        requires room { length self.old.live < most_ccbs }
+        requires next { live.ccb.number.0 ≡ self.old.greatest + 1 }
+        ensures { self.new ≡ record { live = self.old.live ++ live ∷ []; greatest = live.ccb.number.0 } }
+    {
+        self.greatest = live.number().0;
+        self.active = moved(self.active, false, live.is_active());
+        self.ccbs.push_reserved(live);
+    }
+
+    /// Puts a CCB in the place of the one of its number, which is there.
+    pub(crate) fn change(&mut self, changed: &LiveCcb)
+        requires { (it : WorldCcb) × (ccb_of changed.now.ccb.number.0 self.old.live ≡ Some it) }
+        ensures { self.new ≡ record self.old { live = with_ccb changed.now self.old.live } }
+    {
+        let Some(place) = place_of(&self.ccbs, changed.number()) else {
+            unreachable!()
+        };
+        let was = self.ccbs[place].is_active();
+        self.active = moved(self.active, was, changed.is_active());
+        self.ccbs[place] = *changed;
+    }
+
+    /// Takes out the CCB of this number, which is there.
+    pub(crate) fn remove(&mut self, number: CcbId) -> LiveCcb
+        requires { (it : WorldCcb) × (ccb_of number.0 self.old.live ≡ Some it) }
+        ensures gone { ccb_of number.0 self.old.live ≡ Some result }
+        ensures others { self.new ≡ record self.old { live = filter (λ live. not (live.ccb.number.0 == number.0)) self.old.live } }
+    {
+        let Some(place) = place_of(&self.ccbs, number) else {
+            unreachable!()
+        };
+        let gone = self.ccbs.remove(place);
+        self.active = moved(self.active, gone.is_active(), false);
+        gone
+    }
+}

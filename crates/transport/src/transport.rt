@@ -1,0 +1,345 @@
+// The transport: what becomes of a CCB that is submitted, started, finished, put in recovery and made to wait again, and
+// of the freezes that guests, runs and timers hold. It relies on `ccb_list` for the CCBs, on `queue_list` for the queues,
+// and on `freeze_ledger` for the freezes.
+
+ghost use Rattle.std.specs.Prelude.{◌≡◌, ℕ, ◌+◌, ◌<◌, ◌≤◌, ◌++◌, [], ◌∷◌, ◌==◌, ◌↔◌, not, true, false, length, map, filter, count_by, slice_index, slice_set, All, Contains, IsTrue, Some, IfOk, IfSome, OnOk, OnErr};
+ghost use Rattle.std.specs.Option.{is_some};
+ghost use Rattle.ccb.specs.Ccb.{completed, requeued};
+ghost use Rattle.dev_queue.specs.State.{empty_queue};
+ghost use Rattle.freeze_ledger.specs.declared.freeze.Holder.TheVariants.{Guest, Run};
+ghost use Rattle.freeze_ledger.specs.declared.place.Place.TheVariants.{Device};
+ghost use Rattle.freeze_ledger.specs.declared.ledger.TheConstants.{MAX_FREEZES};
+ghost use Rattle.freeze_ledger.specs.Freezes.{entry_of, frozen, handed_over, not_due_at, without};
+ghost use Rattle.freeze_ledger.specs.Places.{index_of};
+ghost use Rattle.world.specs.declared.ccb_state.CcbState.TheVariants.{Waiting, Active as IsActive, InRecovery};
+ghost use Rattle.world.specs.World.{Setup, World, queue_count, LiveCcb as WorldCcb};
+ghost use Rattle.world.specs.Capacities.{most_queues, most_ccbs, last_reading};
+ghost use Rattle.world.specs.Lookups.{is_waiting, is_active, ccb_of, with_ccb};
+ghost use Rattle.calls.specs.declared.call.Call.TheVariants.{Submit, Dispatch, GuestFreeze, GuestRelease, Clock};
+ghost use Rattle.calls.specs.declared.call_answer.CallAnswer.TheVariants as answers;
+ghost use Rattle.calls.specs.Answered.{ccb_answer, freeze_answer, removed_answer};
+ghost use Rattle.world.specs.Event.{replies};
+ghost use Rattle.world.specs.FreezeSteps.{is_guest};
+ghost use Rattle.world.specs.Step.{step_call};
+ghost use Rattle.world.specs.QueueInfo.{queue_info};
+ghost use Rattle.transport.specs.Freezing.{IsTaken, took};
+
+use crate::ccb_list::CcbList;
+use crate::live_ccb::LiveCcb;
+use crate::queue_list::{QueueList, refusal};
+use calls::CallRefusal;
+use ccb::{Ccb, CcbId, Completion, QueueId};
+use freeze_ledger::{FreezeToken, Holder, Ledger, Place};
+use std::alloc::{AllocError, Global};
+use std::marker::Model;
+use timer_events::expire_due;
+use world::{CcbState, QueueInfo};
+
+/// The last clock reading that there is, in milliseconds: 2^62.
+const LAST_READING: u64 = 4_611_686_018_427_387_904;
+
+/// At most 64 device queues with their openings, the live CCBs of all of them, at most 4096 and 256 a queue, their freezes,
+/// and the clock. Contracts see the world's transport.
+#[derive(Drop)]
+pub struct Transport {
+    ccbs: CcbList,
+    queues: QueueList,
+    ledger: Ledger,
+    clock: u64,
+}
+
+impl Model for Transport {
+    ghost use Rattle.world.specs.World.{Transport as WorldTransport};
+    ghost use Rattle.transport.specs.Invariant.{seen, KeepsTransport};
+
+    ghost Value = { WorldTransport };
+
+    ghost view = { λ t. seen t.ccbs t.queues t.ledger t.clock };
+
+    ghost invariant = { λ t. KeepsTransport t.ccbs t.queues t.ledger };
+}
+
+// Device queues without CCBs, one for each of these openings.
+fn queues_of(alloc: Global, openings: &[u8]) -> Result<QueueList, AllocError>
+    requires { All (λ it. 1 ≤ it) openings.now }
+    ensures { IfOk result (λ queues. queues ≡ map empty_queue openings.now) }
+{
+    let mut queues = QueueList::new(alloc);
+    for it in openings {
+        queues.add(*it)?;
+    }
+    Ok(queues)
+}
+
+impl Transport {
+    /// Device queues with so many openings each, at least 1, in the order of their numbers from 0, at most 64 of them,
+    /// without CCBs and not frozen; no clock was read. There is room for 4096 CCBs and 1024 freezes: no later call takes
+    /// memory.
+    pub fn with_room(alloc: Global, openings: &[u8]) -> Result<Self, AllocError>
+        requires some { All (λ it. 1 ≤ it) openings.now }
+        requires few { length openings.now ≤ most_queues }
+        ensures { IfOk result (λ it. it ≡ record { live = []; openings = openings.now; freezes = []; greatest_ccb = 0; greatest_freeze = 0; clock = 0 }) }
+    {
+        Ok(Transport {
+            ccbs: CcbList::with_room(alloc)?,
+            queues: queues_of(alloc, openings)?,
+            ledger: Ledger::with_room(alloc, openings.len() as u32)?,
+            clock: 0,
+        })
+    }
+
+    /// Submits a CCB to a queue: it waits, under the number after the greatest given. C1 where there is no such
+    /// queue, C2 where the queue has 256 live CCBs, there are 4096 in all, or the numbers are used up. A refusal
+    /// changes nothing.
+    pub fn submit(
+        &mut self,
+        queue: QueueId,
+        priority: u32,
+        retries: u32,
+    ) -> Result<CcbId, CallRefusal>
+        ensures step { (setup : Setup) (world : World) → queue_count setup ≡ length self.old.openings →
+            step_call setup (record world { transport = self.old }) (Submit queue priority retries) ≡ Some (replies (ccb_answer result), record world { transport = self.new }) }
+        ensures freezes { self.new.freezes ≡ self.old.freezes }
+    {
+        if queue.0 as usize >= self.queues.len() {
+            return Err(CallRefusal::Unknown);
+        }
+        if self.ccbs.is_full() {
+            return Err(CallRefusal::Limit);
+        }
+        let number = CcbId(self.ccbs.greatest() + 1);
+        match self.queues.insert(queue, number, priority) {
+            Err(fault) => Err(refusal(fault)),
+            Ok(()) => {
+                let ccb = Ccb::new(number, queue, priority, retries);
+                self.ccbs.enter(LiveCcb::new(ccb, CcbState::Waiting));
+                Ok(number)
+            }
+        }
+    }
+
+    /// Starts the waiting CCB of the queue that has the lowest priority number, and among these the lowest CCB number:
+    /// it is active. C1 where there is no such queue, Q2 where it is frozen, Q3 where as many of its CCBs are active
+    /// as it has openings, Q4 where none waits. A refusal changes nothing.
+    pub fn dispatch(&mut self, queue: QueueId) -> Result<CcbId, CallRefusal>
+        ensures step { (setup : Setup) (world : World) → queue_count setup ≡ length self.old.openings →
+            step_call setup (record world { transport = self.old }) (Dispatch queue) ≡ Some (replies (ccb_answer result), record world { transport = self.new }) }
+        ensures freezes { self.new.freezes ≡ self.old.freezes }
+    {
+        if queue.0 as usize >= self.queues.len() {
+            return Err(CallRefusal::Unknown);
+        }
+        let freezes = self.ledger.count(Place::Device(queue));
+        match self.queues.start(queue, freezes) {
+            Err(fault) => Err(refusal(fault)),
+            Ok(number) => {
+                let Some(mut next) = self.ccbs.get(number) else {
+                    unreachable!()
+                };
+                next.start();
+                self.ccbs.change(&next);
+                Ok(number)
+            }
+        }
+    }
+
+    /// The live CCB of this number, which bears it and is of a queue that there is. `None` where no live one has it.
+    pub fn get(&self, ccb: CcbId) -> Option<LiveCcb>
+        ensures found { result ≡ ccb_of ccb.0 self.now.live }
+        ensures numbered { IfSome result (λ live. live.ccb.number ≡ ccb) }
+        ensures known { IfSome result (λ live. live.ccb.queue.0 < length self.now.openings) }
+    {
+        self.ccbs.get(ccb)
+    }
+
+    /// The CCB of this number is finished and gone. It asks for an active one, or one in recovery.
+    pub fn finish(&mut self, ccb: CcbId)
+        requires { (it : WorldCcb) × (ccb_of ccb.0 self.old.live ≡ Some it) × (is_waiting it.state ≡ false) }
+        ensures { self.new ≡ record self.old { live = filter (λ live. not (live.ccb.number.0 == ccb.0)) self.old.live } }
+    {
+        let live = self.ccbs.remove(ccb);
+        self.queues.leave(live.ccb().queue, live.is_active());
+    }
+
+    /// The completion of an active CCB failed. A freeze of its queue is taken for the run of that number, or none where
+    /// that meets a limit; the CCB takes over what the completion brought, and is in recovery. It answers the CCB, and the
+    /// right of the run to give its freeze back.
+    pub fn fail(
+        &mut self,
+        ccb: Ccb,
+        completion: &Completion,
+        run: u32,
+    ) -> (Ccb, Option<FreezeToken>)
+        requires { ccb_of ccb.number.0 self.old.live ≡ Some (record { ccb = ccb; state = IsActive }) }
+        ensures taken { IsTaken self.old (Device ccb.queue) (Run run) result.1 }
+        ensures ccb { result.0 ≡ completed ccb completion.now (is_some result.1) }
+        ensures state { self.new ≡ record (took self.old result.1) { live = with_ccb (record { ccb = result.0; state = InRecovery }) self.old.live } }
+    {
+        let token = self.ledger.take(Place::Device(ccb.queue), Holder::Run(run));
+        let mut ccb = ccb;
+        ccb.complete(completion, token.is_some());
+        self.queues.stop(ccb.queue, true);
+        self.ccbs.change(&LiveCcb::new(ccb, CcbState::InRecovery));
+        (ccb, token)
+    }
+
+    /// The CCB of this number waits again, with so many retries fewer, as far as it has that many. It asks for one in
+    /// recovery.
+    pub fn requeue(&mut self, ccb: CcbId, used: u32)
+        requires { (it : WorldCcb) × (ccb_of ccb.0 self.old.live ≡ Some it) × (it.state ≡ InRecovery) }
+        ensures { (it : WorldCcb) → ccb_of ccb.0 self.old.live ≡ Some it → self.new ≡ record self.old { live = with_ccb (record { ccb = requeued it.ccb used; state = Waiting }) self.old.live } }
+    {
+        let Some(mut live) = self.ccbs.get(ccb) else {
+            unreachable!()
+        };
+        live.requeue(used);
+        let again = live.as_ccb();
+        self.queues
+            .put_back(again.queue, again.number, again.priority);
+        self.ccbs.change(&live);
+    }
+
+    /// What a queue that there is has: its freezes, its active CCBs, those that wait, and its openings.
+    pub fn queue_info(&self, queue: QueueId) -> QueueInfo
+        requires { queue.0 < length self.now.openings }
+        ensures { (world : World) → result ≡ queue_info (record world { transport = self.now }) queue.0 }
+    {
+        let own = self.queues.get(queue);
+        let (waiting, active, _) = own.counts();
+        QueueInfo {
+            frozen: self.ledger.count(Place::Device(queue)),
+            active,
+            waiting,
+            openings: u32::from(own.openings()),
+        }
+    }
+
+    /// A queue that there is has so many openings from now on, at least 1, and the answer is how many it had. Openings
+    /// below its active CCBs stop starts and nothing else.
+    pub fn set_openings(&mut self, queue: QueueId, openings: u8) -> u8
+        requires known { queue.0 < length self.old.openings }
+        requires some { 1 ≤ openings }
+        ensures answer { result ≡ slice_index self.old.openings queue.0 }
+        ensures openings { self.new ≡ record self.old { openings = slice_set self.old.openings queue.0 openings } }
+    {
+        let old = self.queues.get(queue).openings();
+        self.queues.set_openings(queue, openings);
+        old
+    }
+
+    /// How many CCBs are active, at most 4096. It is a stored number.
+    pub fn active(&self) -> u32
+        ensures value { result ≡ count_by (λ live. is_active live.state) self.now.live }
+        ensures bound { result ≤ most_ccbs }
+    {
+        self.ccbs.active()
+    }
+
+    /// How many freezes there are in all, at most 1024.
+    pub fn frozen(&self) -> u32
+        ensures value { result ≡ length self.now.freezes }
+        ensures bound { result ≤ MAX_FREEZES }
+    {
+        self.ledger.len() as u32
+    }
+
+    /// Freezes a place that there is once more for this holder: the right to give that freeze back. `None`, which changes
+    /// nothing, exactly at a limit: the place has 255 freezes, there are 1024 in all, or the numbers up to 4,294,967,295
+    /// are used up.
+    pub fn take(&mut self, place: Place, holder: Holder) -> Option<FreezeToken>
+        requires { index_of place < length self.old.openings }
+        ensures taken { IsTaken self.old place holder result }
+        ensures state { self.new ≡ took self.old result }
+    {
+        self.ledger.take(place, holder)
+    }
+
+    /// Gives a freeze back that is there: how many freezes its place has then, at most 254.
+    pub fn give_back(&mut self, token: FreezeToken) -> u32
+        requires { Contains self.old.freezes token }
+        ensures entry { entry_of token.number self.old.freezes ≡ Some token }
+        ensures freezes { self.new ≡ record self.old { freezes = without token.number self.old.freezes } }
+        ensures count { result ≡ frozen token.place self.new.freezes }
+    {
+        match self.ledger.give_back(token) {
+            Ok(count) => count,
+            Err(token) => {
+                token.forfeit();
+                unreachable!()
+            }
+        }
+    }
+
+    /// Makes a timer the holder of a freeze that is there. It is due so many milliseconds after the last clock reading.
+    pub fn hand_over(&mut self, token: FreezeToken, milliseconds: u32)
+        requires there { Contains self.old.freezes token }
+        requires clock { self.old.clock ≤ last_reading }
+        ensures { self.new ≡ record self.old { freezes = handed_over token.number (self.old.clock + milliseconds) self.old.freezes } }
+    {
+        let due = self.clock + u64::from(milliseconds);
+        if let Err(token) = self.ledger.hand_over(token, due) {
+            token.forfeit();
+            unreachable!()
+        }
+    }
+
+    /// Freezes a place once more for a guest, under the number that it chose. C1 where there is no such place; C2 where
+    /// the place has 255 freezes, there are 1024 in all, or the numbers up to 4,294,967,295 are used up. A refusal
+    /// changes nothing.
+    pub fn guest_freeze(&mut self, place: Place, guest: u32) -> Result<FreezeToken, CallRefusal>
+        ensures step { (setup : Setup) (world : World) → queue_count setup ≡ length self.old.openings →
+            step_call setup (record world { transport = self.old }) (GuestFreeze place guest) ≡ Some (replies (freeze_answer result), record world { transport = self.new }) }
+        ensures token { IfOk result (λ token. (token.place ≡ place) × (token.holder ≡ Guest guest) × (self.new.freezes ≡ self.old.freezes ++ token ∷ [])) }
+        ensures refused { OnErr result (self.new ≡ self.old) }
+    {
+        if place.index() >= self.queues.len() {
+            return Err(CallRefusal::Unknown);
+        }
+        self.take(place, Holder::Guest(guest))
+            .ok_or(CallRefusal::Limit)
+    }
+
+    /// Whether an entry has the token's number, place and holder, and that is a guest.
+    pub fn is_guests(&self, token: &FreezeToken) -> bool
+        ensures { IsTrue result ↔ (Contains self.now.freezes token.now × (is_guest token.now.holder ≡ true)) }
+    {
+        matches!(token.holder(), Holder::Guest(_)) && self.ledger.holds(token)
+    }
+
+    /// Gives a guest's freeze back: how many freezes its place has then, at most 254. It asks for a token that is a
+    /// guest's.
+    pub fn guest_release(&mut self, token: FreezeToken) -> u32
+        requires { Contains self.old.freezes token × (is_guest token.holder ≡ true) }
+        ensures step { (setup : Setup) (world : World) →
+            step_call setup (record world { transport = self.old }) (GuestRelease token.number) ≡ Some (replies (answers.Left result), record world { transport = self.new }) }
+        ensures freezes { self.new.freezes ≡ without token.number self.old.freezes }
+    {
+        self.give_back(token)
+    }
+
+    /// What the clock read last, in milliseconds, 0 before the first reading, at most 2^62.
+    pub fn clock(&self) -> u64
+        ensures { result ≡ self.now.clock }
+    {
+        self.clock
+    }
+
+    /// Reads the clock, in milliseconds: the freezes go whose timers are due at or before the reading, and no others; it
+    /// answers how many these were, at most 1024. C2 above 2^62, and C5 below the last reading. A refusal changes
+    /// nothing.
+    pub fn read_clock(&mut self, reading: u64) -> Result<u32, CallRefusal>
+        ensures step { (setup : Setup) (world : World) →
+            step_call setup (record world { transport = self.old }) (Clock reading) ≡ Some (replies (removed_answer result), record world { transport = self.new }) }
+        ensures removed { OnOk result (self.new.freezes ≡ not_due_at reading self.old.freezes) }
+        ensures refused { OnErr result (self.new ≡ self.old) }
+    {
+        if reading > LAST_READING {
+            return Err(CallRefusal::Limit);
+        }
+        if reading < self.clock {
+            return Err(CallRefusal::GoesBack);
+        }
+        self.clock = reading;
+        Ok(expire_due(&mut self.ledger, reading))
+    }
+}

@@ -1,10 +1,9 @@
 // A module for what is tested, and the policies that they share.
 
-mod ccbs;
+mod rooms;
 mod decoding;
 mod each_call;
 mod engine;
-mod freezes;
 mod instructions;
 mod live_runs;
 mod passes;

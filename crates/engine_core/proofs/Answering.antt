@@ -38,7 +38,7 @@ pub unfit_owns : (event : Event) (world : World) → IsUnfit world event → own
 unfit_owns (Submit queue priority retries) world unfit = absurd (unfit tt)
 unfit_owns (Dispatch queue) world unfit = absurd (unfit tt)
 unfit_owns (Complete completion) world unfit = absurd (unfit tt)
-unfit_owns (Advance run segment) world unfit = refl
+unfit_owns (Advance run) world unfit = refl
 unfit_owns (Clock reading) world unfit = absurd (unfit tt)
 unfit_owns (GuestFreeze place guest) world unfit = absurd (unfit tt)
 unfit_owns (GuestRelease token) world unfit = refl
@@ -50,7 +50,7 @@ pub fit_at : (event : Event) (place : ℕ) (transport : Transport) (runs : RunsS
 fit_at (Submit queue priority retries) place transport runs world fit = tt
 fit_at (Dispatch queue) place transport runs world fit = tt
 fit_at (Complete completion) place transport runs world fit = tt
-fit_at (Advance run segment) place transport runs world fit = fit.0
+fit_at (Advance run) place transport runs world fit = record { it = fit.0.it; found = fit.0.found; out = fit.0.recorded.0; program_is = sym fit.0.recorded.1; machine_is = sym fit.0.recorded.2 }
 fit_at (Clock reading) place transport runs world fit = tt
 fit_at (GuestFreeze its guest) place transport runs world fit = tt
 fit_at (GuestRelease token) place transport runs world fit = fit
@@ -69,7 +69,7 @@ pub room_to_tell : (event : Event) (place : ℕ) (transport : Transport) (runs :
 room_to_tell (Submit queue priority retries) place transport runs records was capacity fit had more room = omega (arith, room)
 room_to_tell (Dispatch queue) place transport runs records was capacity fit had more room = omega (arith, room)
 room_to_tell (Complete completion) place transport runs records was capacity fit had more room = omega (arith, room)
-room_to_tell (Advance run segment) place transport runs records was capacity fit had more room = omega (arith, room)
+room_to_tell (Advance run) place transport runs records was capacity fit had more room = omega (arith, room)
 room_to_tell (Clock reading) place transport runs records was capacity fit had more room = omega (arith, room)
 room_to_tell (GuestFreeze its guest) place transport runs records was capacity fit had more room = omega (arith, room)
 room_to_tell (GuestRelease token) place transport runs records was capacity fit had more room = omega (arith, room)
@@ -86,7 +86,7 @@ pub room_behind : (event : Event) (old new : List LiveRun) (records was capacity
 room_behind (Submit queue priority retries) old new records was capacity leaves few had more room = few_out new records capacity room few
 room_behind (Dispatch queue) old new records was capacity leaves few had more room = few_out new records capacity room few
 room_behind (Complete completion) old new records was capacity leaves few had more room = few_out new records capacity room few
-room_behind (Advance run segment) old new records was capacity leaves few had more room = few_out new records capacity room few
+room_behind (Advance run) old new records was capacity leaves few had more room = few_out new records capacity room few
 room_behind (Clock reading) old new records was capacity leaves few had more room = few_out new records capacity room few
 room_behind (GuestFreeze its guest) old new records was capacity leaves few had more room = few_out new records capacity room few
 room_behind (GuestRelease token) old new records was capacity leaves few had more room = few_out new records capacity room few

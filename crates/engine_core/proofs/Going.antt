@@ -1,12 +1,19 @@
 -- A segment that was taken over, and a run that goes on behind its stop.
-use Rattle.std.proofs.Common.{◌≡◌, ℕ, List, [], ◌∷◌, ◌++◌, true, Some, refl, ap, sym, subst, ◌∙◌}
+use Rattle.std.proofs.Common.{suc, ◌+◌, inr, ◌≡◌, ℕ, List, [], ◌∷◌, ◌++◌, true, Some, refl, ap, sym, subst, ◌∙◌}
 use Rattle.bpf_insn.specs.declared.program.Slot.{Slot}
 use Rattle.bpf_semantics.specs.MachineState.{MachineState}
 use Rattle.bpf_semantics.specs.Reached.{Reached}
-use Rattle.interpreter.specs.Segments.{SegmentState}
+use Rattle.accepted.specs.Verdict.{Verdict, IsAccepted}
+use Rattle.helpers.specs.declared.request.Answer.{Answer}
+use Rattle.bpf_semantics.specs.Reached.{PrivateSteps}
+use Rattle.bpf_semantics.specs.Step.{IsAnswer, answered}
+use Rattle.bpf_semantics.specs.Stops.{stop_at}
+use Rattle.interpreter.proofs.Stops.{segment_calls, segment_reaches}
+use Rattle.interpreter.specs.Segments.{SegmentState, IsSegment, stop_there, stretch}
 use Rattle.runs.specs.RunsState.{RunsState}
+use Rattle.runs.specs.Admits.{IsOutWith}
 use Rattle.runs.specs.RunPlaces.{HasRunAt}
-use Rattle.runs.specs.Admits.{IsOutAs}
+use Rattle.engine_core.specs.RunState.{RunState, StoppedState, IsOut, IsOutUnder, IsReached, before_stop}
 use Rattle.calls.specs.declared.record.Record.{Record}
 use Rattle.calls.specs.declared.record.Record.TheVariants.{Advance}
 use Rattle.calls.specs.declared.record.StoppedAt.{StoppedAt}
@@ -15,77 +22,101 @@ use Rattle.bpf_semantics.specs.declared.stop.Stop.{Stop}
 use Rattle.bpf_semantics.specs.declared.stop.Stop.TheVariants.{Helper}
 use Rattle.world.specs.World.{Transport, Setup, LiveRun, World, queue_setup}
 use Rattle.world.specs.Lookups.{run_of}
-use Rattle.engine_core.specs.RunState.{RunState, IsOut, IsOutUnder, IsReached}
+use Rattle.engine_core.specs.declared.answers.AdvanceAnswer.{AdvanceAnswer}
+use Rattle.engine_core.specs.declared.answers.AdvanceAnswer.TheVariants.{Goes, Ended}
+use Rattle.engine_core.specs.Answers.{GoesOrEnds}
 use Rattle.engine_core.specs.Invariant.{HoldEntries, KeepsEngine}
-use Rattle.engine_core.specs.TakingOver.{IsAdmitted, LeadsBy, GoesOn, GoesBy}
+use Rattle.engine_core.specs.TakingOver.{GoesAs, IsAdmitted}
 use Rattle.engine_core.proofs.PrivateWays.{with_machine}
 use Rattle.engine_core.specs.Performing.{IsPlaced}
 use Rattle.engine_core.proofs.Recording.{goes, kept_sound}
 
-there : (runs : List LiveRun) (number place : ℕ) (program : List Slot) (segment : SegmentState) → (out : IsOutAs runs number program segment) → IsPlaced runs number place → HasRunAt runs place out.it
-there runs number place program segment out at =
+there : (runs : List LiveRun) (number place : ℕ) (program : List Slot) (machine : MachineState) → (out : IsOutWith runs number program machine) → IsPlaced runs number place → HasRunAt runs place out.it
+there runs number place program machine out at =
     let both : Some at.0 ≡ Some out.it = sym at.1 ∙ out.found in
     let same : at.0 ≡ out.it = cc in
     subst (HasRunAt runs place) same at.2
 
-pub is_admitted : (setup : Setup) (history : List Record) (transport : Transport) (runs : RunsState) (number place : ℕ) (program : List Slot) (segment : SegmentState) → KeepsEngine setup history transport runs → IsOutAs runs.runs.list number program segment → IsPlaced runs.runs.list number place → IsAdmitted transport runs number place segment
-is_admitted setup history transport runs number place program segment kept out at = record {
+pub is_admitted : (setup : Setup) (history : List Record) (transport : Transport) (runs : RunsState) (number place : ℕ) (segment : SegmentState) → KeepsEngine setup history transport runs → IsOutWith runs.runs.list number segment.program.program segment.from → IsPlaced runs.runs.list number place → IsAdmitted transport runs number place segment
+is_admitted setup history transport runs number place segment kept out at = record {
   setup = setup;
   history = history;
   kept = kept;
-  program = program;
-  out = out;
-  there = there runs.runs.list number place program segment out at;
+  program = segment.program.program;
+  out = record {
+    it = out.it;
+    found = out.found;
+    out = out.recorded.0;
+    next = record { program_is = out.recorded.1; segment_program_is = out.recorded.1; start_is = out.recorded.2 };
+  };
+  there = there runs.runs.list number place segment.program.program segment.from out at;
 }
 
--- the engine is kept by one that is taken over
-pub taken_over : (setup : Setup) (history : List Record) (transport more : Transport) (runs after : RunsState) (number place : ℕ) (program : List Slot) (segment : SegmentState) (stop : StoppedAt) (r0 : ℕ) → KeepsEngine setup history transport runs → HoldEntries more.freezes after → IsOutAs runs.runs.list number program segment → IsPlaced runs.runs.list number place → LeadsBy stop r0 place segment transport runs more after → KeepsEngine setup (history ++ Advance number segment.steps stop r0 ∷ []) more after
-taken_over setup history transport more runs after number place program segment stop r0 kept holds out at leads =
-    let it = leads number (is_admitted setup history transport runs number place program segment kept out at) setup history kept in
-    (goes setup history _ transport more runs after (Advance number segment.steps stop r0) kept refl holds it).kept
-
--- it goes on unless it exited
-went_on : (stop : Stop) (r0 : ℕ) (runs after : List LiveRun) (place : ℕ) (request : Request) → stop ≡ Helper request → GoesBy stop r0 runs after place → GoesOn runs after place
-went_on stop r0 runs after place request is goes = subst (λ (s : Stop). GoesBy s r0 runs after place) is goes
-
--- a run that goes on with this machine
-pub record GoesFurther (runs later : List LiveRun) (number : ℕ) (program : List Slot) (machine : MachineState) : Type 0 where
-  pub it : LiveRun
-  pub found : run_of number runs ≡ Some it
-  pub out : it.out ≡ true
-  pub program_is : it.program ≡ program
-  pub moved : run_of number later ≡ Some (with_machine it machine)
-
-pub goes_further : (runs after : List LiveRun) (number place : ℕ) (program : List Slot) (segment : SegmentState) (stop : Stop) (r0 : ℕ) (machine : MachineState) → IsOutAs runs number program segment → IsPlaced runs number place → (request : Request) → stop ≡ Helper request → GoesBy stop r0 runs after place → ((it : LiveRun) → HasRunAt after place it → machine ≡ it.machine) → GoesFurther runs after number program machine
-goes_further runs after number place program segment stop r0 machine out at request is goes read =
-    let on = went_on stop r0 runs after place request is goes in
-    let here = there runs number place program segment out at in
-    let same : machine ≡ on.machine = read (with_machine out.it on.machine) (on.stands out.it here) in
-    record {
-      it = out.it;
-      found = out.found;
-      out = out.out;
-      program_is = sym out.next.program_is;
-      moved = on.found number out.it here out.found ∙ ap (λ (m : MachineState). Some (with_machine out.it m)) (sym same);
-    }
-
--- its program reaches its machine
-pub reaches_further : (setup : Setup) (later : List Record) (more : Transport) (runs after : RunsState) (number : ℕ) (run : RunState) (machine : MachineState) → KeepsEngine setup later more after → GoesFurther runs.runs.list after.runs.list number run.program.program machine → IsReached (record run { machine = machine })
-reaches_further setup later more runs after number run machine kept on =
-    let reached = (kept_sound setup later more after kept).reached number (with_machine on.it machine) on.moved in
-    (reached.0, subst (λ (p : List Slot). Reached p reached.0 machine) on.program_is reached.1)
-
 -- it is out, and is under the setup if it was before
-pub goes_out : (setup : Setup) (before after : World) (number : ℕ) (run moved : RunState) (machine : MachineState) → number ≡ run.number → GoesFurther before.runs.list after.runs.list number run.program.program machine → moved ≡ record run { machine = machine } → (moved.number ≡ run.number) × (moved.program ≡ run.program) × IsOut after moved × (IsOutUnder setup before run → IsOutUnder setup after moved)
-goes_out setup before after number run moved machine named on moved_is =
-    let out : IsOut after (record run { machine = machine }) =
-    record { it = with_machine on.it machine; found = ap (λ (n : ℕ). run_of n after.runs.list) (sym named) ∙ on.moved; out = on.out; program_is = on.program_is; machine_is = refl } in
-    subst (λ (m : RunState). (m.number ≡ run.number) × (m.program ≡ run.program) × IsOut after m × (IsOutUnder setup before run → IsOutUnder setup after m)) (sym moved_is) (
+pub goes_out : (setup : Setup) (before after : World) (run : StoppedState) (place : ℕ) (again : RunState) → IsOutWith before.runs.list run.number run.segment.program.program run.segment.from → IsPlaced before.runs.list run.number place → GoesAs run again before.runs.list after.runs.list place → (again.number ≡ run.number) × (again.program ≡ run.segment.program) × IsOut after again × (IsOutUnder setup before (before_stop run) → IsOutUnder setup after again)
+goes_out setup before after run place again with_it at goes =
+    let machine : MachineState = goes.on.machine in
+    let here = there before.runs.list run.number place run.segment.program.program run.segment.from with_it at in
+    let out : IsOut after (record (before_stop run) { machine = machine }) =
+    record {
+      it = with_machine with_it.it machine;
+      found = goes.on.found run.number with_it.it here with_it.found;
+      out = with_it.recorded.0;
+      program_is = sym with_it.recorded.1;
+      machine_is = refl;
+    } in
+    subst (λ (m : RunState). (m.number ≡ run.number) × (m.program ≡ run.segment.program) × IsOut after m × (IsOutUnder setup before (before_stop run) → IsOutUnder setup after m)) (sym goes.is) (
       refl,
       refl,
       out,
       λ under.
-          let both : Some under.out.it ≡ Some on.it = sym under.out.found ∙ (ap (λ (n : ℕ). run_of n before.runs.list) (sym named) ∙ on.found) in
-          let same : under.out.it ≡ on.it = cc in
+          let both : Some under.out.it ≡ Some with_it.it = sym under.out.found ∙ with_it.found in
+          let same : under.out.it ≡ with_it.it = cc in
           record { out = out; budget = under.budget ∙ ap (λ (x : LiveRun). (queue_setup setup x.queue).budget) same; limits = under.limits },
     )
+
+-- the machine of a run that is recorded is one that its program reaches
+pub recorded_reached : (setup : Setup) (history : List Record) (transport : Transport) (runs : RunsState) (run : RunState) (machine : MachineState) → KeepsEngine setup history transport runs → IsOutWith runs.runs.list run.number run.program.program machine → IsReached (record run { machine = machine })
+recorded_reached setup history transport runs run machine kept out =
+    let reached = (kept_sound setup history transport runs kept).reached run.number out.it out.found in
+    (reached.0, subst (λ (m : MachineState). Reached run.program.program reached.0 m) (sym out.recorded.2) (subst (λ (p : List Slot). Reached p reached.0 out.it.machine) (sym out.recorded.1) reached.1))
+
+-- a run whose call is answered is in a machine that its program reaches
+pub answered_reached : (s : SegmentState) (request : Request) (answer : Answer) (machine : MachineState) → IsSegment s → ((n : ℕ) × Reached s.program.program n s.from) → s.stop ≡ Helper request → IsAnswer s.to request answer → machine ≡ answered request answer s.to → (n : ℕ) × Reached s.program.program n machine
+answered_reached s request answer machine is from stop allowed machine_is =
+    let to = segment_reaches s from.0 is from.1 in
+    (suc (from.0 + is.private), (s.to, to, inr (request, answer, segment_calls s request is stop, (allowed, machine_is))))
+
+-- a segment of the same instructions, as one of another verdict
+pub same_stretch : (s : SegmentState) (v : Verdict) → IsSegment s → v.program ≡ s.program.program → stretch v s.from s.to s.steps ≡ record s { program = v }
+same_stretch s v is same =
+    let stop : stop_there (stop_at v.program s.to) ≡ s.stop = ap (λ (p : List Slot). stop_there (stop_at p s.to)) same ∙ ap stop_there is.stands in
+    λ i. record { program = v; from = s.from; to = s.to; steps = s.steps; stop = stop i }
+
+pub is_stretch : (s : SegmentState) (v : Verdict) → IsSegment s → IsAccepted v → v.program ≡ s.program.program → IsSegment (stretch v s.from s.to s.steps)
+is_stretch s v is accepted same = record {
+  accepted = accepted;
+  private = is.private;
+  count = is.count;
+  way = subst (λ (p : List Slot). PrivateSteps p is.private s.from s.to) (sym same) is.way;
+  stands =
+      ap (λ (p : List Slot). stop_at p s.to) same ∙ (is.stands ∙ ap Some (sym (ap (λ (p : List Slot). stop_there (stop_at p s.to)) same ∙ ap stop_there is.stands)));
+}
+
+-- what becomes of a run at its stop becomes of the run and its segment apart
+pub goes_apart : (setup : Setup) (before after : World) (at run : RunState) (s t : SegmentState) (answer : AdvanceAnswer) → at.number ≡ run.number → at.program ≡ run.program → s.stop ≡ t.stop → IsOut before at → GoesOrEnds setup before after at s answer → GoesOrEnds setup before after run t answer
+goes_apart setup before after at run s t (Goes again r0) number program stop out goes = (
+  goes.0 ∙ number,
+  goes.1 ∙ program,
+  goes.2,
+  λ under.
+      let both : Some under.out.it ≡ Some out.it = sym under.out.found ∙ (ap (λ (n : ℕ). run_of n before.runs.list) (sym number) ∙ out.found) in
+      let same : under.out.it ≡ out.it = cc in
+      goes.3
+      (record {
+        out = out;
+        budget = ap (λ (v : Verdict). v.budget) program ∙ (under.budget ∙ ap (λ (x : LiveRun). (queue_setup setup x.queue).budget) same);
+        limits = ap (λ (v : Verdict). v.limits) program ∙ under.limits;
+      }),
+)
+goes_apart setup before after at run s t (Ended r0) number program stop out goes = sym stop ∙ goes

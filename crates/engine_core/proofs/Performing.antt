@@ -11,9 +11,9 @@ use Rattle.ccb.specs.declared.completion.Completion.{Completion}
 use Rattle.freeze_ledger.specs.declared.freeze.Freeze.{Freeze}
 use Rattle.freeze_ledger.specs.declared.freeze.Holder.TheVariants.{Guest}
 use Rattle.freeze_ledger.specs.declared.place.Place.{Place}
-use Rattle.interpreter.specs.declared.segment.Segment.{Segment}
 use Rattle.runs.specs.RunsState.{RunsState}
-use Rattle.runs.specs.Admits.{IsOutAs}
+use Rattle.engine_core.specs.RunState.{RunState, StoppedState, IsOutUnder}
+use Rattle.runs.specs.Admits.{IsOutWith}
 use Rattle.calls.specs.declared.call.Call.{Call}
 use Rattle.calls.specs.declared.call.Call.TheVariants as its
 use Rattle.calls.specs.declared.call_answer.CallAnswer.{CallAnswer}
@@ -41,9 +41,8 @@ use Rattle.engine_core.specs.EngineState.{world_of}
 use Rattle.engine_core.specs.Invariant.{HasRoom, HoldEntries, KeepsEngine}
 use Rattle.engine_core.specs.Performing.{IsPlaced, Performs, world_with}
 use Rattle.engine_core.specs.Replies.{IsAdvanced, IsGiven, ccb_reply, removed_reply, r0_given}
-use Rattle.engine_core.specs.RunState.{RunState, IsOutUnder}
-use Rattle.engine_core.specs.TakingOver.{LeadsBy}
-use Rattle.engine_core.proofs.Going.{is_admitted}
+use Rattle.engine_core.specs.TakingOver.{Becomes, LeadsBy}
+use Rattle.engine_core.proofs.Going.{goes_out, is_admitted}
 use Rattle.engine_core.proofs.OneMore.{once, by_transport}
 use Rattle.engine_core.proofs.Holding.{guest_froze, guest_released, its_entry, run_changed, same_freezes, timers_released}
 use Rattle.engine_core.proofs.Parking.{with_out_run, parks_run, resumes_run, resumes_none, room_left}
@@ -215,15 +214,28 @@ resumes_nothing setup transport runs number none = record {
   room = tt;
 }
 
--- a segment that is taken over
-pub takes_over : (setup : Setup) (transport more : Transport) (runs after : RunsState) (run : RunState) (segment : Bor Segment) (place number steps : ℕ) (stop : StoppedAt) (r0 : ℕ) (what : TheGiven) → number ≡ run.number → steps ≡ segment.now.steps → stop ≡ stopped_at segment.now.stop → HoldEntries more.freezes after → r0_given what ≡ r0 → IsAdvanced what → IsOutAs runs.runs.list run.number run.program.program segment.now → IsPlaced runs.runs.list run.number place → LeadsBy (stopped_at segment.now.stop) r0 place segment.now transport runs more after
-    → ((before later : World) → IsGiven setup (world_with transport runs before) (Advance run segment) (world_with more after later) what) → Performs setup (Advance run segment) transport runs more after (Given what) (AdvanceRecord number steps stop r0)
-takes_over setup transport more runs after run segment place number steps stop r0 what named counted stopped holds told may out at leads gives =
+-- what a run did is taken over
+pub takes_over : (setup : Setup) (transport more : Transport) (runs after : RunsState) (run : StoppedState) (place number steps : ℕ) (stop : StoppedAt) (r0 : ℕ) (what : TheGiven) → number ≡ run.number → steps ≡ run.segment.steps → stop ≡ stopped_at run.segment.stop → HoldEntries more.freezes after → r0_given what ≡ r0 → IsAdvanced what → IsOutWith runs.runs.list run.number run.segment.program.program run.segment.from → IsPlaced runs.runs.list run.number place → LeadsBy (stopped_at run.segment.stop) r0 place run.segment transport runs more after
+    → ((before later : World) → IsGiven setup (world_with transport runs before) (Advance run) (world_with more after later) what) → Performs setup (Advance run) transport runs more after (Given what) (AdvanceRecord number steps stop r0)
+takes_over setup transport more runs after run place number steps stop r0 what named counted stopped holds told may out at leads gives =
     rw (named, counted, stopped, ← told) (record {
       is = refl;
       fits = may;
-      leads = λ history kept. rw told (leads run.number (is_admitted setup history transport runs run.number place run.program.program segment.now kept out at) setup history kept);
+      leads = λ history kept. rw told (leads run.number (is_admitted setup history transport runs run.number place run.segment kept out at) setup history kept);
       tokens = λ history kept. holds;
       gives = gives;
       room = tt;
     })
+
+-- what becomes of it is what is given
+pub given_so : (setup : Setup) (transport more : Transport) (runs after : RunsState) (run : StoppedState) (place : ℕ) (what : TheGiven) → IsOutWith runs.runs.list run.number run.segment.program.program run.segment.from → IsPlaced runs.runs.list run.number place → Becomes run what runs.runs.list after.runs.list place → (before later : World) → IsGiven setup (world_with transport runs before) (Advance run) (world_with more after later) what
+given_so setup transport more runs after run place (given.Goes again r0) out at goes before later = goes_out setup (world_with transport runs before) (world_with more after later) run place again out at goes
+given_so setup transport more runs after run place (given.Ended r0) out at ends before later = ends
+given_so setup transport more runs after run place (given.Ccb ccb) out at goes before later = absurd goes
+given_so setup transport more runs after run place given.Done out at goes before later = absurd goes
+given_so setup transport more runs after run place (given.Started started freeze) out at goes before later = absurd goes
+given_so setup transport more runs after run place (given.Freeze token) out at goes before later = absurd goes
+given_so setup transport more runs after run place (given.Left count) out at goes before later = absurd goes
+given_so setup transport more runs after run place (given.Removed count) out at goes before later = absurd goes
+given_so setup transport more runs after run place given.Parked out at goes before later = absurd goes
+given_so setup transport more runs after run place (given.Resumed again) out at goes before later = absurd goes

@@ -34,7 +34,8 @@ use Rattle.world.proofs.Steps.Moves.{run_key}
 use Rattle.engine_core.specs.EngineState.{world_of}
 use Rattle.engine_core.specs.Answers.{stopped_at, IsCode, NamesCode, StopsByCode}
 use Rattle.engine_core.specs.Invariant.{HoldEntries, KeepsEngine}
-use Rattle.engine_core.specs.TakingOver.{IsAdmitted, LeadsTo, LeadsBy, Does, GoesOn}
+use Rattle.engine_core.specs.RunState.{RunState, StoppedState, before_stop}
+use Rattle.engine_core.specs.TakingOver.{Goes, GoesAs, Stands, IsAdmitted, LeadsTo, LeadsBy, Does, GoesOn}
 use Rattle.engine_core.proofs.PrivateWays.{with_machine}
 use Rattle.engine_core.proofs.Holding.{run_changed, run_gone, tokens_here}
 use Rattle.engine_core.proofs.Recording.{kept_sound}
@@ -100,25 +101,20 @@ machine_moved runs number it machine found =
     subst (λ (n : ℕ). run_of n (with_run (with_machine it machine) runs) ≡ Some (with_machine it machine)) named
     (put_same run_key (with_machine it machine) runs it (subst (λ (n : ℕ). run_of n runs ≡ Some it) (sym named) found))
 
--- the clauses of `go_on`
-abbrev pub Goes : RunsState → RunsState → ℕ → MachineState → Type 0
-Goes old after place machine =
-    (it : LiveRun) → HasRunAt old.runs.list place it → after ≡ record old { runs = record old.runs { list = with_run (with_machine it machine) old.runs.list } }
-
-abbrev pub Stands : RunsState → RunsState → ℕ → MachineState → Type 0
-Stands old after place machine = (it : LiveRun) → HasRunAt old.runs.list place it → HasRunAt after.runs.list place (with_machine it machine)
-
 -- the run is there too where the call has been carried out
 pub still_there : (old changed : List LiveRun) (place : ℕ) (it : LiveRun) → changed ≡ old → HasRunAt old place it → HasRunAt changed place it
 still_there old changed place it same at = subst (λ (runs : List LiveRun). HasRunAt runs place it) (sym same) at
 
-pub goes_on_there : (old changed after : RunsState) (place : ℕ) (machine : MachineState) → changed.runs.list ≡ old.runs.list → Goes changed after place machine → Stands changed after place machine → GoesOn old.runs.list after.runs.list place
-goes_on_there old changed after place machine same goes stands = record {
-  machine = machine;
-  stands = λ it at. stands it (still_there old.runs.list changed.runs.list place it same at);
-  found = λ number it at found.
-      ap (λ (r : RunsState). run_of number r.runs.list) (goes it (still_there old.runs.list changed.runs.list place it same at))
-      ∙ machine_moved changed.runs.list number it machine (ap (run_of number) same ∙ found);
+pub goes_as : (run : StoppedState) (again : RunState) (old changed after : RunsState) (place : ℕ) (machine : MachineState) → changed.runs.list ≡ old.runs.list → Goes changed after place machine → Stands changed after place machine → again ≡ record (before_stop run) { machine = machine } → GoesAs run again old.runs.list after.runs.list place
+goes_as run again old changed after place machine same goes stands is = record {
+  on = record {
+    machine = machine;
+    stands = λ it at. stands it (still_there old.runs.list changed.runs.list place it same at);
+    found = λ number it at found.
+        ap (λ (r : RunsState). run_of number r.runs.list) (goes it (still_there old.runs.list changed.runs.list place it same at))
+        ∙ machine_moved changed.runs.list number it machine (ap (run_of number) same ∙ found);
+  };
+  is = is;
 }
 
 -- a call that was carried out, with its run behind it

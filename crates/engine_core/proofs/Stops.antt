@@ -11,7 +11,7 @@ use Rattle.bpf_semantics.specs.Step.{request_at, exit_at, answered}
 use Rattle.bpf_semantics.specs.Stops.{stop_at}
 use Rattle.bpf_semantics.specs.Reached.{PrivateSteps}
 use Rattle.interpreter.specs.Segments.{SegmentState, IsSegment}
-use Rattle.runs.specs.Admits.{IsOutAs}
+use Rattle.engine_core.specs.RunState.{IsOutAs}
 use Rattle.bpf_insn.specs.declared.program.Slot.{Slot}
 use Rattle.calls.specs.declared.record.StoppedAt.{StoppedAt}
 use Rattle.calls.specs.declared.record.StoppedAt.TheVariants.{Exit as at_exit_stop}

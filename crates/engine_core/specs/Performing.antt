@@ -1,7 +1,7 @@
 -- What an event needs of an engine's parts, and what it makes of them.
 use Rattle.std.specs.Prelude.{◌≡◌, ℕ, ◌+◌, ◌≤◌, List, Some, Contains, true}
 use Rattle.runs.specs.RunsState.{RunsState}
-use Rattle.runs.specs.Admits.{IsOutAs, IsOutWith}
+use Rattle.runs.specs.Admits.{IsOutWith}
 use Rattle.runs.specs.RunPlaces.{HasRunAt}
 use Rattle.calls.specs.declared.record.Record.{Record}
 use Rattle.world.specs.World.{Setup, LiveRun, Transport, World}
@@ -27,8 +27,8 @@ IsPlaced runs number place = (it : LiveRun) × (run_of number runs ≡ Some it) 
 
 -- the event fits: its run is out so, and stands at this place, or its token is that of a guest's freeze
 abbrev pub FitsAt : ℕ → Transport → RunsState → Event → Type 0
-FitsAt place transport runs (Advance run segment) =
-    IsOutAs runs.runs.list run.number run.program.program segment.now × IsPlaced runs.runs.list run.number place
+FitsAt place transport runs (Advance run) =
+    IsOutWith runs.runs.list run.number run.segment.program.program run.segment.from × IsPlaced runs.runs.list run.number place
 FitsAt place transport runs (GuestRelease token) = Contains transport.freezes token × (is_guest token.holder ≡ true)
 FitsAt place transport runs (Park run) =
     IsOutWith runs.runs.list run.number run.program.program run.machine × IsPlaced runs.runs.list run.number place

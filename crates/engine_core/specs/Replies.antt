@@ -10,7 +10,7 @@ use Rattle.calls.specs.declared.call_answer.CallAnswer.TheVariants as answers
 use Rattle.calls.specs.declared.call_refusal.CallRefusal.{CallRefusal}
 use Rattle.calls.specs.declared.record.Record.{Record}
 use Rattle.calls.specs.declared.record.Record.TheVariants.{Called, Advance as advanced}
-use Rattle.runs.specs.Admits.{IsOutAs}
+use Rattle.engine_core.specs.RunState.{IsOut, IsOutUnder, before_stop}
 use Rattle.world.specs.World.{Setup, World}
 use Rattle.engine_core.specs.declared.answers.CompleteAnswer.{CompleteAnswer}
 use Rattle.engine_core.specs.declared.answers.CompleteAnswer.TheVariants as completes
@@ -26,7 +26,6 @@ use Rattle.engine_core.specs.declared.reply.Reply.{Reply}
 use Rattle.engine_core.specs.declared.reply.Reply.TheVariants as replied
 use Rattle.engine_core.specs.Answers.{stopped_at, GoesOrEnds}
 use Rattle.engine_core.specs.EngineState.{EngineState, Records, GuestHolds}
-use Rattle.engine_core.specs.RunState.{IsOut, IsOutUnder}
 
 -- What may be given, by the event.
 
@@ -68,7 +67,7 @@ abbrev pub Suits : Event → Given → Type 0
 Suits (Submit queue priority retries) given = IsCcb given
 Suits (Dispatch queue) given = IsCcb given
 Suits (Complete completion) given = IsCompleted given
-Suits (Advance run segment) given = IsAdvanced given
+Suits (Advance run) given = IsAdvanced given
 Suits (Clock reading) given = IsRemoved given
 Suits (GuestFreeze place guest) given = IsFreeze given
 Suits (GuestRelease token) given = IsLeft given
@@ -85,7 +84,7 @@ given_advanced (advances.Ended r0) = Ended r0
 
 -- what the event owns
 abbrev pub owned : Event → Back
-owned (Advance run segment) = back.Run run
+owned (Advance run) = back.Run (before_stop run)
 owned (GuestRelease token) = back.Token token
 owned (Park run) = back.Run run
 owned event = back.Nothing
@@ -109,7 +108,7 @@ abbrev pub call_of : Event → Option Call
 call_of (Submit queue priority retries) = Some (its.Submit queue priority retries)
 call_of (Dispatch queue) = Some (its.Dispatch queue)
 call_of (Complete completion) = Some (its.Complete completion.now)
-call_of (Advance run segment) = None
+call_of (Advance run) = None
 call_of (Clock reading) = Some (its.Clock reading)
 call_of (GuestFreeze place guest) = Some (its.GuestFreeze place guest)
 call_of (GuestRelease token) = Some (its.GuestRelease token.number)
@@ -137,7 +136,7 @@ abbrev pub record_given : Event → Given → Record
 record_given (Submit queue priority retries) given = Called (answer_of given) (its.Submit queue priority retries)
 record_given (Dispatch queue) given = Called (answer_of given) (its.Dispatch queue)
 record_given (Complete completion) given = Called (answer_of given) (its.Complete completion.now)
-record_given (Advance run segment) given = advanced run.number segment.now.steps (stopped_at segment.now.stop) (r0_given given)
+record_given (Advance run) given = advanced run.number run.segment.steps (stopped_at run.segment.stop) (r0_given given)
 record_given (Clock reading) given = Called (answer_of given) (its.Clock reading)
 record_given (GuestFreeze place guest) given = Called (answer_of given) (its.GuestFreeze place guest)
 record_given (GuestRelease token) given = Called (answer_of given) (its.GuestRelease token.number)
@@ -157,7 +156,7 @@ IsRecorded old event reply new = MatchOption (record_of event reply) (new ≡ ol
 
 -- the event owns a run or a token
 abbrev pub owns : Event → Bool
-owns (Advance run segment) = true
+owns (Advance run) = true
 owns (GuestRelease token) = true
 owns (Park run) = true
 owns event = false
@@ -172,7 +171,7 @@ Fits event (replied.OutOfMemory back) = (is_park event ≡ false) × (back ≡ o
 
 -- the run is out with this program and in this machine, or a guest's freeze is the token's; other events fit always
 abbrev pub IsFit : World → Event → Type 0
-IsFit world (Advance run segment) = IsOutAs world.runs.list run.number run.program.program segment.now
+IsFit world (Advance run) = IsOut world (before_stop run)
 IsFit world (GuestRelease token) = GuestHolds world token
 IsFit world (Park run) = IsOut world run
 IsFit world event = Unit {0}
@@ -189,8 +188,8 @@ ToldFit world event reply = IsFit world event
 -- what is given is what the world has then: a run that is out, or a guest's freeze
 abbrev pub IsGiven : Setup → World → Event → World → Given → Type 0
 IsGiven setup before (Complete completion) after (Started run freeze) = IsOutUnder setup after run
-IsGiven setup before (Advance run segment) after (Goes again r0) = GoesOrEnds setup before after run segment.now (advances.Goes again r0)
-IsGiven setup before (Advance run segment) after (Ended r0) = GoesOrEnds setup before after run segment.now (advances.Ended r0)
+IsGiven setup before (Advance run) after (Goes again r0) = GoesOrEnds setup before after (before_stop run) run.segment (advances.Goes again r0)
+IsGiven setup before (Advance run) after (Ended r0) = GoesOrEnds setup before after (before_stop run) run.segment (advances.Ended r0)
 IsGiven setup before (GuestFreeze place guest) after (Freeze token) = GuestHolds after token × (token.place ≡ place) × (token.holder ≡ Guest guest)
 IsGiven setup before (Resume run) after (Resumed again) = (again.number ≡ run) × IsOutUnder setup after again
 IsGiven setup before event after given = Unit {0}

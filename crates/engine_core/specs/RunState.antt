@@ -1,8 +1,10 @@
 -- What contracts see of a run that is out, and how the world has it.
-use Rattle.std.specs.Prelude.{◌≡◌, ℕ, true, Some}
+use Rattle.std.specs.Prelude.{◌≡◌, ℕ, true, List, Some}
+use Rattle.bpf_insn.specs.declared.program.Slot.{Slot}
 use Rattle.bpf_semantics.specs.MachineState.{MachineState}
 use Rattle.bpf_semantics.specs.Reached.{Reached}
 use Rattle.accepted.specs.Verdict.{Verdict}
+use Rattle.interpreter.specs.Segments.{SegmentState, IsSegment}
 use Rattle.world.specs.World.{Setup, queue_setup, LiveRun, World}
 use Rattle.world.specs.Lookups.{run_of}
 
@@ -29,3 +31,30 @@ pub record IsOutUnder (setup : Setup) (world : World) (run : RunState) : Type 0 
   pub out : IsOut world run
   pub budget : run.program.budget ≡ (queue_setup setup out.it.queue).budget
   pub limits : run.program.limits ≡ setup.limits
+
+-- A run at its next stop: its number, and the segment that it executed.
+pub record StoppedState : Type 0 where
+  pub number : ℕ
+  pub segment : SegmentState
+
+-- the run where that segment begins
+abbrev pub before_stop : StoppedState → RunState
+before_stop run = record { number = run.number; program = run.segment.program; machine = run.segment.from }
+
+-- it executed private instructions alone, from a machine that its program reaches
+pub record IsStopped (run : StoppedState) : Type 0 where
+  pub segment : IsSegment run.segment
+  pub reached : IsReached (before_stop run)
+
+-- This is the program of the run and of the segment, and the segment begins in the machine of the run.
+pub record IsNext (it : LiveRun) (program : List Slot) (segment : SegmentState) : Type 0 where
+  pub program_is : program ≡ it.program
+  pub segment_program_is : segment.program.program ≡ it.program
+  pub start_is : segment.from ≡ it.machine
+
+-- A run of that number is live and out, and the segment is its next stretch.
+pub record IsOutAs (runs : List LiveRun) (number : ℕ) (program : List Slot) (segment : SegmentState) : Type 0 where
+  pub it : LiveRun
+  pub found : run_of number runs ≡ Some it
+  pub out : it.out ≡ true
+  pub next : IsNext it program segment

@@ -12,7 +12,7 @@ use Rattle.bpf_semantics.specs.declared.stop.Stop.TheVariants.{Helper as at_help
 use Rattle.interpreter.specs.Segments.{SegmentState, IsSegment}
 use Rattle.runs.specs.RunsState.{RunsState}
 use Rattle.runs.specs.RunPlaces.{HasRunAt}
-use Rattle.runs.specs.Admits.{IsOutAs}
+use Rattle.engine_core.specs.RunState.{IsOutAs, RunState, StoppedState, before_stop}
 use Rattle.calls.specs.declared.record.StoppedAt.{StoppedAt}
 use Rattle.calls.specs.declared.record.Record.{Record}
 use Rattle.calls.specs.declared.record.Record.TheVariants.{Advance}
@@ -22,6 +22,8 @@ use Rattle.world.specs.Event.{Event, Reply}
 use Rattle.world.specs.RunSteps.{goes_on, answers, step_request}
 use Rattle.world.specs.WorldRun.{Leads}
 use Rattle.world.specs.Flat.{events_of}
+use Rattle.engine_core.specs.declared.reply.Given.{Given}
+use Rattle.engine_core.specs.declared.reply.Given.TheVariants as given
 use Rattle.engine_core.specs.EngineState.{world_of}
 use Rattle.engine_core.specs.Invariant.{HoldEntries, KeepsEngine}
 
@@ -104,7 +106,21 @@ pub record GoesOn (old new : List LiveRun) (place : ℕ) : Type 0 where
   pub stands : (it : LiveRun) → HasRunAt old place it → HasRunAt new place (record it { machine = machine })
   pub found : (number : ℕ) (it : LiveRun) → HasRunAt old place it → run_of number old ≡ Some it → run_of number new ≡ Some (record it { machine = machine })
 
--- what becomes of the run, by the kind of its stop: it goes on, or it exited with this R0
-abbrev pub GoesBy : Stop → ℕ → List LiveRun → List LiveRun → ℕ → Type 0
-GoesBy (at_helper request) r0 old new place = GoesOn old new place
-GoesBy (at_exit value) r0 old new place = r0 ≡ value
+-- the run at this place goes on with this machine, and all else is as it was
+abbrev pub Goes : RunsState → RunsState → ℕ → MachineState → Type 0
+Goes old after place machine =
+    (it : LiveRun) → HasRunAt old.runs.list place it → after ≡ record old { runs = record old.runs { list = with_run (record it { machine = machine }) old.runs.list } }
+
+abbrev pub Stands : RunsState → RunsState → ℕ → MachineState → Type 0
+Stands old after place machine = (it : LiveRun) → HasRunAt old.runs.list place it → HasRunAt after.runs.list place (record it { machine = machine })
+
+-- the same run goes on, with that machine
+pub record GoesAs (run : StoppedState) (again : RunState) (old new : List LiveRun) (place : ℕ) : Type 0 where
+  pub on : GoesOn old new place
+  pub is : again ≡ record (before_stop run) { machine = on.machine }
+
+-- what becomes of the run: it goes on, or it exited with this R0
+abbrev pub Becomes : StoppedState → Given → List LiveRun → List LiveRun → ℕ → Type 0
+Becomes run (given.Goes again r0) old new place = GoesAs run again old new place
+Becomes run (given.Ended r0) old new place = run.segment.stop ≡ at_exit r0
+Becomes run what old new place = ⊥

@@ -91,7 +91,8 @@ pub(crate) fn recover(
     let handed = Arc::try_clone(program)?;
     let place = runs.place_for_machine()?;
     let mut machine = runs.place_for_machine()?;
+    let next = runs.place_for_machine()?;
     let (ccb, token) = transport.fail(ccb, completion, runs.next_number());
     let started = runs.start(&ccb, recorded, token, place, &mut machine);
-    Ok((Run::new(started.run, handed, machine), started.freeze))
+    Ok((Run::new(started.run, handed, machine, next), started.freeze))
 }

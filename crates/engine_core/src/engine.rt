@@ -2,19 +2,23 @@
 // more: room for the record is taken first, and nothing is undone. It relies on `parts` for what an event needs and does, and
 // on `world` for what is recorded.
 
-ghost use Rattle.std.specs.Prelude.{◌≡◌, ◌+◌, ◌≤◌, ◌++◌, ◌∷◌, [], length, vec_capacity, false, IfOk, IfErr, OnErr};
+ghost use Rattle.std.specs.Prelude.{◌≡◌, ◌↔◌, IsTrue, ◌+◌, ◌≤◌, ◌++◌, ◌∷◌, [], length, vec_capacity, false, IfOk, IfErr, OnErr};
+ghost use Rattle.runs.specs.Admits.{IsOutWith};
 ghost use Rattle.runs.specs.RunsState.{no_runs};
 ghost use Rattle.world.specs.World.{opening};
 ghost use Rattle.world.specs.TotalsOf.{TotalsOf, totals_in};
 ghost use Rattle.engine_core.specs.EngineState.{opened, IsRun};
 ghost use Rattle.engine_core.specs.Performing.{IsRoomFor};
+ghost use Rattle.engine_core.specs.RunState.{IsReached};
 ghost use Rattle.engine_core.specs.Replies.{IsRecorded, Fits, ToldFit, Gives, is_park};
 
 use crate::event::Event;
 use crate::parts::Parts;
 use crate::reply::Reply;
+use crate::run::Run;
 use calls::{Record, Totals, Trace};
 use engine_config::Config;
+use interpreter::Segment;
 use runs::{MAX_RUNS, Runs};
 use std::alloc::{AllocError, Global};
 use std::marker::Model;
@@ -119,6 +123,18 @@ impl Engine {
             }
             Err(back) => Reply::OutOfMemory(back),
         }
+    }
+
+    /// Whether the run of that number is out, of the run's program and in the machine where the segment begins.
+    pub(crate) fn has_recorded(&self, run: &Run, segment: &Segment) -> bool
+        ensures recorded { IsTrue result ↔ IsOutWith self.now.world.runs.list run.now.number run.now.program.program segment.now.from }
+        ensures reached { IsTrue result → IsReached (record run.now { machine = segment.now.from }) }
+        ensures run { IsRun self.now }
+    {
+        self.parts
+            .runs
+            .admit_run(run.number(), run.program(), segment.from())
+            .is_some()
     }
 
     /// The sums so far.

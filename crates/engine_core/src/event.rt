@@ -1,14 +1,14 @@
-// A call of the engine as a value, with all that it owns or is lent. It relies on `run` for runs, on `interpreter` for what
-// a run did, and on `freeze_ledger` for tokens.
+// A call of the engine as a value, with all that it owns or is lent. It relies on `run` for runs, on `stopped` for what a run did,
+// and on `freeze_ledger` for tokens.
 
 ghost use Rattle.std.specs.Prelude.{◌≡◌};
 ghost use Rattle.engine_core.specs.Replies.{is_park, owned};
 
 use crate::reply::Back;
 use crate::run::Run;
+use crate::stopped::Stopped;
 use ccb::{Completion, QueueId};
 use freeze_ledger::{FreezeToken, Place};
-use interpreter::Segment;
 
 /// A call of the engine. What it owns comes back where it is not carried out.
 pub enum Event<'a> {
@@ -26,10 +26,9 @@ pub enum Event<'a> {
     Complete {
         completion: &'a Completion,
     },
-    /// A run went on up to the stop of its segment.
+    /// A run came to its next stop.
     Advance {
-        run: Run,
-        segment: &'a Segment,
+        run: Stopped,
     },
     /// The clock is read, in milliseconds.
     Clock {
@@ -60,7 +59,8 @@ impl Event<'_> {
         ensures { result ≡ owned self.entry }
     {
         match self {
-            Event::Advance { run, segment: _ } | Event::Park { run } => Back::Run(run),
+            Event::Advance { run } => Back::Run(run.back()),
+            Event::Park { run } => Back::Run(run),
             Event::GuestRelease { token } => Back::Token(token),
             Event::Submit {
                 queue: _,

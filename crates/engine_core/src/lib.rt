@@ -16,6 +16,8 @@ mod parts;
 mod reply;
 mod run;
 mod run_events;
+mod segments;
+mod stopped;
 mod taking_over;
 mod told;
 
@@ -26,3 +28,4 @@ pub use engine_config::Config;
 pub use event::Event;
 pub use reply::{Back, Given, Reply};
 pub use run::Run;
+pub use stopped::Stopped;

@@ -3,13 +3,12 @@
 
 ghost use Rattle.std.specs.Prelude.{◌≡◌, IfOk, IfErr, MatchResult};
 ghost use Rattle.freeze_ledger.specs.declared.freeze.Holder.TheVariants.{Guest};
-ghost use Rattle.runs.specs.Admits.{IsOutAs};
+ghost use Rattle.engine_core.specs.RunState.{before_stop, IsOut, IsOutUnder};
 ghost use Rattle.freeze_ledger.specs.declared.place.Place.TheVariants.{Device};
 ghost use Rattle.calls.specs.declared.call.Call.TheVariants.{Submit, Dispatch, Complete, GuestFreeze, GuestRelease, Clock, Park, Resume};
 ghost use Rattle.calls.specs.declared.call_answer.CallAnswer.TheVariants as answers;
 ghost use Rattle.calls.specs.declared.record.Record.TheVariants.{Called, Advance};
 ghost use Rattle.engine_core.specs.EngineState.{IsRun, Records, GuestHolds};
-ghost use Rattle.engine_core.specs.RunState.{IsOut, IsOutUnder};
 ghost use Rattle.engine_core.specs.Answers.{completed_of, StartsOut, stopped_at, r0_of, GoesOrEnds};
 ghost use Rattle.engine_core.specs.Faults.{FaultIs, HoldsUnlessTold, AdmitsUnlessTold};
 
@@ -18,9 +17,9 @@ use crate::engine::Engine;
 use crate::event::Event;
 use crate::reply::Reply;
 use crate::run::Run;
+use crate::stopped::Stopped;
 use ccb::{CcbId, Completion, QueueId};
 use freeze_ledger::{FreezeToken, Place};
-use interpreter::Segment;
 
 impl Engine {
     /// Submits a CCB to a queue, with a priority (the lowest number starts first) and how often it may be tried
@@ -84,9 +83,9 @@ impl Engine {
         }
     }
 
-    /// Takes over what a run did: the private instructions of the segment, and the helper call or exit at its end,
-    /// with R0 after it. A run that goes on comes back with its next machine; one that exited is gone. What a call
-    /// does, by the number of its helper:
+    /// Takes over what a run did: its private instructions (`Run::to_stop`), and the helper call or exit at their end, with
+    /// R0 after it. A run that goes on comes back with its next machine; one that exited is gone. What a call does, by the
+    /// number of its helper:
     ///
     /// 1. A queue is frozen once more, and the run holds the freeze: R0 is its number, or 0 exactly where that meets a
     ///    limit, and then nothing is frozen.
@@ -97,41 +96,17 @@ impl Engine {
     /// 9. What the run's queue has is written to the run's stack.
     /// 10. The call's bytes are in the record.
     ///
-    /// R0 is 0 after helpers 3 to 10. C4, which is not recorded, exactly where no run of that number is out in this
-    /// engine, or the run's program, the segment's program or the segment's start is not the recorded one; programs are
-    /// compared by their instructions. Every fault hands the run and the segment back and changes nothing.
-    pub fn advance(
-        &mut self,
-        run: Run,
-        segment: Segment,
-    ) -> Result<AdvanceAnswer, (AdvanceFault, Run, Segment)>
-        ensures answered { IfOk result (λ answer. Records self.old self.new (Advance run.number segment.steps (stopped_at segment.stop) (r0_of answer))) }
-        ensures goes { IfOk result (GoesOrEnds self.old.setup self.old.world self.new.world run segment) }
-        ensures admitted { MatchResult result (λ _. IsOutAs self.old.world.runs.list run.number run.program.program segment)
-            (λ fault. AdmitsUnlessTold fault.0 (IsOutAs self.old.world.runs.list run.number run.program.program segment)) }
-        ensures back { IfErr result (λ fault. (fault.1 ≡ run) × (fault.2 ≡ segment) × (self.new ≡ self.old)) }
+    /// R0 is 0 after helpers 3 to 10. C4, which is not recorded, exactly where no run of that number is out in this engine,
+    /// or its program or the machine from which it went is not the recorded one; programs are compared by their
+    /// instructions. Every fault hands the run back where it was, and changes nothing.
+    pub fn go_on(&mut self, run: Stopped) -> Result<AdvanceAnswer, (AdvanceFault, Run)>
+        ensures answered { IfOk result (λ answer. Records self.old self.new (Advance run.number run.segment.steps (stopped_at run.segment.stop) (r0_of answer))) }
+        ensures goes { IfOk result (GoesOrEnds self.old.setup self.old.world self.new.world (before_stop run) run.segment) }
+        ensures admitted { MatchResult result (λ _. IsOut self.old.world (before_stop run)) (λ fault. AdmitsUnlessTold fault.0 (IsOut self.old.world (before_stop run))) }
+        ensures back { IfErr result (λ fault. (fault.1 ≡ before_stop run) × (self.new ≡ self.old)) }
         ensures run { IsRun self.new }
     {
-        match self.advance_by(run, &segment) {
-            Ok(answer) => Ok(answer),
-            Err((fault, run)) => Err((fault, run, segment)),
-        }
-    }
-
-    /// The same of a segment that the caller keeps, to make the run's next stretch in its place.
-    pub fn advance_by(
-        &mut self,
-        run: Run,
-        segment: &Segment,
-    ) -> Result<AdvanceAnswer, (AdvanceFault, Run)>
-        ensures answered { IfOk result (λ answer. Records self.old self.new (Advance run.number segment.now.steps (stopped_at segment.now.stop) (r0_of answer))) }
-        ensures goes { IfOk result (GoesOrEnds self.old.setup self.old.world self.new.world run segment.now) }
-        ensures admitted { MatchResult result (λ _. IsOutAs self.old.world.runs.list run.number run.program.program segment.now)
-            (λ fault. AdmitsUnlessTold fault.0 (IsOutAs self.old.world.runs.list run.number run.program.program segment.now)) }
-        ensures back { IfErr result (λ fault. (fault.1 ≡ run) × (self.new ≡ self.old)) }
-        ensures run { IsRun self.new }
-    {
-        match self.answer(Event::Advance { run, segment }) {
+        match self.answer(Event::Advance { run }) {
             Reply::Given(given) => Ok(given.advanced()),
             Reply::Unfit(back) => Err((AdvanceFault::NotOut, back.run())),
             Reply::OutOfMemory(back) => Err((AdvanceFault::OutOfMemory, back.run())),

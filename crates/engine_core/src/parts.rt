@@ -34,8 +34,9 @@ impl Parts {
         ensures unfit { IfNone result ((world : World) → IsUnfit (world_with self.now.transport self.now.runs world) event.now) }
     {
         match event {
-            Event::Advance { run, segment } => {
-                self.runs.admit(run.number(), run.program(), segment)
+            Event::Advance { run } => {
+                self.runs
+                    .admit_run(run.number(), run.program(), run.from())
             }
             Event::Park { run } => {
                 self.runs
@@ -85,14 +86,9 @@ impl Parts {
                 &mut self.runs,
                 completion,
             ),
-            Event::Advance { run, segment } => advance(
-                alloc,
-                &mut self.transport,
-                &mut self.runs,
-                place,
-                run,
-                segment,
-            ),
+            Event::Advance { run } => {
+                advance(alloc, &mut self.transport, &mut self.runs, place, run)
+            }
             Event::Clock { reading } => Ok(read_clock(&mut self.transport, reading)),
             Event::GuestFreeze { place, guest } => {
                 Ok(guest_freeze(&mut self.transport, place, guest))

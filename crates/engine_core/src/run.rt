@@ -1,12 +1,16 @@
-// A run that is out: the right to take it further. It relies on `accepted` for its program and on `bpf_machine` for
-// its machine.
+// A run that is out: the right to take it further. It relies on `accepted` for its program, on `bpf_machine` for its
+// machine, and on `interpreter` for what it executes by itself.
 
-ghost use Rattle.std.specs.Prelude.{◌≡◌};
+ghost use Rattle.std.specs.Prelude.{◌≡◌, ◌↔◌, IsTrue};
 ghost use Rattle.std.specs.Arc.{arc_value};
-ghost use Rattle.engine_core.specs.RunState.{IsReached};
+ghost use Rattle.accepted.specs.Verdict.{IsAccepted};
+ghost use Rattle.interpreter.specs.Segments.{IsWithinBudget};
+ghost use Rattle.engine_core.specs.RunState.{IsReached, IsStopped, before_stop};
 
+use crate::stopped::Stopped;
 use accepted::Accepted;
 use bpf_machine::Machine;
+use interpreter::{Segment, go_to_stop};
 use std::marker::Model;
 use std::sync::Arc;
 
@@ -18,6 +22,8 @@ pub struct Run {
     program: Arc<Accepted>,
     // apart, so that a run is moved as a few words
     machine: Box<Machine>,
+    // the place of the machine at the next stop; what stands in it means nothing
+    next: Box<Machine>,
 }
 
 impl Model for Run {
@@ -32,8 +38,13 @@ impl Model for Run {
 }
 
 impl Run {
-    /// Only an engine makes one, for a run that it has just started.
-    pub(crate) fn new(number: u32, program: Arc<Accepted>, machine: Box<Machine>) -> Self
+    /// Only an engine makes one, for a run that it has just started, or that goes on.
+    pub(crate) fn new(
+        number: u32,
+        program: Arc<Accepted>,
+        machine: Box<Machine>,
+        next: Box<Machine>,
+    ) -> Self
         requires { IsReached (record { number = number; program = arc_value program; machine = machine.value }) }
         ensures { result ≡ record { number = number; program = arc_value program; machine = machine.value } }
     {
@@ -41,6 +52,7 @@ impl Run {
             number,
             program,
             machine,
+            next,
         }
     }
 
@@ -66,27 +78,52 @@ impl Run {
         &self.program
     }
 
-    /// Spends the run and changes no engine: it is for a run whose engine was shut.
-    pub fn forfeit(self) {
-        let Run {
-            number: _,
-            program: _,
-            machine: _,
-        } = self;
+    /// Whether its program has these instructions.
+    pub(crate) fn is_of(&self, program: &Accepted) -> bool
+        ensures same { IsTrue result ↔ (self.now.program.program ≡ program.now.program) }
+        ensures accepted { IsAccepted self.now.program }
+    {
+        let own: &Accepted = &self.program;
+        *own.program() == *program.program()
     }
 
-    /// Spends the run: the place of its machine, for a run to come.
-    pub(crate) fn spent(self) -> Box<Machine> {
+    /// Executes its private instructions, up to the next helper call or its outermost exit. It takes no memory, and no more
+    /// instructions than are left of the program's budget: a machine that is reached in n of them leaves all but n.
+    pub fn to_stop(self) -> Stopped
+        ensures run { before_stop result ≡ self }
+        ensures stopped { IsStopped result }
+        ensures budget { IsWithinBudget result.segment }
+    {
         let Run {
-            number: _,
-            program: _,
+            number,
+            program,
             machine,
+            mut next,
         } = self;
-        machine
+        next.copy_from(&machine);
+        let steps = go_to_stop(&program, &mut next);
+        Stopped::new(number, program, machine, next, steps)
     }
 
-    /// The same run with a machine further on.
-    pub(crate) fn moved(self, machine: &Machine) -> Self
+    /// The same run at the stop of a segment of its program that begins in its machine.
+    pub(crate) fn at_stop_of(self, segment: &Segment) -> Stopped
+        requires accepted { IsAccepted self.program }
+        requires program { self.program.program ≡ segment.now.program.program }
+        requires start { self.machine ≡ segment.now.from }
+        ensures { result ≡ record { number = self.number; segment = record segment.now { program = self.program } } }
+    {
+        let Run {
+            number,
+            program,
+            machine,
+            mut next,
+        } = self;
+        next.copy_from(segment.to());
+        Stopped::new(number, program, machine, next, segment.steps())
+    }
+
+    /// The same run with this machine.
+    pub(crate) fn with_machine(self, machine: &Machine) -> Self
         requires { IsReached (record self { machine = machine.now }) }
         ensures { result ≡ record self { machine = machine.now } }
     {
@@ -94,12 +131,25 @@ impl Run {
             number,
             program,
             machine: mut held,
+            next,
         } = self;
         held.copy_from(machine);
-        Run {
-            number,
-            program,
-            machine: held,
-        }
+        Run::new(number, program, held, next)
+    }
+
+    /// Spends the run and changes no engine: it is for a run whose engine was shut.
+    pub fn forfeit(self) {
+        let _ = self.spent();
+    }
+
+    /// Spends the run: the places of its machines, for runs to come.
+    pub(crate) fn spent(self) -> (Box<Machine>, Box<Machine>) {
+        let Run {
+            number: _,
+            program: _,
+            machine,
+            next,
+        } = self;
+        (machine, next)
     }
 }

@@ -5,14 +5,18 @@ ghost use Rattle.std.specs.Prelude.{◌≡◌, ℕ, IfOk};
 ghost use Rattle.bpf_semantics.specs.declared.stop.Stop.TheVariants.{Helper};
 ghost use Rattle.interpreter.specs.Segments.{IsSegment};
 ghost use Rattle.engine_core.specs.Answers.{stopped_at, NamesCode, StopsByCode};
+ghost use Rattle.engine_core.specs.Replies.{IsAdvanced, r0_given};
+ghost use Rattle.engine_core.specs.RunState.{IsStopped};
 ghost use Rattle.engine_core.specs.Invariant.{HoldEntries};
-ghost use Rattle.engine_core.specs.TakingOver.{IsAdmitted, LeadsBy, GoesOn, GoesBy};
+ghost use Rattle.engine_core.specs.TakingOver.{Becomes, GoesAs, IsAdmitted, LeadsBy};
 
 use crate::carrying_out::carry_out;
+use crate::reply::Given;
+use crate::run::Run;
+use crate::stopped::Stopped;
 use bpf_semantics::Stop;
 use calls::{StoppedAt, TracedBytes};
 use helpers::{Request, Tells};
-use interpreter::Segment;
 use runs::Runs;
 use std::alloc::{AllocError, Global};
 use transport::Transport;
@@ -40,44 +44,54 @@ fn recorded_call(alloc: Global, request: &Request) -> Result<StoppedAt, AllocErr
     }
 }
 
-/// Takes over a segment that is the next stretch of the run at this place: what R0 is then. The run goes on in its next
-/// machine, or exited and is gone.
+/// Takes over what the run at this place executed up to that stop: what becomes of it, and what R0 is then. The run goes on in
+/// its next machine, or exited and is gone.
 pub(crate) fn take_over(
     transport: &mut Transport,
     runs: &mut Runs,
     place: usize,
-    segment: &Segment,
-) -> u64
-    requires { (number : ℕ) × IsAdmitted transport.old runs.old number place segment.now }
-    ensures leads { LeadsBy (stopped_at segment.now.stop) result place segment.now transport.old runs.old transport.new runs.new }
-    ensures goes { GoesBy segment.now.stop result runs.old.runs.list runs.new.runs.list place }
+    run: Stopped,
+    stop: &Stop,
+) -> (Given, u64)
+    requires stop { run.segment.stop ≡ stop.now }
+    requires stopped { IsStopped run }
+    requires admitted { (number : ℕ) × IsAdmitted transport.old runs.old number place run.segment }
+    ensures leads { LeadsBy (stopped_at run.segment.stop) result.1 place run.segment transport.old runs.old transport.new runs.new }
+    ensures becomes { Becomes run result.0 runs.old.runs.list runs.new.runs.list place }
+    ensures told { (r0_given result.0 ≡ result.1) × IsAdvanced result.0 }
     ensures tokens { HoldEntries transport.new.freezes runs.new }
 {
-    match segment.stop() {
-        Stop::Helper(request) => answer(transport, runs, place, segment, request),
+    match stop {
+        Stop::Helper(request) => {
+            let (again, r0) = answer(transport, runs, place, run, request);
+            (Given::Goes(again, r0), r0)
+        }
         Stop::Exit(r0) => {
             runs.end(place);
-            *r0
+            let (from, to) = run.spent();
+            runs.keep_place(from);
+            runs.keep_place(to);
+            (Given::Ended(*r0), *r0)
         }
     }
 }
 
-// Does what the call of a helper asks, and lets the run go on with the answer: what R0 is then.
+// Does what the call of a helper asks, and lets the run go on with the answer: the run, and what R0 is then.
 fn answer(
     transport: &mut Transport,
     runs: &mut Runs,
     place: usize,
-    segment: &Segment,
+    run: Stopped,
     request: &Request,
-) -> u64
-    requires stop { segment.now.stop ≡ Helper request.now }
-    requires segment { IsSegment segment.now }
-    requires admitted { (number : ℕ) × IsAdmitted transport.old runs.old number place segment.now }
-    ensures leads { LeadsBy (stopped_at (Helper request.now)) result place segment.now transport.old runs.old transport.new runs.new }
-    ensures goes { GoesOn runs.old.runs.list runs.new.runs.list place }
+) -> (Run, u64)
+    requires stop { run.segment.stop ≡ Helper request.now }
+    requires segment { IsSegment run.segment }
+    requires admitted { (number : ℕ) × IsAdmitted transport.old runs.old number place run.segment }
+    ensures leads { LeadsBy (stopped_at (Helper request.now)) result.1 place run.segment transport.old runs.old transport.new runs.new }
+    ensures goes { GoesAs run result.0 runs.old.runs.list runs.new.runs.list place }
     ensures tokens { HoldEntries transport.new.freezes runs.new }
 {
     let given = carry_out(transport, runs, place, request);
-    runs.go_on(place, segment.to(), request, &given);
-    given.r0
+    let again = run.go_on(runs, place, request, &given);
+    (again, given.r0)
 }

@@ -18,7 +18,7 @@ ghost use Rattle.world.specs.Capacities.{most_runs};
 ghost use Rattle.world.specs.Lookups.{run_of, with_run};
 ghost use Rattle.world.specs.CcbSteps.{run_meets_limit};
 ghost use Rattle.table_store.specs.Tables.{HasWord, with_word, word_at};
-ghost use Rattle.runs.specs.Admits.{IsNextOut, IsOutAs, IsOutWith, IsRecorded};
+ghost use Rattle.runs.specs.Admits.{IsOutWith, IsRecorded};
 ghost use Rattle.runs.specs.LiveRuns.{live_of};
 ghost use Rattle.runs.specs.RunPlaces.{HasRunAt};
 ghost use Rattle.runs.specs.RunsState.{no_runs, run_for, told, tokens_at, tokens_of};
@@ -33,9 +33,10 @@ use bpf_machine::Machine;
 use ccb::{CONTEXT_BYTES, Ccb, CcbId, QueueId, context};
 use freeze_ledger::FreezeToken;
 use helpers::{Answer, Request};
-use interpreter::{Segment, pass};
+use interpreter::pass;
 use std::alloc::{AllocError, Global};
 use std::marker::Model;
+use std::mem::replace;
 use std::sync::Arc;
 use table_store::TableStore;
 
@@ -73,16 +74,6 @@ fn is_same_program(one: &Accepted, other: &Accepted) -> bool
     ensures { IsTrue result ↔ (one.now.program ≡ other.now.program) }
 {
     *one.program() == *other.program()
-}
-
-// Whether the recorded run is out, and the segment is its next stretch.
-fn is_next(it: &RunRecord, program: &Accepted, segment: &Segment) -> bool
-    ensures { IsTrue result ↔ IsNextOut (live_of it.now) program.now.program segment.now }
-{
-    it.out
-        && is_same_program(program, &it.program)
-        && is_same_program(segment.program(), &it.program)
-        && segment.from().is_same(&it.machine)
 }
 
 // Whether the recorded run is out with that program, in that machine.
@@ -226,21 +217,6 @@ impl Runs {
         }
     }
 
-    /// Where the run stands whose next stretch the segment is: it is live and out, the program and the segment's have
-    /// its program's instructions, and the segment begins in its machine. `None`, which is C4, exactly where there is
-    /// no such run. The place is good until a run starts or ends.
-    pub fn admit(&self, run: u32, program: &Accepted, segment: &Segment) -> Option<usize>
-        ensures admitted { IsSome result ↔ IsOutAs self.now.runs.list run program.now.program segment.now }
-        ensures place { IfSome result (λ place. (it : LiveRun) × (run_of run self.now.runs.list ≡ Some it) × HasRunAt self.now.runs.list place it) }
-    {
-        let place = place_of(&self.records, run)?;
-        if is_next(&self.records[place], program, segment) {
-            Some(place)
-        } else {
-            None
-        }
-    }
-
     /// Where the run stands that is live and out with that program, in that machine. `None`, which is C4, exactly where there
     /// is no such run. The place is good until a run starts or ends.
     pub fn admit_run(&self, run: u32, program: &Accepted, machine: &Machine) -> Option<usize>
@@ -331,20 +307,27 @@ impl Runs {
         let_go(&mut self.records[place].tokens, freeze)
     }
 
-    /// The run at this place goes on behind the helper call at which `to` stands, with an answer that the call may get.
-    pub fn go_on(&mut self, place: usize, to: &Machine, request: &Request, answer: &Answer)
+    /// The run at this place goes on behind the helper call at which `to` stands, with an answer that the call may get. That
+    /// machine is the recorded one from now on, and the place of the one that was comes back.
+    pub fn go_on(
+        &mut self,
+        place: usize,
+        to: Box<Machine>,
+        request: &Request,
+        answer: &Answer,
+    ) -> Box<Machine>
         requires run { (it : LiveRun) × HasRunAt self.old.runs.list place it }
-        requires stands { StandsAt to.now request.now }
-        requires allowed { IsAnswer to.now request.now answer.now }
-        requires room { HasRoomFor to.now request.now }
+        requires stands { StandsAt to.value request.now }
+        requires allowed { IsAnswer to.value request.now answer.now }
+        requires room { HasRoomFor to.value request.now }
         ensures goes { (it : LiveRun) → HasRunAt self.old.runs.list place it →
-            self.new ≡ record self.old { runs = record self.old.runs { list = with_run (record it { machine = answered request.now answer.now to.now }) self.old.runs.list } } }
+            self.new ≡ record self.old { runs = record self.old.runs { list = with_run (record it { machine = answered request.now answer.now to.value }) self.old.runs.list } } }
         ensures place { (it : LiveRun) → HasRunAt self.old.runs.list place it →
-            HasRunAt self.new.runs.list place (record it { machine = answered request.now answer.now to.now }) }
+            HasRunAt self.new.runs.list place (record it { machine = answered request.now answer.now to.value }) }
     {
-        let machine: &mut Machine = &mut self.records[place].machine;
-        machine.copy_from(to);
-        pass(machine, request, answer);
+        let mut next = to;
+        pass(&mut next, request, answer);
+        replace(&mut self.records[place].machine, next)
     }
 
     /// The run at this place is gone. It asks for one that holds no freeze.

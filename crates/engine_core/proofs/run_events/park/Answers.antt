@@ -12,7 +12,7 @@ returns c setup transport history kept =
     let same = is_same_run c.args.runs.now.runs.list c.args.run.number c.requires.out.it there.0 c.requires.out.found there.1 in
     let out : there.0.out ≡ true = sym (ap (λ (r : LiveRun). r.out) same) ∙ c.requires.out.recorded.0 in
     parks_it setup history transport c.args.runs.now c.set_out.new.self c.args.run there.0 c.number.result c.number.ensures kept there.1 out
-    (subst (λ (r : RunsState). c.set_out.new.self ≡ with_out_run there.0 false r) c.keep_place.ensures (c.set_out.ensures there.0 (subst (λ (r : RunsState). HasRunAt r.runs.list c.args.place there.0) (sym c.keep_place.ensures) there.2)))
+    (subst (λ (r : RunsState). c.set_out.new.self ≡ with_out_run there.0 false r) (c.keep_place-2.ensures ∙ c.keep_place.ensures) (c.set_out.ensures there.0 (subst (λ (r : RunsState). HasRunAt r.runs.list c.args.place there.0) (sym (c.keep_place-2.ensures ∙ c.keep_place.ensures)) there.2)))
 
 pub set_out-requires : goal.set_out-requires
-set_out-requires c = (c.requires.place.0, subst (λ (r : RunsState). HasRunAt r.runs.list c.args.place c.requires.place.0) (sym c.keep_place.ensures) c.requires.place.2)
+set_out-requires c = (c.requires.place.0, subst (λ (r : RunsState). HasRunAt r.runs.list c.args.place c.requires.place.0) (sym (c.keep_place-2.ensures ∙ c.keep_place.ensures)) c.requires.place.2)

@@ -28,12 +28,12 @@ program-requires c =
 pub machine-requires : goal.machine-requires
 machine-requires c =
     let there = c.in-Some.ensures.place in
-    (there.0, subst (λ (r : RunsState). HasRunAt r.runs.list c.in-Some.place there.0) (sym c.place_for_machine.ensures) there.3)
+    (there.0, subst (λ (r : RunsState). HasRunAt r.runs.list c.in-Some.place there.0) (sym (c.place_for_machine-2.ensures ∙ c.place_for_machine.ensures)) there.3)
 
 pub new-again-requires : goal.new-again-requires
 new-again-requires c =
     let there = c.in-Some.ensures.place in
-    let stands = subst (λ (r : RunsState). HasRunAt r.runs.list c.in-Some.place there.0) (sym c.place_for_machine.ensures) there.3 in
+    let stands = subst (λ (r : RunsState). HasRunAt r.runs.list c.in-Some.place there.0) (sym (c.place_for_machine-2.ensures ∙ c.place_for_machine.ensures)) there.3 in
     let known = known_run c.args.config.now c.requires.1 c.requires.0 c.args.runs.now c.args.run there.0 c.requires.2 there.1 in
     let given : (arc_value c.in-Ok.program).program ≡ (arc_value c.program.result.now).program = ap (λ (v : Verdict). v.program) c.in-Ok.ensures in
     let program : (arc_value c.in-Ok.program).program ≡ there.0.program = given ∙ (c.program.ensures.program ∙ (rw (c.queue.ensures there.0 there.3) (sym known.program))) in
@@ -43,13 +43,13 @@ new-again-requires c =
 pub set_out-requires : goal.set_out-requires
 set_out-requires c =
     let there = c.in-Some.ensures.place in
-    (there.0, subst (λ (r : RunsState). HasRunAt r.runs.list c.in-Some.place there.0) (sym c.place_for_machine.ensures) there.3)
+    (there.0, subst (λ (r : RunsState). HasRunAt r.runs.list c.in-Some.place there.0) (sym (c.place_for_machine-2.ensures ∙ c.place_for_machine.ensures)) there.3)
 
 pub returns-clause-performs : goal.returns-clause-performs
 returns-clause-performs c = λ transport.
     let there = c.in-Some.ensures.place in
-    let stands = subst (λ (r : RunsState). HasRunAt r.runs.list c.in-Some.place there.0) (sym c.place_for_machine.ensures) there.3 in
-    let after : c.set_out.new.self ≡ with_out_run there.0 true c.args.runs.now = subst (λ (r : RunsState). c.set_out.new.self ≡ with_out_run there.0 true r) c.place_for_machine.ensures (c.set_out.ensures there.0 stands) in
+    let stands = subst (λ (r : RunsState). HasRunAt r.runs.list c.in-Some.place there.0) (sym (c.place_for_machine-2.ensures ∙ c.place_for_machine.ensures)) there.3 in
+    let after : c.set_out.new.self ≡ with_out_run there.0 true c.args.runs.now = subst (λ (r : RunsState). c.set_out.new.self ≡ with_out_run there.0 true r) (c.place_for_machine-2.ensures ∙ c.place_for_machine.ensures) (c.set_out.ensures there.0 stands) in
     let known = known_run c.args.config.now c.requires.1 c.requires.0 c.args.runs.now c.args.run there.0 c.requires.2 there.1 in
     let program : there.0.program ≡ (arc_value c.in-Ok.program).program = known.program ∙ sym (ap (λ (v : Verdict). v.program) c.in-Ok.ensures ∙ (c.program.ensures.program ∙ (rw (c.queue.ensures there.0 there.3) refl))) in
     resumes_it c.args.config.now transport c.args.runs.now c.set_out.new.self c.args.run there.0 c.new-again.result there.1 there.2 after

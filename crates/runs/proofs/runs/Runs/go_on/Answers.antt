@@ -17,10 +17,10 @@ here : (c : goal.After-self-1) (it : LiveRun) → HasRunAt (lives_of c.self.insi
 here c it at = run_at c.self.inside.records.items c.args.place it c.index_mut.result.now at c.index_mut.ensures.value
 
 -- what the run is then
-goes_on : (c : goal.After-self-1) (it : LiveRun) → HasRunAt (lives_of c.self.inside.records.items) c.args.place it → live_of (record c.index_mut.result.now { machine = record c.index_mut.result.now.machine { value = c.pass.new.machine } }) ≡ record it { machine = answered c.args.request.now c.args.answer.now c.args.to.now }
+goes_on : (c : goal.After-self-1) (it : LiveRun) → HasRunAt (lives_of c.self.inside.records.items) c.args.place it → live_of (record c.index_mut.result.now { machine = c.replace.new.dest }) ≡ record it { machine = answered c.args.request.now c.args.answer.now c.args.to.value }
 goes_on c it at =
-    ap (λ (x : LiveRun). record x { machine = c.pass.new.machine }) (here c it at).1
-    ∙ ap (λ (m : MachineState). record it { machine = m }) (c.pass.ensures.machine ∙ ap (answered c.args.request.now c.args.answer.now) c.copy_from.ensures)
+    ap (λ (x : LiveRun). record x { machine = c.replace.new.dest.value }) (here c it at).1
+    ∙ ap (λ (m : MachineState). record it { machine = m }) (ap (λ b. b.value) c.replace.ensures.after ∙ (c.pass.ensures.machine ∙ ap (answered c.args.request.now c.args.answer.now) c.deref_mut.ensures.value))
 
 pub invariant_of-self : goal.invariant_of-self
 invariant_of-self c =
@@ -31,7 +31,7 @@ pub returns-clause-goes : goal.returns-clause-goes
 returns-clause-goes c =
     let rs : List RunRecord = c.self.inside.records.items in
     let r : RunRecord = c.index_mut.result.now in
-    let after : RunRecord = record r { machine = record r.machine { value = c.pass.new.machine } } in
+    let after : RunRecord = record r { machine = c.replace.new.dest } in
     rw (← c.self.view_is) (λ it at.
     seen_is _ c.self.inside.greatest c.self.inside.tables _ _
     (record_changed rs c.self.inside.greatest c.args.place after r c.self.invariant.rising (here c it at).0 (sym (ap key_of c.index_mut.ensures.value))
@@ -41,7 +41,7 @@ returns-clause-goes c =
 pub returns-clause-place : goal.returns-clause-place
 returns-clause-place c =
     let rs : List RunRecord = c.self.inside.records.items in
-    let after : RunRecord = record c.index_mut.result.now { machine = record c.index_mut.result.now.machine { value = c.pass.new.machine } } in
+    let after : RunRecord = record c.index_mut.result.now { machine = c.replace.new.dest } in
     rw (← c.self.view_is) (λ it at.
     let l : c.args.place < length (set rs c.args.place after) = omega (arith, length-set rs c.args.place after, (here c it at).0) in
     subst (HasRunAt (lives_of (set rs c.args.place after)) c.args.place) (goes_on c it at)

@@ -55,7 +55,7 @@ pub enum Event<'a> {
 
 impl Event<'_> {
     /// What it owns.
-    pub(crate) fn owned(self) -> Back
+    pub fn owned(self) -> Back
         ensures { result ≡ owned self.entry }
     {
         match self {
@@ -73,6 +73,11 @@ impl Event<'_> {
             | Event::GuestFreeze { place: _, guest: _ }
             | Event::Resume { run: _ } => Back::Nothing,
         }
+    }
+
+    /// Spends what it owns and changes no engine: it is for an event that nobody is asked about.
+    pub fn forfeit(self) {
+        self.owned().forfeit();
     }
 
     /// Whether it parks a run: for the record of a park there is room.

@@ -1,63 +1,61 @@
-// Serves completions, and drives each run that starts to its end before the next is served. It relies on
-// `engine_core` for what a completion and a run's stop lead to.
+// Serves completions, and drives each run that starts to its end before the next is served. It relies on `hands` for the
+// engine's replies and for runs.
 
 ghost use Rattle.std.specs.Prelude.{◌≡◌, [], OnOk};
 
 use crate::completions::Completions;
-use crate::host::RunFault;
+use crate::host::{RunFault, ask};
 use ccb::Completion;
-use engine_core::{AdvanceAnswer, AdvanceFault, CallFault, CompleteAnswer, Engine, Run, Stopped};
+use engine_core::{CallAnswer, Engine, Event};
+use hands::{Hands, Told};
 
 /// Serves the completions that wait, in their order, until none waits. A completion that is refused is
 /// recorded, and the next is served.
-pub fn serve_all(engine: &mut Engine, completions: &mut Completions) -> Result<(), RunFault>
+pub fn serve_all(
+    engine: &mut Engine,
+    hands: &mut Hands,
+    completions: &mut Completions,
+) -> Result<(), RunFault>
     ensures { OnOk result (completions.new ≡ []) }
 {
     for completion in completions.as_slice() {
-        serve(engine, *completion)?;
+        serve(engine, hands, completion)?;
     }
     completions.clear();
     Ok(())
 }
 
-fn serve(engine: &mut Engine, completion: Completion) -> Result<(), RunFault> {
-    match engine.complete(completion) {
-        Ok(CompleteAnswer::Done) => Ok(()),
-        Ok(CompleteAnswer::Started(run, _)) => drive(engine, run),
-        Err((CallFault::Refused(_), _)) => Ok(()),
-        Err((CallFault::OutOfMemory, _)) => Err(RunFault::OutOfMemory),
+fn serve(
+    engine: &mut Engine,
+    hands: &mut Hands,
+    completion: &Completion,
+) -> Result<(), RunFault> {
+    match ask(engine, hands, Event::Complete { completion })? {
+        Told::Answered(CallAnswer::Started { run, freeze: _ }) => drive(engine, hands, run),
+        _ => Ok(()),
     }
 }
 
 // Each turn executes an instruction at least, so an accepted program's run ends within its budget of turns.
-fn drive(engine: &mut Engine, run: Run) -> Result<(), RunFault> {
-    let mut run = run;
-    for _ in 0..run.program().budget() {
-        match turn(engine, run.to_stop())? {
-            Some(next) => run = next,
-            None => return Ok(()),
+fn drive(engine: &mut Engine, hands: &mut Hands, number: u32) -> Result<(), RunFault> {
+    let Some(run) = hands.take_run(number) else {
+        return Err(RunFault::Unended(number));
+    };
+    let budget = run.program().budget();
+    let mut stopped = run.to_stop();
+    for _ in 0..budget {
+        match ask(engine, hands, Event::Advance { run: stopped })? {
+            Told::Goes(_) => {}
+            Told::Ended(_) => return Ok(()),
+            Told::Answered(_) | Told::Unfit | Told::OutOfMemory => {
+                return Err(RunFault::Unended(number));
+            }
         }
+        let Some(run) = hands.take_run(number) else {
+            return Err(RunFault::Unended(number));
+        };
+        stopped = run.to_stop();
     }
-    let number = run.number();
-    run.forfeit();
+    stopped.forfeit();
     Err(RunFault::Unended(number))
-}
-
-// What the engine answers to a run at its stop: the run where it goes on, and none where it ended.
-fn turn(engine: &mut Engine, run: Stopped) -> Result<Option<Run>, RunFault> {
-    match engine.go_on(run) {
-        Ok(AdvanceAnswer::Goes(run, _)) => Ok(Some(run)),
-        Ok(AdvanceAnswer::Ended(_)) => Ok(None),
-        Err((fault, run)) => Err(lost(fault, run)),
-    }
-}
-
-// What stops the host where a run that is out is not taken on. The run is forfeited.
-fn lost(fault: AdvanceFault, run: Run) -> RunFault {
-    let number = run.number();
-    run.forfeit();
-    match fault {
-        AdvanceFault::OutOfMemory => RunFault::OutOfMemory,
-        AdvanceFault::NotOut => RunFault::Unended(number),
-    }
 }

@@ -1,14 +1,15 @@
-// The host of the guests: it runs a scenario on an engine, and keeps the tokens of the guests' freezes and the
-// completions that are not served yet. It relies on `engine_core`, and on `driver` for serving completions.
+// The host of the guests: it runs a scenario on an engine, and keeps the completions that are not served yet. It relies on
+// `hands` for the guests' tokens and for the engine's replies, and on `driver` for serving completions.
 
 ghost use Rattle.std.specs.Prelude.{◌≡◌, [], OnOk};
 ghost use Rattle.scenario_host.specs.declared.host.RunFault.TheVariants.{OutOfMemory};
 
 use crate::completions::Completions;
 use crate::driver;
-use ccb::{Completion, QueueId};
-use engine_core::{CallFault, Config, Engine, ReleaseFault, Trace};
-use freeze_ledger::FreezeToken;
+use ccb::Completion;
+use engine_core::{Config, Engine, Event, Trace};
+use freeze_ledger::Place;
+use hands::{Hands, Told};
 use scenario::{Command, Step};
 use std::alloc::{AllocError, Global};
 
@@ -43,19 +44,26 @@ pub fn run(alloc: Global, config: Config, steps: &[Step]) -> Result<Trace, RunFa
     }
 }
 
-struct Host {
-    engine: Engine,
-    // The guests' tokens that are out, in the order in which they were taken.
-    tokens: Vec<FreezeToken>,
-    completions: Completions,
+/// Asks the engine. Where memory is refused the host stops: what comes back is in its hands.
+pub(crate) fn ask(
+    engine: &mut Engine,
+    hands: &mut Hands,
+    event: Event<'_>,
+) -> Result<Told, RunFault> {
+    match hands.ask(engine, event) {
+        Ok(Told::OutOfMemory) => Err(RunFault::OutOfMemory),
+        Ok(told) => Ok(told),
+        Err(event) => {
+            event.forfeit();
+            Err(RunFault::OutOfMemory)
+        }
+    }
 }
 
-// A refusal is recorded, and the scenario goes on.
-fn recorded<T: Copy>(answer: Result<T, CallFault>) -> Result<(), RunFault> {
-    match answer {
-        Ok(_) | Err(CallFault::Refused(_)) => Ok(()),
-        Err(CallFault::OutOfMemory) => Err(RunFault::OutOfMemory),
-    }
+struct Host {
+    engine: Engine,
+    hands: Hands,
+    completions: Completions,
 }
 
 impl Host {
@@ -64,7 +72,7 @@ impl Host {
         match Engine::open(alloc, config) {
             Ok(engine) => Ok(Host {
                 engine,
-                tokens: Vec::new(alloc),
+                hands: Hands::empty(alloc),
                 completions,
             }),
             Err((fault, _)) => Err(fault),
@@ -84,14 +92,30 @@ impl Host {
                 queue,
                 priority,
                 retries,
-            } => recorded(self.engine.submit(queue, priority, retries)),
-            Command::Dispatch { queue } => recorded(self.engine.dispatch(queue)),
+            } => self.ask(Event::Submit {
+                queue,
+                priority,
+                retries,
+            }),
+            Command::Dispatch { queue } => self.ask(Event::Dispatch { queue }),
             Command::Complete { completion } => self.complete(completion),
             Command::Drain => self.drain(),
-            Command::GuestFreeze { queue, guest } => Ok(self.freeze(queue, guest)?),
-            Command::GuestRelease { freeze } => self.release(freeze, step.line),
-            Command::Clock { reading } => recorded(self.engine.clock(reading)),
+            Command::GuestFreeze { queue, guest } => {
+                let place = Place::Device(queue);
+                self.ask(Event::GuestFreeze { place, guest })
+            }
+            Command::GuestRelease { freeze } => match self.hands.take_token(freeze) {
+                Some(token) => self.ask(Event::GuestRelease { token }),
+                None => Err(RunFault::NotHeld(step.line)),
+            },
+            Command::Clock { reading } => self.ask(Event::Clock { reading }),
         }
+    }
+
+    // A refusal is recorded, and the scenario goes on.
+    fn ask(&mut self, event: Event<'_>) -> Result<(), RunFault> {
+        let _ = ask(&mut self.engine, &mut self.hands, event)?;
+        Ok(())
     }
 
     // A full list is served first, so that there is room.
@@ -106,53 +130,16 @@ impl Host {
     fn drain(&mut self) -> Result<(), RunFault>
         ensures { OnOk result (self.new.completions ≡ []) }
     {
-        driver::serve_all(&mut self.engine, &mut self.completions)
-    }
-
-    // Room for the token comes first, so that it never has to be undone.
-    fn freeze(&mut self, queue: QueueId, guest: u32) -> Result<(), AllocError> {
-        self.tokens.reserve(1)?;
-        match self.engine.guest_freeze(queue, guest) {
-            Ok(token) => {
-                self.tokens.push_reserved(token);
-                Ok(())
-            }
-            Err(CallFault::Refused(_)) => Ok(()),
-            Err(CallFault::OutOfMemory) => Err(AllocError),
-        }
-    }
-
-    fn release(&mut self, freeze: u32, line: usize) -> Result<(), RunFault> {
-        let Some(place) = self
-            .tokens
-            .iter()
-            .position(|token| token.number() == freeze)
-        else {
-            return Err(RunFault::NotHeld(line));
-        };
-        let token = self.tokens.remove(place);
-        match self.engine.guest_release(token) {
-            Ok(_) => Ok(()),
-            Err((fault, token)) => {
-                token.forfeit();
-                match fault {
-                    ReleaseFault::OutOfMemory => Err(RunFault::OutOfMemory),
-                    ReleaseFault::NotHeld => Err(RunFault::NotHeld(line)),
-                }
-            }
-        }
+        driver::serve_all(&mut self.engine, &mut self.hands, &mut self.completions)
     }
 
     fn close(self) -> Trace {
         let Host {
             engine,
-            mut tokens,
+            hands,
             completions: _,
         } = self;
-        while let Some(token) = tokens.pop() {
-            token.forfeit();
-        }
-        tokens.destroy_empty();
+        hands.forfeit();
         engine.shut()
     }
 }

@@ -35,8 +35,7 @@ impl Parts {
     {
         match event {
             Event::Advance { run } => {
-                self.runs
-                    .admit_run(run.number(), run.program(), run.from())
+                self.runs.admit_run(run.number(), run.program(), run.from())
             }
             Event::Park { run } => {
                 self.runs

@@ -25,11 +25,7 @@ pub fn serve_all(
     Ok(())
 }
 
-fn serve(
-    engine: &mut Engine,
-    hands: &mut Hands,
-    completion: &Completion,
-) -> Result<(), RunFault> {
+fn serve(engine: &mut Engine, hands: &mut Hands, completion: &Completion) -> Result<(), RunFault> {
     match ask(engine, hands, Event::Complete { completion })? {
         Told::Answered(CallAnswer::Started { run, freeze: _ }) => drive(engine, hands, run),
         _ => Ok(()),

@@ -10,5 +10,5 @@ mod running;
 mod segment;
 
 pub use resuming::{pass, resume};
-pub use running::{go_to_stop, stop_of, to_next_stop, to_stop, to_stop_in};
+pub use running::{go_to_stop, stop_of, to_stop};
 pub use segment::Segment;

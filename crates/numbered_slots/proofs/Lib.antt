@@ -1,0 +1,4 @@
+pub mod Values
+pub mod Laid
+pub mod Numbers
+pub mod Kept

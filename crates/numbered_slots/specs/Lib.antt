@@ -1,0 +1,3 @@
+pub mod NumberedState
+pub mod Invariant
+pub mod Lends

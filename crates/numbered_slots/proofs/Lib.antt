@@ -2,3 +2,4 @@ pub mod Values
 pub mod Laid
 pub mod Numbers
 pub mod Kept
+pub mod Found

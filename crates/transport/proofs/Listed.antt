@@ -1,9 +1,7 @@
 -- What the list of live CCBs keeps is kept by one more at the end, by a change of one, and by one fewer.
-use Rattle.std.proofs.Common.{◌≡◌, ℕ, ◌+◌, ◌<◌, List, [], ◌∷◌, ◌++◌, length, map, get_or, set, cond, Some, ap, sym, subst, ◌∙◌, arith, length-append}
+use Rattle.std.proofs.Common.{◌≡◌, ℕ, ◌+◌, ◌<◌, List, [], ◌∷◌, ◌++◌, length, map, get_or, set, cond, Some, None, Contains, ap, sym, subst, ◌∙◌, arith, length-append}
 use Rattle.std.specs.List.{remove}
-use Rattle.std.specs.Vec.{vec_capacity}
-use Rattle.std.specs.declared.vec.Vec.{Vec}
-use Rattle.std.specs.declared.alloc.Global.{Global}
+use Rattle.std.proofs.lemmas.List.{map_push}
 use Rattle.std.proofs.lemmas.List.Edits.{length-remove}
 use Rattle.std.proofs.lemmas.List.Sums.{sum_by_push}
 use Rattle.std.proofs.Math.ListN.{length-set}
@@ -14,7 +12,10 @@ use Rattle.world.proofs.Lists.Found.{leave, put_keys}
 use Rattle.world.proofs.Lists.Rising.{rising_push, rising_leave, count_put, count_gone}
 use Rattle.world.proofs.Lists.Placed.{found_at, set_is_put, remove_is_leave}
 use Rattle.world.proofs.Steps.Moves.{ccb_key}
-use Rattle.transport.specs.Listed.{ListState, IsListed, IsPlaceOf}
+use Rattle.numbered_slots.specs.NumberedState.{NumberedState, IsPlaceOf as HasNumberAt}
+use Rattle.numbered_slots.proofs.Found.{absent, stands}
+use Rattle.numbered_slots.proofs.Numbers.{map_remove}
+use Rattle.transport.specs.Listed.{ListState, IsListed}
 
 -- the list that contracts see
 abbrev pub listed_as : ℕ → List LiveCcb → ListState
@@ -27,16 +28,39 @@ numbered_put ccbs high c h = subst (λ (ns : List ℕ). AreRising 0 ns high) (sy
 abbrev pub counts : LiveCcb → ℕ
 counts c = cond (is_active c.state) 1 0
 
+-- the CCB of this number stands at this place
+pub record IsPlaceOf (number : ℕ) (ccbs : List LiveCcb) (place : ℕ) : Type 0 where
+  pub within : place < length ccbs
+  pub here : (other : LiveCcb) → (get_or ccbs place other).ccb.number.0 ≡ number
+
+-- as a look-up by number says
+pub place_is : (s : NumberedState LiveCcb) (greatest active number place : ℕ) → IsListed s greatest active → HasNumberAt number s.numbers place → IsPlaceOf number s.values place
+place_is s greatest active number place h found =
+    let it = stands ccb_key number s.numbers s.values place h.numbered found in
+    record { within = it.0; here = it.1 }
+
+pub not_there : (s : NumberedState LiveCcb) (greatest active number : ℕ) → IsListed s greatest active → (Contains s.numbers number → ⊥) → ccb_of number s.values ≡ None
+not_there s greatest active number h none =
+    absent ccb_key number s.values (subst (λ (ns : List ℕ). Contains ns number → ⊥) h.numbered none)
+
 -- the CCB at the place is the one of the number
 pub placed : (ccbs : List LiveCcb) (greatest number place : ℕ) (it : LiveCcb) → AreRising 0 (map ccb_key ccbs) greatest → IsPlaceOf number ccbs place → it ≡ get_or ccbs place it → ccb_of number ccbs ≡ Some it
 placed ccbs greatest number place it rising p e = found_at ccb_key 0 ccbs greatest place number it p.within rising (p.here it) ∙ ap Some (sym e)
 
-pub listed_push : (v w : Vec LiveCcb Global) (greatest active : ℕ) (c : LiveCcb) → IsListed v greatest active → length v.items < 4096 → c.ccb.number.0 ≡ greatest + 1 → w.items ≡ v.items ++ c ∷ [] → vec_capacity w ≡ vec_capacity v → (number now : ℕ) → number ≡ c.ccb.number.0 → now ≡ active + counts c → IsListed w number now
-listed_push v w greatest active c h few next items capacity number now number_is now_is = record {
-  rising = rw items (subst (λ (n : ℕ). AreRising 0 (map ccb_key (v.items ++ c ∷ [])) n) (sym (number_is ∙ next)) (rising_push ccb_key 0 v.items greatest c h.rising next));
-  within = rw items (omega (arith, length-append v.items (c ∷ [])));
-  room = rw capacity h.room;
-  counted = rw items (omega (arith, sum_by_push counts v.items c, h.counted, now_is));
+-- with a further one the numbers rise too
+pub rises_on : (s : NumberedState LiveCcb) (greatest active : ℕ) (c : LiveCcb) → IsListed s greatest active → c.ccb.number.0 ≡ greatest + 1 → AreRising 0 (s.numbers ++ c.ccb.number.0 ∷ []) c.ccb.number.0
+rises_on s greatest active c h next =
+    let rising : AreRising 0 (map ccb_key (s.values ++ c ∷ [])) (greatest + 1) = rising_push ccb_key 0 s.values greatest c h.rising next in
+    let numbers : map ccb_key (s.values ++ c ∷ []) ≡ s.numbers ++ c.ccb.number.0 ∷ [] = map_push ccb_key s.values c ∙ ap (λ (ns : List ℕ). ns ++ c.ccb.number.0 ∷ []) (sym h.numbered) in
+    subst (λ (ns : List ℕ). AreRising 0 ns c.ccb.number.0) numbers (subst (λ (n : ℕ). AreRising 0 (map ccb_key (s.values ++ c ∷ [])) n) (sym next) rising)
+
+pub listed_push : (s : NumberedState LiveCcb) (greatest active : ℕ) (c : LiveCcb) → IsListed s greatest active → length s.values < 4096 → c.ccb.number.0 ≡ greatest + 1 → (now : ℕ) → now ≡ active + counts c → IsListed (record s { numbers = s.numbers ++ c.ccb.number.0 ∷ []; values = s.values ++ c ∷ [] }) c.ccb.number.0 now
+listed_push s greatest active c h few next now now_is = record {
+  numbered = ap (λ (ns : List ℕ). ns ++ c.ccb.number.0 ∷ []) h.numbered ∙ sym (map_push ccb_key s.values c);
+  rising = subst (λ (n : ℕ). AreRising 0 (map ccb_key (s.values ++ c ∷ [])) n) (sym next) (rising_push ccb_key 0 s.values greatest c h.rising next);
+  within = omega (arith, length-append s.values (c ∷ []));
+  room = h.room;
+  counted = omega (arith, sum_by_push counts s.values c, h.counted, now_is);
 }
 
 -- a change by place is one by number
@@ -46,24 +70,26 @@ set_is ccbs greatest place c rising p = set_is_put ccb_key 0 ccbs greatest place
 pub remove_is : (ccbs : List LiveCcb) (greatest number place : ℕ) (it : LiveCcb) → AreRising 0 (map ccb_key ccbs) greatest → IsPlaceOf number ccbs place → remove ccbs place ≡ leave ccb_key number ccbs
 remove_is ccbs greatest number place it rising p = remove_is_leave ccb_key 0 ccbs greatest place number it p.within rising (p.here it)
 
-pub listed_put : (v w : Vec LiveCcb Global) (greatest active place : ℕ) (c it : LiveCcb) → IsListed v greatest active → IsPlaceOf c.ccb.number.0 v.items place → it ≡ get_or v.items place it → w.items ≡ set v.items place c → vec_capacity w ≡ vec_capacity v → (now : ℕ) → now + counts it ≡ active + counts c → IsListed w greatest now
-listed_put v w greatest active place c it h p e items capacity now now_is =
-    let same : set v.items place c ≡ with_ccb c v.items = set_is v.items greatest place c h.rising p in
-    let found = placed v.items greatest c.ccb.number.0 place it h.rising p e in
+pub listed_put : (s : NumberedState LiveCcb) (greatest active place : ℕ) (c it : LiveCcb) → IsListed s greatest active → IsPlaceOf c.ccb.number.0 s.values place → it ≡ get_or s.values place it → (now : ℕ) → now + counts it ≡ active + counts c → IsListed (record s { values = set s.values place c }) greatest now
+listed_put s greatest active place c it h p e now now_is =
+    let same : set s.values place c ≡ with_ccb c s.values = set_is s.values greatest place c h.rising p in
+    let found = placed s.values greatest c.ccb.number.0 place it h.rising p e in
     record {
-      rising = rw (items, same) (numbered_put v.items greatest c h.rising);
-      within = rw items (omega (arith, length-set v.items place c, h.within));
-      room = rw capacity h.room;
-      counted = rw (items, same) (omega (arith, count_put ccb_key (λ (l : LiveCcb). is_active l.state) 0 v.items greatest c it h.rising found, h.counted, now_is));
+      numbered = rw same (h.numbered ∙ sym (put_keys ccb_key c s.values));
+      rising = rw same (numbered_put s.values greatest c h.rising);
+      within = omega (arith, length-set s.values place c, h.within);
+      room = h.room;
+      counted = rw same (omega (arith, count_put ccb_key (λ (l : LiveCcb). is_active l.state) 0 s.values greatest c it h.rising found, h.counted, now_is));
     }
 
-pub listed_remove : (v w : Vec LiveCcb Global) (greatest active place number : ℕ) (it : LiveCcb) → IsListed v greatest active → IsPlaceOf number v.items place → it ≡ get_or v.items place it → w.items ≡ remove v.items place → vec_capacity w ≡ vec_capacity v → (now : ℕ) → now + counts it ≡ active → IsListed w greatest now
-listed_remove v w greatest active place number it h p e items capacity now now_is =
-    let same : remove v.items place ≡ leave ccb_key number v.items = remove_is v.items greatest number place it h.rising p in
-    let found = placed v.items greatest number place it h.rising p e in
-    record {
-      rising = rw (items, same) (rising_leave ccb_key 0 v.items greatest number h.rising);
-      within = rw items (omega (arith, length-remove v.items place p.within, h.within));
-      room = rw capacity h.room;
-      counted = rw (items, same) (omega (arith, count_gone ccb_key (λ (l : LiveCcb). is_active l.state) 0 v.items greatest number it h.rising found, h.counted, now_is));
+pub listed_remove : (s left : NumberedState LiveCcb) (greatest active place number : ℕ) (it : LiveCcb) → IsListed s greatest active → IsPlaceOf number s.values place → it ≡ get_or s.values place it → left ≡ record s { numbers = remove s.numbers place; values = remove s.values place } → (now : ℕ) → now + counts it ≡ active → IsListed left greatest now
+listed_remove s left greatest active place number it h p e is now now_is =
+    let same : remove s.values place ≡ leave ccb_key number s.values = remove_is s.values greatest number place it h.rising p in
+    let found = placed s.values greatest number place it h.rising p e in
+    rw is record {
+      numbered = ap (λ (ns : List ℕ). remove ns place) h.numbered ∙ sym (map_remove ccb_key s.values place p.within);
+      rising = rw same (rising_leave ccb_key 0 s.values greatest number h.rising);
+      within = omega (arith, length-remove s.values place p.within, h.within);
+      room = h.room;
+      counted = rw same (omega (arith, count_gone ccb_key (λ (l : LiveCcb). is_active l.state) 0 s.values greatest number it h.rising found, h.counted, now_is));
     }

@@ -1,12 +1,11 @@
--- What contracts see of the list of live CCBs, and what it keeps: its numbers rise, there is room, and the active CCBs
--- are counted.
-use Rattle.std.specs.Prelude.{◌≡◌, ℕ, ◌<◌, ◌≤◌, ◌||◌, Bool, List, [], length, map, nat_le, slice_index_or, vec_capacity, count_by}
-use Rattle.std.specs.declared.vec.Vec.{Vec}
-use Rattle.std.specs.declared.alloc.Global.{Global}
+-- What contracts see of the list of live CCBs, and what it keeps: they are numbered by their own numbers, which
+-- rise, there is room, and the active CCBs are counted.
+use Rattle.std.specs.Prelude.{◌≡◌, ℕ, ◌≤◌, ◌||◌, Bool, List, [], length, map, nat_le, count_by}
 use Rattle.world.specs.Capacities.{most_ccbs, last_number}
 use Rattle.world.specs.World.{LiveCcb}
 use Rattle.world.specs.Lookups.{is_active}
 use Rattle.ccb.specs.Rising.{AreRising}
+use Rattle.numbered_slots.specs.NumberedState.{NumberedState}
 
 pub record ListState : Type 0 where
   -- in the order of their numbers
@@ -24,13 +23,9 @@ is_full list = nat_le most_ccbs (length list.live) || nat_le last_number list.gr
 abbrev pub all_active : List LiveCcb → ℕ
 all_active ccbs = count_by (λ live. is_active live.state) ccbs
 
-pub record IsListed (ccbs : Vec LiveCcb Global) (greatest active : ℕ) : Type 0 where
-  pub rising : AreRising 0 (map (λ live. live.ccb.number.0) ccbs.items) greatest
-  pub within : length ccbs.items ≤ most_ccbs
-  pub room : most_ccbs ≤ vec_capacity ccbs
-  pub counted : active ≡ all_active ccbs.items
-
--- the CCB of this number stands at this place
-pub record IsPlaceOf (number : ℕ) (ccbs : List LiveCcb) (place : ℕ) : Type 0 where
-  pub within : place < length ccbs
-  pub here : (other : LiveCcb) → (slice_index_or ccbs place other).ccb.number.0 ≡ number
+pub record IsListed (ccbs : NumberedState LiveCcb) (greatest active : ℕ) : Type 0 where
+  pub numbered : ccbs.numbers ≡ map (λ live. live.ccb.number.0) ccbs.values
+  pub rising : AreRising 0 (map (λ live. live.ccb.number.0) ccbs.values) greatest
+  pub within : length ccbs.values ≤ most_ccbs
+  pub room : ccbs.most ≡ most_ccbs
+  pub counted : active ≡ all_active ccbs.values

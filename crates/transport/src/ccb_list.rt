@@ -1,17 +1,15 @@
-// The live CCBs as a plain list in the order of their numbers, reserved once. It relies on `live_ccb` for what
-// an entry is.
+// The live CCBs in the order of their numbers, for which room is taken once. It relies on `live_ccb` for what an entry is,
+// and on `numbered_slots` for where it stands.
 
-ghost use Rattle.std.specs.Prelude.{◌≡◌, ℕ, ◌+◌, ◌<◌, ◌≤◌, ◌++◌, [], ◌∷◌, ◌==◌, not, length, map, filter, IfOk, IfSome, IfNone, Some, None, if◌then◌else◌};
-ghost use Rattle.std.specs.List.{AllWithin};
-ghost use Rattle.std.specs.List.Sorted.{IsNonDecreasingBy};
-ghost use Rattle.ccb.specs.Rising.{AreRising};
+ghost use Rattle.std.specs.Prelude.{◌≡◌, ◌+◌, ◌<◌, ◌≤◌, ◌++◌, [], ◌∷◌, ◌==◌, not, length, filter, IfOk, Some, if◌then◌else◌};
 ghost use Rattle.world.specs.Capacities.{most_ccbs};
 ghost use Rattle.world.specs.World.{LiveCcb as WorldCcb};
 ghost use Rattle.world.specs.Lookups.{ccb_of, with_ccb};
-ghost use Rattle.transport.specs.Listed.{ListState, no_live, is_full, all_active, IsPlaceOf};
+ghost use Rattle.transport.specs.Listed.{ListState, no_live, is_full, all_active};
 
 use crate::live_ccb::LiveCcb;
 use ccb::CcbId;
+use numbered_slots::NumberedSlots;
 use std::alloc::{AllocError, Global};
 use std::marker::Model;
 
@@ -21,7 +19,7 @@ const MAX_CCBS: usize = 4096;
 /// The live CCBs, the greatest number that was given, and how many are active. Contracts see the first two.
 #[derive(Drop)]
 pub(crate) struct CcbList {
-    ccbs: Vec<LiveCcb>,
+    ccbs: NumberedSlots<LiveCcb>,
     greatest: u32,
     active: u32,
 }
@@ -31,33 +29,9 @@ impl Model for CcbList {
 
     ghost Value = { ListState };
 
-    ghost view = { λ l. record { live = l.ccbs.items; greatest = l.greatest } };
+    ghost view = { λ l. record { live = l.ccbs.values; greatest = l.greatest } };
 
     ghost invariant = { λ l. IsListed l.ccbs l.greatest l.active };
-}
-
-// How many of these CCBs have a lower number: where the one of this number stands, if it is there.
-fn place_for(ccbs: &[LiveCcb], number: CcbId) -> usize
-    requires { IsNonDecreasingBy (λ (live : WorldCcb). live.ccb.number.0) ccbs.now }
-    ensures within { result ≤ length ccbs.now }
-    ensures lower { AllWithin (λ live. live.ccb.number.0 < number.0) ccbs.now 0 result }
-    ensures others { AllWithin (λ live. number.0 ≤ live.ccb.number.0) ccbs.now result (length ccbs.now) }
-{
-    ccbs.partition_point(|live| live.number().0 < number.0)
-}
-
-// Where the CCB of this number stands, if it is there.
-fn place_of(ccbs: &[LiveCcb], number: CcbId) -> Option<usize>
-    requires { (greatest : ℕ) × AreRising 0 (map (λ (live : WorldCcb). live.ccb.number.0) ccbs.now) greatest }
-    ensures found { IfSome result (IsPlaceOf number.0 ccbs.now) }
-    ensures none { IfNone result (ccb_of number.0 ccbs.now ≡ None) }
-{
-    let place = place_for(ccbs, number);
-    if place < ccbs.len() && ccbs[place].number() == number {
-        Some(place)
-    } else {
-        None
-    }
 }
 
 // How many CCBs are active after one that was, or was not, is or is not.
@@ -79,7 +53,7 @@ impl CcbList {
         ensures { IfOk result (λ list. list ≡ no_live) }
     {
         Ok(CcbList {
-            ccbs: Vec::with_capacity(alloc, MAX_CCBS)?,
+            ccbs: NumberedSlots::with_room(alloc, MAX_CCBS)?,
             greatest: 0,
             active: 0,
         })
@@ -111,7 +85,7 @@ impl CcbList {
     pub(crate) fn get(&self, number: CcbId) -> Option<LiveCcb>
         ensures { result ≡ ccb_of number.0 self.now.live }
     {
-        let place = place_of(&self.ccbs, number)?;
+        let place = self.ccbs.place_of(number.0)?;
         Some(self.ccbs[place])
     }
 
@@ -123,7 +97,7 @@ impl CcbList {
     {
         self.greatest = live.number().0;
         self.active = moved(self.active, false, live.is_active());
-        self.ccbs.push_reserved(live);
+        self.ccbs.push(live.number().0, live);
     }
 
     /// Puts a CCB in the place of the one of its number, which is there.
@@ -131,7 +105,7 @@ impl CcbList {
         requires { (it : WorldCcb) × (ccb_of changed.now.ccb.number.0 self.old.live ≡ Some it) }
         ensures { self.new ≡ record self.old { live = with_ccb changed.now self.old.live } }
     {
-        let Some(place) = place_of(&self.ccbs, changed.number()) else {
+        let Some(place) = self.ccbs.place_of(changed.number().0) else {
             unreachable!()
         };
         let was = self.ccbs[place].is_active();
@@ -145,7 +119,7 @@ impl CcbList {
         ensures gone { ccb_of number.0 self.old.live ≡ Some result }
         ensures others { self.new ≡ record self.old { live = filter (λ live. not (live.ccb.number.0 == number.0)) self.old.live } }
     {
-        let Some(place) = place_of(&self.ccbs, number) else {
+        let Some(place) = self.ccbs.place_of(number.0) else {
             unreachable!()
         };
         let gone = self.ccbs.remove(place);

@@ -1,5 +1,5 @@
 -- Numbers that rise, by place: which are lower, which are missing, and what is left without one.
-use Rattle.std.proofs.Common.{◌≡◌, ℕ, zero, suc, ◌<◌, ◌≤◌, List, [], ◌∷◌, map, length, get_or, Contains, refl, ap, arith}
+use Rattle.std.proofs.Common.{◌≡◌, ℕ, zero, suc, ◌<◌, ◌≤◌, List, [], ◌∷◌, ◌++◌, map, length, get_or, Contains, refl, ap, arith}
 use Rattle.std.specs.List.{remove}
 use Rattle.std.proofs.lemmas.List.{get_or-map, length-map}
 use Rattle.ccb.specs.Rising.{AreRising}
@@ -15,6 +15,11 @@ rises low [] high i j d lt l h = absurd (omega arith)
 rises low (n ∷ ns) high i zero d lt l h = absurd (omega arith)
 rises low (n ∷ ns) high zero (suc j) d lt l h = above n ns high j d (omega arith) h.1
 rises low (n ∷ ns) high (suc i) (suc j) d lt l h = rises n ns high i j d (omega arith) (omega arith) h.1
+
+-- with one more that is greater than all
+pub rising_more : (low : ℕ) (ns : List ℕ) (high n : ℕ) → AreRising low ns high → high < n → AreRising low (ns ++ n ∷ []) n
+rising_more low [] high n h l = (omega (arith, h), omega arith)
+rising_more low (m ∷ ns) high n h l = (h.0, rising_more m ns high n h.1 l)
 
 rising_lower : (low lower : ℕ) (ns : List ℕ) (high : ℕ) → lower ≤ low → AreRising low ns high → AreRising lower ns high
 rising_lower low lower [] high le h = omega arith

@@ -1,17 +1,21 @@
 -- The records of runs, by place, and the live runs that they are: what is found, changed and removed.
-use Rattle.std.proofs.Common.{◌≡◌, ℕ, zero, suc, ◌<◌, ◌≤◌, List, [], ◌∷◌, ◌++◌, ◌+◌, map, length, get_or, set, not, eqb, Option, Some, None, inl, inr, refl, ap, sym, subst, ◌∙◌, arith}
-use Rattle.std.specs.List.{remove, AllWithin, HoldsAt, filter}
-use Rattle.std.specs.Option.{IfSome}
-use Rattle.std.proofs.lemmas.List.{length-map, get_or-map, map_push, map-set, set-get_or, get_or_default}
+use Rattle.std.proofs.Common.{◌≡◌, ℕ, ◌<◌, List, [], ◌∷◌, ◌++◌, ◌+◌, map, length, get_or, set, not, eqb, Option, Some, None, Contains, inl, inr, refl, ap, sym, subst, ◌∙◌, arith}
+use Rattle.std.specs.List.{remove, HoldsAt, filter}
+use Rattle.std.specs.Option.{IfSome, IfNone}
+use Rattle.std.proofs.lemmas.List.{length-map, get_or-map, map_push, map-set, set-get_or}
 use Rattle.std.proofs.lemmas.Bool.{cases_eq}
 use Rattle.std.proofs.lemmas.Simd.{map-map}
 use Rattle.world.specs.World.{LiveRun}
 use Rattle.ccb.specs.Rising.{AreRising}
+use Rattle.numbered_slots.specs.NumberedState.{NumberedState, IsPlaceOf as HasNumberAt}
+use Rattle.numbered_slots.proofs.Found.{absent, stands}
+use Rattle.numbered_slots.proofs.Numbers.{map_remove}
 use Rattle.world.specs.Lookups.{run_of, with_run}
 use Rattle.world.proofs.Lists.Found.{at, at_head, at_tail, missing_push}
 use Rattle.world.proofs.Lists.Rising.{missing_high}
-use Rattle.world.proofs.Lists.Placed.{rises, found_at, missing_at, set_is_put, remove_is_leave}
+use Rattle.world.proofs.Lists.Placed.{found_at, set_is_put, remove_is_leave}
 use Rattle.runs.specs.declared.run_record.RunRecord.{RunRecord}
+use Rattle.runs.specs.Invariant.{KeepsRuns}
 use Rattle.runs.specs.RunPlaces.{HasRunAt}
 use Rattle.runs.specs.LiveRuns.{live_of, lives_of, number_of}
 
@@ -28,10 +32,6 @@ own rs greatest h = subst (λ (ns : List ℕ). AreRising 0 ns greatest) (map-map
 pub lives_length : (rs : List RunRecord) (k : ℕ) → k < length rs → k < length (lives_of rs)
 lives_length rs k l = omega (arith, length-map rs live_of)
 
--- the number at a place, whatever stands for what is missing
-pub number_at : (rs : List RunRecord) (k n : ℕ) (r d : RunRecord) → k < length rs → (get_or rs k r).number ≡ n → (get_or rs k d).number ≡ n
-number_at rs k n r d l e = ap key_of (get_or_default rs k d r l) ∙ e
-
 pub live_at : (rs : List RunRecord) (k n : ℕ) (d : RunRecord) → k < length rs → (get_or rs k d).number ≡ n → number_of (get_or (lives_of rs) k (live_of d)) ≡ n
 live_at rs k n d l e = ap number_of (get_or-map live_of rs k d (live_of d) l) ∙ e
 
@@ -40,9 +40,6 @@ record_found rs greatest k n d h l e =
     found_at number_of 0 (lives_of rs) greatest k n (live_of d) (lives_length rs k l) h (live_at rs k n d l e)
     ∙ ap Some (get_or-map live_of rs k d (live_of d) l)
 
-pub record_rises : (rs : List RunRecord) (greatest i j : ℕ) (d : RunRecord) → i ≤ j → j < length rs → Rises rs greatest → (get_or rs i d).number ≤ (get_or rs j d).number
-record_rises rs greatest i j d le l h = rises key_of 0 rs greatest i j d le l (own rs greatest h)
-
 missing_live : (n : ℕ) (rs : List RunRecord) → at key_of n rs ≡ None → run_of n (lives_of rs) ≡ None
 missing_live n [] e = refl
 missing_live n (r ∷ rs) e =
@@ -50,10 +47,6 @@ missing_live n (r ∷ rs) e =
       | inl same ↦ absurd (let bad : Some r ≡ None = sym (at_head key_of n r rs same) ∙ e in cc)
       | inr other ↦ at_tail number_of n (live_of r) (lives_of rs) other ∙ missing_live n rs (sym (at_tail key_of n r rs other) ∙ e)
     ]
-
-pub record_missing : (rs : List RunRecord) (greatest k n : ℕ) → Rises rs greatest → AllWithin (λ (r : RunRecord). r.number < n) rs 0 k → AllWithin (λ (r : RunRecord). n ≤ r.number) rs k (length rs) → ((d : RunRecord) → k < length rs → (get_or rs k d).number ≡ n → ⊥) → run_of n (lives_of rs) ≡ None
-record_missing rs greatest k n h lower others other =
-    missing_live n rs (missing_at key_of 0 rs greatest k n (own rs greatest h) (λ j d l w. lower j d (omega arith) l) others other)
 
 -- a change that keeps the number
 pub record_changed : (rs : List RunRecord) (greatest k : ℕ) (c d : RunRecord) → Rises rs greatest → k < length rs → (get_or rs k d).number ≡ c.number → lives_of (set rs k c) ≡ with_run (live_of c) (lives_of rs)
@@ -72,12 +65,7 @@ record_kept f rs k r c l is same =
 pub seen_at : {A : Type 0} (f : RunRecord → A) (rs : List RunRecord) (k : ℕ) (r : RunRecord) (d : A) → k < length rs → r ≡ get_or rs k r → f r ≡ get_or (map f rs) k d
 seen_at f rs k r d l is = ap f is ∙ sym (get_or-map f rs k r d l)
 
--- one fewer, seen through a function
-pub map_remove : {A B : Type 0} (f : A → B) (xs : List A) (k : ℕ) → k < length xs → map f (remove xs k) ≡ remove (map f xs) k
-map_remove f [] k l = absurd (omega arith)
-map_remove f (x ∷ xs) zero l = refl
-map_remove f (x ∷ xs) (suc k) l = ap (λ ys. f x ∷ ys) (map_remove f xs k (omega arith))
-
+-- one fewer
 pub record_removed : (rs : List RunRecord) (greatest k n : ℕ) (d : RunRecord) → Rises rs greatest → k < length rs → (get_or rs k d).number ≡ n → lives_of (remove rs k) ≡ filter (λ (it : LiveRun). not (eqb it.number n)) (lives_of rs)
 record_removed rs greatest k n d h l e =
     map_remove live_of rs k l
@@ -95,14 +83,15 @@ has_run_at rs place r l stands = record {
   here = get_or-map live_of rs place r (live_of r) l ∙ ap live_of (sym stands);
 }
 
--- where a record stands, by the clauses of `place_of` on what was read
-pub placed : (rs xs : List RunRecord) (n : ℕ) (o : Option ℕ) (place : ℕ) → xs ≡ rs → o ≡ Some place → IfSome o (λ p. p < length xs) → IfSome o (λ p. HoldsAt (λ it. run_of n (lives_of xs) ≡ Some (live_of it)) xs p) → (place < length rs) × ((d : RunRecord) → run_of n (lives_of rs) ≡ Some (live_of (get_or rs place d)))
-placed rs xs n o place same is within found =
-    let P : List RunRecord → Type 0 = λ ys. (place < length ys) × ((d : RunRecord) → run_of n (lives_of ys) ≡ Some (live_of (get_or ys place d))) in
-    let here : P xs = (subst (λ (q : Option ℕ). IfSome q (λ p. p < length xs)) is within, subst (λ (q : Option ℕ). IfSome q (λ p. HoldsAt (λ it. run_of n (lives_of xs) ≡ Some (live_of it)) xs p)) is found) in
-    subst P same here
+-- what a look-up by number says of the runs
+pub looked_up : (s : NumberedState RunRecord) (greatest n : ℕ) (o : Option ℕ) → KeepsRuns s greatest → IfSome o (HasNumberAt n s.numbers) → IfNone o (Contains s.numbers n → ⊥) → IfSome o (λ p. p < length s.values) × IfSome o (HoldsAt (λ it. run_of n (lives_of s.values) ≡ Some (live_of it)) s.values) × IfNone o (run_of n (lives_of s.values) ≡ None)
+looked_up s greatest n None k found none =
+    (tt, tt, missing_live n s.values (absent key_of n s.values (subst (λ (ns : List ℕ). Contains ns n → ⊥) k.numbered none)))
+looked_up s greatest n (Some place) k found none =
+    let it = stands key_of n s.numbers s.values place k.numbered found in
+    (it.0, λ d. record_found s.values greatest place n d k.rising it.0 (it.1 d), tt)
 
--- and the run that it is
+-- the run that stands at a place that was found
 pub found_there : (rs : List RunRecord) (n place : ℕ) (d : RunRecord) → (place < length rs) × ((e : RunRecord) → run_of n (lives_of rs) ≡ Some (live_of (get_or rs place e))) → (it : LiveRun) × (run_of n (lives_of rs) ≡ Some it) × HasRunAt (lives_of rs) place it
 found_there rs n place d at = (
   live_of (get_or rs place d),

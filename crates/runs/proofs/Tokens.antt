@@ -10,7 +10,7 @@ use Rattle.world.proofs.Lists.Placed.{found_at, remove_is_leave}
 use Rattle.world.proofs.Lists.Entries.{entry_bounds, freeze_key, FreezesRise}
 use Rattle.runs.specs.RunsState.{told, tokens_of}
 use Rattle.runs.specs.Tokens.{AreTokensWith}
-use Rattle.runs.proofs.Records.{map_remove}
+use Rattle.numbered_slots.proofs.Numbers.{map_remove}
 
 -- a token of the freeze is among those of a list that has it
 pub token_there : (n : ℕ) (gs : List Freeze) (f : Freeze) → entry_of n gs ≡ Some f → (k : ℕ) × (k < length (tokens_of gs)) × (get_or (tokens_of gs) k None ≡ Some f)

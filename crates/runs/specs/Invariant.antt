@@ -1,11 +1,13 @@
--- What the records of the runs keep: their numbers rise, and there is room.
-use Rattle.std.specs.Prelude.{ℕ, ◌≤◌, List, map, length}
+-- What the records of the runs keep: they are numbered by their own numbers, which rise, and there is room.
+use Rattle.std.specs.Prelude.{◌≡◌, ℕ, ◌≤◌, map, length}
 use Rattle.ccb.specs.Rising.{AreRising}
+use Rattle.numbered_slots.specs.NumberedState.{NumberedState}
 use Rattle.world.specs.Capacities.{most_runs}
 use Rattle.runs.specs.declared.run_record.RunRecord.{RunRecord}
 use Rattle.runs.specs.LiveRuns.{lives_of, number_of}
 
-pub record KeepsRuns (records : List RunRecord) (capacity greatest : ℕ) : Type 0 where
-  pub rising : AreRising 0 (map number_of (lives_of records)) greatest
-  pub within : length records ≤ most_runs
-  pub room : most_runs ≤ capacity
+pub record KeepsRuns (records : NumberedState RunRecord) (greatest : ℕ) : Type 0 where
+  pub numbered : records.numbers ≡ map (λ it. it.number) records.values
+  pub rising : AreRising 0 (map number_of (lives_of records.values)) greatest
+  pub within : length records.values ≤ most_runs
+  pub room : records.most ≡ most_runs

@@ -1,5 +1,6 @@
-// The live runs, and the tables that they share. It relies on `run_record` for what is recorded of a run, on `held_tokens`
-// for its rights to give freezes back, on `table_store` for tables, and on `world` for what contracts see.
+// The live runs, and the tables that they share. It relies on `run_record` for what is recorded of a run, on `numbered_slots`
+// for where its record stands, on `held_tokens` for its rights to give freezes back, on `table_store` for tables, and on
+// `world` for what contracts see.
 
 ghost use Rattle.std.specs.Prelude.{◌≡◌, ℕ, ◌+◌, ◌%◌, ◌^◌, ◌<◌, ◌≤◌, ◌++◌, ◌==◌, ◌↔◌, true, false, not, List, [], ◌∷◌, length, filter, map, slice_set, Some, IsTrue, IsSome, IfSome, IfNone, IfOk};
 ghost use Rattle.std.specs.List.{remove};
@@ -34,6 +35,7 @@ use ccb::{CONTEXT_BYTES, Ccb, CcbId, QueueId, context};
 use freeze_ledger::FreezeToken;
 use helpers::{Answer, Request};
 use interpreter::pass;
+use numbered_slots::NumberedSlots;
 use std::alloc::{AllocError, Global};
 use std::marker::Model;
 use std::mem::replace;
@@ -50,7 +52,7 @@ const MAX_SPARE: usize = 64;
 /// given, and the words of the tables.
 #[derive(Drop)]
 pub struct Runs {
-    records: Vec<RunRecord>,
+    records: NumberedSlots<RunRecord>,
     greatest: u32,
     tables: TableStore,
     // the places of machines of runs that ended; what stands in them means nothing
@@ -58,15 +60,14 @@ pub struct Runs {
 }
 
 impl Model for Runs {
-    ghost use Rattle.std.specs.Prelude.{vec_capacity};
     ghost use Rattle.runs.specs.RunsState.{RunsState, seen};
     ghost use Rattle.runs.specs.Invariant.{KeepsRuns};
 
     ghost Value = { RunsState };
 
-    ghost view = { λ r. seen r.records.items r.greatest r.tables };
+    ghost view = { λ r. seen r.records.values r.greatest r.tables };
 
-    ghost invariant = { λ r. KeepsRuns r.records.items (vec_capacity r.records) r.greatest };
+    ghost invariant = { λ r. KeepsRuns r.records r.greatest };
 }
 
 // Whether both have the same instructions.
@@ -97,7 +98,7 @@ impl Runs {
         ensures { IfOk result (λ it. it ≡ no_runs lengths.now) }
     {
         Ok(Runs {
-            records: Vec::with_capacity(alloc, MAX_RUNS)?,
+            records: NumberedSlots::with_room(alloc, MAX_RUNS)?,
             greatest: 0,
             tables: TableStore::with_lengths(alloc, lengths)?,
             spare: Vec::with_capacity(alloc, MAX_SPARE)?,
@@ -162,7 +163,7 @@ impl Runs {
             Some(machine) => Ok(machine),
             None => {
                 let machine = Machine::entry(&[0; CONTEXT_BYTES], 0);
-                Ok(Box::new(*self.records.allocator(), machine)?)
+                Ok(Box::new(*self.spare.allocator(), machine)?)
             }
         }
     }
@@ -201,7 +202,7 @@ impl Runs {
         machine.begin(&context(ccb), freeze);
         let mut recorded = place;
         recorded.copy_from(machine);
-        self.records.push_reserved(RunRecord {
+        let record = RunRecord {
             number,
             ccb: ccb.number,
             queue: ccb.queue,
@@ -209,7 +210,8 @@ impl Runs {
             machine: recorded,
             out: true,
             tokens,
-        });
+        };
+        self.records.push(number, record);
         self.greatest = number;
         Started {
             run: number,

@@ -14,7 +14,7 @@ use Rattle.world.proofs.Lists.Placed.{found_at, set_is_put, remove_is_leave}
 use Rattle.world.proofs.Steps.Moves.{ccb_key}
 use Rattle.numbered_slots.specs.NumberedState.{NumberedState, IsPlaceOf as HasNumberAt}
 use Rattle.numbered_slots.proofs.Found.{absent, stands}
-use Rattle.numbered_slots.proofs.Numbers.{map_remove}
+use Rattle.numbered_slots.proofs.Numbers.{map_remove, rising_more}
 use Rattle.transport.specs.Listed.{ListState, IsListed}
 
 -- the list that contracts see
@@ -50,9 +50,7 @@ placed ccbs greatest number place it rising p e = found_at ccb_key 0 ccbs greate
 -- with a further one the numbers rise too
 pub rises_on : (s : NumberedState LiveCcb) (greatest active : ℕ) (c : LiveCcb) → IsListed s greatest active → c.ccb.number.0 ≡ greatest + 1 → AreRising 0 (s.numbers ++ c.ccb.number.0 ∷ []) c.ccb.number.0
 rises_on s greatest active c h next =
-    let rising : AreRising 0 (map ccb_key (s.values ++ c ∷ [])) (greatest + 1) = rising_push ccb_key 0 s.values greatest c h.rising next in
-    let numbers : map ccb_key (s.values ++ c ∷ []) ≡ s.numbers ++ c.ccb.number.0 ∷ [] = map_push ccb_key s.values c ∙ ap (λ (ns : List ℕ). ns ++ c.ccb.number.0 ∷ []) (sym h.numbered) in
-    subst (λ (ns : List ℕ). AreRising 0 ns c.ccb.number.0) numbers (subst (λ (n : ℕ). AreRising 0 (map ccb_key (s.values ++ c ∷ [])) n) (sym next) rising)
+    rising_more 0 s.numbers greatest c.ccb.number.0 (subst (λ (ns : List ℕ). AreRising 0 ns greatest) (sym h.numbered) h.rising) (omega (arith, next))
 
 pub listed_push : (s : NumberedState LiveCcb) (greatest active : ℕ) (c : LiveCcb) → IsListed s greatest active → length s.values < 4096 → c.ccb.number.0 ≡ greatest + 1 → (now : ℕ) → now ≡ active + counts c → IsListed (record s { numbers = s.numbers ++ c.ccb.number.0 ∷ []; values = s.values ++ c ∷ [] }) c.ccb.number.0 now
 listed_push s greatest active c h few next now now_is = record {

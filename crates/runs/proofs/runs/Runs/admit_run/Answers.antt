@@ -1,16 +1,17 @@
 use Rattle.std.proofs.Common.{Some, refl, ap, sym, ◌∙◌}
 use Rattle.runs.specs.declared.run_record.RunRecord.{RunRecord}
 use Rattle.runs.specs.LiveRuns.{live_of}
-use Rattle.runs.proofs.Records.{placed, found_there}
+use Rattle.runs.proofs.Records.{found_there}
 use Rattle.runs.proofs.runs.Runs.admit_run.Goals as goal
 
 pub returns-then-is_out_with-clause-admitted : goal.returns-then-is_out_with-clause-admitted
 returns-then-is_out_with-clause-admitted c =
-    let there = placed c.self.inside.records.items c.deref.result.now c.args.run c.place_of.result c.in_ok-place.place c.deref.ensures.value c.in_ok-place.was c.place_of.ensures.within c.place_of.ensures.found in
+    let within = c.in_ok-place.ensures.within in
+    let found = c.in_ok-place.ensures.found in
     rw (← c.self.view_is) (
       λ yes. record {
         it = live_of c.index.result.now;
-        found = there.1 c.index.result.now ∙ ap (λ (r : RunRecord). Some (live_of r)) (sym c.index.ensures);
+        found = found c.index.result.now ∙ ap (λ (r : RunRecord). Some (live_of r)) (sym c.index.ensures);
         recorded = c.is_out_with.ensures.0 c.if-is_out_with.true;
       },
       λ is. refl,
@@ -19,5 +20,5 @@ returns-then-is_out_with-clause-admitted c =
 pub returns-then-is_out_with-clause-place : goal.returns-then-is_out_with-clause-place
 returns-then-is_out_with-clause-place c =
     rw (← c.self.view_is)
-    (found_there c.self.inside.records.items c.args.run c.in_ok-place.place c.index.result.now
-    (placed c.self.inside.records.items c.deref.result.now c.args.run c.place_of.result c.in_ok-place.place c.deref.ensures.value c.in_ok-place.was c.place_of.ensures.within c.place_of.ensures.found))
+    (found_there c.self.inside.records.values c.args.run c.in_ok-place.place c.index.result.now
+    (c.in_ok-place.ensures.within, c.in_ok-place.ensures.found))

@@ -13,11 +13,11 @@ use Rattle.runs.proofs.Records.{key_of, run_at, has_run_at, record_changed, reco
 use Rattle.runs.proofs.Kept.{kept_changed, seen_is}
 use Rattle.runs.proofs.runs.Runs.go_on.Goals as goal
 
-here : (c : goal.After-self-1) (it : LiveRun) → HasRunAt (lives_of c.self.inside.records.items) c.args.place it → (c.args.place < length c.self.inside.records.items) × (live_of c.index_mut.result.now ≡ it)
-here c it at = run_at c.self.inside.records.items c.args.place it c.index_mut.result.now at c.index_mut.ensures.value
+here : (c : goal.After-self-1) (it : LiveRun) → HasRunAt (lives_of c.self.inside.records.values) c.args.place it → (c.args.place < length c.self.inside.records.values) × (live_of c.index_mut.result.now ≡ it)
+here c it at = run_at c.self.inside.records.values c.args.place it c.index_mut.result.now at c.index_mut.ensures.value
 
 -- what the run is then
-goes_on : (c : goal.After-self-1) (it : LiveRun) → HasRunAt (lives_of c.self.inside.records.items) c.args.place it → live_of (record c.index_mut.result.now { machine = c.replace.new.dest }) ≡ record it { machine = answered c.args.request.now c.args.answer.now c.args.to.value }
+goes_on : (c : goal.After-self-1) (it : LiveRun) → HasRunAt (lives_of c.self.inside.records.values) c.args.place it → live_of (record c.index_mut.result.now { machine = c.replace.new.dest }) ≡ record it { machine = answered c.args.request.now c.args.answer.now c.args.to.value }
 goes_on c it at =
     ap (λ (x : LiveRun). record x { machine = c.replace.new.dest.value }) (here c it at).1
     ∙ ap (λ (m : MachineState). record it { machine = m }) (ap (λ b. b.value) c.replace.ensures.after ∙ (c.pass.ensures.machine ∙ ap (answered c.args.request.now c.args.answer.now) c.deref_mut.ensures.value))
@@ -25,11 +25,11 @@ goes_on c it at =
 pub invariant_of-self : goal.invariant_of-self
 invariant_of-self c =
     let run = subst (λ (s : RunsState). (it : LiveRun) × HasRunAt s.runs.list c.args.place it) (sym c.self.view_is) c.requires.run in
-    kept_changed c.self.inside.records.items _ c.self.inside.greatest c.args.place c.index_mut.result.now _ c.self.invariant (here c run.0 run.1).0 c.index_mut.ensures.value refl
+    kept_changed c.self.inside.records c.self.inside.greatest c.args.place c.index_mut.result.now _ c.self.invariant (here c run.0 run.1).0 c.index_mut.ensures.value refl
 
 pub returns-clause-goes : goal.returns-clause-goes
 returns-clause-goes c =
-    let rs : List RunRecord = c.self.inside.records.items in
+    let rs : List RunRecord = c.self.inside.records.values in
     let r : RunRecord = c.index_mut.result.now in
     let after : RunRecord = record r { machine = c.replace.new.dest } in
     rw (← c.self.view_is) (λ it at.
@@ -40,7 +40,7 @@ returns-clause-goes c =
 
 pub returns-clause-place : goal.returns-clause-place
 returns-clause-place c =
-    let rs : List RunRecord = c.self.inside.records.items in
+    let rs : List RunRecord = c.self.inside.records.values in
     let after : RunRecord = record c.index_mut.result.now { machine = c.replace.new.dest } in
     rw (← c.self.view_is) (λ it at.
     let l : c.args.place < length (set rs c.args.place after) = omega (arith, length-set rs c.args.place after, (here c it at).0) in

@@ -10,16 +10,16 @@ use Rattle.runs.proofs.runs.Runs.let_go.Goals as goal
 pub invariant_of-self : goal.invariant_of-self
 invariant_of-self c =
     let run = subst (λ (s : RunsState). (it : LiveRun) × HasRunAt s.runs.list c.args.place it) (sym c.self.view_is) c.requires.run in
-    let at = run_at c.self.inside.records.items c.args.place run.0 c.index_mut.result.now run.1 c.index_mut.ensures.value in
-    kept_changed c.self.inside.records.items _ c.self.inside.greatest c.args.place c.index_mut.result.now _ c.self.invariant at.0 c.index_mut.ensures.value refl
+    let at = run_at c.self.inside.records.values c.args.place run.0 c.index_mut.result.now run.1 c.index_mut.ensures.value in
+    kept_changed c.self.inside.records c.self.inside.greatest c.args.place c.index_mut.result.now _ c.self.invariant at.0 c.index_mut.ensures.value refl
 
 pub returns : goal.returns
 returns c =
     let run = subst (λ (s : RunsState). (it : LiveRun) × HasRunAt s.runs.list c.args.place it) (sym c.self.view_is) c.requires.run in
-    let at = run_at c.self.inside.records.items c.args.place run.0 c.index_mut.result.now run.1 c.index_mut.ensures.value in
+    let at = run_at c.self.inside.records.values c.args.place run.0 c.index_mut.result.now run.1 c.index_mut.ensures.value in
     rw (← c.self.view_is) (λ freezes it.
     let its : AreTokensWith c.index_mut.result.now.tokens.items freezes c.args.freeze = record {
-      are = seen_at tokens_in c.self.inside.records.items c.args.place c.index_mut.result.now [] at.0 c.index_mut.ensures.value ∙ it.are;
+      are = seen_at tokens_in c.self.inside.records.values c.args.place c.index_mut.result.now [] at.0 c.index_mut.ensures.value ∙ it.are;
       high = it.high;
       rising = it.rising;
       entry = it.entry;
@@ -27,5 +27,5 @@ returns c =
     } in
     let went = c.let_go.ensures freezes its in (
       went.0,
-      tokens_set c.self.inside.records.items c.self.inside.greatest c.self.inside.tables c.args.place c.index_mut.result.now _ _ at.0 c.index_mut.ensures.value refl went.1,
+      tokens_set c.self.inside.records.values c.self.inside.greatest c.self.inside.tables c.args.place c.index_mut.result.now _ _ at.0 c.index_mut.ensures.value refl went.1,
     ))

@@ -9,17 +9,17 @@ use Rattle.runs.proofs.Records.{key_of, run_at, record_changed, record_kept}
 use Rattle.runs.proofs.Kept.{kept_changed, seen_is}
 use Rattle.runs.proofs.runs.Runs.set_out.Goals as goal
 
-here : (c : goal.After-self-1) (it : LiveRun) → HasRunAt (lives_of c.self.inside.records.items) c.args.place it → (c.args.place < length c.self.inside.records.items) × (live_of c.index_mut.result.now ≡ it)
-here c it at = run_at c.self.inside.records.items c.args.place it c.index_mut.result.now at c.index_mut.ensures.value
+here : (c : goal.After-self-1) (it : LiveRun) → HasRunAt (lives_of c.self.inside.records.values) c.args.place it → (c.args.place < length c.self.inside.records.values) × (live_of c.index_mut.result.now ≡ it)
+here c it at = run_at c.self.inside.records.values c.args.place it c.index_mut.result.now at c.index_mut.ensures.value
 
 pub invariant_of-self : goal.invariant_of-self
 invariant_of-self c =
     let run = subst (λ (s : RunsState). (it : LiveRun) × HasRunAt s.runs.list c.args.place it) (sym c.self.view_is) c.requires in
-    kept_changed c.self.inside.records.items _ c.self.inside.greatest c.args.place c.index_mut.result.now _ c.self.invariant (here c run.0 run.1).0 c.index_mut.ensures.value refl
+    kept_changed c.self.inside.records c.self.inside.greatest c.args.place c.index_mut.result.now _ c.self.invariant (here c run.0 run.1).0 c.index_mut.ensures.value refl
 
 pub returns : goal.returns
 returns c =
-    let rs : List RunRecord = c.self.inside.records.items in
+    let rs : List RunRecord = c.self.inside.records.values in
     let r : RunRecord = c.index_mut.result.now in
     let after : RunRecord = record r { out = c.args.out } in
     rw (← c.self.view_is) (λ it at.

@@ -2,25 +2,23 @@ use Rattle.std.proofs.Common.{◌+◌, [], ◌∷◌, ◌++◌, ◌<◌, map, le
 use Rattle.std.specs.Arc.{arc_value}
 use Rattle.std.proofs.lemmas.List.{map_push, length-map}
 use Rattle.bpf_semantics.specs.MachineState.{MachineState}
+use Rattle.numbered_slots.specs.NumberedState.{NumberedState}
 use Rattle.runs.specs.declared.run_record.RunRecord.{RunRecord}
 use Rattle.runs.specs.RunsState.{RunsState, run_for, seen, tokens_in}
 use Rattle.runs.specs.LiveRuns.{live_of}
 use Rattle.runs.proofs.Records.{found_last}
-use Rattle.runs.proofs.Kept.{HasRoom, has_room, kept_started, seen_is}
+use Rattle.runs.proofs.Kept.{HasRoom, has_room, rises_on, kept_started, seen_is}
 use Rattle.runs.proofs.runs.Runs.start.Goals as goal
 
-room : (c : goal.After-push_reserved-arg-3-1) → (length c.self.inside.records.items < 256) × (c.self.inside.greatest < 4294967295)
+room : (c : goal.After-push-arg-1) → (length c.self.inside.records.values < 256) × (c.self.inside.greatest < 4294967295)
 room c =
-    let it = has_room (seen c.self.inside.records.items c.self.inside.greatest c.self.inside.tables).runs (subst (λ (s : RunsState). HasRoom s.runs) (sym c.self.view_is) c.requires) in
-    (omega (arith, it.0, length-map c.self.inside.records.items live_of), it.1)
+    let it = has_room (seen c.self.inside.records.values c.self.inside.greatest c.self.inside.tables).runs (subst (λ (s : RunsState). HasRoom s.runs) (sym c.self.view_is) c.requires) in
+    (omega (arith, it.0, length-map c.self.inside.records.values live_of), it.1)
 
 pub overflow_add-number : goal.overflow_add-number
 overflow_add-number c =
-    let it = has_room (seen c.self.inside.records.items c.self.inside.greatest c.self.inside.tables).runs (subst (λ (s : RunsState). HasRoom s.runs) (sym c.self.view_is) c.requires) in
+    let it = has_room (seen c.self.inside.records.values c.self.inside.greatest c.self.inside.tables).runs (subst (λ (s : RunsState). HasRoom s.runs) (sym c.self.view_is) c.requires) in
     omega (arith, it.1)
-
-pub push_reserved-requires : goal.push_reserved-requires
-push_reserved-requires c = omega (arith, (room c).0, c.self.invariant.room)
 
 -- what was pushed
 abbrev pub pushed : goal.After-self-1 → RunRecord
@@ -34,25 +32,30 @@ pushed c = record {
   tokens = c.taken_at_start-freeze.result.1;
 }
 
+pub push-requires-clause-room : goal.push-requires-clause-room
+push-requires-clause-room c = omega (arith, (room c).0, c.self.invariant.room)
+
+pub push-requires-clause-rising : goal.push-requires-clause-rising
+push-requires-clause-rising c = rises_on c.self.inside.records c.self.inside.greatest c.self.invariant
+
 pub invariant_of-self : goal.invariant_of-self
 invariant_of-self c =
-    let it = has_room (seen c.self.inside.records.items c.self.inside.greatest c.self.inside.tables).runs (subst (λ (s : RunsState). HasRoom s.runs) (sym c.self.view_is) c.requires) in
-    let few : length c.self.inside.records.items < 256 = omega (arith, it.0, length-map c.self.inside.records.items live_of) in
-    rw (c.push_reserved.ensures.items, c.push_reserved.ensures.capacity)
-    (kept_started c.self.inside.records.items _ c.self.inside.greatest (pushed c) c.self.invariant few refl)
+    let it = has_room (seen c.self.inside.records.values c.self.inside.greatest c.self.inside.tables).runs (subst (λ (s : RunsState). HasRoom s.runs) (sym c.self.view_is) c.requires) in
+    let few : length c.self.inside.records.values < 256 = omega (arith, it.0, length-map c.self.inside.records.values live_of) in
+    rw c.push.ensures (kept_started c.self.inside.records c.self.inside.greatest (pushed c) c.self.invariant few refl)
 
 pub returns-clause-state : goal.returns-clause-state
 returns-clause-state c =
     rw (← c.self.view_is)
     (seen_is _ (c.self.inside.greatest + 1) c.self.inside.tables _ _
-    (ap (λ rs. map live_of rs) c.push_reserved.ensures.items
-    ∙ (map_push live_of c.self.inside.records.items (pushed c)
-    ∙ ap (λ (m : MachineState). map live_of c.self.inside.records.items ++ run_for (c.self.inside.greatest + 1) c.args.ccb.now (arc_value c.args.program).program m ∷ []) c.copy_from.ensures))
-    (ap (λ rs. map tokens_in rs) c.push_reserved.ensures.items
-    ∙ (map_push tokens_in c.self.inside.records.items (pushed c)
-    ∙ ap (λ ts. map tokens_in c.self.inside.records.items ++ ts ∷ []) c.taken_at_start-freeze.ensures.tokens)))
+    (ap (λ (s : NumberedState RunRecord). map live_of s.values) c.push.ensures
+    ∙ (map_push live_of c.self.inside.records.values (pushed c)
+    ∙ ap (λ (m : MachineState). map live_of c.self.inside.records.values ++ run_for (c.self.inside.greatest + 1) c.args.ccb.now (arc_value c.args.program).program m ∷ []) c.copy_from.ensures))
+    (ap (λ (s : NumberedState RunRecord). map tokens_in s.values) c.push.ensures
+    ∙ (map_push tokens_in c.self.inside.records.values (pushed c)
+    ∙ ap (λ ts. map tokens_in c.self.inside.records.values ++ ts ∷ []) c.taken_at_start-freeze.ensures.tokens)))
 
 pub returns-clause-found : goal.returns-clause-found
 returns-clause-found c =
-    found_last c.self.inside.records.items c.push_reserved.new.self.items (pushed c) c.self.inside.greatest c.self.invariant.rising c.push_reserved.ensures.items refl
+    found_last c.self.inside.records.values c.push.new.self.values (pushed c) c.self.inside.greatest c.self.invariant.rising (ap (λ (s : NumberedState RunRecord). s.values) c.push.ensures) refl
     ∙ ap (λ (m : MachineState). Some (run_for (c.self.inside.greatest + 1) c.args.ccb.now (arc_value c.args.program).program m)) c.copy_from.ensures

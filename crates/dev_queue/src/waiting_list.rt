@@ -1,14 +1,13 @@
 // The CCBs of a queue that wait, as a plain list in the order of their numbers, reserved once. It relies
-// on `waiting_ccb` for which of two starts first.
+// on `waiting_ccb` for which of two starts first, and on `numbered_slots` for the search by number.
 
 ghost use Rattle.std.specs.Prelude.{◌≡◌, ◌+◌, ◌<◌, ◌≤◌, ◌↔◌, [], false, length, IfOk, IfSome, IfNone, OnSome, IsTrue};
-ghost use Rattle.std.specs.List.{AllWithin};
-ghost use Rattle.std.specs.List.Sorted.{IsNonDecreasingBy};
 ghost use Rattle.dev_queue.specs.Waiting.{StartsFirst, IsLeast, IsLeastAt, with_pair, without, waits};
 
 use crate::dev_queue::MAX_LIVE;
 use crate::waiting_ccb::WaitingCcb;
 use ccb::CcbId;
+use numbered_slots::place_for;
 use std::alloc::{AllocError, Global};
 use std::marker::Model;
 
@@ -30,16 +29,6 @@ fn least_place(pairs: &[WaitingCcb]) -> Option<usize>
         }
     }
     Some(least)
-}
-
-// How many of these pairs have a lower number: where one of this number belongs.
-fn place_for(pairs: &[WaitingCcb], number: CcbId) -> usize
-    requires { IsNonDecreasingBy (λ (pair : WaitingCcb). pair.number.0) pairs.now }
-    ensures within { result ≤ length pairs.now }
-    ensures lower { AllWithin (λ pair. pair.number.0 < number.0) pairs.now 0 result }
-    ensures others { AllWithin (λ pair. number.0 ≤ pair.number.0) pairs.now result (length pairs.now) }
-{
-    pairs.partition_point(|pair| pair.number.0 < number.0)
 }
 
 /// The waiting CCBs in the order of their numbers. Contracts see the list.
@@ -92,7 +81,7 @@ impl WaitingList {
         ensures added { self.new ≡ with_pair pair self.old }
         ensures len { length self.new ≡ length self.old + 1 }
     {
-        let place = place_for(&self.pairs, pair.number);
+        let place = place_for(&self.pairs, pair.number.0);
         let Ok(()) = self.pairs.insert(place, pair) else {
             unreachable!()
         };

@@ -1,0 +1,13 @@
+pub mod Tests
+pub mod Writing
+pub mod Cutting
+pub mod Decimals
+pub mod Pairs
+pub mod SensePairs
+pub mod Stops
+pub mod Fields
+pub mod Rows
+pub mod Held
+pub mod Back
+pub mod InARow
+pub mod Replies

@@ -1,0 +1,22 @@
+// The lines by which calls are written: a row for each, with its word, the kinds of its fields and the form of its answer.
+// Whoever prints a line and whoever reads one goes by the same rows. It relies on `calls` for what is written.
+#![tactic(auto)]
+
+mod answers;
+mod call;
+mod kind;
+pub mod laws;
+mod lines;
+mod printing;
+mod reading;
+mod table;
+mod value;
+mod word;
+
+pub use call::{values_of, word_of};
+pub use kind::{Kind, Slots};
+pub use lines::{print_line, read_line};
+pub use printing::{no_spelling, print_long_number};
+pub use table::{Form, LINES, Row};
+pub use value::{Stop, Value, byte_in, bytes_in, long_number_in, number_in, status_in};
+pub use word::Word;

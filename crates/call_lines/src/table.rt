@@ -1,0 +1,254 @@
+// The table of the lines, a row each. Whoever prints or reads lines goes by its columns. It relies on `kind` for how fields are
+// spelled, and on `calls` for refusals.
+
+ghost use Rattle.std.specs.Prelude.{◌≡◌};
+ghost use Rattle.call_lines.specs.Rows.{is_among, is_named, is_refusal, row_of, word_named};
+
+use crate::kind::{Kind, Slots};
+use crate::word::Word;
+use calls::CallRefusal;
+
+/// How a line is answered where it is not refused.
+#[derive(Clone, Copy)]
+pub enum Form {
+    /// `ccb C`: the number of a CCB.
+    Ccb,
+    /// `done`, or `run R freeze F`.
+    Completed,
+    /// `freeze F`: the number of a freeze.
+    Freeze,
+    /// How many freezes are left.
+    Left,
+    /// How many freezes went.
+    Went,
+    /// `ok`.
+    Ok,
+    /// What R0 is, which no call answers.
+    R0,
+}
+
+/// All that there is to know of a line's spelling.
+#[derive(Clone, Copy)]
+pub struct Row {
+    pub word: Word,
+    pub fields: Slots<Kind>,
+    pub form: Form,
+    /// By what it may be refused.
+    pub refusals: Slots<CallRefusal>,
+    /// The first version of the formats that has the line.
+    pub version: u8,
+}
+
+/// The lines, in the order of their words. The comment of a row names its fields and answers for people.
+pub const LINES: [Row; 9] = [
+    // submit Q PRIORITY RETRIES = ccb C
+    Row {
+        word: Word::Submit,
+        fields: Slots {
+            first: Some(Kind::Number),
+            second: Some(Kind::Number),
+            third: Some(Kind::Number),
+            fourth: None,
+        },
+        form: Form::Ccb,
+        refusals: Slots {
+            first: Some(CallRefusal::Unknown),
+            second: Some(CallRefusal::Limit),
+            third: None,
+            fourth: None,
+        },
+        version: 1,
+    },
+    // dispatch Q = ccb C
+    Row {
+        word: Word::Dispatch,
+        fields: Slots {
+            first: Some(Kind::Number),
+            second: None,
+            third: None,
+            fourth: None,
+        },
+        form: Form::Ccb,
+        refusals: Slots {
+            first: Some(CallRefusal::Unknown),
+            second: Some(CallRefusal::Frozen),
+            third: Some(CallRefusal::NoOpening),
+            fourth: Some(CallRefusal::NothingWaits),
+        },
+        version: 1,
+    },
+    // complete C STATUS SCSI SENSE = done, or run R freeze F
+    Row {
+        word: Word::Complete,
+        fields: Slots {
+            first: Some(Kind::Number),
+            second: Some(Kind::Status),
+            third: Some(Kind::Byte),
+            fourth: Some(Kind::Sense),
+        },
+        form: Form::Completed,
+        refusals: Slots {
+            first: Some(CallRefusal::Unknown),
+            second: Some(CallRefusal::Limit),
+            third: Some(CallRefusal::NotActive),
+            fourth: None,
+        },
+        version: 1,
+    },
+    // advance R N STOP = R0
+    Row {
+        word: Word::Advance,
+        fields: Slots {
+            first: Some(Kind::Number),
+            second: Some(Kind::Instructions),
+            third: Some(Kind::Stop),
+            fourth: None,
+        },
+        form: Form::R0,
+        refusals: Slots {
+            first: None,
+            second: None,
+            third: None,
+            fourth: None,
+        },
+        version: 1,
+    },
+    // gfreeze Q G = freeze F
+    Row {
+        word: Word::FreezeQueue,
+        fields: Slots {
+            first: Some(Kind::Number),
+            second: Some(Kind::Number),
+            third: None,
+            fourth: None,
+        },
+        form: Form::Freeze,
+        refusals: Slots {
+            first: Some(CallRefusal::Unknown),
+            second: Some(CallRefusal::Limit),
+            third: None,
+            fourth: None,
+        },
+        version: 1,
+    },
+    // grelease F = LEFT
+    Row {
+        word: Word::ReleaseFreeze,
+        fields: Slots {
+            first: Some(Kind::Number),
+            second: None,
+            third: None,
+            fourth: None,
+        },
+        form: Form::Left,
+        refusals: Slots {
+            first: None,
+            second: None,
+            third: None,
+            fourth: None,
+        },
+        version: 1,
+    },
+    // clock T = WENT
+    Row {
+        word: Word::Clock,
+        fields: Slots {
+            first: Some(Kind::LongNumber),
+            second: None,
+            third: None,
+            fourth: None,
+        },
+        form: Form::Went,
+        refusals: Slots {
+            first: Some(CallRefusal::Limit),
+            second: Some(CallRefusal::GoesBack),
+            third: None,
+            fourth: None,
+        },
+        version: 1,
+    },
+    // park R = ok
+    Row {
+        word: Word::Park,
+        fields: Slots {
+            first: Some(Kind::Number),
+            second: None,
+            third: None,
+            fourth: None,
+        },
+        form: Form::Ok,
+        refusals: Slots {
+            first: None,
+            second: None,
+            third: None,
+            fourth: None,
+        },
+        version: 1,
+    },
+    // resume R = ok
+    Row {
+        word: Word::Resume,
+        fields: Slots {
+            first: Some(Kind::Number),
+            second: None,
+            third: None,
+            fourth: None,
+        },
+        form: Form::Ok,
+        refusals: Slots {
+            first: Some(CallRefusal::Unknown),
+            second: None,
+            third: None,
+            fourth: None,
+        },
+        version: 1,
+    },
+];
+
+impl Word {
+    /// The word's row.
+    #[tactic(auto, unfolding(crate::specs::Rows::row_of))]
+    pub fn row(self) -> Row
+        ensures { result ≡ row_of self }
+    {
+        LINES[self as usize]
+    }
+
+    /// The word that is spelled so, where a version has its line.
+    #[tactic(auto, unfolding(crate::specs::Rows::word_named))]
+    pub fn named(name: &str, version: u8) -> Option<Self>
+        ensures { result ≡ word_named name.now version }
+    {
+        LINES
+            .iter()
+            .find(|row| row.is_named(name, version))
+            .map(|row| row.word)
+    }
+}
+
+impl Row {
+    fn is_named(&self, name: &str, version: u8) -> bool
+        ensures { result ≡ is_named name.now version self.now }
+    {
+        self.word.text() == name && self.version <= version
+    }
+
+    /// Whether the line may be refused so.
+    pub fn may_be(&self, refusal: CallRefusal) -> bool
+        ensures { result ≡ is_among self.now.refusals refusal }
+    {
+        is_refusal(self.refusals.first, refusal)
+            || is_refusal(self.refusals.second, refusal)
+            || is_refusal(self.refusals.third, refusal)
+            || is_refusal(self.refusals.fourth, refusal)
+    }
+}
+
+fn is_refusal(slot: Option<CallRefusal>, refusal: CallRefusal) -> bool
+    ensures { result ≡ is_refusal slot refusal }
+{
+    match slot {
+        Some(there) => there as u8 == refusal as u8,
+        None => false,
+    }
+}

@@ -1,0 +1,93 @@
+// What the fields of a line hold. It relies on `ccb` and `helpers` for statuses and helpers, and on `short_bytes` for bytes.
+
+ghost use Rattle.std.specs.Prelude.{◌≡◌, Some};
+ghost use Rattle.call_lines.specs.Values.{byte_in, bytes_in, long_number_in, number_in, status_in};
+
+use ccb::CamStatus;
+use helpers::Helper;
+use short_bytes::ShortBytes;
+
+/// What a field holds.
+#[derive(Clone, Copy)]
+pub enum Value {
+    Number(u32),
+    LongNumber(u64),
+    Status(CamStatus),
+    Byte(u8),
+    Bytes(ShortBytes),
+    Stop(Stop),
+}
+
+/// Where a run stopped.
+#[derive(Clone, Copy)]
+pub enum Stop {
+    /// A call of this helper, of which no more is told.
+    Helper(Helper),
+    /// A call of this helper, of which these bytes are told.
+    Bytes(Helper, ShortBytes),
+    /// A call of this helper, of which this code is told.
+    Code(Helper, u8),
+    /// The outermost exit.
+    Exit,
+}
+
+/// The number, if it is one.
+pub fn number_in(value: Option<Value>) -> Option<u32>
+    ensures { result ≡ number_in value }
+{
+    match value {
+        Some(Value::Number(number)) => Some(number),
+        _ => None,
+    }
+}
+
+/// The long number, if it is one.
+pub fn long_number_in(value: Option<Value>) -> Option<u64>
+    ensures { result ≡ long_number_in value }
+{
+    match value {
+        Some(Value::LongNumber(number)) => Some(number),
+        _ => None,
+    }
+}
+
+/// The status, if it is one.
+pub fn status_in(value: Option<Value>) -> Option<CamStatus>
+    ensures { result ≡ status_in value }
+{
+    match value {
+        Some(Value::Status(status)) => Some(status),
+        _ => None,
+    }
+}
+
+/// The byte, if it is one.
+pub fn byte_in(value: Option<Value>) -> Option<u8>
+    ensures { result ≡ byte_in value }
+{
+    match value {
+        Some(Value::Byte(byte)) => Some(byte),
+        _ => None,
+    }
+}
+
+/// The bytes, if they are any.
+pub fn bytes_in(value: Option<Value>) -> Option<ShortBytes>
+    ensures { result ≡ bytes_in value }
+{
+    match value {
+        Some(there) => there.bytes(),
+        None => None,
+    }
+}
+
+impl Value {
+    fn bytes(self) -> Option<ShortBytes>
+        ensures { result ≡ bytes_in (Some self) }
+    {
+        match self {
+            Value::Bytes(bytes) => Some(bytes),
+            _ => None,
+        }
+    }
+}

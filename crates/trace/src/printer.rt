@@ -1,18 +1,40 @@
-// The trace as text, version 1: a header, a line a record, and the sums. A call is spelled by one function, and an answer by
-// one, whatever the call. It relies on `calls` for records.
+// The trace as text, version 1: a header, a line a record by the row of its word, and the sums. It relies on `call_lines` for lines,
+// and on `calls` for records.
 
-use calls::{Call, CallAnswer, CompletionRecord, Record, StoppedAt, Trace};
-use freeze_ledger::Place;
+ghost use Rattle.std.specs.Prelude.{◌≡◌, IfSome, OnOk};
+ghost use Rattle.call_lines.specs.Written.{Writes};
+ghost use Rattle.trace.specs.TraceText.{advance_text, called_text, record_text, records_text, stop_of, totals_text, trace_text};
+
+use call_lines::{
+    Slots, Stop, Value, Word, no_spelling, print_line, print_long_number, values_of, word_of,
+};
+use calls::{Call, CallAnswer, Record, StoppedAt, Totals, Trace};
+use short_bytes::ShortBytes;
 use std::io;
 use std::io::Write;
 
-/// Writes the whole trace.
-pub fn print<W: Write>(trace: &Trace, out: &mut W) -> io::Result<()> {
-    writeln!(out, "camr-trace 1")?;
-    for record in &trace.records {
-        print_record(record, out)?;
+/// Writes the whole trace. It fails where the writer fails, or where a record has no spelling: a reply of another call's form, or a
+/// number, a status or bytes that no such line has.
+pub fn print<W: Write>(trace: &Trace, out: &mut W) -> io::Result<()>
+    ensures { OnOk result (Writes (trace_text trace.now) (W.contents out.old) (W.contents out.new)) }
+{
+    out.write_all(b"camr-trace 1\n")?;
+    print_records(&trace.records, out)?;
+    print_totals(trace.totals, out)
+}
+
+fn print_records<W: Write>(records: &[Record], out: &mut W) -> io::Result<()>
+    ensures { OnOk result (Writes (records_text records.now) (W.contents out.old) (W.contents out.new)) }
+{
+    for entry in records {
+        print_record(entry, out)?;
     }
-    let totals = trace.totals;
+    Ok(())
+}
+
+fn print_totals<W: Write>(totals: Totals, out: &mut W) -> io::Result<()>
+    ensures { OnOk result (Writes (totals_text totals) (W.contents out.old) (W.contents out.new)) }
+{
     writeln!(
         out,
         "end {} {} {} {}",
@@ -20,92 +42,64 @@ pub fn print<W: Write>(trace: &Trace, out: &mut W) -> io::Result<()> {
     )
 }
 
-fn print_record<W: Write>(record: &Record, out: &mut W) -> io::Result<()> {
-    match record {
-        Record::Called { call, answer } => {
-            print_call(call, out)?;
-            print_answer(*answer, out)
-        }
+fn print_record<W: Write>(entry: &Record, out: &mut W) -> io::Result<()>
+    ensures { OnOk result (Writes (record_text entry.now) (W.contents out.old) (W.contents out.new)) }
+{
+    match entry {
+        Record::Called { call, answer } => print_called(call, *answer, out),
         Record::Advance {
             run,
             instructions,
             stop,
             r0,
-        } => {
-            write!(out, "advance {run} {instructions} ")?;
-            print_stop(stop, out)?;
-            writeln!(out, " = {r0}")
-        }
+        } => print_advance(*run, *instructions, stop, *r0, out),
     }
 }
 
-fn print_call<W: Write>(call: &Call, out: &mut W) -> io::Result<()> {
-    match call {
-        Call::Submit {
-            queue,
-            priority,
-            retries,
-        } => write!(out, "submit {} {priority} {retries}", queue.0),
-        Call::Dispatch { queue } => write!(out, "dispatch {}", queue.0),
-        Call::Complete { completion } => print_completion(completion, out),
-        Call::GuestFreeze { place, guest } => print_guest_freeze(*place, *guest, out),
-        Call::GuestRelease { freeze } => write!(out, "grelease {freeze}"),
-        Call::Clock { reading } => write!(out, "clock {reading}"),
-        Call::Park { run } => write!(out, "park {run}"),
-        Call::Resume { run } => write!(out, "resume {run}"),
-    }
+fn print_called<W: Write>(call: &Call, answer: CallAnswer, out: &mut W) -> io::Result<()>
+    ensures { OnOk result (Writes (called_text call.now answer) (W.contents out.old) (W.contents out.new)) }
+{
+    let word = word_of(call);
+    print_line(word, &values_of(call), out)?;
+    out.write_all(b" = ")?;
+    word.row().print_answer(answer, out)?;
+    out.write_all(b"\n")
 }
 
-fn print_answer<W: Write>(answer: CallAnswer, out: &mut W) -> io::Result<()> {
-    match answer {
-        CallAnswer::Ccb(ccb) => writeln!(out, " = ccb {}", ccb.0),
-        CallAnswer::Done => writeln!(out, " = done"),
-        CallAnswer::Started { run, freeze } => writeln!(out, " = run {run} freeze {freeze}"),
-        CallAnswer::Freeze(freeze) => writeln!(out, " = freeze {freeze}"),
-        CallAnswer::Left(count) | CallAnswer::Removed(count) => writeln!(out, " = {count}"),
-        CallAnswer::Ok => writeln!(out, " = ok"),
-        CallAnswer::Refused(refusal) => writeln!(out, " = {refusal}"),
-    }
+fn print_advance<W: Write>(
+    run: u32,
+    instructions: u32,
+    stop: &StoppedAt,
+    r0: u64,
+    out: &mut W,
+) -> io::Result<()>
+    ensures { OnOk result (Writes (advance_text run instructions stop.now r0) (W.contents out.old) (W.contents out.new)) }
+{
+    let Some(stop) = stop_of(stop) else {
+        return Err(no_spelling());
+    };
+    let held = Slots {
+        first: Some(Value::Number(run)),
+        second: Some(Value::Number(instructions)),
+        third: Some(Value::Stop(stop)),
+        fourth: None,
+    };
+    print_line(Word::Advance, &held, out)?;
+    out.write_all(b" = ")?;
+    print_long_number(r0, out)?;
+    out.write_all(b"\n")
 }
 
-fn print_guest_freeze<W: Write>(place: Place, guest: u32, out: &mut W) -> io::Result<()> {
-    match place {
-        Place::Device(queue) => write!(out, "gfreeze {} {guest}", queue.0),
-    }
-}
-
-fn print_stop<W: Write>(stop: &StoppedAt, out: &mut W) -> io::Result<()> {
+// Where the run stopped. None where more bytes are told than a line has.
+fn stop_of(stop: &StoppedAt) -> Option<Stop>
+    ensures { IfSome result (λ its. its ≡ stop_of stop.now) }
+{
     match stop {
-        StoppedAt::Helper(helper) => write!(out, "helper {}", helper.number()),
+        StoppedAt::Helper(helper) => Some(Stop::Helper(*helper)),
         StoppedAt::Trace(helper, bytes) => {
-            write!(out, "helper {} ", helper.number())?;
-            print_bytes(bytes.as_slice(), out)
+            Some(Stop::Bytes(*helper, ShortBytes::new(bytes.as_slice())?))
         }
-        StoppedAt::Finish(helper, code) => write!(out, "helper {} {code:02x}", helper.number()),
-        StoppedAt::Exit => write!(out, "exit"),
+        StoppedAt::Finish(helper, code) => Some(Stop::Code(*helper, *code)),
+        StoppedAt::Exit => Some(Stop::Exit),
     }
-}
-
-// Each byte is a pair of lower-case hexadecimal digits.
-fn print_bytes<W: Write>(bytes: &[u8], out: &mut W) -> io::Result<()> {
-    for byte in bytes {
-        write!(out, "{byte:02x}")?;
-    }
-    Ok(())
-}
-
-// The status, the SCSI status and the sense bytes are pairs of hexadecimal digits, and no bytes are `-`.
-fn print_completion<W: Write>(completion: &CompletionRecord, out: &mut W) -> io::Result<()> {
-    let status = completion.status().code();
-    let scsi = completion.scsi();
-    write!(
-        out,
-        "complete {} {status:02x} {scsi:02x} ",
-        completion.ccb().0
-    )?;
-    let sense = completion.sense();
-    if sense.is_empty() {
-        write!(out, "-")?;
-    }
-    print_bytes(sense.as_slice(), out)
 }

@@ -1,0 +1,53 @@
+-- A trace is printed record by record.
+use Rattle.std.proofs.Common.{◌≡◌, ◌<◌, ◌+◌, ℕ, Option, Some, None, Result, Ok, Err, OnOk, List, [], ◌∷◌, ◌++◌, length, take, get_or, refl, sym, ap, ◌∙◌, codes, append_assoc, append-nil, add-one, subst}
+use Rattle.std.specs.Fmt.{option_append}
+use Rattle.std.specs.Io.KnownBytes.{Appends}
+use Rattle.std.proofs.Math.Seq.{take-suc}
+use Rattle.calls.specs.declared.record.Record.{Record}
+use Rattle.call_lines.specs.Written.{Writes}
+use Rattle.call_lines.proofs.Writing.{writes_text, writes_nothing, writes_both}
+use Rattle.trace.specs.TraceText.{answered, record_text, records_text}
+
+-- where a last write went well
+pub on_ok : {T E : Type 0} {P Q : Type 0} (r : Result T E) → (P → Q) → OnOk r P → OnOk r Q
+on_ok (Ok x) f p = f p
+on_ok (Err e) f p = tt
+
+-- what is answered stands behind the line
+pub writes_answered : (line reply : Option (List ℕ)) (a b c d e : Option (List ℕ)) → Writes line a b → Appends b c (codes " = ") → Writes reply c d → Appends d e (codes "\n") → Writes (answered line reply) a e
+writes_answered line reply a b c d e first mark second feed =
+    let ended = writes_both reply (Some (codes "\n")) c d e second (writes_text (codes "\n") d e feed) in
+    let marked = writes_both (Some (codes " = ")) (option_append reply (Some (codes "\n"))) b c e (writes_text (codes " = ") b c mark) ended in
+    writes_both line (option_append (Some (codes " = ")) (option_append reply (Some (codes "\n")))) a b e first marked
+
+-- ---- the records
+
+append_three : (a b c : Option (List ℕ)) → option_append (option_append a b) c ≡ option_append a (option_append b c)
+append_three None b c = refl
+append_three (Some a) None c = refl
+append_three (Some a) (Some b) None = refl
+append_three (Some a) (Some b) (Some c) = ap Some (append_assoc a b c)
+
+append_nothing : (a : Option (List ℕ)) → option_append a (Some []) ≡ a
+append_nothing None = refl
+append_nothing (Some a) = ap Some (append-nil a)
+
+nothing_append : (a : Option (List ℕ)) → option_append (Some []) a ≡ a
+nothing_append None = refl
+nothing_append (Some a) = refl
+
+records_push : (entries : List Record) (entry : Record) → records_text (entries ++ entry ∷ []) ≡ option_append (records_text entries) (record_text entry)
+unfolding records_text
+records_push [] entry = append_nothing (record_text entry) ∙ sym (nothing_append (record_text entry))
+records_push (first ∷ entries) entry = ap (option_append (record_text first)) (records_push entries entry) ∙ sym (append_three (record_text first) (records_text entries) (record_text entry))
+
+pub no_records : (old : Option (List ℕ)) → Writes (records_text []) old old
+unfolding records_text
+no_records old = writes_nothing old
+
+pub one_record : (entries : List Record) (place : ℕ) (entry : Record) (old mid new : Option (List ℕ)) → place < length entries → entry ≡ get_or entries place entry
+    → Writes (records_text (take place entries)) old mid → Writes (record_text entry) mid new → Writes (records_text (take (place + 1) entries)) old new
+one_record entries place entry old mid new within is so_far written =
+    let more : take (place + 1) entries ≡ take place entries ++ entry ∷ [] = rw add-one (take-suc entries place entry within ∙ ap (λ (x : Record). take place entries ++ x ∷ []) (sym is)) in
+    let whole = writes_both (records_text (take place entries)) (record_text entry) old mid new so_far written in
+    subst (λ (t : Option (List ℕ)). Writes t old new) (sym (ap records_text more ∙ records_push (take place entries) entry)) whole

@@ -1,0 +1,9 @@
+use Rattle.trace.proofs.Printing.{no_records, one_record}
+use Rattle.trace.proofs.printer.print_records.Goals as goal
+
+pub loop-entry-init : goal.loop-entry-init
+loop-entry-init g c = no_records (g.W.Write.contents c.args.out.now)
+
+pub loop-entry-preserved : goal.loop-entry-preserved
+loop-entry-preserved g c =
+    one_record c.args.records.now c.loop-entry.entry-index c.entry-item.result _ _ _ c.loop-entry-test.true c.entry-item.is c.loop-entry.invariant c.in_ok-print_record.ensures

@@ -1,0 +1,8 @@
+-- the records so far
+use Rattle.std.proofs.Common.{take}
+use Rattle.call_lines.specs.Written.{Writes}
+use Rattle.trace.specs.TraceText.{records_text}
+use Rattle.trace.proofs.printer.print_records.Given as goal
+
+abbrev pub invariant-loop-entry : goal.invariant-loop-entry
+invariant-loop-entry g l = Writes (records_text (take l.entry-index l.records)) (g.W.Write.contents l.fn.out) (g.W.Write.contents l.out)

@@ -1,1 +1,1 @@
-pub mod Numeral
+pub mod Commands

@@ -1,5 +1,5 @@
-// The scenario: what happens to a transport, one command a line, and the reader of its text. It relies on
-// `hexadecimal` for bytes and on `ccb` for what a completion may say.
+// The scenario: what happens to a transport, one command a line, and the reader of its text. It relies on `call_lines` for the lines
+// of calls and on `ccb` for what a completion may say.
 #![tactic(auto)]
 
 mod reading;

@@ -1,19 +1,21 @@
-// Reads a scenario: a command a line, in the words that `steps` has names for. It relies on `hexadecimal` for
-// bytes and on `ccb` for what a completion may say.
+// Reads a scenario: a command a line, by the rows of the calls' lines, and `drain`. It relies on `call_lines` for these rows and on
+// `ccb` for what a completion may say.
 
-ghost use Rattle.std.specs.Prelude.{◌≡◌, ◌&&◌, not, ℕ, MatchOption};
-ghost use Rattle.std.specs.Char.{is_ascii_digit};
-ghost use Rattle.std.specs.List.{list_all};
-ghost use Rattle.scenario.specs.Numeral.{IsNumber, has_leading_zero};
+ghost use Rattle.std.specs.Prelude.{◌≡◌, ◌≤◌, length};
+ghost use Rattle.call_lines.specs.Written.{Reads};
+ghost use Rattle.scenario.specs.Commands.{clock_read, command_made, command_text, completed_by, dispatched, frozen, released, reported, submitted};
 
 use crate::steps::{Command, Step};
+use call_lines::{
+    Slots, Value, Word, byte_in, bytes_in, long_number_in, number_in, read_line, status_in,
+};
 use ccb::{CamStatus, CcbId, Completion, QueueId};
-use hexadecimal::{byte_of, is_digit, pair};
 use or_memory::OrMemory;
+use short_bytes::ShortBytes;
 use std::alloc::{AllocError, Global};
 
-/// The most sense bytes that a completion brings.
-const MAX_SENSE: usize = 64;
+/// The version of the formats whose lines a scenario has.
+const VERSION: u8 = 1;
 
 /// N1: the line of that number, from 1, is not of the form.
 #[derive(Clone, Copy, Debug, PartialEq, Eq)]
@@ -44,108 +46,101 @@ pub fn read(alloc: Global, text: &str) -> Result<Vec<Step>, ScenarioError> {
     Ok(steps)
 }
 
-// A line's words are parted by one blank: a command's name and up to four more.
-fn command_of(line: &str) -> Option<Command> {
-    let mut words = line.split(' ');
-    let name = words.next()?;
-    let (first, second) = (words.next(), words.next());
-    let (third, fourth) = (words.next(), words.next());
-    if words.next().is_some() {
-        return None;
+// A line is `drain`, or the line of a call.
+fn command_of(line: &str) -> Option<Command>
+    ensures { Reads command_text line.now result }
+{
+    if line == "drain" {
+        return Some(Command::Drain);
     }
-    match (name, first, second, third, fourth) {
-        ("submit", Some(queue), Some(priority), Some(retries), None) => Some(Command::Submit {
-            queue: QueueId(number(queue)?),
-            priority: number(priority)?,
-            retries: number(retries)?,
-        }),
-        ("dispatch", Some(queue), None, None, None) => Some(Command::Dispatch {
-            queue: QueueId(number(queue)?),
-        }),
-        ("complete", Some(ccb), Some(status), Some(scsi), Some(sense)) => Some(Command::Complete {
-            completion: completion(ccb, status, scsi, sense)?,
-        }),
-        ("drain", None, None, None, None) => Some(Command::Drain),
-        ("gfreeze", Some(queue), Some(guest), None, None) => Some(Command::GuestFreeze {
-            queue: QueueId(number(queue)?),
-            guest: number(guest)?,
-        }),
-        ("grelease", Some(freeze), None, None, None) => Some(Command::GuestRelease {
-            freeze: number(freeze)?,
-        }),
-        ("clock", Some(reading), None, None, None) => Some(Command::Clock {
-            reading: long_number(reading)?,
-        }),
-        _ => None,
+    match read_line(line, VERSION) {
+        Some((word, held)) => command_made(word, &held),
+        None => None,
+    }
+}
+
+// The command of that word and these values, if a scenario has it.
+fn command_made(word: Word, held: &Slots<Value>) -> Option<Command>
+    ensures { result ≡ command_made word held.now }
+{
+    match word {
+        Word::Submit => submitted(
+            number_in(held.first),
+            number_in(held.second),
+            number_in(held.third),
+        ),
+        Word::Dispatch => dispatched(number_in(held.first)),
+        Word::Complete => completed(
+            number_in(held.first),
+            status_in(held.second),
+            byte_in(held.third),
+            bytes_in(held.fourth),
+        ),
+        Word::FreezeQueue => frozen(number_in(held.first), number_in(held.second)),
+        Word::ReleaseFreeze => released(number_in(held.first)),
+        Word::Clock => clock_read(long_number_in(held.first)),
+        Word::Advance | Word::Park | Word::Resume => None,
+    }
+}
+
+fn submitted(queue: Option<u32>, priority: Option<u32>, retries: Option<u32>) -> Option<Command>
+    ensures { result ≡ submitted queue priority retries }
+{
+    Some(Command::Submit {
+        queue: QueueId(queue?),
+        priority: priority?,
+        retries: retries?,
+    })
+}
+
+fn dispatched(queue: Option<u32>) -> Option<Command>
+    ensures { result ≡ dispatched queue }
+{
+    Some(Command::Dispatch {
+        queue: QueueId(queue?),
+    })
+}
+
+fn frozen(queue: Option<u32>, guest: Option<u32>) -> Option<Command>
+    ensures { result ≡ frozen queue guest }
+{
+    Some(Command::GuestFreeze {
+        queue: QueueId(queue?),
+        guest: guest?,
+    })
+}
+
+fn released(freeze: Option<u32>) -> Option<Command>
+    ensures { result ≡ released freeze }
+{
+    Some(Command::GuestRelease { freeze: freeze? })
+}
+
+fn clock_read(reading: Option<u64>) -> Option<Command>
+    ensures { result ≡ clock_read reading }
+{
+    Some(Command::Clock { reading: reading? })
+}
+
+fn completed(
+    ccb: Option<u32>,
+    status: Option<CamStatus>,
+    scsi: Option<u8>,
+    sense: Option<ShortBytes>,
+) -> Option<Command>
+    ensures { result ≡ completed_by ccb status scsi sense }
+{
+    match sense {
+        Some(sense) => reported(ccb?, status?, scsi?, sense.as_slice()),
+        None => None,
     }
 }
 
 // What a device reports of a CCB: never that it is still in progress.
-fn completion(ccb: &str, status: &str, scsi: &str, sense: &str) -> Option<Completion> {
-    let ccb = CcbId(number(ccb)?);
-    let status = CamStatus::from_code(byte_of(status)?)?;
-    let scsi = byte_of(scsi)?;
-    let mut bytes = [0; MAX_SENSE];
-    let count = read_sense(sense, &mut bytes)?;
-    Completion::new(ccb, status, scsi, bytes.get(..count)?)
-}
-
-// Reads sense bytes, each as two digits, or `-` where there are none: how many there are, at most 64.
-fn read_sense(word: &str, bytes: &mut [u8; MAX_SENSE]) -> Option<usize> {
-    if word == "-" {
-        return Some(0);
-    }
-    if word.is_empty() {
-        return None;
-    }
-    let mut count = 0usize;
-    for digits in word.as_bytes().chunks(2) {
-        *bytes.get_mut(count)? = byte_in(digits)?;
-        count = count.saturating_add(1);
-    }
-    Some(count)
-}
-
-// The byte that two digits spell.
-fn byte_in(digits: &[u8]) -> Option<u8> {
-    match digits {
-        [high, low] if is_digit(*high) && is_digit(*low) => Some(pair(*high, *low)),
-        _ => None,
-    }
-}
-
-// A number below 2^32 in decimal digits, without a sign and without leading zeros.
-fn number(word: &str) -> Option<u32>
-    ensures { MatchOption result ((n : ℕ) → ¬ (IsNumber 32 word.now n)) (IsNumber 32 word.now) }
+fn reported(ccb: u32, status: CamStatus, scsi: u8, sense: &[u8]) -> Option<Command>
+    requires { length sense.now ≤ 64 }
+    ensures { result ≡ reported ccb status scsi sense.now }
 {
-    if !is_decimal(word) {
-        return None;
-    }
-    word.parse().ok()
-}
-
-// The same of a number below 2^64.
-fn long_number(word: &str) -> Option<u64>
-    ensures { MatchOption result ((n : ℕ) → ¬ (IsNumber 64 word.now n)) (IsNumber 64 word.now) }
-{
-    if !is_decimal(word) {
-        return None;
-    }
-    word.parse().ok()
-}
-
-// Whether the word is digits alone, without leading zeros.
-fn is_decimal(word: &str) -> bool
-    ensures { result ≡ (not (has_leading_zero word.now) && list_all is_ascii_digit word.now) }
-{
-    if word != "0" && word.starts_with('0') {
-        return false;
-    }
-    has_digits_alone(word)
-}
-
-fn has_digits_alone(word: &str) -> bool
-    ensures { result ≡ list_all is_ascii_digit word.now }
-{
-    word.bytes().all(|byte| byte.is_ascii_digit())
+    let completion = Completion::new(CcbId(ccb), status, scsi, sense)?;
+    Some(Command::Complete { completion })
 }

@@ -1,9 +1,10 @@
 // A plan, carried out over the bytes of its files. It relies on the crates that read a manifest and a scenario,
 // on `scenario_host`, and on `trace` and `verdicts` for what goes out.
 
-ghost use Rattle.std.specs.Prelude.{◌≡◌, ◌≤◌, true, Contains, IsErrAnd, IsUtf8, MatchResult, length};
+ghost use Rattle.std.specs.Prelude.{◌≡◌, ◌≤◌, true, Contains, Some, IfOk, IfErr, IsErrAnd, IsUtf8, MatchResult, length, slice_get};
 ghost use Rattle.command_line.specs.Files.{input_paths, reads_text};
 ghost use Rattle.commands.specs.Faults.{status_of};
+ghost use Rattle.commands.specs.Told.{IsText, IsProgram, IsManifest, IsFaultyText, IsFaultyProgram, IsFaultyManifest, IsAsAsked, IsFaulty};
 
 use crate::fault::Fault;
 use crate::verdicts;
@@ -29,6 +30,10 @@ pub fn carry<W: Write, E: Write>(
     requires { length inputs.now ≡ length (input_paths plan.now) }
     ensures status { result ≤ 2 }
     ensures no_text { reads_text plan.now ≡ true → (input : _) → Contains inputs.now input → ¬ (IsUtf8 input.items) → result ≡ 2 }
+    // Done only where the first file is what the plan asks for.
+    ensures done { result ≡ 0 → (input : _) → slice_get inputs.now 0 ≡ Some input → IsAsAsked plan.now input.items }
+    // Refused only where it has a fault, or a scenario behind it has one.
+    ensures refused { result ≡ 1 → (input : _) → slice_get inputs.now 0 ≡ Some input → IsFaulty plan.now input.items }
 {
     match plan {
         Plan::Asm(text, _) => match assembled(alloc, (text.as_str(), inputs[0].as_slice())) {
@@ -66,21 +71,28 @@ fn status(written: io::Result<()>) -> u8
 
 // The bytes of the program that a text says, a path and its bytes.
 fn assembled<'a>(alloc: Global, file: (&'a str, &[u8])) -> Result<Vec<u8>, Fault<'a>>
-    ensures { ¬ (IsUtf8 file.entry.1.now) → IsErrAnd result (λ e. status_of e ≡ 2) }
+    ensures no_text { ¬ (IsUtf8 file.entry.1.now) → IsErrAnd result (λ e. status_of e ≡ 2) }
+    ensures text { IfOk result (λ _. IsText file.entry.1.now) }
+    ensures fault { IfErr result (λ e. status_of e ≡ 1 → IsFaultyText file.entry.1.now) }
 {
     let program = assemble(alloc, text(file)?)?;
     encode(alloc, &program).map_err(|_| Fault::OutOfMemory)
 }
 
 // The text of the program of these bytes.
-fn disassembled(alloc: Global, bytes: &[u8]) -> Result<String, Fault<'static>> {
+fn disassembled(alloc: Global, bytes: &[u8]) -> Result<String, Fault<'static>>
+    ensures program { IfOk result (λ _. IsProgram bytes.now) }
+    ensures fault { IfErr result (λ e. status_of e ≡ 1 → IsFaultyProgram bytes.now) }
+{
     let program = decode(alloc, bytes)?;
     disassemble(alloc, &program).map_err(|_| Fault::OutOfMemory)
 }
 
 // A manifest, a path and its bytes, with its programs verified.
 fn check<'a>(alloc: Global, file: (&'a str, &[u8])) -> Result<Manifest, Fault<'a>>
-    ensures { ¬ (IsUtf8 file.entry.1.now) → IsErrAnd result (λ e. status_of e ≡ 2) }
+    ensures no_text { ¬ (IsUtf8 file.entry.1.now) → IsErrAnd result (λ e. status_of e ≡ 2) }
+    ensures manifest { IfOk result (λ _. IsManifest file.entry.1.now) }
+    ensures fault { IfErr result (λ e. status_of e ≡ 1 → IsFaultyManifest file.entry.1.now) }
 {
     Ok(manifest::read(alloc, text(file)?)?)
 }
@@ -96,6 +108,7 @@ fn print_run<W: Write, E: Write>(
     ensures status { result ≤ 2 }
     ensures manifest { ¬ (IsUtf8 manifest.entry.1.now) → result ≡ 2 }
     ensures scenario { ¬ (IsUtf8 scenario.entry.1.now) → result ≡ 2 }
+    ensures done { result ≡ 0 → IsManifest manifest.entry.1.now }
 {
     match run(alloc, manifest, scenario) {
         Ok(trace) => status(trace::print(&trace, out)),
@@ -111,6 +124,7 @@ fn run<'a>(
 ) -> Result<Trace, Fault<'a>>
     ensures manifest { ¬ (IsUtf8 manifest.entry.1.now) → IsErrAnd result (λ e. status_of e ≡ 2) }
     ensures scenario { ¬ (IsUtf8 scenario.entry.1.now) → IsErrAnd result (λ e. status_of e ≡ 2) }
+    ensures done { IfOk result (λ _. IsManifest manifest.entry.1.now) }
 {
     let manifest = text(manifest)?;
     let scenario = text(scenario)?;

@@ -58,6 +58,7 @@ impl Fault<'_> {
     pub fn report<E: Write>(&self, err: &mut E) -> u8
         ensures reported { (result ≡ status_of self.now) ⊎ (result ≡ 2) }
         ensures status { (1 ≤ result) × (result ≤ 2) }
+        ensures refused { result ≡ 1 → status_of self.now ≡ 1 }
     {
         match writeln!(err, "camr: {self}") {
             Ok(()) => self.status(),

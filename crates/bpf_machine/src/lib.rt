@@ -3,6 +3,7 @@
 // instructions, and on `stack_frame` for stack bytes.
 #![tactic(auto)]
 
+mod arms;
 mod following;
 mod held_freezes;
 mod machine;

@@ -10,9 +10,9 @@ use Rattle.freeze_ledger.specs.declared.freeze.Holder.{Holder}
 use Rattle.freeze_ledger.specs.declared.freeze.Holder.TheVariants.{Run, Timer, Guest}
 use Rattle.freeze_ledger.specs.declared.freeze.Freeze.{Freeze}
 use Rattle.freeze_ledger.specs.Freezes.{entry_of, without, handed_over, is_due, not_due_at}
+use Rattle.numbered_slots.proofs.Numbers.{map_remove}
 use Rattle.runs.specs.RunPlaces.{HasRunAt}
 use Rattle.runs.specs.RunsState.{RunsState, tokens_at, tokens_of}
-use Rattle.runs.proofs.Records.{map_remove}
 use Rattle.world.specs.World.{LiveRun, Runs, Setup, Transport, World}
 use Rattle.world.specs.Lookups.{run_of, with_run}
 use Rattle.world.specs.RunSteps.{is_run}

@@ -1,5 +1,5 @@
 -- A segment that was taken over, and a run that goes on behind its stop.
-use Rattle.std.proofs.Common.{suc, ◌+◌, inr, ◌≡◌, ℕ, List, [], ◌∷◌, ◌++◌, true, Some, refl, ap, sym, subst, ◌∙◌}
+use Rattle.std.proofs.Common.{suc, ◌+◌, inr, ◌≡◌, ℕ, List, Some, refl, ap, sym, subst, ◌∙◌}
 use Rattle.bpf_insn.specs.declared.program.Slot.{Slot}
 use Rattle.bpf_semantics.specs.MachineState.{MachineState}
 use Rattle.bpf_semantics.specs.Reached.{Reached}
@@ -15,17 +15,14 @@ use Rattle.runs.specs.Admits.{IsOutWith}
 use Rattle.runs.specs.RunPlaces.{HasRunAt}
 use Rattle.engine_core.specs.RunState.{RunState, StoppedState, IsOut, IsOutUnder, IsReached, before_stop}
 use Rattle.calls.specs.declared.record.Record.{Record}
-use Rattle.calls.specs.declared.record.Record.TheVariants.{Advance}
-use Rattle.calls.specs.declared.record.StoppedAt.{StoppedAt}
 use Rattle.helpers.specs.declared.request.Request.{Request}
-use Rattle.bpf_semantics.specs.declared.stop.Stop.{Stop}
 use Rattle.bpf_semantics.specs.declared.stop.Stop.TheVariants.{Helper}
 use Rattle.world.specs.World.{Transport, Setup, LiveRun, World, queue_setup}
 use Rattle.world.specs.Lookups.{run_of}
 use Rattle.engine_core.specs.declared.answers.AdvanceAnswer.{AdvanceAnswer}
 use Rattle.engine_core.specs.declared.answers.AdvanceAnswer.TheVariants.{Goes, Ended}
 use Rattle.engine_core.specs.Answers.{GoesOrEnds}
-use Rattle.engine_core.specs.Invariant.{HoldEntries, KeepsEngine}
+use Rattle.engine_core.specs.Invariant.{KeepsEngine}
 use Rattle.engine_core.specs.TakingOver.{GoesAs, IsAdmitted}
 use Rattle.engine_core.proofs.PrivateWays.{with_machine}
 use Rattle.engine_core.specs.Performing.{IsPlaced}

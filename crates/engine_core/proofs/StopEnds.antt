@@ -35,7 +35,7 @@ use Rattle.engine_core.specs.EngineState.{world_of}
 use Rattle.engine_core.specs.Answers.{stopped_at, IsCode, NamesCode, StopsByCode}
 use Rattle.engine_core.specs.Invariant.{HoldEntries, KeepsEngine}
 use Rattle.engine_core.specs.RunState.{RunState, StoppedState, before_stop}
-use Rattle.engine_core.specs.TakingOver.{Goes, GoesAs, Stands, IsAdmitted, LeadsTo, LeadsBy, Does, GoesOn}
+use Rattle.engine_core.specs.TakingOver.{Goes, GoesAs, Stands, IsAdmitted, LeadsTo, LeadsBy, Does}
 use Rattle.engine_core.proofs.PrivateWays.{with_machine}
 use Rattle.engine_core.proofs.Holding.{run_changed, run_gone, tokens_here}
 use Rattle.engine_core.proofs.Recording.{kept_sound}

@@ -1,4 +1,4 @@
-use Rattle.std.proofs.Common.{sym, subst, rules, ◌∙◌}
+use Rattle.std.proofs.Common.{sym, subst, rules}
 use Rattle.engine_core.specs.Answers.{StopsByCode}
 use Rattle.engine_core.proofs.StopEnds.{code_of}
 use Rattle.engine_core.proofs.Going.{is_admitted}

@@ -1,10 +1,8 @@
-use Rattle.std.proofs.Common.{◌≡◌, ℕ, rules, sym, subst}
+use Rattle.std.proofs.Common.{◌≡◌, ℕ}
 use Rattle.helpers.specs.declared.request.Request.{Request}
 use Rattle.helpers.specs.declared.request.Answer.{Answer}
-use Rattle.bpf_semantics.specs.MachineState.{MachineState}
-use Rattle.bpf_semantics.specs.Step.{HasRoomFor, IsAnswer}
 use Rattle.bpf_semantics.specs.declared.stop.Stop.TheVariants.{Helper}
-use Rattle.interpreter.specs.Segments.{SegmentState, IsSegment, StandsAt}
+use Rattle.interpreter.specs.Segments.{SegmentState, IsSegment}
 use Rattle.runs.specs.RunsState.{RunsState}
 use Rattle.world.specs.World.{Transport}
 use Rattle.engine_core.specs.TakingOver.{IsAdmitted, IsCalled, AnswersOf, Does}

@@ -1,6 +1,5 @@
-use Rattle.std.proofs.Common.{◌≡◌, refl, ap, sym, subst, ◌∙◌}
-use Rattle.engine_core.specs.RunState.{RunState, StoppedState, IsOut, before_stop}
-use Rattle.engine_core.specs.Answers.{GoesOrEnds}
+use Rattle.std.proofs.Common.{ap, ◌∙◌}
+use Rattle.engine_core.specs.RunState.{RunState, StoppedState, before_stop}
 use Rattle.engine_core.proofs.Going.{goes_apart}
 use Rattle.engine_core.proofs.engine.Engine.advance.Goals as goal
 

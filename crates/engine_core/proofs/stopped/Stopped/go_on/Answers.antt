@@ -1,4 +1,4 @@
-use Rattle.std.proofs.Common.{◌≡◌, ℕ, Some, ap, sym, subst, ◌∙◌}
+use Rattle.std.proofs.Common.{◌≡◌, sym, subst, ◌∙◌}
 use Rattle.std.specs.Arc.{arc_value}
 use Rattle.bpf_semantics.specs.declared.stop.Stop.TheVariants.{Helper}
 use Rattle.bpf_semantics.specs.Step.{IsAnswer, answered}

@@ -1,15 +1,17 @@
 // A module for what is tested, and the policies that they share.
 
-mod rooms;
 mod decoding;
 mod each_call;
 mod engine;
 mod instructions;
 mod live_runs;
+mod parking;
 mod passes;
 mod policies;
 mod recovery;
 mod replies;
+mod rooms;
+mod stopped;
 mod structure;
 mod tables;
 mod timers;

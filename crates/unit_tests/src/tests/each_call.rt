@@ -2,10 +2,11 @@
 // before, and the same call again answers. What each call answers is worked out by hand.
 
 use super::engine::{QUEUE, are_told, freeze, open, queues_with, release, shut, totals};
+use super::parking::{is_unknown, park, resume};
 use super::policies::policy;
 use super::recovery::{
-    advance, advanced, completed, completion, dispatch, drive, fail, finish, going_on, is_unknown,
-    park, refused, resume, submit, unstarted, with_segment,
+    advance, advanced, completed, completion, dispatch, drive, fail, finish, going_on, refused,
+    submit, unstarted, with_segment,
 };
 use calls::{Call, CallAnswer, CallRefusal};
 use ccb::{CamStatus, CcbId, QueueId};

@@ -1,38 +1,18 @@
 -- What a join, and what an instruction leads on, does to a table.
-use Rattle.std.proofs.Common.{◌≡◌, ℕ, zero, suc, ◌+◌, ◌-◌, ◌<◌, ◌≤◌, ◌++◌, ◌∷◌, [], arith, List, length, Option, Some, None, refl, ap, sym, subst, ◌∙◌, inl, inr, get_or-set_other, get_or-set_same}
+use Rattle.std.proofs.Common.{◌≡◌, ℕ, zero, suc, ◌+◌, ◌-◌, ◌<◌, ◌≤◌, ◌++◌, ◌∷◌, [], arith, List, length, Option, Some, None, refl, ap, sym, ◌∙◌, inl, inr, get_or-set_other, get_or-set_same}
 use Rattle.std.specs.Prelude.{slice_set}
 use Rattle.std.proofs.lemmas.Bool.{cases_eq, cases_lt}
 use Rattle.std.proofs.lemmas.List.{get_or_append_left, get_or-append_right, length-append}
-use Rattle.bpf_insn.specs.declared.program.Slot.{Slot}
 use Rattle.description.specs.declared.description.Description.{Description}
 use Rattle.description.specs.declared.saved.SavedRegisters.{SavedRegisters}
 use Rattle.bpf_insn.specs.declared.insn.Insn.TheVariants.{Exit}
 use Rattle.bpf_semantics.specs.MachineState.{MachineState}
 use Rattle.bpf_semantics.specs.Step.{does}
-use Rattle.description.specs.Description.{Covers, Describes}
-use Rattle.verifier.specs.Table.{Table, described, HasComeBack, HasJoined, HasLeft, IsFirstTable, IsKnown, IsMerged}
-use Rattle.verifier.specs.Arrives.{Arrives, AllArrive}
+use Rattle.description.specs.Description.{Describes}
+use Rattle.verifier.specs.Table.{Table, described, HasJoined, HasLeft, IsFirstTable, IsMerged}
 
 pub same_description : (x y : Description) → Some x ≡ Some y → x ≡ y
 same_description x y e = cc
-
-none_is : (x : Description) → None ≡ Some x → ⊥
-none_is x e = absurd cc
-
--- nothing was known
-pub merged_first : (d : Description) → IsMerged None d d
-merged_first d = record {
-  covers = λ callers m holds. holds;
-  keeps = λ old is. absurd (none_is old is);
-  frames = λ frames new all. new;
-}
-
-pub merged_both : (old d both : Description) → Covers old both → Covers d both → length both.stack ≡ length old.stack → IsMerged (Some old) d both
-merged_both old d both keeps covers deep = record {
-  covers = covers;
-  keeps = λ other is. subst (λ (x : Description). Covers x both) (same_description old other is) keeps;
-  frames = λ frames new all. deep ∙ all old refl;
-}
 
 -- an entry is described anew, and covers what is joined there and what was described
 pub joined_in : (before : Table) (to : ℕ) (d merged : Description) → to < length before → IsMerged (described before to) d merged → HasJoined before to d (slice_set before to (Some merged))
@@ -61,33 +41,6 @@ joined_in before to d merged lt is =
       ];
     }
 
--- and arrives
-pub arrives_in : (program : List Slot) (before : Table) (to : ℕ) (joined : Description) → to < length before → AllArrive program before → Arrives program to joined → AllArrive program (slice_set before to (Some joined))
-arrives_in program before to joined lt all arrives place d there =
-    elim (cases_eq place to) [
-      | inl same ↦
-          let is : joined ≡ d = same_description joined d (sym (get_or-set_same before to (Some joined) None lt) ∙ (sym (ap (described (slice_set before to (Some joined))) same) ∙ there)) in
-          subst (λ (k : ℕ). Arrives program k d) (sym same) (subst (Arrives program to) is arrives)
-      | inr other ↦ all place d (sym (get_or-set_other before to place (Some joined) None other) ∙ there)
-    ]
-
--- nothing comes back
-pub back_nowhere : (table : Table) (to : ℕ) → HasComeBack table to None table
-back_nowhere table to = record {
-  others = λ at other. refl;
-  grows = λ callers at m known. known;
-  here = λ d is. absurd (none_is d is);
-  frames = λ frames of all. all;
-}
-
-pub back_there : (before : Table) (to : ℕ) (d : Description) (after : Table) → HasJoined before to d after → HasComeBack before to (Some d) after
-back_there before to d after joined = record {
-  others = joined.others;
-  grows = joined.grows;
-  here = λ other is. subst (λ (x : Description). (callers : List SavedRegisters) (m : MachineState) → Describes callers x m → IsKnown callers after to m) (same_description d other is) joined.here;
-  frames = λ frames of all. joined.frames frames (of d refl) all;
-}
-
 -- at first one entry alone is described
 one_none : (place : ℕ) → described (None ∷ []) place ≡ None
 one_none zero = refl
@@ -113,3 +66,4 @@ left_on saved d there merged before leaves deep is = record {
   leaves = λ outer m m' holds step. (merged, refl, is.covers outer m' (leaves outer m m' holds step));
   frames = λ frames deep_there all now now_is. ap (λ (x : Description). length x.stack) (sym (same_description merged now now_is)) ∙ is.frames frames (omega (arith, deep, deep_there)) all;
 }
+

@@ -1,5 +1,5 @@
 -- What it is for machines to be let on one way.
-use Rattle.std.proofs.Common.{◌≡◌, ℕ, ◌≤◌, Bool, true, false, List, length, Some, None, Result, Ok, Err, refl, sym, subst, ◌∙◌, arith, ◌⊎◌, inl, inr}
+use Rattle.std.proofs.Common.{◌≡◌, ℕ, ◌≤◌, Bool, true, false, List, length, Some, Result, Ok, Err, refl, sym, subst, ◌∙◌, arith, ◌⊎◌, inl, inr}
 use Rattle.std.specs.Prelude.{IfOk}
 use Rattle.bpf_insn.specs.declared.insn.Insn.{Insn}
 use Rattle.bpf_insn.specs.declared.program.Slot.{Slot}
@@ -49,21 +49,9 @@ led_nowhere limits callers table at insn way to d there is_open here never goes 
   ]);
 }
 
--- nothing is known there
-pub led_from_nowhere : (limits : HelperLimits) (callers : List SavedRegisters) (table : Table) (at : ℕ) (insn : Insn) (way : Way) (to : ℕ) → described table at ≡ None → HasLed limits callers table at insn way to table
-led_from_nowhere limits callers table at insn way to none = record {
-  others = λ other apart. refl;
-  grows = λ others other m known. known;
-  frames = λ frames all. all;
-  unstuck = λ m known. absurd (unknown m known);
-  follows = λ m m' lt known way_is step. absurd (unknown m known);
-}
-  where
-    unknown : (m : MachineState) → IsKnown callers table at m → ⊥
-    unknown m known = let bad : None ≡ Some known.description = sym none ∙ known.there in absurd cc
-
 -- what is left behind an instruction arrives where that leads
 pub arrives_on : (program : List Slot) (table : Table) (place : ℕ) (insn : Insn) (way : Way) (to : ℕ) (d there : Description) → NeverLacks program → AllArrive program table → insn_at program place ≡ Some insn → goes_to place insn way ≡ Some to → described table place ≡ Some d → Leaves insn way d there → Arrives program to there
 arrives_on program table place insn way to d there lacks_not all at goes here leaves =
     let arrives = all place d here in
     follows place to insn way d there arrives at (lacks_not.enough place insn d arrives at) goes leaves
+

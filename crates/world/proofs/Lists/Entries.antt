@@ -1,5 +1,5 @@
 -- Lists of freezes: what one more at the end, one fewer by its number, and one that is handed over leave.
-use Rattle.std.proofs.Common.{◌≡◌, ℕ, ◌+◌, ◌<◌, ◌≤◌, List, [], ◌∷◌, ◌++◌, map, Bool, true, false, cond, eqb, leb, Option, Some, None, IsSome, not, inl, inr, refl, ap, sym, ◌∙◌, arith}
+use Rattle.std.proofs.Common.{◌≡◌, ℕ, ◌+◌, ◌<◌, ◌≤◌, List, [], ◌∷◌, ◌++◌, map, Bool, true, false, cond, eqb, Option, Some, None, IsSome, not, inl, inr, refl, ap, sym, ◌∙◌, arith}
 use Rattle.std.proofs.lemmas.Bool.{cases_eq, cond-true, cond-false, eq-eqb, ne_eqb, eqb-true}
 use Rattle.std.proofs.lemmas.List.Sums.{sum_by_push, sum_by-cons}
 use Rattle.std.proofs.lemmas.List.Filters.{sum_by-filter_both}
@@ -8,10 +8,8 @@ use Rattle.freeze_ledger.specs.declared.freeze.Holder.TheVariants.{Timer}
 use Rattle.freeze_ledger.specs.declared.freeze.Freeze.{Freeze}
 use Rattle.freeze_ledger.specs.declared.place.Place.{Place}
 use Rattle.freeze_ledger.specs.declared.place.Place.TheVariants.{Device}
-use Rattle.freeze_ledger.specs.Places.{index_of, is_place, device}
+use Rattle.freeze_ledger.specs.Places.{is_place, device}
 use Rattle.freeze_ledger.specs.Freezes.{names, frozen, entry_of, without, handed_over, is_due, due_at, not_due_at}
-use Rattle.world.specs.World.{Setup, queue_count}
-use Rattle.world.specs.Refusals.{is_unknown}
 use Rattle.world.proofs.Lists.Found.{put, at_head, at_tail, put_tail, found_key, missing_push, leave_same}
 use Rattle.world.proofs.Lists.Rising.{put_here, found_bounds, count_gone}
 
@@ -107,6 +105,3 @@ pub none_since : (o : Option Freeze) → (IsSome o → ⊥) → o ≡ None
 none_since None h = refl
 none_since (Some f) h = absurd (h refl)
 
--- which places there are goes by their numbers
-pub unknown_is : (setup : Setup) (place : Place) → is_unknown setup place ≡ leb (queue_count setup) (index_of place)
-unknown_is setup (Device queue) = refl

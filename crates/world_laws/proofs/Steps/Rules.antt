@@ -56,7 +56,3 @@ first_within limits m request least most first rule =
     let parts = and_parts (leb least request.arguments.first) (leb request.arguments.first most) (first_as limits m request (Some (Within least most)) first rule) in
     (leb-true _ _ parts.0, leb-true _ _ parts.1)
 
-pub second_within : (limits : HelperLimits) (m : MachineState) (request : Request) (least most : ℕ) → (asks request.helper).second ≡ Some (Within least most) → meets_rule limits m request ≡ true → (least ≤ request.arguments.second) × (request.arguments.second ≤ most)
-second_within limits m request least most second rule =
-    let parts = and_parts (leb least request.arguments.second) (leb request.arguments.second most) (second_as limits m request (Some (Within least most)) second rule) in
-    (leb-true _ _ parts.0, leb-true _ _ parts.1)

@@ -9,8 +9,7 @@ pub mod WaysOut
 pub mod OnTheWay
 pub mod WrittenFew
 pub mod Marks
-pub mod WalkSteps
-pub mod WholeWalk
+pub mod Walks
 pub mod ReachSteps
 pub mod CallingOrder
 pub mod Filled

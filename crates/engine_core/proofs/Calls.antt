@@ -30,7 +30,7 @@ use Rattle.world.specs.Limits.{AnswerLimits}
 use Rattle.world.specs.World.{Transport, Setup, queue_count, LiveCcb, LiveRun, World}
 use Rattle.world.specs.Lookups.{ccb_of}
 use Rattle.world.specs.RunSteps.{is_run, goes_on, answers, by_deed}
-use Rattle.world.specs.FreezeLaws.{entries_of, held_by}
+use Rattle.world.specs.Laws.FreezeLaws.{entries_of, held_by}
 use Rattle.world.proofs.Lists.Each.{all_found}
 use Rattle.world.proofs.Steps.Moves.{run_key}
 use Rattle.engine_core.specs.EngineState.{world_of}

@@ -17,7 +17,7 @@ use Rattle.world.specs.World.{LiveRun, Runs, Setup, Transport, World}
 use Rattle.world.specs.Lookups.{run_of, with_run}
 use Rattle.world.specs.RunSteps.{is_run}
 use Rattle.world.specs.FreezeSteps.{is_guest}
-use Rattle.world.specs.FreezeLaws.{entries_of}
+use Rattle.world.specs.Laws.FreezeLaws.{entries_of}
 use Rattle.ccb.specs.Rising.{AreRising}
 use Rattle.world.proofs.Lists.Entries.{freeze_key, handed_is_put, FreezesRise}
 use Rattle.world.proofs.Lists.Found.{at_head, at_tail, found_in_filter, found_key, leave, put_keys}

@@ -19,10 +19,10 @@ use Rattle.world.specs.Told.{told_of}
 use Rattle.world.specs.Event.{call, exit, executes, Reply, result}
 use Rattle.world.specs.RunSteps.{is_run, ends, step_request, may_call, step_helper, step_run, step_executes}
 use Rattle.world.specs.Step.{WorldStep}
-use Rattle.world.specs.FreezeLaws.{entries_of}
+use Rattle.world.specs.Laws.FreezeLaws.{entries_of}
 use Rattle.world.proofs.Lists.Entries.{entry_bounds}
 use Rattle.world.proofs.Lists.HeldBy.{among_is}
-use Rattle.world_laws.proofs.Reaching.{reached_goes}
+use Rattle.world_laws.proofs.Runs.Reaching.{reached_goes}
 use Rattle.world_laws.proofs.Telling.{told_itself}
 use Rattle.world_laws.proofs.Sound.{IsSound}
 

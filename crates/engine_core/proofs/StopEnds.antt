@@ -28,7 +28,7 @@ use Rattle.calls.specs.declared.record.StoppedAt.TheVariants.{Exit as at_exit_st
 use Rattle.world.specs.World.{Runs, Transport, Setup, LiveRun, World}
 use Rattle.world.specs.Lookups.{run_of, with_run}
 use Rattle.world.specs.Flat.{events_of}
-use Rattle.world.specs.FreezeLaws.{entries_of}
+use Rattle.world.specs.Laws.FreezeLaws.{entries_of}
 use Rattle.world.proofs.Lists.Found.{leave, put_same, found_key}
 use Rattle.world.proofs.Steps.Moves.{run_key}
 use Rattle.engine_core.specs.EngineState.{world_of}

@@ -25,7 +25,7 @@ use Rattle.world.specs.RunSteps.{goes_on, answers, ends}
 use Rattle.world.specs.WorldRun.{Leads}
 use Rattle.world.specs.Flat.{events_of, stop_of}
 use Rattle.world.specs.Step.{WorldStep}
-use Rattle.world.specs.FreezeLaws.{entries_of}
+use Rattle.world.specs.Laws.FreezeLaws.{entries_of}
 use Rattle.world.proofs.Lists.Found.{leave, put_same, put_put, leave_put, found_key}
 use Rattle.world.proofs.Steps.Moves.{run_key}
 use Rattle.world_laws.proofs.Sound.{IsSound, leads_sound}

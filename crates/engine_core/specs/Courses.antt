@@ -8,6 +8,7 @@ use Rattle.world.specs.Lookups.{ccb_of}
 use Rattle.calls.specs.declared.call_answer.CallAnswer.TheVariants as answers
 use Rattle.world.specs.Event.{Reply, replies, refused}
 use Rattle.world.specs.CcbSteps.{run_meets_limit, finishes, recovers}
+use Rattle.transport.specs.Listed.{IsPlaceOf}
 use Rattle.engine_core.specs.declared.course.Course.{Course}
 use Rattle.engine_core.specs.declared.course.Course.TheVariants.{Refuse, Finish, Recover}
 
@@ -15,7 +16,7 @@ use Rattle.engine_core.specs.declared.course.Course.TheVariants.{Refuse, Finish,
 abbrev pub takes : Setup → World → Outcome → Course → Reply × World
 takes setup world outcome (Refuse refusal) = (refused refusal, world)
 takes setup world outcome (Finish ccb) = (replies answers.Done, finishes world ccb outcome.status)
-takes setup world outcome (Recover ccb) = recovers setup world ccb outcome
+takes setup world outcome (Recover place ccb) = recovers setup world ccb outcome
 
 -- the CCB is the one that is completed, and active
 abbrev pub IsActive : World → Outcome → Ccb → Type 0
@@ -25,4 +26,4 @@ IsActive world outcome ccb = ccb_of outcome.ccb.0 world.transport.live ≡ Some 
 abbrev pub IsOpen : World → Outcome → Course → Type 0
 IsOpen world outcome (Refuse refusal) = Unit {0}
 IsOpen world outcome (Finish ccb) = IsActive world outcome ccb
-IsOpen world outcome (Recover ccb) = IsActive world outcome ccb × (run_meets_limit world ≡ false)
+IsOpen world outcome (Recover place ccb) = IsActive world outcome ccb × IsPlaceOf outcome.ccb.0 world.transport.live place × (run_meets_limit world ≡ false)

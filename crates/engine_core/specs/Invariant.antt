@@ -4,7 +4,7 @@ use Rattle.freeze_ledger.specs.declared.freeze.Freeze.{Freeze}
 use Rattle.runs.specs.RunsState.{RunsState, tokens_of}
 use Rattle.calls.specs.declared.record.Record.{Record}
 use Rattle.world.specs.World.{Setup, LiveRun, Transport}
-use Rattle.world.specs.FreezeLaws.{entries_of}
+use Rattle.world.specs.Laws.FreezeLaws.{entries_of}
 use Rattle.engine_core.specs.EngineState.{world_of, IsRun}
 
 -- what each live run has the right to give back are the entries that name it

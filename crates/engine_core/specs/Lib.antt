@@ -3,10 +3,10 @@ pub use Rattle.world.specs.Step
 pub use Rattle.world.specs.WorldRun
 pub use Rattle.world.specs.Flat
 pub use Rattle.world.specs.TotalsOf
-pub use Rattle.world.specs.Headline
+pub use Rattle.world.specs.Laws.Headline
 pub use Rattle.world.specs.Limits
-pub use Rattle.world.specs.FreezeLaws
-pub use Rattle.world.specs.CcbLaws
+pub use Rattle.world.specs.Laws.FreezeLaws
+pub use Rattle.world.specs.Laws.CcbLaws
 pub mod EngineState
 pub mod Invariant
 pub mod Faults

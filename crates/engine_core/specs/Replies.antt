@@ -150,6 +150,12 @@ record_of event (replied.Refused refusal) = option_map (λ call. Called (answers
 record_of event (replied.Unfit back) = None
 record_of event (replied.OutOfMemory back) = None
 
+abbrev pub is_recorded : Reply → Bool
+is_recorded (replied.Given given) = true
+is_recorded (replied.Refused refusal) = true
+is_recorded (replied.Unfit back) = false
+is_recorded (replied.OutOfMemory back) = false
+
 -- with a record one record more, and without one all is as it was
 abbrev pub IsRecorded : EngineState → Event → Reply → EngineState → Type 0
 IsRecorded old event reply new = MatchOption (record_of event reply) (new ≡ old) (λ told. Records old new told)

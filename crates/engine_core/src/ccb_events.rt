@@ -72,7 +72,9 @@ pub(crate) fn complete(
             let answer = CallAnswer::Done;
             Ok((Reply::Given(Given::Done), Record::Called { answer, call }))
         }
-        Course::Recover(ccb) => match recover(config, transport, runs, ccb, completion) {
+        Course::Recover(place, ccb) => match recover(
+            config, transport, runs, place, ccb, completion,
+        ) {
             Ok((run, freeze)) => {
                 let answer = CallAnswer::Started {
                     run: run.number(),

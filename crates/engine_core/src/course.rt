@@ -10,6 +10,7 @@ ghost use Rattle.calls.specs.declared.call_answer.CallAnswer.TheVariants as answ
 ghost use Rattle.world.specs.Event.{replies};
 ghost use Rattle.world.specs.CcbSteps.{is_success, run_meets_limit, recovers};
 ghost use Rattle.world.specs.Step.{step_call};
+ghost use Rattle.transport.specs.Listed.{IsPlaceOf};
 ghost use Rattle.engine_core.specs.Courses.{takes, IsActive, IsOpen};
 ghost use Rattle.engine_core.specs.Invariant.{HoldEntries, KeepsEngine};
 ghost use Rattle.engine_core.specs.RunState.{IsOutUnder};
@@ -29,8 +30,8 @@ pub(crate) enum Course {
     Refuse(CallRefusal),
     /// The CCB is finished.
     Finish(Ccb),
-    /// A run starts for the CCB.
-    Recover(Ccb),
+    /// A run starts for the CCB, which stands at this place.
+    Recover(usize, Ccb),
 }
 
 // Whether its status needs no recovery.
@@ -50,9 +51,10 @@ pub(crate) fn decide(transport: &Transport, runs: &Runs, completion: &Completion
     ensures ready { (world : World) → IsOpen (record world { transport = transport.now; runs = runs.now.runs }) completion.now result }
 {
     let succeeded = has_succeeded(completion);
-    let Some(live) = transport.get(completion.ccb()) else {
+    let Some(place) = transport.place_of(completion.ccb()) else {
         return Course::Refuse(CallRefusal::Unknown);
     };
+    let live = transport.at(place);
     if !succeeded && runs.is_full() {
         return Course::Refuse(CallRefusal::Limit);
     }
@@ -62,22 +64,24 @@ pub(crate) fn decide(transport: &Transport, runs: &Runs, completion: &Completion
     if succeeded {
         Course::Finish(live.ccb())
     } else {
-        Course::Recover(live.ccb())
+        Course::Recover(place, live.ccb())
     }
 }
 
-/// Starts a run of the queue's program for an active CCB whose completion failed: the run, and the number of its
-/// freeze, or 0 where that met a limit. Where memory is refused nothing changes.
+/// Starts a run of the queue's program for an active CCB, which stands at this place and whose completion failed: the run,
+/// and the number of its freeze, or 0 where that met a limit. Where memory is refused nothing changes.
 pub(crate) fn recover(
     config: &Config,
     transport: &mut Transport,
     runs: &mut Runs,
+    place: usize,
     ccb: Ccb,
     completion: &Completion,
 ) -> Result<(Run, u32), AllocError>
     requires kept { (history : List TheRecord) × KeepsEngine config.now history transport.old runs.old }
     requires known { ccb.queue.0 < queue_count config.now }
     requires active { (world : World) → IsActive (record world { transport = transport.old }) completion.now ccb }
+    requires there { IsPlaceOf completion.now.ccb.0 transport.old.live place }
     requires room { (world : World) → run_meets_limit (record world { runs = runs.old.runs }) ≡ false }
     ensures step { IfOk result (λ started. (world : World) →
         recovers config.now (record world { transport = transport.old; runs = runs.old.runs }) ccb completion.now
@@ -89,10 +93,10 @@ pub(crate) fn recover(
     let program = config.program(ccb.queue);
     let recorded = Arc::try_clone(program)?;
     let handed = Arc::try_clone(program)?;
-    let place = runs.place_for_machine()?;
+    let kept = runs.place_for_machine()?;
     let mut machine = runs.place_for_machine()?;
     let next = runs.place_for_machine()?;
-    let (ccb, token) = transport.fail(ccb, completion, runs.next_number());
-    let started = runs.start(&ccb, recorded, token, place, &mut machine);
+    let (ccb, token) = transport.fail(place, ccb, completion, runs.next_number());
+    let started = runs.start(&ccb, recorded, token, kept, &mut machine);
     Ok((Run::new(started.run, handed, machine, next), started.freeze))
 }

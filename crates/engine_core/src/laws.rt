@@ -1,14 +1,14 @@
 // The laws of the world, each the contract of a function without arguments. They rely on `world` alone.
 
 ghost use Rattle.world.specs.Limits.{LimitsAreKept};
-ghost use Rattle.world.specs.FreezeLaws.{CountsAreEntries, HeldAreEntries};
-ghost use Rattle.world.specs.FreezeLaws.{GivenUpStaysGivenUp, GivenUpByRunStaysGivenUp, HandedOverStaysHandedOver, GoneStaysGone};
-ghost use Rattle.world.specs.CcbLaws.{EachIsLiveOrEnded, StartsKeepOpenings};
-ghost use Rattle.world.specs.ClockLaws.{ClockGoesOn, TimersKeepTime};
+ghost use Rattle.world.specs.Laws.FreezeLaws.{CountsAreEntries, HeldAreEntries};
+ghost use Rattle.world.specs.Laws.FreezeLaws.{GivenUpStaysGivenUp, GivenUpByRunStaysGivenUp, HandedOverStaysHandedOver, GoneStaysGone};
+ghost use Rattle.world.specs.Laws.CcbLaws.{EachIsLiveOrEnded, StartsKeepOpenings};
+ghost use Rattle.world.specs.Laws.ClockLaws.{ClockGoesOn, TimersKeepTime};
 ghost use Rattle.world.specs.Flat.{EmptyAdvanceIsNone};
-ghost use Rattle.world.specs.Headline.{NeverStuck, MachinesAreReached, WithinBudget, DisposedOnce, ExactFreezes, OthersLeaveIt, GoneRunStaysGone};
-ghost use Rattle.world.specs.ParkLaws.{ParkedStaysAsItIs};
-ghost use Rattle.world.specs.Moved.{Moved};
+ghost use Rattle.world.specs.Laws.Headline.{NeverStuck, MachinesAreReached, WithinBudget, DisposedOnce, ExactFreezes, OthersLeaveIt, GoneRunStaysGone};
+ghost use Rattle.world.specs.Laws.ParkLaws.{ParkedStaysAsItIs};
+ghost use Rattle.world.specs.Laws.Moved.{Moved};
 
 /// The headline. For every setup of accepted programs and every interleaving, instruction by instruction, of
 /// submissions, dispatches, completions, timers, guests, parks and runs: no run is ever stuck, and each that is

@@ -2,7 +2,7 @@
 // tokens.
 
 ghost use Rattle.std.specs.Prelude.{◌≡◌};
-ghost use Rattle.engine_core.specs.Replies.{IsCcb, IsCompleted, IsFault, IsMemory, IsAdvanced, IsFreeze, IsLeft, IsRemoved, IsParked, IsResumed, IsRunBack, IsTokenBack, given_completed, given_advanced};
+ghost use Rattle.engine_core.specs.Replies.{IsCcb, IsCompleted, IsFault, IsMemory, IsAdvanced, IsFreeze, IsLeft, IsRemoved, IsParked, IsResumed, IsRunBack, IsTokenBack, given_completed, given_advanced, is_recorded};
 ghost use Rattle.engine_core.specs.declared.reply.Given.TheVariants.{Ccb, Freeze, Left, Removed, Parked, Resumed};
 ghost use Rattle.engine_core.specs.declared.reply.Back.TheVariants as back;
 ghost use Rattle.engine_core.specs.declared.reply.Reply.TheVariants as replied;
@@ -59,6 +59,16 @@ pub enum Reply {
 }
 
 impl Reply {
+    /// Whether it is recorded: the call was carried out, or refused.
+    pub fn is_recorded(&self) -> bool
+        ensures { result ≡ is_recorded self.now }
+    {
+        match self {
+            Reply::Given(_) | Reply::Refused(_) => true,
+            Reply::Unfit(_) | Reply::OutOfMemory(_) => false,
+        }
+    }
+
     /// Spends what it gives, or what came back.
     pub fn forfeit(self) {
         match self {

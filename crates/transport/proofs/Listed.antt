@@ -1,5 +1,5 @@
 -- What the list of live CCBs keeps is kept by one more at the end, by a change of one, and by one fewer.
-use Rattle.std.proofs.Common.{◌≡◌, ℕ, ◌+◌, ◌<◌, List, [], ◌∷◌, ◌++◌, length, map, get_or, set, cond, Some, None, Contains, ap, sym, subst, ◌∙◌, arith, length-append}
+use Rattle.std.proofs.Common.{◌≡◌, ℕ, ◌+◌, ◌<◌, List, [], ◌∷◌, ◌++◌, length, map, get_or, set, cond, Option, Some, None, IfSome, IfNone, Contains, ap, sym, subst, ◌∙◌, arith, length-append}
 use Rattle.std.specs.List.{remove}
 use Rattle.std.proofs.lemmas.List.{map_push}
 use Rattle.std.proofs.lemmas.List.Edits.{length-remove}
@@ -15,7 +15,7 @@ use Rattle.world.proofs.Steps.Moves.{ccb_key}
 use Rattle.numbered_slots.specs.NumberedState.{NumberedState, IsPlaceOf as HasNumberAt}
 use Rattle.numbered_slots.proofs.Found.{absent, stands}
 use Rattle.numbered_slots.proofs.Numbers.{map_remove, rising_more}
-use Rattle.transport.specs.Listed.{ListState, IsListed}
+use Rattle.transport.specs.Listed.{ListState, IsListed, IsPlaceOf}
 
 -- the list that contracts see
 abbrev pub listed_as : ℕ → List LiveCcb → ListState
@@ -28,11 +28,6 @@ numbered_put ccbs high c h = subst (λ (ns : List ℕ). AreRising 0 ns high) (sy
 abbrev pub counts : LiveCcb → ℕ
 counts c = cond (is_active c.state) 1 0
 
--- the CCB of this number stands at this place
-pub record IsPlaceOf (number : ℕ) (ccbs : List LiveCcb) (place : ℕ) : Type 0 where
-  pub within : place < length ccbs
-  pub here : (other : LiveCcb) → (get_or ccbs place other).ccb.number.0 ≡ number
-
 -- as a look-up by number says
 pub place_is : (s : NumberedState LiveCcb) (greatest active number place : ℕ) → IsListed s greatest active → HasNumberAt number s.numbers place → IsPlaceOf number s.values place
 place_is s greatest active number place h found =
@@ -42,6 +37,15 @@ place_is s greatest active number place h found =
 pub not_there : (s : NumberedState LiveCcb) (greatest active number : ℕ) → IsListed s greatest active → (Contains s.numbers number → ⊥) → ccb_of number s.values ≡ None
 not_there s greatest active number h none =
     absent ccb_key number s.values (subst (λ (ns : List ℕ). Contains ns number → ⊥) h.numbered none)
+
+-- the same of what may have been found
+pub place_found : (s : NumberedState LiveCcb) (greatest active number : ℕ) (o : Option ℕ) → IsListed s greatest active → IfSome o (HasNumberAt number s.numbers) → IfSome o (IsPlaceOf number s.values)
+place_found s greatest active number None h found = tt
+place_found s greatest active number (Some place) h found = place_is s greatest active number place h found
+
+pub not_there_if : (s : NumberedState LiveCcb) (greatest active number : ℕ) (o : Option ℕ) → IsListed s greatest active → IfNone o (Contains s.numbers number → ⊥) → IfNone o (ccb_of number s.values ≡ None)
+not_there_if s greatest active number None h none = not_there s greatest active number h none
+not_there_if s greatest active number (Some place) h none = tt
 
 -- the CCB at the place is the one of the number
 pub placed : (ccbs : List LiveCcb) (greatest number place : ℕ) (it : LiveCcb) → AreRising 0 (map ccb_key ccbs) greatest → IsPlaceOf number ccbs place → it ≡ get_or ccbs place it → ccb_of number ccbs ≡ Some it

@@ -1,6 +1,6 @@
 -- What contracts see of the list of live CCBs, and what it keeps: they are numbered by their own numbers, which
 -- rise, there is room, and the active CCBs are counted.
-use Rattle.std.specs.Prelude.{◌≡◌, ℕ, ◌≤◌, ◌||◌, Bool, List, [], length, map, nat_le, count_by}
+use Rattle.std.specs.Prelude.{◌≡◌, ℕ, ◌<◌, ◌≤◌, ◌||◌, Bool, List, [], length, map, nat_le, count_by, slice_index_or}
 use Rattle.world.specs.Capacities.{most_ccbs, last_number}
 use Rattle.world.specs.World.{LiveCcb}
 use Rattle.world.specs.Lookups.{is_active}
@@ -29,3 +29,8 @@ pub record IsListed (ccbs : NumberedState LiveCcb) (greatest active : ℕ) : Typ
   pub within : length ccbs.values ≤ most_ccbs
   pub room : ccbs.most ≡ most_ccbs
   pub counted : active ≡ all_active ccbs.values
+
+-- the CCB of this number stands at this place in the order of the numbers
+pub record IsPlaceOf (number : ℕ) (ccbs : List LiveCcb) (place : ℕ) : Type 0 where
+  pub within : place < length ccbs
+  pub here : (other : LiveCcb) → (slice_index_or ccbs place other).ccb.number.0 ≡ number

@@ -1,11 +1,11 @@
 // The live CCBs in the order of their numbers, for which room is taken once. It relies on `live_ccb` for what an entry is,
 // and on `numbered_slots` for where it stands.
 
-ghost use Rattle.std.specs.Prelude.{◌≡◌, ◌+◌, ◌<◌, ◌≤◌, ◌++◌, [], ◌∷◌, ◌==◌, not, length, filter, IfOk, Some, if◌then◌else◌};
+ghost use Rattle.std.specs.Prelude.{◌≡◌, ◌+◌, ◌<◌, ◌≤◌, ◌++◌, [], ◌∷◌, ◌==◌, ℕ, not, length, filter, IfOk, IfSome, IfNone, None, Some, if◌then◌else◌};
 ghost use Rattle.world.specs.Capacities.{most_ccbs};
 ghost use Rattle.world.specs.World.{LiveCcb as WorldCcb};
 ghost use Rattle.world.specs.Lookups.{ccb_of, with_ccb};
-ghost use Rattle.transport.specs.Listed.{ListState, no_live, is_full, all_active};
+ghost use Rattle.transport.specs.Listed.{ListState, IsPlaceOf, no_live, is_full, all_active};
 
 use crate::live_ccb::LiveCcb;
 use ccb::CcbId;
@@ -81,12 +81,20 @@ impl CcbList {
         self.active
     }
 
-    /// The CCB of this number.
-    pub(crate) fn get(&self, number: CcbId) -> Option<LiveCcb>
-        ensures { result ≡ ccb_of number.0 self.now.live }
+    /// Where the CCB of this number stands in the order of the numbers; `None` exactly where no live one has it.
+    pub(crate) fn place_of(&self, number: CcbId) -> Option<usize>
+        ensures found { IfSome result (IsPlaceOf number.0 self.now.live) }
+        ensures none { IfNone result (ccb_of number.0 self.now.live ≡ None) }
     {
-        let place = self.ccbs.place_of(number.0)?;
-        Some(self.ccbs[place])
+        self.ccbs.place_of(number.0)
+    }
+
+    /// The CCB at this place.
+    pub(crate) fn at(&self, place: usize) -> &LiveCcb
+        requires { place < length self.now.live }
+        ensures { (number : ℕ) → IsPlaceOf number self.now.live place → ccb_of number self.now.live ≡ Some result.now }
+    {
+        &self.ccbs[place]
     }
 
     /// One CCB more, under the number after the greatest given.
@@ -100,14 +108,11 @@ impl CcbList {
         self.ccbs.push(live.number().0, live);
     }
 
-    /// Puts a CCB in the place of the one of its number, which is there.
-    pub(crate) fn change(&mut self, changed: &LiveCcb)
-        requires { (it : WorldCcb) × (ccb_of changed.now.ccb.number.0 self.old.live ≡ Some it) }
+    /// Puts a CCB in the place of the one of its number, which stands there.
+    pub(crate) fn change(&mut self, place: usize, changed: &LiveCcb)
+        requires { IsPlaceOf changed.now.ccb.number.0 self.old.live place }
         ensures { self.new ≡ record self.old { live = with_ccb changed.now self.old.live } }
     {
-        let Some(place) = self.ccbs.place_of(changed.number().0) else {
-            unreachable!()
-        };
         let was = self.ccbs[place].is_active();
         self.active = moved(self.active, was, changed.is_active());
         self.ccbs[place] = *changed;

@@ -2,7 +2,7 @@
 // of the freezes that guests, runs and timers hold. It relies on `ccb_list` for the CCBs, on `queue_list` for the queues,
 // and on `freeze_ledger` for the freezes.
 
-ghost use Rattle.std.specs.Prelude.{◌≡◌, ℕ, ◌+◌, ◌<◌, ◌≤◌, ◌++◌, [], ◌∷◌, ◌==◌, ◌↔◌, not, true, false, length, map, filter, count_by, slice_index, slice_set, All, Contains, IsTrue, Some, IfOk, IfSome, OnOk, OnErr};
+ghost use Rattle.std.specs.Prelude.{◌≡◌, ℕ, ◌+◌, ◌<◌, ◌≤◌, ◌++◌, [], ◌∷◌, ◌==◌, ◌↔◌, not, true, false, length, map, filter, count_by, slice_index, slice_set, All, Contains, IsTrue, None, Some, IfOk, IfSome, IfNone, OnOk, OnErr};
 ghost use Rattle.std.specs.Option.{is_some};
 ghost use Rattle.ccb.specs.Ccb.{completed, requeued};
 ghost use Rattle.dev_queue.specs.State.{empty_queue};
@@ -23,6 +23,7 @@ ghost use Rattle.world.specs.FreezeSteps.{is_guest};
 ghost use Rattle.world.specs.Step.{step_call};
 ghost use Rattle.world.specs.QueueInfo.{queue_info};
 ghost use Rattle.transport.specs.Freezing.{IsTaken, took};
+ghost use Rattle.transport.specs.Listed.{IsPlaceOf};
 
 use crate::ccb_list::CcbList;
 use crate::live_ccb::LiveCcb;
@@ -133,23 +134,31 @@ impl Transport {
         match self.queues.start(queue, freezes) {
             Err(fault) => Err(refusal(fault)),
             Ok(number) => {
-                let Some(mut next) = self.ccbs.get(number) else {
+                let Some(place) = self.ccbs.place_of(number) else {
                     unreachable!()
                 };
+                let mut next = *self.ccbs.at(place);
                 next.start();
-                self.ccbs.change(&next);
+                self.ccbs.change(place, &next);
                 Ok(number)
             }
         }
     }
 
-    /// The live CCB of this number, which bears it and is of a queue that there is. `None` where no live one has it.
-    pub fn get(&self, ccb: CcbId) -> Option<LiveCcb>
-        ensures found { result ≡ ccb_of ccb.0 self.now.live }
-        ensures numbered { IfSome result (λ live. live.ccb.number ≡ ccb) }
-        ensures known { IfSome result (λ live. live.ccb.queue.0 < length self.now.openings) }
+    /// Where the CCB of this number stands among the live ones; `None` exactly where no live one has it.
+    pub fn place_of(&self, ccb: CcbId) -> Option<usize>
+        ensures found { IfSome result (IsPlaceOf ccb.0 self.now.live) }
+        ensures none { IfNone result (ccb_of ccb.0 self.now.live ≡ None) }
     {
-        self.ccbs.get(ccb)
+        self.ccbs.place_of(ccb)
+    }
+
+    /// The live CCB at this place.
+    pub fn at(&self, place: usize) -> &LiveCcb
+        requires { place < length self.now.live }
+        ensures { (number : ℕ) → IsPlaceOf number self.now.live place → ccb_of number self.now.live ≡ Some result.now }
+    {
+        self.ccbs.at(place)
     }
 
     /// The CCB of this number is finished and gone. It asks for an active one, or one in recovery.
@@ -161,16 +170,18 @@ impl Transport {
         self.queues.leave(live.ccb().queue, live.is_active());
     }
 
-    /// The completion of an active CCB failed. A freeze of its queue is taken for the run of that number, or none where
-    /// that meets a limit; the CCB takes over what the completion brought, and is in recovery. It answers the CCB, and the
-    /// right of the run to give its freeze back.
+    /// The completion of an active CCB, which stands at this place, failed. A freeze of its queue is taken for the run of
+    /// that number, or none where that meets a limit; the CCB takes over what the completion brought, and is in recovery.
+    /// It answers the CCB, and the right of the run to give its freeze back.
     pub fn fail(
         &mut self,
+        place: usize,
         ccb: Ccb,
         completion: &Completion,
         run: u32,
     ) -> (Ccb, Option<FreezeToken>)
-        requires { ccb_of ccb.number.0 self.old.live ≡ Some (record { ccb = ccb; state = IsActive }) }
+        requires active { ccb_of ccb.number.0 self.old.live ≡ Some (record { ccb = ccb; state = IsActive }) }
+        requires there { IsPlaceOf ccb.number.0 self.old.live place }
         ensures taken { IsTaken self.old (Device ccb.queue) (Run run) result.1 }
         ensures ccb { result.0 ≡ completed ccb completion.now (is_some result.1) }
         ensures state { self.new ≡ record (took self.old result.1) { live = with_ccb (record { ccb = result.0; state = InRecovery }) self.old.live } }
@@ -179,7 +190,8 @@ impl Transport {
         let mut ccb = ccb;
         ccb.complete(completion, token.is_some());
         self.queues.stop(ccb.queue, true);
-        self.ccbs.change(&LiveCcb::new(ccb, CcbState::InRecovery));
+        self.ccbs
+            .change(place, &LiveCcb::new(ccb, CcbState::InRecovery));
         (ccb, token)
     }
 
@@ -189,14 +201,15 @@ impl Transport {
         requires { (it : WorldCcb) × (ccb_of ccb.0 self.old.live ≡ Some it) × (it.state ≡ InRecovery) }
         ensures { (it : WorldCcb) → ccb_of ccb.0 self.old.live ≡ Some it → self.new ≡ record self.old { live = with_ccb (record { ccb = requeued it.ccb used; state = Waiting }) self.old.live } }
     {
-        let Some(mut live) = self.ccbs.get(ccb) else {
+        let Some(place) = self.ccbs.place_of(ccb) else {
             unreachable!()
         };
+        let mut live = *self.ccbs.at(place);
         live.requeue(used);
         let again = live.as_ccb();
         self.queues
             .put_back(again.queue, again.number, again.priority);
-        self.ccbs.change(&live);
+        self.ccbs.change(place, &live);
     }
 
     /// What a queue that there is has: its freezes, its active CCBs, those that wait, and its openings.

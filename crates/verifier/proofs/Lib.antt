@@ -13,9 +13,4 @@ pub mod LeftOrChecked
 pub mod Counts
 pub mod Lacking
 pub mod Told
-pub mod PlainInsns
-pub mod PlainShape
-pub mod PlainKnown
-pub mod PlainList
-pub mod PlainParts
-pub mod PlainGoes
+pub mod Plain

@@ -13,13 +13,7 @@ pub mod ParkSteps
 pub mod Refusals
 pub mod Step
 pub mod WorldRun
-pub mod TookGave
+pub mod Laws
 pub mod Flat
 pub mod TotalsOf
 pub mod Limits
-pub mod FreezeLaws
-pub mod ClockLaws
-pub mod Headline
-pub mod ParkLaws
-pub mod Moved
-pub mod CcbLaws

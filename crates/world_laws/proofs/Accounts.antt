@@ -7,7 +7,7 @@ use Rattle.world.specs.World.{Setup, LiveCcb, EndedCcb, World, opening}
 use Rattle.world.specs.Lookups.{ccb_of, with_ccb}
 use Rattle.world.specs.Event.{Event, Reply}
 use Rattle.world.specs.WorldRun.{Leads}
-use Rattle.world.specs.CcbLaws.{ended_times, AreAccounted, finished_by, finished_in, EachIsLiveOrEnded}
+use Rattle.world.specs.Laws.CcbLaws.{ended_times, AreAccounted, finished_by, finished_in, EachIsLiveOrEnded}
 use Rattle.world.proofs.Lists.Found.{leave, at_head, at_tail, found_push, missing_push, put_same, put_other, leave_same, leave_other}
 use Rattle.world_laws.proofs.Kept.{step_keeps, opening_keeps}
 use Rattle.world_laws.proofs.Steps.Cases.{case_of}

@@ -5,7 +5,7 @@ use Rattle.std.specs.Prelude.{⊤}
 use Rattle.world.specs.World.{LiveRun, World}
 use Rattle.world.specs.Lookups.{run_of, with_run}
 use Rattle.world.specs.Event.{Reply}
-use Rattle.world.specs.Moved.{is_start_of}
+use Rattle.world.specs.Laws.Moved.{is_start_of}
 use Rattle.world.proofs.Lists.Found.{put_other}
 use Rattle.world.proofs.Steps.Moves.{run_key}
 use Rattle.world_laws.proofs.Apart.{put_swap}

@@ -36,7 +36,7 @@ use Rattle.world.specs.Event.{Reply, result}
 use Rattle.world.specs.FreezeSteps.{frozen_with, froze, thawed, timed}
 use Rattle.world.specs.CcbSteps.{ended_with}
 use Rattle.world.specs.RunSteps.{is_run, answers, releases, hands_over, requeues, finishes, its_word, with_its_word, info_answer, by_deed, step_request}
-use Rattle.world.specs.FreezeLaws.{MovesByDeed}
+use Rattle.world.specs.Laws.FreezeLaws.{MovesByDeed}
 use Rattle.world.specs.Limits.{AnswerLimits}
 use Rattle.world.proofs.Steps.Answering.{openings_stay, openings_change, tables_stay, word_changes, word_below, openings_within}
 use Rattle.world_laws.proofs.Telling.{info_wrote}

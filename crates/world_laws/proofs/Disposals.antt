@@ -13,13 +13,13 @@ use Rattle.world.specs.Told.{Told, told_of}
 use Rattle.world.specs.Event.{Instruction, private, call, exit, Event, called, executes, Reply}
 use Rattle.world.specs.CcbSteps.{ended_with}
 use Rattle.world.specs.Step.{WorldStep}
-use Rattle.world.specs.Headline.{is_disposing, is_disposal, is_disposal_of, InRecoveryBy, IsRequeued, IsFinished, DisposesByDeed, DisposesBy, DisposesOfIt}
+use Rattle.world.specs.Laws.Headline.{is_disposing, is_disposal, is_disposal_of, InRecoveryBy, IsRequeued, IsFinished, DisposesByDeed, DisposesBy, DisposesOfIt}
 use Rattle.world.proofs.Lists.Found.{found_key, put_same, put_other, leave_same, leave_other}
 use Rattle.world_laws.proofs.Steps.Does.{CcbDeed, leaves_ccbs, requeues_one, ends_one}
 use Rattle.world_laws.proofs.Steps.Calls.{Asks, asks_of}
 use Rattle.world.proofs.Steps.Moves.{ccb_key, ccb_found}
 use Rattle.world_laws.proofs.Steps.Effects.{its_instruction}
-use Rattle.world_laws.proofs.Recovering.{Recovering}
+use Rattle.world_laws.proofs.Runs.Recovering.{Recovering}
 
 -- A CCB that is requeued.
 

@@ -26,10 +26,10 @@ use Rattle.world.specs.Lookups.{ccb_of}
 use Rattle.world.specs.Told.{told_by}
 use Rattle.world.specs.Event.{call, executes, Reply, result}
 use Rattle.world.specs.RunSteps.{is_run, answers, by_deed}
-use Rattle.world.specs.FreezeLaws.{Calls, MovesByDeed}
-use Rattle.world.specs.CcbLaws.{finished_by}
-use Rattle.world.specs.TookGave.{taken_as, asked_by}
-use Rattle.world.specs.Headline.{disposes}
+use Rattle.world.specs.Laws.FreezeLaws.{Calls, MovesByDeed}
+use Rattle.world.specs.Laws.CcbLaws.{finished_by}
+use Rattle.world.specs.Laws.TookGave.{taken_as, asked_by}
+use Rattle.world.specs.Laws.Headline.{disposes}
 use Rattle.world.proofs.Steps.Answering.{OpeningsMove, TablesMove, openings_stay, tables_stay}
 use Rattle.world_laws.proofs.Alike.{changed, AlikeOr, an_event, changes as both_change}
 use Rattle.world_laws.proofs.Steps.Running.{some_is}

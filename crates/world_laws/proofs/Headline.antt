@@ -11,22 +11,22 @@ use Rattle.calls.specs.declared.call.Call.TheVariants.{Complete}
 use Rattle.calls.specs.declared.call_answer.CallAnswer.TheVariants as answers
 use Rattle.world.specs.Event.{Event, called, Reply, replies}
 use Rattle.world.specs.WorldRun.{Leads}
-use Rattle.world.specs.Headline.{is_own_of, steps_of, disposals_of, exits_of, StartedRun, KeepsWithin, WithinBudget, InRecoveryBy, DisposedOnce, OthersLeaveIt, GoneRunStaysGone, times_in, ExactFreezes}
+use Rattle.world.specs.Laws.Headline.{is_own_of, steps_of, disposals_of, exits_of, StartedRun, KeepsWithin, WithinBudget, InRecoveryBy, DisposedOnce, OthersLeaveIt, GoneRunStaysGone, times_in, ExactFreezes}
 use Rattle.world.proofs.Lists.Found.{found_key, found_push, put_other, leave_other}
 use Rattle.world_laws.proofs.Steps.Cases.{case_of}
 use Rattle.world.proofs.Steps.Moves.{KeepsLists, lists_of, ccb_key, run_key, Begins, RunMove, runs_stay, run_enters, run_changes, run_leaves}
 use Rattle.world_laws.proofs.Steps.Effects.{begun_found, effect_of}
 use Rattle.world_laws.proofs.Kept.{step_keeps}
 use Rattle.world_laws.proofs.Leads.{leads_keeps, lists_are_kept}
-use Rattle.world_laws.proofs.Held.{live_given, others_entries}
+use Rattle.world_laws.proofs.Freezes.Held.{live_given, others_entries}
 use Rattle.world_laws.proofs.Steps.Beginnings.{no_some, started_begins, begins_at_entry}
-use Rattle.world_laws.proofs.Reaching.{same_found}
+use Rattle.world_laws.proofs.Runs.Reaching.{same_found}
 use Rattle.world_laws.proofs.Disposals.{in_recovery_by, disposal_of}
 use Rattle.world_laws.proofs.Sound.{IsSound, step_sound, run_sound, leads_sound}
-use Rattle.world.specs.FreezeLaws.{held_by}
-use Rattle.world.specs.TookGave.{taken_by, took}
-use Rattle.world_laws.proofs.Exact.{has, times_append, times_one, times_above, IsGotOnce, balance_leads, live_balance, gone_balance}
-use Rattle.world_laws.proofs.Lives.{Life, alive, over, recount, rises, stays_over, life_leads, within}
+use Rattle.world.specs.Laws.FreezeLaws.{held_by}
+use Rattle.world.specs.Laws.TookGave.{taken_by, took}
+use Rattle.world_laws.proofs.Freezes.Exact.{has, times_append, times_one, times_above, IsGotOnce, balance_leads, live_balance, gone_balance}
+use Rattle.world_laws.proofs.Runs.Lives.{Life, alive, over, recount, rises, stays_over, life_leads, within}
 
 -- a run from its start on
 record Story (setup : Setup) (outcome : Outcome) (run : ℕ) (ys : List (Event × Reply)) (world : World) (started : World) : Type 0 where

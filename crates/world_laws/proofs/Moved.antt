@@ -33,8 +33,8 @@ use Rattle.world.specs.ParkSteps.{parks, resumes}
 use Rattle.world.specs.Refusals.{works, is_parked, refusals_of, unless_refused}
 use Rattle.world.specs.Step.{performs, step_call, step, WorldStep}
 use Rattle.world.specs.WorldRun.{Leads}
-use Rattle.world.specs.Headline.{is_own_of}
-use Rattle.world.specs.Moved.{is_start_of, is_of_another, Moved}
+use Rattle.world.specs.Laws.Headline.{is_own_of}
+use Rattle.world.specs.Laws.Moved.{is_start_of, is_of_another, Moved}
 use Rattle.world.proofs.Lists.Found.{found_key, put_other, leave_other}
 use Rattle.world.proofs.Lists.Each.{put_length}
 use Rattle.world_laws.proofs.Apart.{leave_swap, push_swap, push_other}

@@ -6,13 +6,13 @@ use Rattle.world.specs.Event.{Event, Reply}
 use Rattle.world.specs.Step.{WorldStep}
 use Rattle.world.specs.WorldRun.{Leads, WorldRun}
 use Rattle.world.specs.Limits.{KeepsLimits}
-use Rattle.world.specs.FreezeLaws.{HoldsWhatEntriesSay, HeldAreEntries}
-use Rattle.world.specs.Headline.{MachinesAreReached}
+use Rattle.world.specs.Laws.FreezeLaws.{HoldsWhatEntriesSay, HeldAreEntries}
+use Rattle.world.specs.Laws.Headline.{MachinesAreReached}
 use Rattle.world_laws.proofs.Steps.Cases.{case_of}
 use Rattle.world_laws.proofs.Kept.{case_keeps_limits, opening_keeps_limits}
-use Rattle.world_laws.proofs.Reaching.{AllReached, case_reaches}
-use Rattle.world_laws.proofs.Held.{case_holds}
-use Rattle.world_laws.proofs.Recovering.{Recovering, case_recovers}
+use Rattle.world_laws.proofs.Runs.Reaching.{AllReached, case_reaches}
+use Rattle.world_laws.proofs.Freezes.Held.{case_holds}
+use Rattle.world_laws.proofs.Runs.Recovering.{Recovering, case_recovers}
 
 pub record IsSound (setup : Setup) (world : World) : Type 0 where
   pub kept : KeepsLimits setup world

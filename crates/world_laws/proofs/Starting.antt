@@ -8,7 +8,7 @@ use Rattle.world.specs.declared.ccb_state.CcbState.TheVariants.{Waiting}
 use Rattle.world.specs.World.{Setup, LiveCcb, World}
 use Rattle.world.specs.Lookups.{is_active, is_of, active_count}
 use Rattle.world.specs.Event.{Event, Reply}
-use Rattle.world.specs.CcbLaws.{StartsKeepOpenings}
+use Rattle.world.specs.Laws.CcbLaws.{StartsKeepOpenings}
 use Rattle.world.specs.Limits.{CcbLimits}
 use Rattle.world.proofs.Lists.Rising.{count_put, count_leave}
 use Rattle.world_laws.proofs.Steps.Cases.{case_of}

@@ -7,7 +7,7 @@ use Rattle.freeze_ledger.specs.declared.freeze.Freeze.{Freeze}
 use Rattle.freeze_ledger.specs.Freezes.{entry_of, without}
 use Rattle.bpf_semantics.specs.Calls.{is_held}
 use Rattle.world.specs.RunSteps.{is_run}
-use Rattle.world.specs.FreezeLaws.{entries_of, held_by}
+use Rattle.world.specs.Laws.FreezeLaws.{entries_of, held_by}
 use Rattle.world.proofs.Lists.Found.{put, at_head, at_tail, put_head, put_tail, leave_head, leave_tail, found_key, filter_yes, filter_no, filter_swap}
 use Rattle.world.proofs.Lists.Entries.{freeze_key, FreezesRise, entry_bounds}
 

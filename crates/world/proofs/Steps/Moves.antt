@@ -25,9 +25,9 @@ use Rattle.world.specs.CcbSteps.{ccb_meets_limit, run_meets_limit, is_completion
 use Rattle.world.specs.FreezeSteps.{is_timer}
 use Rattle.world.specs.Refusals.{is_unknown}
 use Rattle.world.specs.RunSteps.{is_run}
-use Rattle.world.specs.TookGave.{taken_by}
-use Rattle.world.specs.CcbLaws.{finished_by}
-use Rattle.world.specs.Headline.{is_step_of, is_own_of}
+use Rattle.world.specs.Laws.TookGave.{taken_by}
+use Rattle.world.specs.Laws.CcbLaws.{finished_by}
+use Rattle.world.specs.Laws.Headline.{is_step_of, is_own_of}
 use Rattle.world.specs.Limits.{NamesNoOther, FreezeLimits, CcbLimits, RunLimits, KeepsLimits}
 use Rattle.world.proofs.Lists.Found.{put, leave, found_key}
 use Rattle.world.proofs.Lists.Rising.{found_among}

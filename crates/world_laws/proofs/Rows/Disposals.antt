@@ -9,7 +9,7 @@ use Rattle.world.specs.Lookups.{ccb_of}
 use Rattle.world.specs.Told.{plain}
 use Rattle.world.specs.Event.{call, Event, executes, instruction_of}
 use Rattle.world.specs.Step.{step}
-use Rattle.world.specs.Headline.{DisposesBy}
+use Rattle.world.specs.Laws.Headline.{DisposesBy}
 use Rattle.world_laws.proofs.Rows.Worked.{ccb_in, next, running, transported, with_freezes}
 use Rattle.world_laws.proofs.Rows.Calls.{setup, run_at, ends}
 

@@ -25,9 +25,9 @@ use Rattle.world.specs.Told.{plain, finishes}
 use Rattle.world.specs.Event.{private, call, exit, Event, executes, Reply, went_on, result}
 use Rattle.world_laws.proofs.Rows.Words.{submit, dispatch, complete, clock_reads, ccb_given, run_started, expired}
 use Rattle.world.specs.WorldRun.{WorldRun}
-use Rattle.world.specs.TookGave.{took, gave}
-use Rattle.world.specs.CcbLaws.{finished_in}
-use Rattle.world.specs.Headline.{steps_of, disposals_of, exits_of}
+use Rattle.world.specs.Laws.TookGave.{took, gave}
+use Rattle.world.specs.Laws.CcbLaws.{finished_in}
+use Rattle.world.specs.Laws.Headline.{steps_of, disposals_of, exits_of}
 use Rattle.world.specs.Flat.{flat}
 use Rattle.world_laws.proofs.Rows.Worked.{outcome_of, answer}
 

@@ -12,8 +12,8 @@ use Rattle.world.specs.Event.{private, exit, executes, result, refused, went_on}
 use Rattle.world_laws.proofs.Rows.Words.{submit, dispatch, complete, parks, resumes, run_started, ok}
 use Rattle.world.specs.Step.{step}
 use Rattle.world.specs.Flat.{flat}
-use Rattle.world.specs.Headline.{steps_of}
-use Rattle.world.specs.Moved.{is_of_another}
+use Rattle.world.specs.Laws.Headline.{steps_of}
+use Rattle.world.specs.Laws.Moved.{is_of_another}
 use Rattle.world_laws.proofs.Rows.Worked.{one_queue, outcome_of, next, answer}
 
 -- run 1 is out, and executed one instruction

@@ -21,9 +21,9 @@ use Rattle.world.specs.Event.{private, call, exit, Event, executes, Reply, went_
 use Rattle.world_laws.proofs.Rows.Words.{submit, dispatch, complete, ccb_given, run_started}
 use Rattle.world.specs.Step.{step}
 use Rattle.world.specs.WorldRun.{WorldRun, world_after}
-use Rattle.world.specs.TookGave.{took, gave}
-use Rattle.world.specs.CcbLaws.{finished_in}
-use Rattle.world.specs.Headline.{steps_of, disposals_of, exits_of}
+use Rattle.world.specs.Laws.TookGave.{took, gave}
+use Rattle.world.specs.Laws.CcbLaws.{finished_in}
+use Rattle.world.specs.Laws.Headline.{steps_of, disposals_of, exits_of}
 use Rattle.world.specs.Flat.{flat}
 use Rattle.world.specs.TotalsOf.{TotalsOf}
 use Rattle.world_laws.proofs.Rows.Worked.{answer, next, one_queue, outcome_of, running}

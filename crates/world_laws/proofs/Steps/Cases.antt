@@ -26,10 +26,10 @@ use Rattle.world.specs.Refusals.{is_unknown, works, refusals_of}
 use Rattle.world.specs.RunSteps.{ends}
 use Rattle.world.specs.ParkSteps.{with_out, parks, resumes}
 use Rattle.world.specs.Step.{performs, WorldStep}
-use Rattle.world.specs.FreezeLaws.{MovesCounts}
-use Rattle.world.specs.CcbLaws.{finished_by}
-use Rattle.world.specs.TookGave.{taken_by}
-use Rattle.world.specs.Headline.{is_turn_of}
+use Rattle.world.specs.Laws.FreezeLaws.{MovesCounts}
+use Rattle.world.specs.Laws.CcbLaws.{finished_by}
+use Rattle.world.specs.Laws.TookGave.{taken_by}
+use Rattle.world.specs.Laws.Headline.{is_turn_of}
 use Rattle.world.proofs.Lists.Found.{found_key}
 use Rattle.world.proofs.Lists.Entries.{freeze_key}
 use Rattle.world_laws.proofs.Steps.Refusing.{by_refusals}

@@ -24,10 +24,10 @@ use Rattle.world.specs.Event.{call, executes, Reply, result}
 use Rattle.world.specs.FreezeSteps.{frozen_with, froze}
 use Rattle.world.specs.CcbSteps.{ended_with}
 use Rattle.world.specs.RunSteps.{is_run, answers}
-use Rattle.world.specs.FreezeLaws.{Calls, MovesByDeed, MovesCounts}
-use Rattle.world.specs.CcbLaws.{finished_by}
-use Rattle.world.specs.TookGave.{taken_as, taken_by, asked}
-use Rattle.world.specs.Headline.{disposes, is_disposing}
+use Rattle.world.specs.Laws.FreezeLaws.{Calls, MovesByDeed, MovesCounts}
+use Rattle.world.specs.Laws.CcbLaws.{finished_by}
+use Rattle.world.specs.Laws.TookGave.{taken_as, taken_by, asked}
+use Rattle.world.specs.Laws.Headline.{disposes, is_disposing}
 use Rattle.world.specs.Lawful.{IsLawful}
 use Rattle.world.specs.Limits.{KeepsLimits}
 use Rattle.world.proofs.Steps.Answering.{OpeningsMove, TablesMove}

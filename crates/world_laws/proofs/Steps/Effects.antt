@@ -26,9 +26,9 @@ use Rattle.world.specs.Event.{Instruction, call, Event, called, executes, instru
 use Rattle.world.specs.FreezeSteps.{is_guest, is_timer}
 use Rattle.world.specs.RunSteps.{is_run}
 use Rattle.world.specs.Refusals.{is_unknown}
-use Rattle.world.specs.TookGave.{given_to, taken_as, taken_by}
-use Rattle.world.specs.CcbLaws.{finished_by_run, finished_by}
-use Rattle.world.specs.Headline.{is_step_of, is_turn_of, is_own_of}
+use Rattle.world.specs.Laws.TookGave.{given_to, taken_as, taken_by}
+use Rattle.world.specs.Laws.CcbLaws.{finished_by_run, finished_by}
+use Rattle.world.specs.Laws.Headline.{is_step_of, is_turn_of, is_own_of}
 use Rattle.world.specs.Limits.{CcbLimits, RunLimits}
 use Rattle.world.proofs.Lists.Found.{leave, found_key, missing_push, at_head, put_same}
 use Rattle.world.proofs.Lists.Rising.{missing_high}

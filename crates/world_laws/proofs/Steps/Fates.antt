@@ -24,9 +24,9 @@ use Rattle.world.specs.Lookups.{run_of, with_run}
 use Rattle.world.specs.Told.{told_of}
 use Rattle.world.specs.Event.{Instruction, private, call, exit, Event, instruction_of, Reply}
 use Rattle.world.specs.RunSteps.{is_run}
-use Rattle.world.specs.FreezeLaws.{entries_of, held_by, HoldsWhatEntriesSay}
-use Rattle.world.specs.TookGave.{taken_as, taken_by, asked_by, asked, given_up}
-use Rattle.world.specs.Headline.{is_disposal, is_exit}
+use Rattle.world.specs.Laws.FreezeLaws.{entries_of, held_by, HoldsWhatEntriesSay}
+use Rattle.world.specs.Laws.TookGave.{taken_as, taken_by, asked_by, asked, given_up}
+use Rattle.world.specs.Laws.Headline.{is_disposal, is_exit}
 use Rattle.world.specs.Lawful.{IsLawful}
 use Rattle.world.specs.Limits.{FreezeLimits, KeepsLimits}
 use Rattle.world.proofs.Lists.Found.{leave, found_key, found_push, put_same, put_other, leave_same, leave_other}

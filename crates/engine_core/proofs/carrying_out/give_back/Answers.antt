@@ -21,7 +21,7 @@ use Rattle.std.specs.Prelude.{slice_set}
 use Rattle.std.specs.List.{Contains}
 use Rattle.freeze_ledger.specs.Freezes.{frozen}
 use Rattle.runs.specs.Tokens.{AreTokensWith}
-use Rattle.world.specs.FreezeLaws.{entries_of}
+use Rattle.world.specs.Laws.FreezeLaws.{entries_of}
 use Rattle.world.specs.Lookups.{with_run}
 use Rattle.engine_core.proofs.Holding.{entry_is_there, gave_one_up}
 use Rattle.engine_core.proofs.carrying_out.give_back.Goals as goal

@@ -19,7 +19,7 @@ use Rattle.std.specs.List.{Contains}
 use Rattle.freeze_ledger.specs.declared.freeze.Freeze.{Freeze}
 use Rattle.freeze_ledger.specs.Freezes.{without}
 use Rattle.runs.specs.Tokens.{AreTokensWith}
-use Rattle.world.specs.FreezeLaws.{entries_of}
+use Rattle.world.specs.Laws.FreezeLaws.{entries_of}
 use Rattle.world.specs.Lookups.{with_run}
 use Rattle.engine_core.proofs.Holding.{entry_is_there, gave_one_up, handed_entries}
 use Rattle.engine_core.proofs.carrying_out.hand_over.Goals as goal

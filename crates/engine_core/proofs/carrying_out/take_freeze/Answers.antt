@@ -18,7 +18,7 @@ use Rattle.world.specs.World.{Transport, LiveRun, World}
 use Rattle.world.specs.Lookups.{with_run}
 use Rattle.world.specs.FreezeSteps.{froze}
 use Rattle.world.specs.RunSteps.{answers}
-use Rattle.world.specs.FreezeLaws.{entries_of}
+use Rattle.world.specs.Laws.FreezeLaws.{entries_of}
 use Rattle.world.proofs.Lists.HeldBy.{none_above}
 use Rattle.world_laws.proofs.Kept.{room_from}
 use Rattle.engine_core.proofs.Recording.{kept_sound}

@@ -1,6 +1,6 @@
 use Rattle.std.proofs.Common.{Some, refl, ap, ◌∙◌}
 use Rattle.world.specs.declared.ccb_state.CcbState.TheVariants.{Active}
-use Rattle.world.specs.World.{LiveCcb, World}
+use Rattle.world.specs.World.{LiveCcb, World, opening}
 use Rattle.world.specs.Event.{Reply}
 use Rattle.world_laws.proofs.Steps.Effects.{known_queue}
 use Rattle.world.proofs.Steps.Moves.{ccb_found}
@@ -38,7 +38,10 @@ pub recover-requires-clause-active : goal.recover-requires-clause-active
 recover-requires-clause-active c world = (c.in-Recover.ensures.ready world).0
 
 pub recover-requires-clause-room : goal.recover-requires-clause-room
-recover-requires-clause-room c world = (c.in-Recover.ensures.ready world).1
+recover-requires-clause-room c world = (c.in-Recover.ensures.ready world).2
+
+pub recover-requires-clause-there : goal.recover-requires-clause-there
+recover-requires-clause-there c = (c.in-Recover.ensures.ready (opening c.args.config.now)).1
 
 pub returns-in-Ok-recover-clause-performs : goal.returns-in-Ok-recover-clause-performs
 returns-in-Ok-recover-clause-performs c = rw (c.in-Ok.ensures.value)

@@ -16,13 +16,15 @@ use Rattle.bpf_semantics.specs.MachineState.{MachineState, entry}
 use Rattle.runs.specs.RunsState.{RunsState, told, tokens_of, run_for}
 use Rattle.accepted.specs.Verdict.{Verdict}
 use Rattle.transport.specs.Freezing.{IsTaken, took}
+use Rattle.transport.specs.Listed.{IsPlaceOf}
 use Rattle.world.specs.declared.ccb_state.CcbState.TheVariants.{Active, InRecovery}
 use Rattle.world.specs.World.{LiveRun, Runs, Setup, Transport, World, opening, queue_setup}
 use Rattle.world.specs.Lookups.{with_ccb}
 use Rattle.calls.specs.declared.call_answer.CallAnswer.TheVariants as answers
 use Rattle.world.specs.Event.{Reply, replies}
 use Rattle.world.specs.CcbSteps.{recovers, run_meets_limit}
-use Rattle.world.proofs.Steps.Moves.{ccb_found}
+use Rattle.world.proofs.Lists.Found.{found_key}
+use Rattle.world.proofs.Steps.Moves.{ccb_found, ccb_key}
 use Rattle.engine_core.specs.EngineState.{world_of}
 use Rattle.engine_core.specs.Invariant.{HoldEntries}
 use Rattle.engine_core.specs.RunState.{RunState}
@@ -74,9 +76,14 @@ pub start-started-requires : goal.start-started-requires
 start-started-requires c world =
     ap (λ (runs : RunsState). run_meets_limit (record world { runs = runs.runs })) (c.place_for_machine-3.ensures ∙ (c.place_for_machine-2.ensures ∙ c.place_for_machine.ensures)) ∙ c.requires.room world
 
-pub fail-ccb-requires : goal.fail-ccb-requires
-fail-ccb-requires c =
+pub fail-ccb-requires-clause-active : goal.fail-ccb-requires-clause-active
+fail-ccb-requires-clause-active c =
     ccb_found c.args.completion.now.ccb.0 c.args.transport.now.live (record { ccb = c.args.ccb; state = Active }) (c.requires.active (opening c.args.config.now))
+
+pub fail-ccb-requires-clause-there : goal.fail-ccb-requires-clause-there
+fail-ccb-requires-clause-there c =
+    let number : c.args.ccb.number.0 ≡ c.args.completion.now.ccb.0 = found_key ccb_key c.args.completion.now.ccb.0 c.args.transport.now.live (record { ccb = c.args.ccb; state = Active }) (c.requires.active (opening c.args.config.now)) in
+    subst (λ (n : ℕ). IsPlaceOf n c.args.transport.now.live c.args.place) (sym number) c.requires.there
 
 run_is : (c : goal.After-new) → c.start-started.result.run ≡ c.args.runs.now.runs.greatest + 1
 run_is c = c.start-started.ensures.run ∙ ap (λ (runs : RunsState). runs.runs.greatest + 1) (c.place_for_machine-3.ensures ∙ (c.place_for_machine-2.ensures ∙ c.place_for_machine.ensures))

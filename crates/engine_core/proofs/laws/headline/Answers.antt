@@ -1,14 +1,14 @@
-use Rattle.world_laws.proofs.NeverStuck.{never_stuck}
+use Rattle.world_laws.proofs.Runs.NeverStuck.{never_stuck}
 use Rattle.world_laws.proofs.Headline.{within_budget, disposed_once, exact_freezes, others_leave_it, gone_run_stays_gone}
-use Rattle.world_laws.proofs.Parking.{parked_stays_as_it_is}
-use Rattle.world_laws.proofs.Counts.{counts_are_entries}
+use Rattle.world_laws.proofs.Runs.Parking.{parked_stays_as_it_is}
+use Rattle.world_laws.proofs.Freezes.Counts.{counts_are_entries}
 use Rattle.world_laws.proofs.Sound.{held_are_entries, machines_are_reached}
 use Rattle.world_laws.proofs.Leads.{limits_are_kept}
 use Rattle.world_laws.proofs.Starting.{starts_keep_openings}
 use Rattle.world_laws.proofs.Empty.{empty_advance_is_none}
-use Rattle.world_laws.proofs.Clocks.{clock_goes_on, timers_keep_time}
+use Rattle.world_laws.proofs.Freezes.Clocks.{clock_goes_on, timers_keep_time}
 use Rattle.world_laws.proofs.Accounts.{each_is_live_or_ended}
-use Rattle.world_laws.proofs.Gone.{given_up_stays_given_up, given_up_by_run_stays_given_up, handed_over_stays_handed_over, gone_stays_gone}
+use Rattle.world_laws.proofs.Freezes.Gone.{given_up_stays_given_up, given_up_by_run_stays_given_up, handed_over_stays_handed_over, gone_stays_gone}
 use Rattle.engine_core.proofs.laws.headline.Goals as goal
 
 pub returns : goal.returns

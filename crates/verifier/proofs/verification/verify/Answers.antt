@@ -6,8 +6,8 @@ use Rattle.call_shape.specs.Shape.{IsLawful}
 use Rattle.call_shape.specs.StaticPath.{outermost, StaticPath}
 use Rattle.verifier.specs.Arrives.{LacksMemoryOrMore}
 use Rattle.verifier.proofs.Told.{told_of_shape, only_memory}
-use Rattle.verifier.proofs.PlainGoes.{plain_never_lacks}
-use Rattle.verifier.proofs.PlainShape.{plain_lawful}
+use Rattle.verifier.proofs.Plain.Goes.{plain_never_lacks}
+use Rattle.verifier.proofs.Plain.Shape.{plain_lawful}
 use Rattle.verifier.specs.Plain.{IsPlain}
 use Rattle.or_memory.specs.declared.OrMemory.TheVariants.{OutOfMemory}
 use Rattle.verifier.proofs.Within.{safe_within}

@@ -6,7 +6,7 @@ use Rattle.call_shape.proofs.Places.{begins_inside}
 use Rattle.call_shape.proofs.SlotFunctions.{own_function, callee_starts, start_begins}
 use Rattle.call_shape.proofs.Contained.{calls_insn}
 use Rattle.call_shape.proofs.Marks.{marked_at_most}
-use Rattle.call_shape.proofs.WalkSteps.{visiting_first, visiting_more, still_left, open_still, open_at_callee, visited_on, room, fewer_left}
+use Rattle.call_shape.proofs.Walks.Steps.{visiting_first, visiting_more, still_left, open_still, open_at_callee, visited_on, room, fewer_left}
 use Rattle.call_shape.proofs.walk.Walk.+walk.Goals as goal
 
 pub visit-function_end-place-requires-clause-function : goal.visit-function_end-place-requires-clause-function

@@ -1,7 +1,7 @@
 use Rattle.std.proofs.Common.{◌+◌, ◌-◌, ◌*◌}
 use Rattle.bpf_insn.specs.declared.program.TheConstants.{MAX_SLOTS}
 use Rattle.call_shape.specs.Walk.{marked}
-use Rattle.call_shape.proofs.WalkSteps.{IsVisiting}
+use Rattle.call_shape.proofs.Walks.Steps.{IsVisiting}
 use Rattle.call_shape.proofs.walk.Walk.+walk.Given as goal
 
 -- each visit enters a function

@@ -2,7 +2,7 @@ use Rattle.std.proofs.Common.{◌≡◌, ◌+◌, subst, sym, ◌∙◌, arith, 
 use Rattle.call_shape.specs.Calls.{function_of}
 use Rattle.call_shape.specs.declared.walk.Walk.{Walk}
 use Rattle.call_shape.proofs.SlotFunctions.{own_function}
-use Rattle.call_shape.proofs.WholeWalk.{IsSettling, starts_itself, settling_first, settling_more, settling_past, settles_all}
+use Rattle.call_shape.proofs.Walks.Whole.{IsSettling, starts_itself, settling_first, settling_more, settling_past, settles_all}
 use Rattle.call_shape.proofs.walk.Walk.postorder_of.Goals as goal
 use Rattle.call_shape.proofs.walk.Walk.postorder_of.Goals.{then-from-function+then-not-walk-function+in_ok-visit, else-from-function, else-from-function-via-then-from-function+else-not-walk-function, else-from-function-via-else-from-function}
 

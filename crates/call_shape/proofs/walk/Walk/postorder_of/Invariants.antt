@@ -1,4 +1,4 @@
-use Rattle.call_shape.proofs.WholeWalk.{IsSettling}
+use Rattle.call_shape.proofs.Walks.Whole.{IsSettling}
 use Rattle.call_shape.proofs.walk.Walk.postorder_of.Given as goal
 
 abbrev pub invariant-loop-function : goal.invariant-loop-function

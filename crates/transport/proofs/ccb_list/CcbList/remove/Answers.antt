@@ -1,9 +1,9 @@
 use Rattle.std.proofs.Common.{◌≡◌, ℕ, cond, Bool, Some, None, ap, subst, sym, ◌∙◌, arith}
 use Rattle.numbered_slots.specs.NumberedState.{NumberedState}
-use Rattle.transport.specs.Listed.{ListState}
+use Rattle.transport.specs.Listed.{ListState, IsPlaceOf}
 use Rattle.world.specs.World.{LiveCcb}
 use Rattle.world.specs.Lookups.{ccb_of}
-use Rattle.transport.proofs.Listed.{IsPlaceOf, place_is, not_there, listed_remove, placed, remove_is, listed_as}
+use Rattle.transport.proofs.Listed.{place_is, not_there, listed_remove, placed, remove_is, listed_as}
 use Rattle.transport.proofs.ccb_list.CcbList.remove.Goals as goal
 
 pub unreachable-requires : goal.unreachable-requires

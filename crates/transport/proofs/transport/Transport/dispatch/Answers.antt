@@ -1,5 +1,7 @@
 use Rattle.std.proofs.Common.{◌≡◌, ◌<◌, length, Some, None, refl, ap, sym, subst, ◌∙◌, arith}
 use Rattle.std.specs.Result.{result_err}
+use Rattle.ccb.specs.declared.CcbId.{CcbId}
+use Rattle.ccb.specs.declared.ccb.Ccb.{Ccb}
 use Rattle.ccb.specs.Ccb.{started}
 use Rattle.dev_queue.specs.Faults.{start_fault}
 use Rattle.world.specs.declared.ccb_state.CcbState.{CcbState}
@@ -12,6 +14,7 @@ use Rattle.world.specs.Step.{step_call}
 use Rattle.world.specs.World.{Transport}
 use Rattle.transport.specs.Queues.{queue_at}
 use Rattle.transport.specs.Invariant.{seen}
+use Rattle.transport.specs.Listed.{IsPlaceOf}
 use Rattle.transport.proofs.Listed.{listed_as}
 use Rattle.transport.proofs.Steps.{next_one, dispatched, dispatched_after, kept_on}
 use Rattle.transport.proofs.Replies.{dispatch_reply}
@@ -21,37 +24,37 @@ pub unreachable-requires : goal.unreachable-requires
 unreachable-requires c =
     let known : c.args.queue.0 < length c.self.inside.queues = omega (arith, c.if-queue-len.false, c.len.ensures) in
     let s = next_one c.self.inside.ccbs c.self.inside.queues c.args.queue.0 c.in-Ok.number c.self.invariant.table known c.in-Ok.ensures.least in
-    let bad : None ≡ Some s.it = sym c.in_default.is ∙ (c.get.ensures ∙ s.found) in
+    let bad : None ≡ Some s.it = sym c.in_default.ensures.none ∙ s.found in
     cc
 
 pub change-requires : goal.change-requires
 change-requires c =
     let known : c.args.queue.0 < length c.self.inside.queues = omega (arith, c.if-queue-len.false, c.len.ensures) in
-    let ccb_is : c.start-in-Ok.new.self.ccb ≡ started c.in-Some.next.ccb = ap (λ (l : LiveCcb). l.ccb) c.start-in-Ok.ensures in
-    let d = dispatched c.self.inside.ccbs c.self.inside.queues c.args.queue.0 c.in-Ok.number c.get.result c.in-Some.next c.start-in-Ok.new.self.ccb c.self.invariant.table known c.in-Ok.ensures.least c.get.ensures c.in-Some.is ccb_is in
-    (c.in-Some.next, subst (λ (l : LiveCcb). ccb_of l.ccb.number.0 c.self.inside.ccbs.live ≡ Some c.in-Some.next) (sym (ap (λ (s : CcbState). record { ccb = c.start-in-Ok.new.self.ccb; state = s }) (ap (λ (l : LiveCcb). l.state) c.start-in-Ok.ensures))) d.found)
+    let ccb_is : c.start-in-Ok.new.self.ccb ≡ started c.at.result.now.ccb = ap (λ (l : LiveCcb). l.ccb) c.start-in-Ok.ensures in
+    let d = dispatched c.self.inside.ccbs c.self.inside.queues c.args.queue.0 c.in-Ok.number (Some c.at.result.now) c.at.result.now c.start-in-Ok.new.self.ccb c.self.invariant.table known c.in-Ok.ensures.least (sym (c.at.ensures c.in-Ok.number.0 c.in-Some.ensures.found)) refl ccb_is in
+    subst (λ (n : CcbId). IsPlaceOf n.0 c.self.inside.ccbs.live c.in-Some.place) (sym (ap (λ (b : Ccb). b.number) ccb_is ∙ d.number_is)) c.in-Some.ensures.found
 
 pub invariant_of-self-in-Ok : goal.invariant_of-self-in-Ok
 invariant_of-self-in-Ok c =
     let known : c.args.queue.0 < length c.self.inside.queues = omega (arith, c.if-queue-len.false, c.len.ensures) in
-    let ccb_is : c.start-in-Ok.new.self.ccb ≡ started c.in-Some.next.ccb = ap (λ (l : LiveCcb). l.ccb) c.start-in-Ok.ensures in
-    let d = dispatched c.self.inside.ccbs c.self.inside.queues c.args.queue.0 c.in-Ok.number c.get.result c.in-Some.next c.start-in-Ok.new.self.ccb c.self.invariant.table known c.in-Ok.ensures.least c.get.ensures c.in-Some.is ccb_is in
+    let ccb_is : c.start-in-Ok.new.self.ccb ≡ started c.at.result.now.ccb = ap (λ (l : LiveCcb). l.ccb) c.start-in-Ok.ensures in
+    let d = dispatched c.self.inside.ccbs c.self.inside.queues c.args.queue.0 c.in-Ok.number (Some c.at.result.now) c.at.result.now c.start-in-Ok.new.self.ccb c.self.invariant.table known c.in-Ok.ensures.least (sym (c.at.ensures c.in-Ok.number.0 c.in-Some.ensures.found)) refl ccb_is in
     kept_on c.self.inside.ledger c.self.inside.clock c.self.inside.ccbs c.change.new.self c.self.inside.queues c.start.new.self _ c.self.invariant
-    (dispatched_after c.self.inside.ledger c.self.inside.clock c.self.inside.ccbs c.change.new.self c.self.inside.queues c.start.new.self c.args.queue.0 c.in-Ok.number c.in-Some.next c.start-in-Ok.new.self.ccb c.self.invariant.table d ccb_is
+    (dispatched_after c.self.inside.ledger c.self.inside.clock c.self.inside.ccbs c.change.new.self c.self.inside.queues c.start.new.self c.args.queue.0 c.in-Ok.number c.at.result.now c.start-in-Ok.new.self.ccb c.self.invariant.table d ccb_is
     (c.change.ensures ∙ ap (λ (l : LiveCcb). listed_as c.self.inside.ccbs.greatest (with_ccb l c.self.inside.ccbs.live)) (ap (λ (s : CcbState). record { ccb = c.start-in-Ok.new.self.ccb; state = s }) (ap (λ (l : LiveCcb). l.state) c.start-in-Ok.ensures))) c.in-Ok.ensures.started) refl
 
 pub returns-in-Some : goal.returns-in-Some
 returns-in-Some c = record {
   step = λ setup world count.
       let known : c.args.queue.0 < length c.self.inside.queues = omega (arith, c.if-queue-len.false, c.len.ensures) in
-      let ccb_is : c.start-in-Ok.new.self.ccb ≡ started c.in-Some.next.ccb = ap (λ (l : LiveCcb). l.ccb) c.start-in-Ok.ensures in
-      let d = dispatched c.self.inside.ccbs c.self.inside.queues c.args.queue.0 c.in-Ok.number c.get.result c.in-Some.next c.start-in-Ok.new.self.ccb c.self.invariant.table known c.in-Ok.ensures.least c.get.ensures c.in-Some.is ccb_is in
+      let ccb_is : c.start-in-Ok.new.self.ccb ≡ started c.at.result.now.ccb = ap (λ (l : LiveCcb). l.ccb) c.start-in-Ok.ensures in
+      let d = dispatched c.self.inside.ccbs c.self.inside.queues c.args.queue.0 c.in-Ok.number (Some c.at.result.now) c.at.result.now c.start-in-Ok.new.self.ccb c.self.invariant.table known c.in-Ok.ensures.least (sym (c.at.ensures c.in-Ok.number.0 c.in-Some.ensures.found)) refl ccb_is in
       let after =
-      dispatched_after c.self.inside.ledger c.self.inside.clock c.self.inside.ccbs c.change.new.self c.self.inside.queues c.start.new.self c.args.queue.0 c.in-Ok.number c.in-Some.next c.start-in-Ok.new.self.ccb c.self.invariant.table d ccb_is
+      dispatched_after c.self.inside.ledger c.self.inside.clock c.self.inside.ccbs c.change.new.self c.self.inside.queues c.start.new.self c.args.queue.0 c.in-Ok.number c.at.result.now c.start-in-Ok.new.self.ccb c.self.invariant.table d ccb_is
       (c.change.ensures ∙ ap (λ (l : LiveCcb). listed_as c.self.inside.ccbs.greatest (with_ccb l c.self.inside.ccbs.live)) (ap (λ (s : CcbState). record { ccb = c.start-in-Ok.new.self.ccb; state = s }) (ap (λ (l : LiveCcb). l.state) c.start-in-Ok.ensures))) c.in-Ok.ensures.started in
       let fault : start_fault c.count-freezes.result (queue_at c.self.inside.queues c.args.queue.0) ≡ None = sym c.start.ensures.fault ∙ ap result_err c.in-Ok.is in
       subst (λ (s : Transport). step_call setup (record world { transport = s }) (Dispatch c.args.queue) ≡ Some (replies (answers.Ccb c.in-Ok.number), record world { transport = (seen c.change.new.self c.start.new.self c.self.inside.ledger c.self.inside.clock) })) c.self.view_is
-      (dispatch_reply c.self.inside.ledger c.self.inside.clock setup world c.self.inside.ccbs c.change.new.self c.self.inside.queues c.start.new.self c.args.queue.0 c.count-freezes.result c.in-Ok.number c.in-Some.next c.start-in-Ok.new.self.ccb c.self.invariant.table known
+      (dispatch_reply c.self.inside.ledger c.self.inside.clock setup world c.self.inside.ccbs c.change.new.self c.self.inside.queues c.start.new.self c.args.queue.0 c.count-freezes.result c.in-Ok.number c.at.result.now c.start-in-Ok.new.self.ccb c.self.invariant.table known
       (subst (λ (s : Transport). queue_count setup ≡ length s.openings) (sym c.self.view_is) count)
       c.count-freezes.ensures.entries fault d after.seen_is);
   freezes = ap (λ (s : Transport). s.freezes) c.self.view_is;

@@ -1,4 +1,5 @@
 use Rattle.std.proofs.Common.{◌≡◌, ℕ, ◌≤◌, Some, refl, ap, sym, subst, ◌∙◌, arith}
+use Rattle.ccb.specs.declared.CcbId.{CcbId}
 use Rattle.ccb.specs.declared.ccb.Ccb.{Ccb}
 use Rattle.world.specs.declared.ccb_state.CcbState.TheVariants.{InRecovery}
 use Rattle.world.specs.World.{LiveCcb, Transport}
@@ -6,6 +7,7 @@ use Rattle.world.specs.Lookups.{ccb_of, with_ccb}
 use Rattle.transport.specs.Queues.{queue_at}
 use Rattle.transport.specs.Freezing.{took}
 use Rattle.transport.specs.Invariant.{seen}
+use Rattle.transport.specs.Listed.{IsPlaceOf}
 use Rattle.transport.proofs.Failing.{places_stay, seen_with}
 use Rattle.transport.proofs.Listed.{listed_as}
 use Rattle.transport.proofs.Kept.{known_queue, active_there}
@@ -18,31 +20,31 @@ as_recovering ccb = record { ccb = ccb; state = InRecovery }
 
 pub take-token-requires : goal.take-token-requires
 take-token-requires c =
-    let found : ccb_of c.args.ccb.number.0 c.self.inside.ccbs.live ≡ Some (as_active c.args.ccb) = subst (λ (s : Transport). ccb_of c.args.ccb.number.0 s.live ≡ Some (as_active c.args.ccb)) (sym c.self.view_is) c.requires in
+    let found : ccb_of c.args.ccb.number.0 c.self.inside.ccbs.live ≡ Some (as_active c.args.ccb) = subst (λ (s : Transport). ccb_of c.args.ccb.number.0 s.live ≡ Some (as_active c.args.ccb)) (sym c.self.view_is) c.requires.active in
     omega (arith, known_queue c.self.inside.ccbs c.self.inside.queues c.args.ccb.number.0 (as_active c.args.ccb) c.self.invariant.table found, c.self.invariant.places)
 
 pub stop-requires-clause-known : goal.stop-requires-clause-known
 stop-requires-clause-known c =
-    let found : ccb_of c.args.ccb.number.0 c.self.inside.ccbs.live ≡ Some (as_active c.args.ccb) = subst (λ (s : Transport). ccb_of c.args.ccb.number.0 s.live ≡ Some (as_active c.args.ccb)) (sym c.self.view_is) c.requires in
+    let found : ccb_of c.args.ccb.number.0 c.self.inside.ccbs.live ≡ Some (as_active c.args.ccb) = subst (λ (s : Transport). ccb_of c.args.ccb.number.0 s.live ≡ Some (as_active c.args.ccb)) (sym c.self.view_is) c.requires.active in
     let queue_is : c.complete.new.self.queue.0 ≡ c.args.ccb.queue.0 = ap (λ (b : Ccb). b.queue.0) c.complete.ensures in
     omega (arith, queue_is, known_queue c.self.inside.ccbs c.self.inside.queues c.args.ccb.number.0 (as_active c.args.ccb) c.self.invariant.table found)
 
 pub stop-requires-clause-active : goal.stop-requires-clause-active
 stop-requires-clause-active c =
-    let found : ccb_of c.args.ccb.number.0 c.self.inside.ccbs.live ≡ Some (as_active c.args.ccb) = subst (λ (s : Transport). ccb_of c.args.ccb.number.0 s.live ≡ Some (as_active c.args.ccb)) (sym c.self.view_is) c.requires in
+    let found : ccb_of c.args.ccb.number.0 c.self.inside.ccbs.live ≡ Some (as_active c.args.ccb) = subst (λ (s : Transport). ccb_of c.args.ccb.number.0 s.live ≡ Some (as_active c.args.ccb)) (sym c.self.view_is) c.requires.active in
     let queue_is : c.complete.new.self.queue.0 ≡ c.args.ccb.queue.0 = ap (λ (b : Ccb). b.queue.0) c.complete.ensures in
     subst (λ (q : ℕ). 1 ≤ (queue_at c.self.inside.queues q).active) (sym queue_is) (active_there c.self.inside.ccbs c.self.inside.queues c.args.ccb.number.0 (as_active c.args.ccb) c.self.invariant.table found refl)
 
 pub change-requires : goal.change-requires
 change-requires c =
-    let found : ccb_of c.args.ccb.number.0 c.self.inside.ccbs.live ≡ Some (as_active c.args.ccb) = subst (λ (s : Transport). ccb_of c.args.ccb.number.0 s.live ≡ Some (as_active c.args.ccb)) (sym c.self.view_is) c.requires in
-    let there : ccb_of c.complete.new.self.number.0 c.self.inside.ccbs.live ≡ Some (as_active c.args.ccb) = subst (λ (b : Ccb). ccb_of b.number.0 c.self.inside.ccbs.live ≡ Some (as_active c.args.ccb)) (sym c.complete.ensures) found in
-    (as_active c.args.ccb, subst (λ (l : LiveCcb). ccb_of l.ccb.number.0 c.self.inside.ccbs.live ≡ Some (as_active c.args.ccb)) (sym c.new.ensures) there)
+    let there : IsPlaceOf c.args.ccb.number.0 c.self.inside.ccbs.live c.args.place = subst (λ (s : Transport). IsPlaceOf c.args.ccb.number.0 s.live c.args.place) (sym c.self.view_is) c.requires.there in
+    let same : c.new.result.ccb.number ≡ c.args.ccb.number = ap (λ (l : LiveCcb). l.ccb.number) c.new.ensures ∙ ap (λ (b : Ccb). b.number) c.complete.ensures in
+    subst (λ (n : CcbId). IsPlaceOf n.0 c.self.inside.ccbs.live c.args.place) (sym same) there
 
 -- what is left
 after : (c : goal.After-change) → After c.take-token.new.self c.self.inside.clock c.change.new.self c.stop.new.self (seen (listed_as c.self.inside.ccbs.greatest (with_ccb (as_recovering c.complete.new.self) c.self.inside.ccbs.live)) c.self.inside.queues c.take-token.new.self c.self.inside.clock)
 after c =
-    let found : ccb_of c.args.ccb.number.0 c.self.inside.ccbs.live ≡ Some (as_active c.args.ccb) = subst (λ (s : Transport). ccb_of c.args.ccb.number.0 s.live ≡ Some (as_active c.args.ccb)) (sym c.self.view_is) c.requires in
+    let found : ccb_of c.args.ccb.number.0 c.self.inside.ccbs.live ≡ Some (as_active c.args.ccb) = subst (λ (s : Transport). ccb_of c.args.ccb.number.0 s.live ≡ Some (as_active c.args.ccb)) (sym c.self.view_is) c.requires.active in
     let there : ccb_of c.complete.new.self.number.0 c.self.inside.ccbs.live ≡ Some (as_active c.args.ccb) = subst (λ (b : Ccb). ccb_of b.number.0 c.self.inside.ccbs.live ≡ Some (as_active c.args.ccb)) (sym c.complete.ensures) found in
     let queue_is : c.complete.new.self.queue.0 ≡ c.args.ccb.queue.0 = ap (λ (b : Ccb). b.queue.0) c.complete.ensures in
     recovered c.take-token.new.self c.self.inside.clock c.self.inside.ccbs c.change.new.self c.self.inside.queues c.stop.new.self c.complete.new.self.queue.0 (as_recovering c.complete.new.self) (as_active c.args.ccb) c.self.invariant.table there refl refl queue_is

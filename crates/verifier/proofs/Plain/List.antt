@@ -22,7 +22,7 @@ use Rattle.reg_domain.specs.Enough.{Enough, Leaves}
 use Rattle.private_insns.specs.Enough.{IsNumberOperand, ComparesNumbers, LiesInFrame, LeavesStored}
 use Rattle.verifier.specs.Arrives.{goes_to}
 use Rattle.verifier.specs.Plain.{IsListed, IsFreeOperand, ReadsRegister, ReadsByte, ComesUnwritten, is_free, byte_of, writes_register, writes_byte}
-use Rattle.verifier.proofs.PlainKnown.{IsCommon, IsStep, compared_keeps, number_on, known_on, stored_on}
+use Rattle.verifier.proofs.Plain.Known.{IsCommon, IsStep, compared_keeps, number_on, known_on, stored_on}
 
 -- where the list stands, and at the slot behind it
 pub record AtList (program : List Slot) (place : ℕ) (d : Description) : Type 0 where

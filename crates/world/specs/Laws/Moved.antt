@@ -5,7 +5,7 @@ use Rattle.calls.specs.declared.call_answer.CallAnswer.TheVariants as answers
 use Rattle.world.specs.World.{Setup, World}
 use Rattle.world.specs.Event.{private, Event, executes, Reply, replies}
 use Rattle.world.specs.WorldRun.{Leads}
-use Rattle.world.specs.Headline.{is_own_of}
+use Rattle.world.specs.Laws.Headline.{is_own_of}
 
 -- the reply tells that this run starts
 abbrev pub is_start_of : ℕ → Reply → Bool

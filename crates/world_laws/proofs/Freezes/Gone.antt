@@ -20,8 +20,8 @@ use Rattle.world.specs.Event.{call, Event, called, executes, Reply}
 use Rattle.world.specs.FreezeSteps.{is_timer}
 use Rattle.world.specs.Step.{WorldStep}
 use Rattle.world.specs.WorldRun.{Leads}
-use Rattle.world.specs.FreezeLaws.{IsHeld, Calls, GivenUpStaysGivenUp, GivenUpByRunStaysGivenUp, HandedOverStaysHandedOver, GoneStaysGone}
-use Rattle.world.specs.TookGave.{asked_by, asked}
+use Rattle.world.specs.Laws.FreezeLaws.{IsHeld, Calls, GivenUpStaysGivenUp, GivenUpByRunStaysGivenUp, HandedOverStaysHandedOver, GoneStaysGone}
+use Rattle.world.specs.Laws.TookGave.{asked_by, asked}
 use Rattle.world.proofs.Lists.Found.{put, found_in_push, put_same, put_other, missing_filter}
 use Rattle.world.proofs.Lists.Rising.{found_unfiltered}
 use Rattle.world.proofs.Lists.Entries.{freeze_key, entry_push, entry_removed, entry_bounds, handed_is_put, none_since}

@@ -20,8 +20,8 @@ use Rattle.world.specs.Told.{Told, plain, finishes, helper_in}
 use Rattle.world.specs.Event.{Instruction, private, call, exit, Event, called, executes, instruction_of, Reply, replies}
 use Rattle.world.specs.Step.{WorldStep}
 use Rattle.world.specs.WorldRun.{Leads, WorldRun}
-use Rattle.world.specs.TookGave.{took, gave}
-use Rattle.world.specs.FreezeLaws.{Calls, entries_of}
+use Rattle.world.specs.Laws.TookGave.{took, gave}
+use Rattle.world.specs.Laws.FreezeLaws.{Calls, entries_of}
 
 -- the event is a step of this run
 abbrev pub is_step_of : ℕ → Event → Bool

@@ -12,7 +12,7 @@ use Rattle.world.specs.Lawful.{IsLawfulQueue, IsLawful}
 use Rattle.world.specs.Lookups.{run_of}
 use Rattle.world.specs.Event.{Event, Reply}
 use Rattle.world.specs.Limits.{RunLimits, KeepsLimits}
-use Rattle.world.specs.FreezeLaws.{HoldsWhatEntriesSay}
+use Rattle.world.specs.Laws.FreezeLaws.{HoldsWhatEntriesSay}
 use Rattle.world.proofs.Lists.Each.{all_found}
 use Rattle.world_laws.proofs.Steps.Cases.{Case}
 use Rattle.world.proofs.Steps.Moves.{lists_of, run_key}

@@ -17,7 +17,7 @@ use Rattle.call_shape.specs.declared.fault.ShapeFault.TheVariants.{OpenEnd, Targ
 use Rattle.bpf_insn.specs.declared.program.TheConstants.{MAX_SLOTS}
 use Rattle.bpf_insn.specs.Target.{target}
 use Rattle.verifier.specs.Plain.{IsContextLoad, IsListed, IsPlain, plain}
-use Rattle.verifier.proofs.PlainInsns.{plain_narrow, narrow_length, narrow_begins, length_plain, there_inside, test, copy, release, Stands, loads_there, tests, copies, gives_back, lists, sets_retries, requeues_there, sets_answer, exits, stands}
+use Rattle.verifier.proofs.Plain.Insns.{plain_narrow, narrow_length, narrow_begins, length_plain, there_inside, test, copy, release, Stands, loads_there, tests, copies, gives_back, lists, sets_retries, requeues_there, sets_answer, exits, stands}
 
 -- what the shape asks of each instruction of a plain program whose jumps lead at most to the slot behind its list
 record PlainInsn (end place : ℕ) (insn : Insn) : Type 0 where

@@ -16,8 +16,8 @@ use Rattle.register_kinds.specs.Freezes.{open_freeze}
 use Rattle.register_kinds.specs.Kinds.{IsNumber, IsAtMost, IsAt}
 use Rattle.reg_domain.specs.Enough.{Agree, JoinsTo}
 use Rattle.verifier.specs.Plain.{is_free, writes_register}
-use Rattle.verifier.proofs.PlainKnown.{Comes, IsCommon, common_joined}
-use Rattle.verifier.proofs.PlainList.{AtList}
+use Rattle.verifier.proofs.Plain.Known.{Comes, IsCommon, common_joined}
+use Rattle.verifier.proofs.Plain.List.{AtList}
 
 -- what is held where the freeze of the start was found not to be 0
 abbrev pub sure_start : List HeldFreeze

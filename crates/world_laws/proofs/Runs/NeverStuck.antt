@@ -17,7 +17,7 @@ use Rattle.world.specs.Told.{told_of}
 use Rattle.world.specs.Event.{Instruction, private, call, exit, executes, Reply}
 use Rattle.world.specs.RunSteps.{is_run, may_call, step_request, step_helper, step_run, step_executes}
 use Rattle.world.specs.Step.{WorldStep}
-use Rattle.world.specs.Headline.{HasOneStep, NeverStuck}
+use Rattle.world.specs.Laws.Headline.{HasOneStep, NeverStuck}
 use Rattle.world.proofs.Lists.Found.{found_key}
 use Rattle.world_laws.proofs.Telling.{told_itself}
 use Rattle.world_laws.proofs.Steps.Running.{some_is, Executes, private_parts, call_parts, exit_parts}
@@ -25,7 +25,7 @@ use Rattle.world.proofs.Steps.Moves.{run_key}
 use Rattle.world_laws.proofs.Steps.Fates.{same_run}
 use Rattle.world_laws.proofs.Entries.{HasItsOwn}
 use Rattle.world_laws.proofs.Deeds.{leads_on}
-use Rattle.world_laws.proofs.Reaching.{reached_goes}
+use Rattle.world_laws.proofs.Runs.Reaching.{reached_goes}
 use Rattle.world.proofs.Lists.HeldBy.{among_is}
 use Rattle.world_laws.proofs.Sound.{IsSound, run_sound}
 

@@ -15,9 +15,9 @@ use Rattle.world.specs.ParkSteps.{with_out, parks, resumes}
 use Rattle.world.specs.Refusals.{is_parked, unless_refused}
 use Rattle.world.specs.Step.{WorldStep}
 use Rattle.world.specs.WorldRun.{Leads}
-use Rattle.world.specs.FreezeLaws.{entries_of}
-use Rattle.world.specs.Headline.{is_step_of, is_turn_of, is_own_of, steps_of}
-use Rattle.world.specs.ParkLaws.{is_resume_of, resumes_of, ParkedStaysAsItIs}
+use Rattle.world.specs.Laws.FreezeLaws.{entries_of}
+use Rattle.world.specs.Laws.Headline.{is_step_of, is_turn_of, is_own_of, steps_of}
+use Rattle.world.specs.Laws.ParkLaws.{is_resume_of, resumes_of, ParkedStaysAsItIs}
 use Rattle.world_laws.proofs.Steps.Running.{some_is, executes_parts}
 use Rattle.world_laws.proofs.Steps.Cases.{case_of}
 use Rattle.world.proofs.Steps.Moves.{KeepsLists}
@@ -25,9 +25,9 @@ use Rattle.world_laws.proofs.Steps.Effects.{effect_of}
 use Rattle.world_laws.proofs.Steps.Fates.{turned, changed_same}
 use Rattle.world_laws.proofs.Kept.{step_keeps}
 use Rattle.world_laws.proofs.Leads.{lists_are_kept}
-use Rattle.world_laws.proofs.Held.{others_entries}
-use Rattle.world_laws.proofs.Recovering.{others_ccb}
-use Rattle.world_laws.proofs.Reaching.{same_found}
+use Rattle.world_laws.proofs.Freezes.Held.{others_entries}
+use Rattle.world_laws.proofs.Runs.Recovering.{others_ccb}
+use Rattle.world_laws.proofs.Runs.Reaching.{same_found}
 use Rattle.world_laws.proofs.Sound.{IsSound, step_sound, run_sound}
 use Rattle.world_laws.proofs.Headline.{not_its_own}
 

@@ -13,9 +13,9 @@ use Rattle.bpf_semantics.specs.Step.{request_at, held_without}
 use Rattle.world.specs.Event.{Instruction, exit, Event, instruction_of, Reply}
 use Rattle.world.specs.RunSteps.{is_run}
 use Rattle.world.specs.WorldRun.{Leads}
-use Rattle.world.specs.TookGave.{taken_by, request_of_run, given_up, given_by, took, gave}
-use Rattle.world.specs.FreezeLaws.{held_by}
-use Rattle.world.specs.Headline.{times_in}
+use Rattle.world.specs.Laws.TookGave.{taken_by, request_of_run, given_up, given_by, took, gave}
+use Rattle.world.specs.Laws.FreezeLaws.{held_by}
+use Rattle.world.specs.Laws.Headline.{times_in}
 use Rattle.world.proofs.Lists.Found.{at_head, at_tail}
 use Rattle.world.proofs.Lists.Rising.{rising_high}
 use Rattle.world.proofs.Lists.Entries.{freeze_key, FreezesRise}
@@ -24,12 +24,12 @@ use Rattle.world.proofs.Steps.Moves.{lists_of, Effect}
 use Rattle.world_laws.proofs.Steps.Effects.{effect_of}
 use Rattle.world_laws.proofs.Steps.Fates.{machine_of, turned, Holding, holds_the_same, holds_one_more, holds_one_fewer, Fate, stands, goes, leaves_world, fate_of}
 use Rattle.world.proofs.Lists.HeldBy.{held_head, held_tail}
-use Rattle.world_laws.proofs.Held.{live_given}
-use Rattle.world_laws.proofs.Gone.{move_rises}
-use Rattle.world_laws.proofs.Reaching.{same_found, reached_goes, lawful_exit}
+use Rattle.world_laws.proofs.Freezes.Held.{live_given}
+use Rattle.world_laws.proofs.Freezes.Gone.{move_rises}
+use Rattle.world_laws.proofs.Runs.Reaching.{same_found, reached_goes, lawful_exit}
 use Rattle.world_laws.proofs.Steps.Beginnings.{no_some}
 use Rattle.world_laws.proofs.Sound.{IsSound, step_sound}
-use Rattle.world_laws.proofs.Lives.{gone_stands, rises, stays_over}
+use Rattle.world_laws.proofs.Runs.Lives.{gone_stands, rises, stays_over}
 
 -- numbers in a list
 

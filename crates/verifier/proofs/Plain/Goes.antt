@@ -40,11 +40,11 @@ use Rattle.helper_calls.specs.Called.{EnoughToCall, LeavesOver}
 use Rattle.private_insns.specs.Enough.{TestsFreeze}
 use Rattle.verifier.specs.Arrives.{Arrives, enters, follows, joins, NeverLacks, goes_to}
 use Rattle.verifier.specs.Plain.{IsContextLoad, IsListed, IsPlain, is_free, is_kept, writes_register}
-use Rattle.verifier.proofs.PlainInsns.{length_plain, test, copy, release, Stands, loads_there, tests, copies, gives_back, lists, sets_retries, requeues_there, sets_answer, exits, stands}
-use Rattle.verifier.proofs.PlainShape.{test_target}
-use Rattle.verifier.proofs.PlainKnown.{IsStep, comes_on, free_not_one, computed_on, given_up_keeps, number_on, known_on, called_on, sure_keeps}
-use Rattle.verifier.proofs.PlainList.{AtList, ReadsWritten, list_enough, list_leads, list_follows}
-use Rattle.verifier.proofs.PlainParts.{AtLoad, AtCopy, AtRelease, AtRequeue, AtAnswer, PlainAt, load_fits, copy_fits, release_fits, list_fits, requeue_fits, answer_fits, exit_fits, behind_fits, plain_joined, plain_agree}
+use Rattle.verifier.proofs.Plain.Insns.{length_plain, test, copy, release, Stands, loads_there, tests, copies, gives_back, lists, sets_retries, requeues_there, sets_answer, exits, stands}
+use Rattle.verifier.proofs.Plain.Shape.{test_target}
+use Rattle.verifier.proofs.Plain.Known.{IsStep, comes_on, free_not_one, computed_on, given_up_keeps, number_on, known_on, called_on, sure_keeps}
+use Rattle.verifier.proofs.Plain.List.{AtList, ReadsWritten, list_enough, list_leads, list_follows}
+use Rattle.verifier.proofs.Plain.Parts.{AtLoad, AtCopy, AtRelease, AtRequeue, AtAnswer, PlainAt, load_fits, copy_fits, release_fits, list_fits, requeue_fits, answer_fits, exit_fits, behind_fits, plain_joined, plain_agree}
 
 -- where an instruction leads that does not jump
 

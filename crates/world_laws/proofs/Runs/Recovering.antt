@@ -10,15 +10,15 @@ use Rattle.world.specs.Lookups.{is_active, ccb_of, run_of}
 use Rattle.world.specs.Event.{Instruction, Event, Reply}
 use Rattle.world.specs.Lawful.{IsLawful}
 use Rattle.world.specs.Limits.{KeepsLimits}
-use Rattle.world.specs.FreezeLaws.{HoldsWhatEntriesSay}
-use Rattle.world.specs.Headline.{is_step_of}
+use Rattle.world.specs.Laws.FreezeLaws.{HoldsWhatEntriesSay}
+use Rattle.world.specs.Laws.Headline.{is_step_of}
 use Rattle.world.proofs.Lists.Found.{found_key, found_push, put_same, put_other, leave_other}
 use Rattle.world_laws.proofs.Steps.Cases.{Case}
 use Rattle.world.proofs.Steps.Moves.{lists_of, ccb_key, ccb_found, MayTouch, CcbMove, ccbs_stay, ccb_enters, ccb_changes, ccb_leaves, Begins, Effect}
 use Rattle.world_laws.proofs.Steps.Effects.{effect_of}
 use Rattle.world_laws.proofs.Steps.Fates.{machine_of, turned, Disposing, leaves_its_ccb, disposes_of_it, Fate, stands, goes, leaves_world, fate_of, Newly}
 use Rattle.world_laws.proofs.Steps.Beginnings.{no_some, new_run}
-use Rattle.world_laws.proofs.Reaching.{same_found}
+use Rattle.world_laws.proofs.Runs.Reaching.{same_found}
 
 -- the CCB of this number is in recovery
 pub record IsInRecovery (ccb : ℕ) (world : World) : Type 0 where

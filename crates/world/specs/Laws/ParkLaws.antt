@@ -8,8 +8,8 @@ use Rattle.world.specs.Lookups.{ccb_of, run_of}
 use Rattle.world.specs.Event.{Event, called, Reply, replies}
 use Rattle.world.specs.Step.{WorldStep}
 use Rattle.world.specs.WorldRun.{Leads, WorldRun}
-use Rattle.world.specs.FreezeLaws.{entries_of}
-use Rattle.world.specs.Headline.{steps_of}
+use Rattle.world.specs.Laws.FreezeLaws.{entries_of}
+use Rattle.world.specs.Laws.Headline.{steps_of}
 
 -- the event resumes this run
 abbrev pub is_resume_of : ℕ → Event → Bool

@@ -13,8 +13,8 @@ use Rattle.bpf_semantics.specs.Step.{held_without}
 use Rattle.world.specs.Event.{Instruction, Event, Reply}
 use Rattle.world.specs.RunSteps.{is_run}
 use Rattle.world.specs.Limits.{KeepsLimits}
-use Rattle.world.specs.FreezeLaws.{entries_of, held_by, HoldsWhatEntriesSay}
-use Rattle.world.specs.Headline.{is_step_of}
+use Rattle.world.specs.Laws.FreezeLaws.{entries_of, held_by, HoldsWhatEntriesSay}
+use Rattle.world.specs.Laws.Headline.{is_step_of}
 use Rattle.world.proofs.Lists.Found.{put, found_in_push, put_same, put_other}
 use Rattle.world.proofs.Lists.Rising.{found_bounds, found_unfiltered}
 use Rattle.world.proofs.Lists.Entries.{freeze_key}
@@ -23,7 +23,7 @@ use Rattle.world.proofs.Steps.Moves.{KeepsLists, lists_of, run_key, FreezeMove, 
 use Rattle.world_laws.proofs.Steps.Effects.{timer_is_none, effect_of}
 use Rattle.world_laws.proofs.Steps.Fates.{machine_of, turned, Holding, holds_the_same, holds_one_more, holds_one_fewer, Fate, stands, goes, leaves_world, fate_of}
 use Rattle.world_laws.proofs.Steps.Beginnings.{no_some, new_run}
-use Rattle.world_laws.proofs.Reaching.{AllReached, same_found, reached_goes, lawful_exit}
+use Rattle.world_laws.proofs.Runs.Reaching.{AllReached, same_found, reached_goes, lawful_exit}
 use Rattle.world.proofs.Lists.HeldBy.{held_push_own, entries_push_other, held_without_own, entries_kept, entries_without_other, entries_put, held_none, is_among}
 
 -- the number of a live run was given

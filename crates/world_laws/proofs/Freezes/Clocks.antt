@@ -12,7 +12,7 @@ use Rattle.world.specs.Event.{Event, Reply, replies}
 use Rattle.world.specs.FreezeSteps.{is_guest}
 use Rattle.world.specs.RunSteps.{is_run}
 use Rattle.world.specs.WorldRun.{Leads}
-use Rattle.world.specs.ClockLaws.{ClockGoesOn, lets_go, KeepsTime, TimersKeepTime}
+use Rattle.world.specs.Laws.ClockLaws.{ClockGoesOn, lets_go, KeepsTime, TimersKeepTime}
 use Rattle.world.proofs.Lists.Found.{put, found_key, found_push, found_in_filter, put_other, leave_other}
 use Rattle.world.proofs.Lists.Rising.{filtered_out}
 use Rattle.world.proofs.Lists.Entries.{freeze_key, handed_is_put}

@@ -12,15 +12,15 @@ use Rattle.world.specs.Lookups.{run_of}
 use Rattle.world.specs.Event.{Instruction, Event, instruction_of, Reply}
 use Rattle.world.specs.Step.{WorldStep}
 use Rattle.world.specs.WorldRun.{Leads}
-use Rattle.world.specs.Headline.{is_step_of, is_disposal, is_exit, is_disposal_of, is_exit_of, steps_of, disposals_of, exits_of}
+use Rattle.world.specs.Laws.Headline.{is_step_of, is_disposal, is_exit, is_disposal_of, is_exit_of, steps_of, disposals_of, exits_of}
 use Rattle.world.proofs.Lists.Each.{all_found}
 use Rattle.world_laws.proofs.Steps.Cases.{case_of}
 use Rattle.world.proofs.Steps.Moves.{lists_of, run_key, RunMove, runs_stay, run_enters, run_changes, run_leaves, Effect}
 use Rattle.world_laws.proofs.Steps.Effects.{effect_of}
 use Rattle.world_laws.proofs.Steps.Fates.{machine_of, turned, Disposing, leaves_its_ccb, disposes_of_it, Fate, stands, goes, leaves_world, fate_of}
 use Rattle.world_laws.proofs.Steps.Beginnings.{new_run}
-use Rattle.world_laws.proofs.Reaching.{lawful_queue, reached_goes, lawful_exit}
-use Rattle.world_laws.proofs.Held.{live_given}
+use Rattle.world_laws.proofs.Runs.Reaching.{lawful_queue, reached_goes, lawful_exit}
+use Rattle.world_laws.proofs.Freezes.Held.{live_given}
 use Rattle.world_laws.proofs.Sound.{IsSound, step_sound}
 
 -- disposed of as often as it made its CCB wait again

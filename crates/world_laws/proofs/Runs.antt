@@ -1,0 +1,6 @@
+-- What holds of runs: that they were reached, are never stuck, dispose of their CCB, and stay as they are while they are parked.
+pub mod Reaching
+pub mod Recovering
+pub mod NeverStuck
+pub mod Lives
+pub mod Parking

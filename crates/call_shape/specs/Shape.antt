@@ -12,7 +12,8 @@ use Rattle.call_shape.specs.StaticPath.{StaticPath, outermost, depth}
 use Rattle.call_shape.specs.WrittenOut.{IsWrittenOut}
 use Rattle.call_shape.specs.declared.fault.ShapeFault.{ShapeFault}
 use Rattle.call_shape.specs.declared.fault.ShapeFault.TheVariants.{OpenEnd, TargetOutside, TargetSecondSlot, TargetBackward, NoSuchFunction, LeavesFunction, CallCycle, TooManyFrames, TooLong}
-use Rattle.call_shape.specs.declared.lawful_shape.TheConstants.{MAX_FRAMES, MAX_WRITTEN_OUT}
+use Rattle.stack_frame.specs.declared.frames.TheConstants.{MAX_FRAMES}
+use Rattle.call_shape.specs.declared.lawful_shape.TheConstants.{MAX_WRITTEN_OUT}
 
 -- where an instruction jumps to, if it is a jump
 abbrev pub target_in : ℕ → Insn → Option ℕ

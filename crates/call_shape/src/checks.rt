@@ -12,11 +12,12 @@ use crate::fault::ShapeFault;
 use crate::frames::frames_of;
 use crate::functions::functions_of;
 use crate::insn_faults::insn_fault;
-use crate::lawful_shape::{MAX_FRAMES, MAX_WRITTEN_OUT, Shape};
+use crate::lawful_shape::{MAX_WRITTEN_OUT, Shape};
 use crate::postorder::Postorder;
 use crate::walk::Walk;
 use crate::written_out::written_out_of;
 use bpf_insn::{MAX_SLOTS, Program};
+use stack_frame::MAX_FRAMES;
 
 /// The program's shape, or the lowest fault that holds, with the lowest slot that has it. It takes no memory, and time
 /// that grows with the slots. Only where calls lie on a cycle it takes more, to name the first of them.
@@ -66,7 +67,7 @@ fn measured<'a>(
     ensures fault { IfErr result (FaultIs program.entry.now) }
 {
     let frames = frames_of(program, order.as_slice());
-    if frames > u16::from(MAX_FRAMES) {
+    if usize::from(frames) > MAX_FRAMES {
         return Err(ShapeFault::TooManyFrames);
     }
     let written_out = written_out_of(program, functions, order.as_slice());

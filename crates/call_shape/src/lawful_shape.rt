@@ -3,14 +3,12 @@
 ghost use Rattle.std.specs.Prelude.{◌≡◌, ◌≤◌};
 ghost use Rattle.bpf_insn.specs.Program.{IsProgram};
 ghost use Rattle.call_shape.specs.Shape.{IsLawful};
-ghost use Rattle.call_shape.specs.declared.lawful_shape.TheConstants.{MAX_FRAMES, MAX_WRITTEN_OUT};
+ghost use Rattle.stack_frame.specs.declared.frames.TheConstants.{MAX_FRAMES};
+ghost use Rattle.call_shape.specs.declared.lawful_shape.TheConstants.{MAX_WRITTEN_OUT};
 
 use crate::postorder::Postorder;
 use bpf_insn::Program;
 use std::marker::Model;
-
-/// How many functions may be open at a time, each with its frame.
-pub const MAX_FRAMES: u8 = 8;
 
 /// How many instructions there may be with all local calls written out.
 pub const MAX_WRITTEN_OUT: u32 = 65_536;

@@ -1,5 +1,6 @@
 // The shape of a program: its functions end, jumps lead forward within their function, and no chain of local calls
-// comes back. What is said of its ways, the static paths, rests on this alone. It relies on `bpf_insn`.
+// comes back. What is said of its ways, the static paths, rests on this alone. It relies on `bpf_insn`, and on `stack_frame`
+// for how many frames there may be.
 #![tactic(auto)]
 
 mod checks;
@@ -17,5 +18,5 @@ mod written_out;
 
 pub use checks::shape;
 pub use fault::ShapeFault;
-pub use lawful_shape::{MAX_FRAMES, MAX_WRITTEN_OUT, Shape};
+pub use lawful_shape::{MAX_WRITTEN_OUT, Shape};
 pub use onward::Onward;

@@ -1,7 +1,7 @@
 -- The sets as they are kept: one for each of eight frames, of which the first are live, and no byte in the others.
 use Rattle.std.specs.Prelude.{◌≡◌, ℕ, ◌-◌, ◌<◌, ◌≤◌, Bool, false, List, [], ◌++◌, length, take, replicate, slice_index_or}
 use Rattle.std.proofs.Common.{arith, length-take-le}
-use Rattle.stack_domain.specs.declared.stack.TheConstants.{MAX_FRAMES}
+use Rattle.stack_frame.specs.declared.frames.TheConstants.{MAX_FRAMES}
 
 unfoldable pub no_bytes : List Bool
 no_bytes = replicate 512 false

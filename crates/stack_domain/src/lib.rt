@@ -5,4 +5,4 @@
 pub mod laws;
 mod stack;
 
-pub use stack::{MAX_FRAMES, Stack};
+pub use stack::Stack;

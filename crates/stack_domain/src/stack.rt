@@ -6,11 +6,8 @@ ghost use Rattle.stack_frame.specs.declared.byte_set.TheConstants.{MOST_BYTES};
 ghost use Rattle.stack_domain.specs.Stack.{Covers, Knows, AreWritten};
 ghost use Rattle.stack_domain.specs.Stores.{stored};
 
-use stack_frame::ByteSet;
+use stack_frame::{ByteSet, MAX_FRAMES};
 use std::marker::Model;
-
-/// The most frames that are live at a time.
-pub const MAX_FRAMES: usize = 8;
 
 /// Which bytes are known to be written in each live frame, from 1 to `MAX_FRAMES` of them, the outermost being 0.
 #[derive(Clone, Copy, Debug, PartialEq, Eq)]

@@ -1,11 +1,11 @@
 use Rattle.std.proofs.Common.{◌<◌, ◌≤◌, arith}
-use Rattle.call_shape.specs.declared.lawful_shape.TheConstants.{MAX_FRAMES}
+use Rattle.stack_frame.specs.declared.frames.TheConstants.{MAX_FRAMES}
 use Rattle.call_shape.proofs.CallingOrder.{ordered}
 use Rattle.call_shape.proofs.Measures.{too_deep, shallow, too_long, lawful_parts}
 use Rattle.call_shape.proofs.checks.measured.Goals as goal
 
-pub returns-then-frames-from-clause-fault : goal.returns-then-frames-from-clause-fault
-returns-then-frames-from-clause-fault c =
+pub returns-then-from-gt-MAX_FRAMES-clause-fault : goal.returns-then-from-gt-MAX_FRAMES-clause-fault
+returns-then-from-gt-MAX_FRAMES-clause-fault c =
     let program = c.args.program.now in
     let deep : MAX_FRAMES < c.frames_of-frames.result = omega (arith, c.from.ensures) in
     (ordered program _ c.requires.program c.requires.contained c.requires.order.whole, too_deep program c.frames_of-frames.result c.frames_of-frames.ensures deep)

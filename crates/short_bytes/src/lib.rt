@@ -1,4 +1,4 @@
-// At most 64 bytes in a place of fixed size. It relies on nothing.
+// At most 64 bytes in a place of fixed size. It relies on `padded_list`.
 #![tactic(auto)]
 
 mod short_bytes;

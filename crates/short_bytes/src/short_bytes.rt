@@ -1,8 +1,9 @@
 // At most 64 bytes, as sense bytes or the bytes that a policy puts into the history, in a place of fixed size: keeping
-// and copying them takes no memory. It relies on nothing.
+// and copying them takes no memory. It relies on `padded_list` for how they are kept.
 ghost use Rattle.std.specs.Prelude.{◌≡◌, ◌≤◌, ◌↔◌, [], length, IsTrue, SomeIff};
 ghost use Rattle.short_bytes.specs.ShortBytes.{padded_bytes};
 
+use padded_list::PaddedList;
 use std::marker::Model;
 
 /// The most bytes that are kept.
@@ -11,24 +12,17 @@ pub const MAX_BYTES: usize = 64;
 /// From 0 to 64 bytes. Contracts see the list of them.
 #[derive(Clone, Copy, Debug, PartialEq, Eq)]
 pub struct ShortBytes {
-    // the bytes, then zeros
-    places: [u8; MAX_BYTES],
-    len: usize,
+    bytes: PaddedList<u8, MAX_BYTES>,
 }
 
 impl Model for ShortBytes {
-    ghost use Rattle.std.specs.Prelude.{ℕ, List, length, take};
-    ghost use Rattle.short_bytes.specs.ShortBytes.{padded_bytes, IsPadded, length-kept};
+    ghost use Rattle.std.specs.Prelude.{ℕ, List};
 
     ghost Value = { List ℕ };
 
-    ghost view = { λ s. take s.len s.places };
+    ghost view = { λ s. s.bytes };
 
-    ghost invariant = { λ s. IsPadded s.places s.len };
-
-    ghost inverse = { λ bytes. record { places = padded_bytes bytes; len = length bytes } };
-
-    ghost inverse_ok = { λ s h i. record { places = h.zeros i; len = length-kept s.places s.len h i } };
+    ghost inverse = { λ bytes. record { bytes = bytes } };
 }
 
 impl ShortBytes {
@@ -39,11 +33,8 @@ impl ShortBytes {
         if bytes.len() > MAX_BYTES {
             return None;
         }
-        let mut places = [0; MAX_BYTES];
-        places[..bytes.len()].copy_from_slice(bytes);
         Some(ShortBytes {
-            places,
-            len: bytes.len(),
+            bytes: PaddedList::copied(bytes),
         })
     }
 
@@ -52,8 +43,7 @@ impl ShortBytes {
         ensures { result ≡ [] }
     {
         ShortBytes {
-            places: [0; MAX_BYTES],
-            len: 0,
+            bytes: PaddedList::none(),
         }
     }
 
@@ -62,20 +52,20 @@ impl ShortBytes {
         ensures value { result.now ≡ self.now }
         ensures few { length self.now ≤ MAX_BYTES }
     {
-        &self.places[..self.len]
+        self.bytes.as_slice()
     }
 
     /// Whether there are none.
     pub fn is_empty(&self) -> bool
         ensures { IsTrue result ↔ (self.now ≡ []) }
     {
-        self.len == 0
+        self.bytes.is_empty()
     }
 
     /// The bytes, padded with zeros to 64.
     pub fn padded(&self) -> &[u8; MAX_BYTES]
         ensures { result.now ≡ padded_bytes self.now }
     {
-        &self.places
+        self.bytes.padded()
     }
 }

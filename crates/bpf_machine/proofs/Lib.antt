@@ -2,8 +2,6 @@ pub mod ByRows
 mod Entries
 pub mod FrameCalls
 pub mod FramePlaces
-pub mod Held
-pub mod OpenPlaces
 pub mod RegisterLists
 pub mod SecondOperands
 pub mod Room

@@ -1,6 +1,4 @@
 pub use Rattle.bpf_semantics.specs.Reached
-pub mod HeldPlaces
-pub mod OpenPlaces
 pub mod RegisterWords
 pub mod Inside
 pub mod Unchecked

@@ -1,35 +1,29 @@
 // The freezes that a run holds, in a place of fixed size, so that a machine is copied and compared without memory. It
-// relies on `bpf_semantics` for how many there may be.
+// relies on `padded_list` for how they are kept, and on `bpf_semantics` for how many there may be.
 
 ghost use Rattle.std.specs.Prelude.{◌≡◌, ◌≤◌, ◌<◌, ◌==◌, ◌↔◌, [], ◌∷◌, ◌++◌, length, nat_eq, IsTrue, not, filter, if◌then◌else◌};
 ghost use Rattle.std.specs.Cmp.Lexicographic.{pointwise, nat_list_eq_equiv};
 ghost use Rattle.std.specs.Cmp.{partial_equiv_from_equiv};
 
 use bpf_semantics::MAX_HELD;
+use padded_list::PaddedList;
 use std::marker::Model;
 
 /// The numbers of the freezes that a run holds, from 0 to `MAX_HELD` of them, in the order in which it got them.
 /// Contracts see the list.
 #[derive(Clone, Copy, Debug)]
 pub struct HeldFreezes {
-    // the numbers, then zeros
-    places: [u32; MAX_HELD],
-    len: usize,
+    numbers: PaddedList<u32, MAX_HELD>,
 }
 
 impl Model for HeldFreezes {
-    ghost use Rattle.std.specs.Prelude.{ℕ, List, length, take};
-    ghost use Rattle.bpf_machine.specs.HeldPlaces.{padded, IsPadded, length-kept};
+    ghost use Rattle.std.specs.Prelude.{ℕ, List};
 
     ghost Value = { List ℕ };
 
-    ghost view = { λ h. take h.len h.places };
+    ghost view = { λ h. h.numbers };
 
-    ghost invariant = { λ h. IsPadded h.places h.len };
-
-    ghost inverse = { λ held. record { places = padded held; len = length held } };
-
-    ghost inverse_ok = { λ h is i. record { places = is.zeros i; len = length-kept h.places h.len is i } };
+    ghost inverse = { λ numbers. record { numbers = numbers } };
 }
 
 impl HeldFreezes {
@@ -38,8 +32,7 @@ impl HeldFreezes {
         ensures { result ≡ [] }
     {
         HeldFreezes {
-            places: [0; MAX_HELD],
-            len: 0,
+            numbers: PaddedList::none(),
         }
     }
 
@@ -60,7 +53,7 @@ impl HeldFreezes {
         ensures numbers { result.now ≡ self.now }
         ensures few { length self.now ≤ MAX_HELD }
     {
-        &self.places[..self.len]
+        self.numbers.as_slice()
     }
 
     /// One freeze more, which comes last.
@@ -68,8 +61,7 @@ impl HeldFreezes {
         requires { length self.old < MAX_HELD }
         ensures { self.new ≡ self.old ++ freeze ∷ [] }
     {
-        self.places[self.len] = freeze;
-        self.len += 1;
+        self.numbers.push(freeze);
     }
 
     /// All but that freeze.

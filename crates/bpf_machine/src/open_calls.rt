@@ -1,7 +1,9 @@
-// The local calls that have not returned, in a place of fixed size. It relies on `stack_frame` for how many there may be.
+// The local calls that have not returned, in a place of fixed size. It relies on `padded_list` for how they are kept, and
+// on `stack_frame` for how many there may be.
 
 ghost use Rattle.std.specs.Prelude.{◌≡◌, ◌<◌, ◌+◌, ◌↔◌, [], ◌∷◌, IsTrue, None, length, replicate};
 
+use padded_list::{Blank, PaddedList};
 use stack_frame::MAX_FRAMES;
 use std::marker::Model;
 
@@ -37,13 +39,6 @@ impl OpenCall {
         }
     }
 
-    /// Whether both are one call.
-    pub fn is_same(&self, other: &Self) -> bool
-        ensures { IsTrue result ↔ (self.now ≡ other.now) }
-    {
-        self.return_place == other.return_place && self.saved == other.saved
-    }
-
     /// Where it goes on.
     pub fn return_place(&self) -> usize
         ensures { result ≡ self.now.return_place }
@@ -59,28 +54,40 @@ impl OpenCall {
     }
 }
 
+impl Blank for OpenCall {
+    ghost blank = { record { return_place = 0; saved = replicate 4 None } };
+
+    fn blank() -> Self {
+        OpenCall {
+            return_place: 0,
+            saved: [None; 4],
+        }
+    }
+
+    fn is_same(&self, other: &Self) -> bool {
+        self.return_place == other.return_place && self.saved == other.saved
+    }
+}
+
 /// The open calls, from 0 to `MAX_CALLS` of them. Contracts see the list, the innermost first.
 #[derive(Clone, Copy, Debug, PartialEq, Eq)]
 pub struct OpenCalls {
-    // the outermost first, then empty ones
-    places: [OpenCall; MAX_CALLS],
-    len: usize,
+    // the outermost first
+    calls: PaddedList<OpenCall, MAX_CALLS>,
 }
 
 impl Model for OpenCalls {
-    ghost use Rattle.std.specs.Prelude.{List, reverse, take, length};
+    ghost use Rattle.std.specs.Prelude.{List, reverse};
+    ghost use Rattle.std.proofs.lemmas.List.{reverse-reverse};
     ghost use Rattle.bpf_semantics.specs.MachineState.{OpenCall};
-    ghost use Rattle.bpf_machine.specs.OpenPlaces.{padded, AreOpen, length-open, places-kept};
 
     ghost Value = { List OpenCall };
 
-    ghost view = { λ c. reverse (take c.len c.places) };
+    ghost view = { λ c. reverse c.calls };
 
-    ghost invariant = { λ c. AreOpen c.places c.len };
+    ghost inverse = { λ calls. record { calls = reverse calls } };
 
-    ghost inverse = { λ calls. record { places = padded (reverse calls); len = length calls } };
-
-    ghost inverse_ok = { λ c are i. record { places = places-kept c.places c.len are i; len = length-open c.places c.len are i } };
+    ghost inverse_ok = { λ c is i. record { calls = reverse-reverse c.calls i } };
 }
 
 impl OpenCalls {
@@ -89,8 +96,7 @@ impl OpenCalls {
         ensures { result ≡ [] }
     {
         OpenCalls {
-            places: [empty_call(); MAX_CALLS],
-            len: 0,
+            calls: PaddedList::none(),
         }
     }
 
@@ -98,33 +104,21 @@ impl OpenCalls {
     pub fn len(&self) -> usize
         ensures { result ≡ length self.now }
     {
-        self.len
+        self.calls.len()
     }
 
     /// Whether both are the same calls. Only those that are open are looked at.
     pub fn is_same(&self, other: &Self) -> bool
         ensures { IsTrue result ↔ (self.now ≡ other.now) }
     {
-        if self.len != other.len {
-            return false;
-        }
-        for k in 0..self.len {
-            if !self.places[k].is_same(&other.places[k]) {
-                return false;
-            }
-        }
-        true
+        self.calls.is_same(&other.calls)
     }
 
     /// Makes these calls the others. Only those that are open here or there are looked at.
     pub fn copy_from(&mut self, other: &Self)
         ensures { self.new ≡ other.now }
     {
-        let end = self.len.max(other.len);
-        for k in 0..end {
-            self.places[k] = other.places[k];
-        }
-        self.len = other.len;
+        self.calls.copy_from(&other.calls);
     }
 
     /// One call more, the innermost.
@@ -132,8 +126,7 @@ impl OpenCalls {
         requires { length self.old < MAX_CALLS }
         ensures { self.new ≡ call.now ∷ self.old }
     {
-        self.places[self.len] = *call;
-        self.len += 1;
+        self.calls.push(*call);
     }
 
     /// Takes the innermost call, which returns.
@@ -141,28 +134,13 @@ impl OpenCalls {
         requires { 0 < length self.old }
         ensures { self.old ≡ result ∷ self.new }
     {
-        self.len -= 1;
-        let call = self.places[self.len];
-        self.places[self.len] = empty_call();
-        call
+        self.calls.pop()
     }
 
     /// No call is open any more.
     pub fn clear(&mut self)
         ensures { self.new ≡ [] }
     {
-        while self.len() > 0 {
-            let _returned = self.pop();
-        }
-    }
-}
-
-// What stands in a place that is not in use.
-fn empty_call() -> OpenCall
-    ensures { result ≡ record { return_place = 0; saved = replicate 4 None } }
-{
-    OpenCall {
-        return_place: 0,
-        saved: [None; 4],
+        self.calls.clear();
     }
 }

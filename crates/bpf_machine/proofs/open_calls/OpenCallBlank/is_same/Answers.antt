@@ -1,7 +1,7 @@
 use Rattle.std.proofs.Common.{sym, ap, ◌∙◌}
 use Rattle.bpf_semantics.specs.MachineState.{OpenCall}
 use Rattle.bpf_machine.proofs.Same.{saved_decide}
-use Rattle.bpf_machine.proofs.open_calls.OpenCall.is_same.Goals as goal
+use Rattle.bpf_machine.proofs.open_calls.OpenCallBlank.is_same.Goals as goal
 
 pub returns-then-self-other : goal.returns-then-self-other
 returns-then-self-other c =

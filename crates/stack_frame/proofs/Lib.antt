@@ -3,5 +3,4 @@ pub mod Sets
 pub mod Words
 pub mod FrameLists
 pub mod LiveFrames
-pub mod Padded
 pub mod Worked

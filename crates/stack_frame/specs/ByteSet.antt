@@ -1,6 +1,10 @@
 -- A set of the bytes of a stack frame: a truth value for each of the 512, in their order.
 use Rattle.std.specs.Prelude.{◌≡◌, ℕ, ◌+◌, ◌≤◌, ◌<◌, Bool, true, false, List, ◌++◌, take, drop, replicate, slice_index_or}
 
+-- no byte
+unfoldable pub no_bytes : List Bool
+no_bytes = replicate 512 false
+
 -- the byte at that offset is in the set
 abbrev pub Has : List Bool → ℕ → Type 0
 Has set offset = slice_index_or set offset false ≡ true

@@ -2,4 +2,3 @@ pub mod ByteSet
 pub mod SetWords
 pub mod Frame
 pub mod FrameBytes
-pub mod LiveFrames

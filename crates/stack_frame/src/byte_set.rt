@@ -1,9 +1,10 @@
 // Sets of the bytes of a stack frame, kept as a bit for each byte, so that a word's bytes are added or looked up by
-// masks. It relies on nothing.
+// masks. It relies on nothing but `padded_list`, for lists of sets.
 
 ghost use Rattle.std.specs.Prelude.{◌≡◌, ◌<◌, ◌≤◌, ◌+◌, ◌-◌, ◌%◌, ◌^◌, ◌&&◌, ◌↔◌, ℕ, IsTrue, false, length, replicate, slice_index_or};
-ghost use Rattle.stack_frame.specs.ByteSet.{with_all, HasAll};
+ghost use Rattle.stack_frame.specs.ByteSet.{no_bytes, with_all, HasAll};
 
+use padded_list::Blank;
 use std::marker::Model;
 
 /// The most bytes that are added at once.
@@ -59,19 +60,25 @@ fn same_words(words: &[u64; 8], others: &[u64; 8]) -> bool
         & (words[7] == others[7])
 }
 
+impl Blank for ByteSet {
+    ghost blank = { no_bytes };
+
+    #[tactic(auto, unfolding(crate::specs::ByteSet::no_bytes))]
+    fn blank() -> Self {
+        ByteSet::empty()
+    }
+
+    fn is_same(&self, other: &Self) -> bool {
+        same_words(&self.words, &other.words)
+    }
+}
+
 impl ByteSet {
     /// No byte.
     pub fn empty() -> Self
         ensures { result ≡ replicate 512 false }
     {
         ByteSet { words: [0; 8] }
-    }
-
-    /// Whether both are one set.
-    pub fn is_same(&self, other: &Self) -> bool
-        ensures { IsTrue result ↔ (self.now ≡ other.now) }
-    {
-        same_words(&self.words, &other.words)
     }
 
     /// Whether no byte is in the set.

@@ -7,6 +7,7 @@ ghost use Rattle.stack_frame.specs.Frame.{all_written, byte_of, word_at, written
 
 use crate::byte_set::{ByteSet, MOST_BYTES};
 use byteorder::{ByteOrder, LittleEndian};
+use padded_list::Blank;
 use std::marker::Model;
 
 /// The bytes of a stack frame, from offset 0 to 511. Contracts see a list of 512, in which an unwritten byte is `None`.

@@ -1,5 +1,6 @@
 // The stack frames of the functions that are open, in a place of fixed size: so a machine is copied and compared without
-// memory. It relies on `frame` for the bytes of each.
+// memory. It relies on `frame` for the bytes of each, and keeps them as `padded_list` does: a place of its own, since it
+// lends frames to be written in place.
 
 ghost use Rattle.std.specs.Prelude.{◌≡◌, ◌<◌, ◌≤◌, ◌+◌, ◌-◌, ◌++◌, ◌↔◌, [], ◌∷◌, IsTrue, None, length, replicate, take, slice_index_or, slice_set};
 ghost use Rattle.byteorder.specs.Endian.{little_bytes};
@@ -22,17 +23,19 @@ pub struct Frames {
 
 impl Model for Frames {
     ghost use Rattle.std.specs.Prelude.{ℕ, List, Option, take, length};
-    ghost use Rattle.stack_frame.specs.LiveFrames.{padded, AreFrames, length-live};
+    ghost use Rattle.padded_list.specs.Padded.{padded, IsPadded, length-kept};
+    ghost use Rattle.stack_frame.specs.declared.frames.TheConstants.{MAX_FRAMES};
+    ghost use Rattle.stack_frame.specs.Frame.{unwritten};
 
     ghost Value = { List (List (Option ℕ)) };
 
     ghost view = { λ f. take f.depth f.frames };
 
-    ghost invariant = { λ f. AreFrames f.frames f.depth };
+    ghost invariant = { λ f. IsPadded unwritten MAX_FRAMES f.frames f.depth };
 
-    ghost inverse = { λ live. record { frames = padded live; depth = length live } };
+    ghost inverse = { λ live. record { frames = padded unwritten MAX_FRAMES live; depth = length live } };
 
-    ghost inverse_ok = { λ f are i. record { frames = are.rest i; depth = length-live f.frames f.depth are i } };
+    ghost inverse_ok = { λ f is i. record { frames = is.rest i; depth = length-kept unwritten MAX_FRAMES f.frames f.depth is i } };
 }
 
 impl Frames {

@@ -1,10 +1,10 @@
 use Rattle.std.proofs.Common.{◌-◌, arith}
-use Rattle.stack_frame.proofs.LiveFrames.{depth_is, kept_less}
+use Rattle.padded_list.proofs.Places.{len_is}
+use Rattle.stack_frame.specs.Frame.{unwritten}
+use Rattle.stack_frame.proofs.LiveFrames.{kept_closed}
 use Rattle.stack_frame.proofs.frames.Frames.close.Goals as goal
 
 pub invariant_of-self : goal.invariant_of-self
 invariant_of-self c =
-    let frames = c.self.inside.frames in
-    let depth = c.self.inside.depth in
-    let live = c.args.self.now in
-    kept_less frames depth live c.self.invariant c.self.view_is (depth - 1) _ (omega (arith, depth_is frames depth live c.self.invariant c.self.view_is, c.requires)) c.clear.ensures
+    let long = len_is unwritten 8 c.self.inside.frames c.self.inside.depth c.self.invariant c.args.self.now c.self.view_is in
+    kept_closed c.self.inside.frames c.self.inside.depth c.self.invariant (c.self.inside.depth - 1) _ (omega (arith, long, c.requires)) c.clear.ensures

@@ -1,17 +1,15 @@
 use Rattle.std.proofs.Common.{arith}
-use Rattle.stack_frame.proofs.LiveFrames.{depth_is, kept_more, opened_is}
+use Rattle.padded_list.proofs.Places.{len_is, kept_more}
+use Rattle.stack_frame.specs.Frame.{unwritten}
+use Rattle.stack_frame.proofs.LiveFrames.{opened_is}
 use Rattle.stack_frame.proofs.frames.Frames.open.Goals as goal
 
 pub invariant_of-self : goal.invariant_of-self
 invariant_of-self c =
-    let frames = c.self.inside.frames in
-    let depth = c.self.inside.depth in
-    let live = c.args.self.now in
-    kept_more frames depth live c.self.invariant c.self.view_is (omega (arith, depth_is frames depth live c.self.invariant c.self.view_is, c.requires))
+    let long = len_is unwritten 8 c.self.inside.frames c.self.inside.depth c.self.invariant c.args.self.now c.self.view_is in
+    kept_more unwritten 8 c.self.inside.frames c.self.inside.depth c.self.invariant (omega (arith, long, c.requires))
 
 pub returns : goal.returns
 returns c =
-    let frames = c.self.inside.frames in
-    let depth = c.self.inside.depth in
-    let live = c.args.self.now in
-    opened_is frames depth live c.self.invariant c.self.view_is (omega (arith, depth_is frames depth live c.self.invariant c.self.view_is, c.requires))
+    let long = len_is unwritten 8 c.self.inside.frames c.self.inside.depth c.self.invariant c.args.self.now c.self.view_is in
+    opened_is c.self.inside.frames c.self.inside.depth c.self.invariant c.args.self.now c.self.view_is (omega (arith, long, c.requires))

@@ -5,6 +5,7 @@ use Rattle.std.proofs.lemmas.Bool.{cases_lt, cases_eq}
 use Rattle.std.proofs.lemmas.List.{get_or_append_left, get_or_at, get_or_past, get_or-replicate, get_or-set_same, get_or-set_other, length-set, length-map, length-replicate}
 use Rattle.stack_frame.specs.ByteSet.{Has, with_all}
 use Rattle.stack_frame.proofs.Sets.{with_all_below, with_all_inside, with_all_above}
+use Rattle.stack_domain.specs.Sets.{AreSets}
 use Rattle.stack_domain.specs.Stack.{Marked, IsWritten, Covers, AreWritten, Knows}
 
 -- a byte that is marked is one of a live frame
@@ -19,10 +20,6 @@ has_inside bytes offset has = elim (cases_lt offset (length bytes)) [
   | inl inside ↦ inside
   | inr past ↦ (let none : false ≡ true = sym (get_or_past bytes offset false past) ∙ has in absurd (cc))
 ]
-
--- sets of 512 bytes
-pub record AreWhole (stack : List (List Bool)) : Type 0 where
-  pub whole : (k : ℕ) → k < length stack → length (slice_index_or stack k []) ≡ 512
 
 -- ---- one frame more
 
@@ -116,7 +113,7 @@ at_just_written [] k = refl
 at_just_written (bytes ∷ stack) zero = refl
 at_just_written (bytes ∷ stack) (suc k) = at_just_written stack k
 
-module _ (stack : List (List Bool)) (are : AreWhole stack) where
+module _ (stack : List (List Bool)) (are : AreSets stack) where
   is_some-stack : (k offset : ℕ) → is_some (slice_index_or (slice_index_or (map just_written stack) k []) offset None) ≡ slice_index_or (slice_index_or stack k []) offset false
   is_some-stack k offset =
       ap (λ (f : List (Option ℕ)). is_some (slice_index_or f offset None)) (at_just_written stack k) ∙ is_some-just_written (slice_index_or stack k []) offset
@@ -204,7 +201,7 @@ module _ (stack : List (List Bool)) (frame offset count : ℕ) (live : frame < l
 
 -- ---- a look at a range
 
-module _ (stack : List (List Bool)) (are : AreWhole stack) (frame from end : ℕ) where
+module _ (stack : List (List Bool)) (are : AreSets stack) (frame from end : ℕ) where
   pub all_known : ((i : ℕ) → from ≤ i → i < end → Marked stack frame i) → (frames : List (List (Option ℕ))) → Covers stack frames → AreWritten frames frame from end
   all_known all frames covers i low high = covers.written frame i (all i low high)
 
@@ -213,35 +210,13 @@ module _ (stack : List (List Bool)) (are : AreWhole stack) (frame from end : ℕ
 
 -- ---- what two both know
 
-and_first : (a b : Bool) → (a && b) ≡ true → a ≡ true
-and_first true b both = refl
-and_first false b both = both
-
-and_second : (a b : Bool) → (a && b) ≡ true → b ≡ true
-and_second true b both = both
-and_second false b both = absurd (cc)
-
-module _ (xs ys both : List (List Bool)) (same : length both ≡ length xs) (same_too : length xs ≡ length ys)
-    (is : (k offset : ℕ) → slice_index_or (slice_index_or both k []) offset false ≡ (slice_index_or (slice_index_or xs k []) offset false && slice_index_or (slice_index_or ys k []) offset false)) where
-  pub covers_first : (frames : List (List (Option ℕ))) → Covers xs frames → Covers both frames
-  covers_first frames covers = record {
-    depth = covers.depth ∙ sym same;
-    whole = covers.whole;
-    written = λ k offset has. covers.written k offset (and_first (slice_index_or (slice_index_or xs k []) offset false) (slice_index_or (slice_index_or ys k []) offset false) (sym (is k offset) ∙ has));
-  }
-
-  pub covers_second : (frames : List (List (Option ℕ))) → Covers ys frames → Covers both frames
-  covers_second frames covers = record {
-    depth = covers.depth ∙ sym same_too ∙ sym same;
-    whole = covers.whole;
-    written = λ k offset has. covers.written k offset (and_second (slice_index_or (slice_index_or xs k []) offset false) (slice_index_or (slice_index_or ys k []) offset false) (sym (is k offset) ∙ has));
-  }
-
-  pub knows_both : AreWhole xs → AreWhole ys → (k offset : ℕ) → Knows xs k offset → Knows ys k offset → Knows both k offset
-  knows_both whole whole_too k offset first second frames covers =
-      let a = known_marked xs whole k offset first in
-      let b = known_marked ys whole_too k offset second in
-      covers.written k offset (is k offset ∙ ap (λ (t : Bool). t && slice_index_or (slice_index_or ys k []) offset false) a ∙ b)
+pub knows_both : (xs ys both : List (List Bool)) → AreSets xs → AreSets ys
+    → ((k offset : ℕ) → k < length xs → slice_index_or (slice_index_or both k []) offset false ≡ (slice_index_or (slice_index_or xs k []) offset false && slice_index_or (slice_index_or ys k []) offset false))
+    → (k offset : ℕ) → Knows xs k offset → Knows ys k offset → Knows both k offset
+knows_both xs ys both are are_too is k offset first second frames covers =
+    let a = known_marked xs are k offset first in
+    let b = known_marked ys are_too k offset second in
+    covers.written k offset (is k offset (marked_live xs k offset a) ∙ ap (λ (t : Bool). t && slice_index_or (slice_index_or ys k []) offset false) a ∙ b)
 
 -- no frame
 pub covers_none : Covers [] []

@@ -1,5 +1,4 @@
 pub mod Covered
-pub mod Joined
 pub mod Loads
 pub mod Places
 pub mod Stores

@@ -1,35 +1,33 @@
 // What is known of a program's stack at a place: for each live frame a set of bytes that are written on every path to
-// it. Clauses speak of the frames that a description covers. It relies on `stack_frame` for sets of bytes.
+// it. Clauses speak of the frames that a description covers. It relies on `stack_frame` for sets of bytes, and on
+// `padded_list` for how they are kept.
 
 ghost use Rattle.std.specs.Prelude.{◌≡◌, ◌<◌, ◌≤◌, ◌+◌, ◌-◌, ◌↔◌, ℕ, List, [], ◌∷◌, ◌++◌, Option, IsTrue, length};
 ghost use Rattle.stack_frame.specs.declared.byte_set.TheConstants.{MOST_BYTES};
 ghost use Rattle.stack_domain.specs.Stack.{Covers, Knows, AreWritten};
 ghost use Rattle.stack_domain.specs.Stores.{stored};
 
+use padded_list::PaddedList;
 use stack_frame::{ByteSet, MAX_FRAMES};
 use std::marker::Model;
 
 /// Which bytes are known to be written in each live frame, from 1 to `MAX_FRAMES` of them, the outermost being 0.
 #[derive(Clone, Copy, Debug, PartialEq, Eq)]
 pub struct Stack {
-    // no byte in those that are not live
-    sets: [ByteSet; MAX_FRAMES],
-    depth: usize,
+    sets: PaddedList<ByteSet, MAX_FRAMES>,
 }
 
 impl Model for Stack {
-    ghost use Rattle.std.specs.Prelude.{List, Bool, take, length};
-    ghost use Rattle.stack_domain.specs.Sets.{padded, AreSets, length-live};
+    ghost use Rattle.std.specs.Prelude.{List, Bool};
+    ghost use Rattle.stack_domain.specs.Sets.{AreSets};
 
     ghost Value = { List (List Bool) };
 
-    ghost view = { λ s. take s.depth s.sets };
+    ghost view = { λ s. s.sets };
 
-    ghost invariant = { λ s. AreSets s.sets s.depth };
+    ghost invariant = { λ s. AreSets s.sets };
 
-    ghost inverse = { λ stack. record { sets = padded stack; depth = length stack } };
-
-    ghost inverse_ok = { λ s are i. record { sets = are.rest i; depth = length-live s.sets s.depth are i } };
+    ghost inverse = { λ stack. record { sets = stack } };
 }
 
 impl Stack {
@@ -38,10 +36,9 @@ impl Stack {
         ensures depth { length result ≡ 1 }
         ensures covers { (frame : List (Option ℕ)) → length frame ≡ 512 → Covers result (frame ∷ []) }
     {
-        Stack {
-            sets: [ByteSet::empty(); MAX_FRAMES],
-            depth: 1,
-        }
+        let mut sets = PaddedList::none();
+        sets.push_blank();
+        Stack { sets }
     }
 
     /// How many frames are live.
@@ -50,7 +47,7 @@ impl Stack {
         ensures some { 1 ≤ result }
         ensures few { result ≤ MAX_FRAMES }
     {
-        self.depth
+        self.sets.len()
     }
 
     /// One live frame more, the innermost, of which no byte is known to be written.
@@ -59,10 +56,9 @@ impl Stack {
         ensures depth { length result ≡ length self.now + 1 }
         ensures covers { (frames : List (List (Option ℕ))) (frame : List (Option ℕ)) → (Covers result (frames ++ frame ∷ []) ↔ (Covers self.now frames × (length frame ≡ 512))) }
     {
-        Stack {
-            sets: self.sets,
-            depth: self.depth + 1,
-        }
+        let mut sets = self.sets;
+        sets.push_blank();
+        Stack { sets }
     }
 
     /// The innermost frame is gone.
@@ -72,10 +68,9 @@ impl Stack {
         ensures covers { (frames : List (List (Option ℕ))) (frame : List (Option ℕ)) → Covers self.now (frames ++ frame ∷ []) → Covers result frames }
         ensures knows { (k offset : ℕ) → k < length result → Knows self.now k offset → Knows result k offset }
     {
-        let depth = self.depth - 1;
         let mut sets = self.sets;
-        sets[depth] = ByteSet::empty();
-        Stack { sets, depth }
+        sets.remove_last();
+        Stack { sets }
     }
 
     /// After a store at a known offset: `count` bytes of a frame, at most `MOST_BYTES`, are written from there on.
@@ -87,11 +82,9 @@ impl Stack {
         ensures stored { (frames : List (List (Option ℕ))) (bytes : List ℕ) → Covers self.old frames → length bytes ≡ count → Covers self.new (stored frames frame offset bytes) }
         ensures covers { (frames : List (List (Option ℕ))) → (Covers self.new frames ↔ (Covers self.old frames × AreWritten frames frame offset (offset + count))) }
     {
-        // The proof knows how many frames there are once a field is read.
-        let _depth = self.depth;
-        let mut set = self.sets[frame];
+        let mut set = *self.sets.at(frame);
         set.insert_all(offset, count);
-        self.sets[frame] = set;
+        self.sets.set(frame, set);
     }
 
     /// Whether a frame's bytes from `least` up to `most + count` are known to be written: all that `count` bytes may be
@@ -102,9 +95,9 @@ impl Stack {
         requires inside { most + count ≤ 512 }
         ensures { IsTrue result ↔ ((frames : List (List (Option ℕ))) → Covers self.now frames → AreWritten frames frame least (most + count)) }
     {
-        // The proof knows how many frames there are once a field is read.
-        let _depth = self.depth;
-        self.sets[frame].contains_all(least, most + count - least)
+        self.sets
+            .at(frame)
+            .contains_all(least, most + count - least)
     }
 
     /// What both know, as where two paths meet.
@@ -115,15 +108,10 @@ impl Stack {
         ensures second { (frames : List (List (Option ℕ))) → Covers other.now frames → Covers result frames }
         ensures knows { (k offset : ℕ) → Knows self.now k offset → Knows other.now k offset → Knows result k offset }
     {
-        let first = &self.sets[..];
-        let second = &other.sets[..];
         let mut sets = self.sets;
-        for k in 0..self.depth {
-            sets[k] = first[k].intersection(&second[k]);
+        for k in 0..self.sets.len() {
+            sets.set(k, self.sets.at(k).intersection(other.sets.at(k)));
         }
-        Stack {
-            sets,
-            depth: self.depth,
-        }
+        Stack { sets }
     }
 }

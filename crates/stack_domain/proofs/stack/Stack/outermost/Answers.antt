@@ -1,17 +1,16 @@
-use Rattle.std.proofs.Common.{◌≡◌, Bool, true, false, List, [], ◌∷◌, subst, sym, ap, ◌∙◌}
-use Rattle.std.specs.Prelude.{slice_index_or}
-use Rattle.stack_domain.specs.Sets.{no_bytes, AreSets}
-use Rattle.stack_domain.proofs.Places.{kept_none, nothing_marked}
+use Rattle.std.proofs.Common.{◌≡◌, true, false, List, Bool, [], ◌∷◌, ◌++◌, subst, sym, ap, ◌∙◌}
+use Rattle.stack_frame.specs.ByteSet.{no_bytes}
+use Rattle.stack_domain.specs.Sets.{AreSets}
+use Rattle.stack_domain.specs.Stack.{Covers}
+use Rattle.stack_domain.proofs.Places.{kept_one, nothing_marked}
 use Rattle.stack_domain.proofs.Covered.{covers_more, covers_none}
 use Rattle.stack_domain.proofs.stack.Stack.outermost.Goals as goal
 
 pub invariant_of-result : goal.invariant_of-result
-unfolding no_bytes
 invariant_of-result c =
-    subst (λ (s : List Bool). AreSets (s ∷ s ∷ s ∷ s ∷ s ∷ s ∷ s ∷ s ∷ []) 1) (sym c.empty.ensures) kept_none
+    subst AreSets (sym (c.push_blank.ensures ∙ ap (λ (s : List (List Bool)). s ++ no_bytes ∷ []) c.none-sets.ensures)) kept_one
 
 pub returns-clause-covers : goal.returns-clause-covers
-unfolding no_bytes
 returns-clause-covers c frame long =
-    covers_more [] c.empty.result [] frame covers_none long
-    (λ offset has. let none : false ≡ true = sym (nothing_marked offset) ∙ ap (λ (s : List Bool). slice_index_or s offset false) (sym c.empty.ensures) ∙ has in absurd (cc))
+    subst (λ (s : List (List Bool)). Covers s (frame ∷ [])) (sym (c.push_blank.ensures ∙ ap (λ (s : List (List Bool)). s ++ no_bytes ∷ []) c.none-sets.ensures))
+    (covers_more [] no_bytes [] frame covers_none long (λ offset has. let none : false ≡ true = sym (nothing_marked offset) ∙ has in absurd (cc)))

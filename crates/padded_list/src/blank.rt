@@ -13,22 +13,6 @@ pub trait Blank: Copy {
     /// Whether both are one value.
     fn is_same(&self, other: &Self) -> bool
         ensures { IsTrue result ↔ (self.now ≡ other.now) };
-
-    /// Makes this value the other one. A large type may leave alone what is the same.
-    #[inline(always)]
-    fn become_other(&mut self, other: &Self)
-        ensures { self.new ≡ other.now }
-    {
-        *self = *other;
-    }
-
-    /// Makes this value the blank one. A large type may leave alone what is blank.
-    #[inline(always)]
-    fn become_blank(&mut self)
-        ensures { self.new ≡ blank }
-    {
-        *self = Self::blank();
-    }
 }
 
 impl Blank for u8 {

@@ -143,7 +143,7 @@ impl<T: Blank, const N: usize> PaddedList<T, N> {
     {
         self.len -= 1;
         let value = self.places[self.len];
-        self.places[self.len].become_blank();
+        self.places[self.len] = T::blank();
         value
     }
 
@@ -154,7 +154,7 @@ impl<T: Blank, const N: usize> PaddedList<T, N> {
         ensures { self.new ≡ take (length self.old - 1) self.old }
     {
         self.len -= 1;
-        self.places[self.len].become_blank();
+        self.places[self.len] = T::blank();
     }
 
     /// No value any more. Only places that are in use are touched.
@@ -174,7 +174,7 @@ impl<T: Blank, const N: usize> PaddedList<T, N> {
     {
         let end = self.len.max(other.len);
         for place in 0..end {
-            self.places[place].become_other(&other.places[place]);
+            self.places[place] = other.places[place];
         }
         self.len = other.len;
     }

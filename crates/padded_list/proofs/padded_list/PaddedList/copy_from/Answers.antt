@@ -1,4 +1,4 @@
-use Rattle.std.proofs.Common.{◌≢◌, ◌<◌, sym, subst, ap, take, ◌∙◌, arith}
+use Rattle.std.proofs.Common.{◌≢◌, ◌<◌, sym, subst, ap, take, get_or, ◌∙◌, arith}
 use Rattle.std.proofs.lemmas.List.{get_or_default, get_or-set_other, length-set}
 use Rattle.padded_list.specs.Padded.{IsPadded}
 use Rattle.padded_list.proofs.Places.{copied_is, copied_more}
@@ -9,12 +9,12 @@ loop-place-preserved g c =
     let now = c.loop-place.self-inside.places in
     let others = c.other.inside.places in
     let k = c.loop-place.place in
-    let new = c.become_other.new.self in
+    let new = get_or others k c.index-other-place.result in
     let less : k < g.row.N = omega (arith, c.self.invariant.within, c.other.invariant.within, c.loop-place-test.true, c.max-end.ensures) in
     record {
       whole = length-set now k new ∙ c.loop-place.invariant.whole;
       copied = copied_more g.T.Blank.blank g.row.N now others k new less c.loop-place.invariant.whole c.other.invariant.whole
-          (c.become_other.ensures ∙ get_or_default others k _ new (omega (arith, c.other.invariant.whole))) c.loop-place.invariant.copied;
+          (get_or_default others k c.index-other-place.result new (omega (arith, c.other.invariant.whole, less))) c.loop-place.invariant.copied;
       left = λ j past. let apart : j ≢ k = omega arith in get_or-set_other now k j new g.T.Blank.blank apart ∙ c.loop-place.invariant.left j (omega arith);
     }
 

@@ -9,5 +9,5 @@ invariant_of-self g c =
     let places = c.self.inside.places in
     let len = c.self.inside.len in
     let long = len_is blank g.row.N places len c.self.invariant c.args.self.now c.self.view_is in
-    subst (λ x. IsPadded blank g.row.N (set places (len - 1) x) (len - 1)) (sym c.become_blank.ensures)
+    subst (λ x. IsPadded blank g.row.N (set places (len - 1) x) (len - 1)) (sym c.blank.ensures)
     (kept_less blank g.row.N places len c.self.invariant (len - 1) (omega (arith, long, c.requires)))

@@ -1,5 +1,3 @@
-pub mod HeldPlaces
-pub mod SameHeld
 pub mod Freezes
 pub mod Shifts
 pub mod Sums

@@ -1,5 +1,4 @@
 pub mod CauseText
-pub mod HeldPlaces
 pub mod Freezes
 pub mod Kinds
 pub mod Computes

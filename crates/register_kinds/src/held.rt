@@ -1,4 +1,5 @@
-// The freezes that a run holds, as far as is known, in a place of fixed size. It relies on `freeze_name`.
+// The freezes that a run holds, as far as is known, in a place of fixed size. It relies on `padded_list` for how they are
+// kept, and on `freeze_name`.
 
 ghost use Rattle.std.specs.Prelude.{◌≡◌, ◌<◌, ◌≤◌, ◌↔◌, [], ◌∷◌, ◌++◌, length, IsTrue};
 ghost use Rattle.register_kinds.specs.declared.freeze_name.FreezeName.TheVariants.{Start};
@@ -6,6 +7,7 @@ ghost use Rattle.register_kinds.specs.Freezes.{certainty_of, made_sure as sure_o
 
 use crate::freeze_name::FreezeName;
 use bpf_semantics::MAX_HELD;
+use padded_list::{Blank, PaddedList};
 use std::marker::Model;
 
 /// The greatest number of a freeze.
@@ -20,6 +22,24 @@ pub enum Certainty {
     Sure,
 }
 
+impl Certainty {
+    // Whether both are as sure.
+    fn is_same(self, other: Certainty) -> bool
+        ensures { IsTrue result ↔ (self ≡ other) }
+    {
+        match self {
+            Certainty::Open => match other {
+                Certainty::Open => true,
+                Certainty::Sure => false,
+            },
+            Certainty::Sure => match other {
+                Certainty::Open => false,
+                Certainty::Sure => true,
+            },
+        }
+    }
+}
+
 /// A freeze that a run holds, or one that it would hold had it got it.
 #[derive(Clone, Copy, Debug, PartialEq, Eq)]
 pub struct HeldFreeze {
@@ -27,33 +47,36 @@ pub struct HeldFreeze {
     pub certainty: Certainty,
 }
 
-/// What stands in the places behind the freezes.
-const NO_FREEZE: HeldFreeze = HeldFreeze {
-    name: FreezeName::Start,
-    certainty: Certainty::Open,
-};
+impl Blank for HeldFreeze {
+    ghost blank = { open_freeze Start };
+
+    fn blank() -> Self {
+        HeldFreeze {
+            name: FreezeName::Start,
+            certainty: Certainty::Open,
+        }
+    }
+
+    fn is_same(&self, other: &Self) -> bool {
+        self.name.is_same(other.name) && self.certainty.is_same(other.certainty)
+    }
+}
 
 /// The freezes that a run holds, at most `MAX_HELD` of them, in the order in which it got them. Contracts see the list.
 #[derive(Clone, Copy, Debug, PartialEq, Eq)]
 pub struct Held {
-    places: [HeldFreeze; MAX_HELD],
-    len: usize,
+    freezes: PaddedList<HeldFreeze, MAX_HELD>,
 }
 
 impl Model for Held {
-    ghost use Rattle.std.specs.Prelude.{List, length, take};
+    ghost use Rattle.std.specs.Prelude.{List};
     ghost use Rattle.register_kinds.specs.declared.held.HeldFreeze.{HeldFreeze};
-    ghost use Rattle.register_kinds.specs.HeldPlaces.{padded, IsPadded, length-kept};
 
     ghost Value = { List HeldFreeze };
 
-    ghost view = { λ h. take h.len h.places };
+    ghost view = { λ h. h.freezes };
 
-    ghost invariant = { λ h. IsPadded h.places h.len };
-
-    ghost inverse = { λ held. record { places = padded held; len = length held } };
-
-    ghost inverse_ok = { λ h is i. record { places = is.rest i; len = length-kept h.places h.len is i } };
+    ghost inverse = { λ freezes. record { freezes = freezes } };
 }
 
 impl Held {
@@ -62,8 +85,7 @@ impl Held {
         ensures { result ≡ [] }
     {
         Held {
-            places: [NO_FREEZE; MAX_HELD],
-            len: 0,
+            freezes: PaddedList::none(),
         }
     }
 
@@ -84,14 +106,14 @@ impl Held {
         ensures freezes { result.now ≡ self.now }
         ensures few { length self.now ≤ MAX_HELD }
     {
-        &self.places[..self.len]
+        self.freezes.as_slice()
     }
 
     /// Whether there is none.
     pub fn is_empty(&self) -> bool
         ensures { IsTrue result ↔ (self.now ≡ []) }
     {
-        self.len == 0
+        self.freezes.is_empty()
     }
 
     /// How many there are.
@@ -99,14 +121,14 @@ impl Held {
         ensures count { result ≡ length self.now }
         ensures few { result ≤ MAX_HELD }
     {
-        self.len
+        self.freezes.len()
     }
 
     /// Whether both are the same freezes, as sure, in the same order.
     pub fn is_same(&self, other: &Self) -> bool
         ensures { IsTrue result ↔ (self.now ≡ other.now) }
     {
-        self == other
+        self.freezes.is_same(&other.freezes)
     }
 
     /// One freeze more, which comes last.
@@ -114,8 +136,7 @@ impl Held {
         requires { length self.old < MAX_HELD }
         ensures { self.new ≡ self.old ++ freeze ∷ [] }
     {
-        self.places[self.len] = freeze;
-        self.len += 1;
+        self.freezes.push(freeze);
     }
 
     /// How sure the freeze of that name is, where it is held.

@@ -1,6 +1,6 @@
 // The stack frames of the functions that are open, in a place of fixed size: so a machine is copied and compared without
-// memory. It relies on `frame` for the bytes of each, and keeps them as `padded_list` does: a place of its own, since it
-// lends frames to be written in place.
+// memory. It relies on `frame` for the bytes of each, and on `padded_list` for what it means to keep them so, though in an
+// array of its own: frames are written in place.
 
 ghost use Rattle.std.specs.Prelude.{◌≡◌, ◌<◌, ◌≤◌, ◌+◌, ◌-◌, ◌++◌, ◌↔◌, [], ◌∷◌, IsTrue, None, length, replicate, take, slice_index_or, slice_set};
 ghost use Rattle.byteorder.specs.Endian.{little_bytes};

@@ -1,5 +1,6 @@
 // The 512 bytes of a stack frame, each unwritten or written, the frames that are live, and sets of such bytes: all of
-// fixed size, so that they are copied and compared without memory. It relies on `byteorder` for words in memory.
+// fixed size, so that they are copied and compared without memory. It relies on `byteorder` for words in memory, and on
+// `padded_list` for how frames are kept.
 #![tactic(auto)]
 
 mod byte_set;

@@ -1,0 +1,3 @@
+pub mod ChunkedState
+pub mod Chunks
+pub mod Invariant

@@ -7,8 +7,8 @@ ghost use Rattle.chunked_list.specs.Invariant.{IsSpare, KeepsChunks, seen, spare
 use crate::iter::Iter;
 use std::alloc::{AllocError, Global};
 use std::marker::Model;
-use std::mem;
 use std::ops::Index;
+use std::{fmt, mem};
 
 /// How many values a chunk has room for.
 pub const CHUNK: usize = 1024;
@@ -18,7 +18,7 @@ const MOST_FULL: usize = 1 << 40;
 
 /// A list that only grows. It takes memory a chunk at a time, and a value stays where it was pushed. Contracts see its values in the
 /// order in which they were pushed, and how many there may be before more memory is taken.
-#[derive(Debug, Drop)]
+#[derive(Drop)]
 pub struct ChunkedList<T> {
     // of CHUNK values each
     full: Vec<Vec<T>>,
@@ -135,7 +135,8 @@ impl<T> ChunkedList<T> {
     /// One value more, for which there is room. It takes no memory.
     pub fn push_reserved(&mut self, value: T)
         requires { length self.old.items < self.old.capacity }
-        ensures { self.new ≡ record self.old { items = self.old.items ++ value ∷ [] } }
+        ensures items { self.new.items ≡ self.old.items ++ value ∷ [] }
+        ensures capacity { self.new.capacity ≡ self.old.capacity }
     {
         make_place(&mut self.full, &mut self.last, &mut self.spare);
         self.last.push_reserved(value);
@@ -163,5 +164,12 @@ impl<T> Index<usize> for ChunkedList<T> {
         } else {
             &self.last[place % CHUNK]
         }
+    }
+}
+
+/// As a list of the values.
+impl<T: fmt::Debug> fmt::Debug for ChunkedList<T> {
+    fn fmt<W: fmt::Write>(&self, f: &mut fmt::Formatter<W>) -> fmt::Result {
+        f.debug_list().entries(self.iter()).finish()
     }
 }

@@ -1,5 +1,5 @@
 // The vocabulary of the engine's calls: a call, what it is answered, and the record of both, for hosts, histories and texts.
-// It relies on `ccb` for what a call names, on `freeze_ledger` for what freezes, and on `helpers` for where a run stops.
+// It relies on `ccb` for what a call names, on `freeze_ledger` for what freezes, on `helpers` for where a run stops, and on `chunked_list` for histories.
 #![tactic(auto)]
 
 mod call;

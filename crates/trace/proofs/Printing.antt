@@ -1,8 +1,8 @@
 -- A trace is printed record by record.
-use Rattle.std.proofs.Common.{◌≡◌, ◌<◌, ◌+◌, ℕ, Option, Some, None, Result, Ok, Err, OnOk, List, [], ◌∷◌, ◌++◌, length, take, get_or, refl, sym, ap, ◌∙◌, codes, append_assoc, append-nil, add-one, subst}
+use Rattle.std.proofs.Common.{◌≡◌, ℕ, Option, Some, None, Result, Ok, Err, OnOk, List, [], ◌∷◌, ◌++◌, map, Bor, refl, sym, ap, ◌∙◌, codes, append_assoc, append-nil, subst}
 use Rattle.std.specs.Fmt.{option_append}
 use Rattle.std.specs.Io.KnownBytes.{Appends}
-use Rattle.std.proofs.Math.Seq.{take-suc}
+use Rattle.std.proofs.lemmas.List.{map_push}
 use Rattle.calls.specs.declared.record.Record.{Record}
 use Rattle.call_lines.specs.Written.{Writes}
 use Rattle.call_lines.proofs.Writing.{writes_text, writes_nothing, writes_both}
@@ -45,9 +45,10 @@ pub no_records : (old : Option (List ℕ)) → Writes (records_text []) old old
 unfolding records_text
 no_records old = writes_nothing old
 
-pub one_record : (entries : List Record) (place : ℕ) (entry : Record) (old mid new : Option (List ℕ)) → place < length entries → entry ≡ get_or entries place entry
-    → Writes (records_text (take place entries)) old mid → Writes (record_text entry) mid new → Writes (records_text (take (place + 1) entries)) old new
-one_record entries place entry old mid new within is so_far written =
-    let more : take (place + 1) entries ≡ take place entries ++ entry ∷ [] = rw add-one (take-suc entries place entry within ∙ ap (λ (x : Record). take place entries ++ x ∷ []) (sym is)) in
-    let whole = writes_both (records_text (take place entries)) (record_text entry) old mid new so_far written in
-    subst (λ (t : Option (List ℕ)). Writes t old new) (sym (ap records_text more ∙ records_push (take place entries) entry)) whole
+-- the records so far, as a walk over them lends them
+pub one_record : (entries : List (Bor Record)) (entry : Bor Record) (old mid new : Option (List ℕ)) → Writes (records_text (map (λ it. it.now) entries)) old mid → Writes (record_text entry.now) mid new
+    → Writes (records_text (map (λ it. it.now) (entries ++ entry ∷ []))) old new
+one_record entries entry old mid new so_far written =
+    let reads : Bor Record → Record = λ it. it.now in
+    let whole = writes_both (records_text (map reads entries)) (record_text entry.now) old mid new so_far written in
+    subst (λ (t : Option (List ℕ)). Writes t old new) (sym (ap records_text (map_push reads entries entry) ∙ records_push (map reads entries) entry.now)) whole

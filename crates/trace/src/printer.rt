@@ -1,5 +1,5 @@
 // The trace as text, version 1: a header, a line a record by the row of its word, and the sums. It relies on `call_lines` for lines,
-// and on `calls` for records.
+// and on `calls` for records, which stand in a `chunked_list`.
 
 ghost use Rattle.std.specs.Prelude.{◌≡◌, IfSome, OnOk};
 ghost use Rattle.call_lines.specs.Written.{Writes};
@@ -9,6 +9,7 @@ use call_lines::{
     Slots, Stop, Value, Word, no_spelling, print_line, print_long_number, values_of, word_of,
 };
 use calls::{Call, CallAnswer, Record, StoppedAt, Totals, Trace};
+use chunked_list::ChunkedList;
 use short_bytes::ShortBytes;
 use std::io;
 use std::io::Write;
@@ -23,10 +24,10 @@ pub fn print<W: Write>(trace: &Trace, out: &mut W) -> io::Result<()>
     print_totals(trace.totals, out)
 }
 
-fn print_records<W: Write>(records: &[Record], out: &mut W) -> io::Result<()>
-    ensures { OnOk result (Writes (records_text records.now) (W.contents out.old) (W.contents out.new)) }
+fn print_records<W: Write>(records: &ChunkedList<Record>, out: &mut W) -> io::Result<()>
+    ensures { OnOk result (Writes (records_text records.now.items) (W.contents out.old) (W.contents out.new)) }
 {
-    for entry in records {
+    for entry in records.iter() {
         print_record(entry, out)?;
     }
     Ok(())

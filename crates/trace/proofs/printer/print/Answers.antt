@@ -7,8 +7,7 @@ use Rattle.trace.proofs.printer.print.Goals as goal
 
 pub returns : goal.returns
 returns g c =
-    let lines = rw c.deref.ensures.value at c.in_ok-print_records.ensures in
     on_ok c.print_totals.result
     (λ sums. writes_both (Some (codes "camr-trace 1\n")) (option_append (records_text c.args.trace.now.records.items) (totals_text c.args.trace.now.totals)) _ _ _
-    (writes_text (codes "camr-trace 1\n") _ _ c.in_ok-write_all.ensures.bytes) (writes_both (records_text c.args.trace.now.records.items) (totals_text c.args.trace.now.totals) _ _ _ lines sums))
+    (writes_text (codes "camr-trace 1\n") _ _ c.in_ok-write_all.ensures.bytes) (writes_both (records_text c.args.trace.now.records.items) (totals_text c.args.trace.now.totals) _ _ _ c.in_ok-print_records.ensures sums))
     c.print_totals.ensures

@@ -6,4 +6,4 @@ loop-entry-init g c = no_records (g.W.Write.contents c.args.out.now)
 
 pub loop-entry-preserved : goal.loop-entry-preserved
 loop-entry-preserved g c =
-    one_record c.args.records.now c.loop-entry.entry-index c.entry-item.result _ _ _ c.loop-entry-test.true c.entry-item.is c.loop-entry.invariant c.in_ok-print_record.ensures
+    one_record c.loop-entry.yielded c.in-Some.entry _ _ _ c.loop-entry.invariant c.in_ok-print_record.ensures

@@ -2,7 +2,7 @@
 // more: room for the record is taken first, and nothing is undone. It relies on `parts` for what an event needs and does, and
 // on `world` for what is recorded.
 
-ghost use Rattle.std.specs.Prelude.{◌≡◌, ◌↔◌, IsTrue, ◌+◌, ◌≤◌, ◌++◌, ◌∷◌, [], length, vec_capacity, false, IfOk, IfErr, OnErr};
+ghost use Rattle.std.specs.Prelude.{◌≡◌, ◌↔◌, IsTrue, ◌+◌, ◌≤◌, ◌++◌, ◌∷◌, [], length, false, IfOk, IfErr, OnErr};
 ghost use Rattle.runs.specs.Admits.{IsOutWith};
 ghost use Rattle.runs.specs.RunsState.{no_runs};
 ghost use Rattle.world.specs.World.{opening};
@@ -17,6 +17,7 @@ use crate::parts::Parts;
 use crate::reply::Reply;
 use crate::run::Run;
 use calls::{Record, Totals, Trace};
+use chunked_list::ChunkedList;
 use engine_config::Config;
 use interpreter::Segment;
 use runs::{MAX_RUNS, Runs};
@@ -33,7 +34,7 @@ const ROOM: usize = 1 + MAX_RUNS;
 pub struct Engine {
     config: Config,
     parts: Parts,
-    history: Vec<Record>,
+    history: ChunkedList<Record>,
 }
 
 impl Model for Engine {
@@ -46,18 +47,18 @@ impl Model for Engine {
 
     ghost view = { λ e. record { setup = e.config; history = e.history.items; world = world_of e.config e.history.items e.parts.transport e.parts.runs.runs } };
 
-    ghost use Rattle.std.specs.Prelude.{length, vec_capacity};
+    ghost use Rattle.std.specs.Prelude.{length};
     ghost use Rattle.engine_core.specs.Invariant.{HasRoom};
 
-    ghost invariant = { λ e. KeepsEngine e.config e.history.items e.parts.transport e.parts.runs × HasRoom (length e.history.items) (vec_capacity e.history) e.parts.runs.runs.list };
+    ghost invariant = { λ e. KeepsEngine e.config e.history.items e.parts.transport e.parts.runs × HasRoom (length e.history.items) e.history.capacity e.parts.runs.runs.list };
 }
 
 // Makes room for the record of an event, and for one of each run, which may be parked behind it. For the record of a park
 // there is room.
-fn make_room(history: &mut Vec<Record>, event: &Event<'_>) -> Result<(), AllocError>
+fn make_room(history: &mut ChunkedList<Record>, event: &Event<'_>) -> Result<(), AllocError>
     ensures items { history.new.items ≡ history.old.items }
-    ensures room { IfOk result (λ _. IsRoomFor event.now (length history.new.items) (vec_capacity history.new)) }
-    ensures kept { vec_capacity history.old ≤ vec_capacity history.new }
+    ensures room { IfOk result (λ _. IsRoomFor event.now (length history.new.items) history.new.capacity) }
+    ensures kept { history.old.capacity ≤ history.new.capacity }
     ensures refused { OnErr result (is_park event.now ≡ false) }
 {
     if event.is_park() {
@@ -90,11 +91,15 @@ impl Engine {
         ensures opened { IfOk result (λ engine. engine ≡ opened config) }
         ensures back { IfErr result (λ fault. fault.1 ≡ config) }
     {
+        let history = match ChunkedList::with_room(alloc) {
+            Ok(history) => history,
+            Err(fault) => return Err((fault, config)),
+        };
         match rooms(alloc, &config) {
             Ok(parts) => Ok(Engine {
                 config,
                 parts,
-                history: Vec::new(alloc),
+                history,
             }),
             Err(fault) => Err((fault, config)),
         }

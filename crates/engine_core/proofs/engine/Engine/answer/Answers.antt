@@ -1,5 +1,5 @@
-use Rattle.std.proofs.Common.{length, refl, sym, ◌∙◌, rules, arith}
-use Rattle.std.specs.Prelude.{vec_capacity}
+use Rattle.std.proofs.Common.{length, refl, ap, sym, ◌∙◌, rules, arith}
+use Rattle.std.proofs.lemmas.List.{length_push}
 use Rattle.engine_core.specs.EngineState.{world_of}
 use Rattle.engine_core.proofs.Answering.{few_runs, fit_at, on_err, performed, room_behind, room_to_tell, told_fit, unfit_owns, unless_err}
 use Rattle.engine_core.proofs.Parking.{room_kept}
@@ -26,9 +26,9 @@ returns-then-is_err-clause-fits c = (on_err c.make_room.result _ (sym c.is_err.e
 pub push_reserved-requires : goal.push_reserved-requires
 push_reserved-requires c =
     let room = unless_err c.make_room.result _ (sym c.is_err.ensures.value ∙ c.if-is_err.false) c.make_room.ensures.room in
-    let one = room_to_tell c.args.event c.in-Some.place c.self.inside.parts.transport c.self.inside.parts.runs (length c.make_room.new.history.items) (vec_capacity c.self.inside.history) (vec_capacity c.make_room.new.history) c.in-Some.ensures.fit
+    let one = room_to_tell c.args.event c.in-Some.place c.self.inside.parts.transport c.self.inside.parts.runs (length c.make_room.new.history.items) c.self.inside.history.capacity c.make_room.new.history.capacity c.in-Some.ensures.fit
     (rw c.make_room.ensures.items c.self.invariant.1) c.make_room.ensures.kept room in
-    omega (arith, one, c.make_room.new.history.ok)
+    omega (arith, one)
 
 pub invariant_of-self-in-Ok : goal.invariant_of-self-in-Ok
 invariant_of-self-in-Ok c =
@@ -36,9 +36,9 @@ invariant_of-self-in-Ok c =
     c.self.invariant.0 (search rules) c.in-Ok.ensures.performs in
     let few = few_runs c.self.inside.config c.push_reserved.new.self.items c.perform.new.self.transport c.perform.new.self.runs it.kept in
     let room = unless_err c.make_room.result _ (sym c.is_err.ensures.value ∙ c.if-is_err.false) c.make_room.ensures.room in
-    let behind = room_behind c.args.event c.self.inside.parts.runs.runs.list c.perform.new.self.runs.runs.list (length c.make_room.new.history.items) (vec_capacity c.self.inside.history) (vec_capacity c.make_room.new.history) c.in-Ok.ensures.performs.room few
+    let behind = room_behind c.args.event c.self.inside.parts.runs.runs.list c.perform.new.self.runs.runs.list (length c.make_room.new.history.items) c.self.inside.history.capacity c.make_room.new.history.capacity c.in-Ok.ensures.performs.room few
     (rw c.make_room.ensures.items c.self.invariant.1) c.make_room.ensures.kept room in
-    (it.kept, room_kept _ _ _ _ c.perform.new.self.runs.runs.list behind (search rules) c.push_reserved.ensures.capacity)
+    (it.kept, room_kept _ _ _ _ c.perform.new.self.runs.runs.list behind (ap length c.push_reserved.ensures.items ∙ length_push _ _) c.push_reserved.ensures.capacity)
 
 pub returns-in-Ok-clause-recorded : goal.returns-in-Ok-clause-recorded
 returns-in-Ok-clause-recorded c =

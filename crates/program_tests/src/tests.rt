@@ -3,6 +3,7 @@
 
 use calls::{Call, CallAnswer, CompletionRecord, Record, StoppedAt, Totals, Trace, TracedBytes};
 use ccb::{CamStatus, CcbId, Completion};
+use chunked_list::ChunkedList;
 use command_line::Plan;
 use commands::carry;
 use helpers::Helper;
@@ -167,7 +168,10 @@ fn records_of_no_scenario(rt: HostRuntime) -> Result<(), Fail> {
         stop: StoppedAt::Trace(Helper::Trace, TracedBytes::new(alloc, bytes)?),
         r0: 0,
     };
-    let records = vec![in alloc; started, traced, ended]?;
+    let mut records = ChunkedList::with_room(alloc)?;
+    records.push_reserved(started);
+    records.push_reserved(traced);
+    records.push_reserved(ended);
     let totals = Totals {
         history: 3,
         frozen: 1024,

@@ -1,5 +1,6 @@
 // A module for what is tested, and the policies that they share.
 
+mod chunks;
 mod decoding;
 mod each_call;
 mod engine;

@@ -6,6 +6,7 @@ use accepted::Accepted;
 use bpf_insn::{Insn, Program};
 use calls::{Call, CallAnswer};
 use ccb::QueueId;
+use chunked_list::ChunkedList;
 use engine_core::{CallFault, Config, Engine, Record, ReleaseFault, Totals, Trace};
 use freeze_ledger::{FreezeToken, Place};
 use or_memory::OrMemory;
@@ -151,14 +152,22 @@ fn freeze_and_release(rt: &impl Abort, engine: &mut Engine) -> Result<u32, Fail>
 }
 
 // Whether these are the records, by all that they tell.
-pub fn are_told(alloc: Global, records: &[Record], wanted: &[Record]) -> Result<bool, Fail> {
+pub fn are_told(
+    alloc: Global,
+    records: &ChunkedList<Record>,
+    wanted: &[Record],
+) -> Result<bool, Fail> {
     match are_same(alloc, records, wanted) {
         Ok(answer) => Ok(answer),
         Err(AllocError) => Ok(are_same(alloc, records, wanted)?),
     }
 }
 
-fn are_same(alloc: Global, records: &[Record], wanted: &[Record]) -> Result<bool, AllocError> {
+fn are_same(
+    alloc: Global,
+    records: &ChunkedList<Record>,
+    wanted: &[Record],
+) -> Result<bool, AllocError> {
     Ok(*format!(in alloc; "{records:?}")? == *format!(in alloc; "{wanted:?}")?)
 }
 

@@ -275,6 +275,25 @@ pub fn completed(alloc: Global, completion: &Completion) -> Result<CompletionRec
     }
 }
 
+// CCB 1 is queued, and becomes active.
+fn submitted() -> Record {
+    Record::Called {
+        call: Call::Submit {
+            queue: QUEUE,
+            priority: 10,
+            retries: 3,
+        },
+        answer: CallAnswer::Ccb(CcbId(1)),
+    }
+}
+
+fn dispatched() -> Record {
+    Record::Called {
+        call: Call::Dispatch { queue: QUEUE },
+        answer: CallAnswer::Ccb(CcbId(1)),
+    }
+}
+
 // Run 1 starts, and holds freeze 1.
 fn recovering(completion: CompletionRecord) -> Record {
     Record::Called {
@@ -299,18 +318,8 @@ fn failed_once_and_memory_refused_once(rt: HostRuntime) -> Result<(), Fail> {
     let trace = shut(engine);
     outcome?;
     let records = [
-        Record::Called {
-            call: Call::Submit {
-                queue: QUEUE,
-                priority: 10,
-                retries: 3,
-            },
-            answer: CallAnswer::Ccb(CcbId(1)),
-        },
-        Record::Called {
-            call: Call::Dispatch { queue: QUEUE },
-            answer: CallAnswer::Ccb(CcbId(1)),
-        },
+        submitted(),
+        dispatched(),
         recovering(completed(rt.alloc(), &failed)?),
         advanced(3, StoppedAt::Helper(Helper::Release)),
         advanced(2, StoppedAt::Helper(Helper::Requeue)),
@@ -380,6 +389,8 @@ fn traced_once_and_memory_refused_once(rt: HostRuntime) -> Result<(), Fail> {
     outcome?;
     let seven = ShortBytes::new(&[7, 0, 0, 0, 0, 0, 0, 0]).ok_or("no bytes")?;
     let records = [
+        submitted(),
+        dispatched(),
         recovering(completed(rt.alloc(), &failed)?),
         advanced(
             6,
@@ -389,8 +400,7 @@ fn traced_once_and_memory_refused_once(rt: HostRuntime) -> Result<(), Fail> {
         advanced(2, StoppedAt::Helper(Helper::Requeue)),
         advanced(2, StoppedAt::Exit),
     ];
-    let told = trace.records.get(2..).ok_or("fewer records")?;
-    assert!(rt; are_told(rt.alloc(), told, &records)?);
+    assert!(rt; are_told(rt.alloc(), &trace.records, &records)?);
     Ok(())
 }
 

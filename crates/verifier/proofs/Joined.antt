@@ -66,4 +66,3 @@ left_on saved d there merged before leaves deep is = record {
   leaves = λ outer m m' holds step. (merged, refl, is.covers outer m' (leaves outer m m' holds step));
   frames = λ frames deep_there all now now_is. ap (λ (x : Description). length x.stack) (sym (same_description merged now now_is)) ∙ is.frames frames (omega (arith, deep, deep_there)) all;
 }
-

@@ -54,4 +54,3 @@ pub arrives_on : (program : List Slot) (table : Table) (place : ℕ) (insn : Ins
 arrives_on program table place insn way to d there lacks_not all at goes here leaves =
     let arrives = all place d here in
     follows place to insn way d there arrives at (lacks_not.enough place insn d arrives at) goes leaves
-

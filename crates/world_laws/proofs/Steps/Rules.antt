@@ -55,4 +55,3 @@ pub first_within : (limits : HelperLimits) (m : MachineState) (request : Request
 first_within limits m request least most first rule =
     let parts = and_parts (leb least request.arguments.first) (leb request.arguments.first most) (first_as limits m request (Some (Within least most)) first rule) in
     (leb-true _ _ parts.0, leb-true _ _ parts.1)
-

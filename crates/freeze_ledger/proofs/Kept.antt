@@ -1,5 +1,5 @@
 -- What a ledger keeps is kept by a freeze at the end, by a removal and by a change of a holder.
-use Rattle.std.proofs.Common.{◌≡◌, ℕ, suc, ◌+◌, ◌-◌, ◌<◌, ◌≤◌, List, [], ◌∷◌, ◌++◌, length, take, drop, get_or, set, refl, arith, length-append, eqb, cond, inl, inr, ◌∙◌, ap, sym, subst}
+use Rattle.std.proofs.Common.{◌≡◌, ℕ, suc, ◌+◌, ◌-◌, ◌<◌, ◌≤◌, List, [], ◌∷◌, ◌++◌, length, take, drop, get_or, set, refl, arith, length-append, cond, inl, inr, ◌∙◌, ap, sym, subst}
 use Rattle.std.proofs.lemmas.Bool.{cases_eq, eq-eqb, ne_eqb}
 use Rattle.std.proofs.lemmas.List.Elements.{All-push, All-set, All-append, All-take, All-drop}
 use Rattle.std.proofs.lemmas.List.Sums.{sum_by-append, sum_by-remove, sum_by-set}
@@ -12,16 +12,11 @@ use Rattle.std.specs.Vec.{vec_capacity}
 use Rattle.std.specs.declared.vec.Vec.{Vec}
 use Rattle.std.specs.declared.alloc.Global.{Global}
 use Rattle.freeze_ledger.specs.declared.place.Place.{Place}
-use Rattle.freeze_ledger.specs.declared.place.Place.TheVariants.{Device}
 use Rattle.freeze_ledger.specs.Places.{index_of, is_place}
 use Rattle.freeze_ledger.specs.declared.freeze.Freeze.{Freeze}
 use Rattle.freeze_ledger.specs.Freezes.{frozen}
 use Rattle.freeze_ledger.specs.Invariant.{IsKept}
 use Rattle.freeze_ledger.proofs.Numbered.{numbered_push, numbered_remove}
-
--- places are told apart by their numbers
-same_place : (a b : Place) → is_place a b ≡ eqb (index_of a) (index_of b)
-same_place (Device a) (Device b) = refl
 
 -- the count that is read at the number of a place
 pub count_at : (counts : List ℕ) (at place count default : ℕ) → at ≡ place → place < length counts → count ≡ get_or counts at default → count ≡ get_or counts place 0
@@ -40,13 +35,13 @@ counted_push fs counts f counted known q below =
     elim (cases_eq (index_of q) (index_of f.place)) [
       | inl same ↦
           let here : get_or (set counts (index_of f.place) (get_or counts (index_of f.place) 0 + 1)) (index_of f.place) 0 ≡ get_or counts (index_of f.place) 0 + 1 = rw get_or-set_same refl in
-          let one : cond {A = ℕ} (is_place f.place q) 1 0 ≡ 1 = rw (same_place f.place q, eq-eqb (index_of f.place) (index_of q) (sym same)) refl in
+          let one : cond {A = ℕ} (is_place f.place q) 1 0 ≡ 1 = rw (eq-eqb (index_of f.place) (index_of q) (sym same)) refl in
           let there : get_or counts (index_of f.place) 0 ≡ frozen q fs = rw (← same) now in
           let moved : get_or (set counts (index_of f.place) (get_or counts (index_of f.place) 0 + 1)) (index_of q) 0 ≡ get_or counts (index_of f.place) 0 + 1 = subst (λ (x : ℕ). get_or (set counts (index_of f.place) (get_or counts (index_of f.place) 0 + 1)) x 0 ≡ get_or counts (index_of f.place) 0 + 1) (sym same) here in
           omega (arith, moved, there, one, more)
       | inr other ↦
           let kept : get_or (set counts (index_of f.place) (get_or counts (index_of f.place) 0 + 1)) (index_of q) 0 ≡ get_or counts (index_of q) 0 = rw get_or-set_other refl in
-          let none : cond {A = ℕ} (is_place f.place q) 1 0 ≡ 0 = rw (same_place f.place q, ne_eqb (index_of f.place) (index_of q) (λ e. other (sym e))) refl in
+          let none : cond {A = ℕ} (is_place f.place q) 1 0 ≡ 0 = rw (ne_eqb (index_of f.place) (index_of q) (λ e. other (sym e))) refl in
           omega (arith, kept, none, more, now)
     ]
 
@@ -71,7 +66,7 @@ pub counted_above : (v : Vec Freeze Global) (counts : List ℕ) (greatest k : �
 counted_above v counts greatest k f kept within at =
     let known : index_of f.place < length counts = subst (λ (x : Freeze). index_of x.place < length counts) at (kept.known k f within) in
     let fewer = frozen_remove f.place v.items f k within at in
-    let one : cond {A = ℕ} (is_place f.place f.place) 1 0 ≡ 1 = rw (same_place f.place f.place, eq-eqb (index_of f.place) (index_of f.place) refl) refl in
+    let one : cond {A = ℕ} (is_place f.place f.place) 1 0 ≡ 1 = rw (eq-eqb (index_of f.place) (index_of f.place) refl) refl in
     (known, omega (arith, kept.counted f.place known, fewer, one))
 
 -- each stored count is the number of entries, one freeze fewer
@@ -82,13 +77,13 @@ counted_remove fs counts f k counted known within at q below =
     elim (cases_eq (index_of q) (index_of f.place)) [
       | inl same ↦
           let here : get_or (set counts (index_of f.place) (get_or counts (index_of f.place) 0 - 1)) (index_of f.place) 0 ≡ get_or counts (index_of f.place) 0 - 1 = rw get_or-set_same refl in
-          let one : cond {A = ℕ} (is_place f.place q) 1 0 ≡ 1 = rw (same_place f.place q, eq-eqb (index_of f.place) (index_of q) (sym same)) refl in
+          let one : cond {A = ℕ} (is_place f.place q) 1 0 ≡ 1 = rw (eq-eqb (index_of f.place) (index_of q) (sym same)) refl in
           let there : get_or counts (index_of f.place) 0 ≡ frozen q fs = rw (← same) now in
           let moved : get_or (set counts (index_of f.place) (get_or counts (index_of f.place) 0 - 1)) (index_of q) 0 ≡ get_or counts (index_of f.place) 0 - 1 = subst (λ (x : ℕ). get_or (set counts (index_of f.place) (get_or counts (index_of f.place) 0 - 1)) x 0 ≡ get_or counts (index_of f.place) 0 - 1) (sym same) here in
           omega (arith, moved, there, one, fewer)
       | inr other ↦
           let kept : get_or (set counts (index_of f.place) (get_or counts (index_of f.place) 0 - 1)) (index_of q) 0 ≡ get_or counts (index_of q) 0 = rw get_or-set_other refl in
-          let none : cond {A = ℕ} (is_place f.place q) 1 0 ≡ 0 = rw (same_place f.place q, ne_eqb (index_of f.place) (index_of q) (λ e. other (sym e))) refl in
+          let none : cond {A = ℕ} (is_place f.place q) 1 0 ≡ 0 = rw (ne_eqb (index_of f.place) (index_of q) (λ e. other (sym e))) refl in
           omega (arith, kept, none, fewer, now)
     ]
 

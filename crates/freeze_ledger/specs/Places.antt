@@ -3,13 +3,13 @@ use Rattle.std.specs.Prelude.{ℕ, ◌==◌, Bool}
 use Rattle.freeze_ledger.specs.declared.place.Place.{Place}
 use Rattle.freeze_ledger.specs.declared.place.Place.TheVariants.{Device}
 
--- the number of a place: the device queues in the order of their numbers
+-- the number of a place, which no other has: the device queues in the order of their numbers
 abbrev pub index_of : Place → ℕ
 index_of (Device queue) = queue.0
 
 -- both are one place
 abbrev pub is_place : Place → Place → Bool
-is_place (Device one) (Device other) = one.0 == other.0
+is_place one other = index_of one == index_of other
 
 -- the device queue of a number
 abbrev pub device : ℕ → Place

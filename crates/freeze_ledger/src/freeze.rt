@@ -1,5 +1,7 @@
 // What one entry of the ledger is. It relies on `place` for what freezes.
 
+ghost use Rattle.std.specs.Prelude.{◌≡◌, ◌↔◌, IsTrue};
+
 use crate::place::Place;
 
 /// Who keeps a place frozen.
@@ -20,4 +22,13 @@ pub struct Freeze {
     pub number: u32,
     pub place: Place,
     pub holder: Holder,
+}
+
+impl Freeze {
+    /// Whether both are one entry, part by part.
+    pub(crate) fn is_same(&self, other: &Freeze) -> bool
+        ensures { IsTrue result ↔ (self.now ≡ other.now) }
+    {
+        self.number == other.number && self.place == other.place && self.holder == other.holder
+    }
 }

@@ -35,7 +35,7 @@ impl<'a> Iterator for Holders<'a> {
     fn next(&mut self) -> Option<(u32, Holder)> {
         while let Some((first, others)) = self.freezes.split_first() {
             self.freezes = others;
-            if first.place == self.place {
+            if first.place.is_same(self.place) {
                 return Some((first.number, first.holder));
             }
         }

@@ -51,7 +51,7 @@ fn place_of(freezes: &[Freeze], freeze: Freeze) -> Option<usize>
     ensures found { IfSome result (λ place. slice_index_or freezes.now place freeze ≡ freeze) }
     ensures held { IsSome result ↔ Contains freezes.now freeze }
 {
-    freezes.iter().position(|held| *held == freeze)
+    freezes.iter().position(|held| held.is_same(&freeze))
 }
 
 // Where the freeze of this number stands.

@@ -1,7 +1,7 @@
 // What freezes: a place of the transport. It relies on the name of a queue.
 
-ghost use Rattle.std.specs.Prelude.{◌≡◌, ◌↔◌, IsTrue};
-ghost use Rattle.freeze_ledger.specs.Places.{index_of};
+ghost use Rattle.std.specs.Prelude.{◌≡◌};
+ghost use Rattle.freeze_ledger.specs.Places.{index_of, is_place};
 
 use ccb::QueueId;
 
@@ -20,5 +20,12 @@ impl Place {
         match self {
             Place::Device(queue) => queue.0 as usize,
         }
+    }
+
+    /// Whether both are one place.
+    pub(crate) fn is_same(self, other: Place) -> bool
+        ensures { result ≡ is_place self other }
+    {
+        self.index() == other.index()
     }
 }

@@ -3,12 +3,12 @@ use Rattle.std.proofs.Common.{◌≡◌, ℕ, ◌+◌, ◌<◌, ◌≤◌, List,
 use Rattle.std.proofs.lemmas.Bool.{cases_eq, cond-true, cond-false, eq-eqb, ne_eqb, eqb-true}
 use Rattle.std.proofs.lemmas.List.Sums.{sum_by_push, sum_by-cons}
 use Rattle.std.proofs.lemmas.List.Filters.{sum_by-filter_both}
+use Rattle.std.specs.List.{count_by}
 use Rattle.ccb.specs.Rising.{AreRising}
 use Rattle.freeze_ledger.specs.declared.freeze.Holder.TheVariants.{Timer}
 use Rattle.freeze_ledger.specs.declared.freeze.Freeze.{Freeze}
 use Rattle.freeze_ledger.specs.declared.place.Place.{Place}
-use Rattle.freeze_ledger.specs.declared.place.Place.TheVariants.{Device}
-use Rattle.freeze_ledger.specs.Places.{is_place, device}
+use Rattle.freeze_ledger.specs.Places.{index_of, is_place}
 use Rattle.freeze_ledger.specs.Freezes.{names, frozen, entry_of, without, handed_over, is_due, due_at, not_due_at}
 use Rattle.world.proofs.Lists.Found.{put, at_head, at_tail, put_tail, found_key, missing_push, leave_same}
 use Rattle.world.proofs.Lists.Rising.{put_here, found_bounds, count_gone}
@@ -22,11 +22,11 @@ FreezesRise low freezes high = AreRising low (map freeze_key freezes) high
 
 -- a place is itself
 pub place_itself : (place : Place) → is_place place place ≡ true
-place_itself (Device queue) = eq-eqb queue.0 queue.0 refl
+place_itself place = eq-eqb (index_of place) (index_of place) refl
 
 -- what freezes one place freezes it under each of its names
 pub same_frozen : (one other : Place) (fs : List Freeze) → is_place one other ≡ true → frozen one fs ≡ frozen other fs
-same_frozen (Device one) (Device other) fs same = ap (λ (n : ℕ). frozen (device n) fs) (eqb-true one.0 other.0 same)
+same_frozen one other fs same = ap (λ (n : ℕ). count_by (λ (f : Freeze). eqb (index_of f.place) n) fs) (eqb-true (index_of one) (index_of other) same)
 
 pub frozen_push : (q : Place) (fs : List Freeze) (f : Freeze) → frozen q (fs ++ f ∷ []) ≡ frozen q fs + cond (names q f) 1 0
 frozen_push q fs f = sum_by_push (λ (x : Freeze). cond (names q x) 1 0) fs f
@@ -104,4 +104,3 @@ frozen_due q reading fs =
 pub none_since : (o : Option Freeze) → (IsSome o → ⊥) → o ≡ None
 none_since None h = refl
 none_since (Some f) h = absurd (h refl)
-

@@ -1,13 +1,16 @@
 -- An answer is read as it is printed.
-use Rattle.std.proofs.Common.{◌≡◌, ◌<◌, ◌^◌, ◌==◌, ◌||◌, ℕ, Bool, true, false, Option, Some, None, IfSome, List, [], ◌∷◌, ◌++◌, get_or, refl, sym, ap, ◌∙◌, arith, codes, nat_lt, decimal, bytes_eq, append_assoc, ◌⊎◌, inl, inr}
+use Rattle.std.proofs.Common.{◌≡◌, ◌<◌, ◌^◌, ◌==◌, ◌||◌, ℕ, Bool, true, false, Option, Some, None, IfSome, List, [], ◌∷◌, ◌++◌, get_or, refl, sym, ap, ◌∙◌, arith, codes, nat_lt, decimal, bytes_eq, append_assoc, ◌⊎◌, inl, inr, rules}
 use Rattle.std.specs.List.{list_all}
+use Rattle.std.specs.Prelude.{find}
+use Rattle.std.specs.Option.{option_map}
 use Rattle.std.specs.Char.{is_ascii_digit}
 use Rattle.std.specs.Fmt.{option_append}
 use Rattle.std.proofs.lemmas.Bool.{ltb-true}
 use Rattle.std.proofs.lemmas.Bool.Decides.{nat_tests}
-use Rattle.calls.specs.CallRefusalText.{call_refusal_text}
+use Rattle.calls.specs.CallRefusalText.{call_refusal_text, refusal_coded, row_of as refusal_row}
 use Rattle.calls.specs.declared.call_refusal.CallRefusal.{CallRefusal}
-use Rattle.calls.specs.declared.call_refusal.CallRefusal.TheVariants as refusals
+use Rattle.calls.specs.declared.call_refusal.RefusalRow.{RefusalRow}
+use Rattle.calls.specs.declared.call_refusal.TheConstants.{REFUSALS}
 use Rattle.calls.specs.declared.call_answer.CallAnswer.{CallAnswer}
 use Rattle.calls.specs.declared.call_answer.CallAnswer.TheVariants as answers
 use Rattle.call_lines.specs.declared.table.Form.{Form}
@@ -18,7 +21,7 @@ use Rattle.call_lines.specs.Rows.{is_among}
 use Rattle.call_lines.specs.Texts.{where_true, number_text}
 use Rattle.call_lines.specs.Reading.{IsCut, ends_word, is_black}
 use Rattle.call_lines.specs.Written.{Reads}
-use Rattle.call_lines.proofs.Tests.{passed, both, parts_of, same_text, joined}
+use Rattle.call_lines.proofs.Tests.{passed, both, parts_of, same_text, same_bytes, found_passes, joined}
 use Rattle.call_lines.proofs.Cutting.{cut_once}
 use Rattle.call_lines.proofs.Decimals.{decimal_black, decimal_digits}
 
@@ -146,14 +149,12 @@ first_told forms.Went (answers.Removed count) text e = number_first count text e
 first_told forms.Ok answers.Ok text e = ap capital (sym (same_text (codes "ok") text e))
 first_told form answer text e = absurd cc
 
+capital_code : (refusal : CallRefusal) → capital (call_refusal_text refusal) ≡ true
+unfolding refusal_row
+capital_code refusal = search rules
+
 first_code : (refusal : CallRefusal) (text : List ℕ) → code_told refusal ≡ Some text → capital text ≡ true
-first_code refusals.Unknown text e = ap capital (sym (same_text (codes "C1") text e))
-first_code refusals.Limit text e = ap capital (sym (same_text (codes "C2") text e))
-first_code refusals.NotActive text e = ap capital (sym (same_text (codes "C3") text e))
-first_code refusals.GoesBack text e = ap capital (sym (same_text (codes "C5") text e))
-first_code refusals.Frozen text e = ap capital (sym (same_text (codes "Q2") text e))
-first_code refusals.NoOpening text e = ap capital (sym (same_text (codes "Q3") text e))
-first_code refusals.NothingWaits text e = ap capital (sym (same_text (codes "Q4") text e))
+first_code refusal text e = ap capital (sym (same_text (call_refusal_text refusal) text e)) ∙ capital_code refusal
 
 -- what is no refusal is not spelled as one
 no_code : (row : Row) (answer : CallAnswer) (refusal : CallRefusal) (text : List ℕ) → form_text row.form answer ≡ Some text → refusal_text row refusal ≡ Some text → ⊥
@@ -216,6 +217,23 @@ pub formed_reads : (row : Row) (text : List ℕ) (read : Option CallAnswer) → 
 formed_reads row text read none reads = record {
   said = said_formed row text read reads.said;
   back = λ answer e. back_formed row text read none reads answer (told_of row answer text e);
+}
+
+-- ---- a refusal by its code
+
+coded_again : (refusal : CallRefusal) → refusal_coded (call_refusal_text refusal) ≡ Some refusal
+unfolding refusal_coded refusal_row
+coded_again refusal = search rules
+
+said_coded : (text : List ℕ) (o : Option RefusalRow) → find (λ (row : RefusalRow). bytes_eq (call_refusal_text row.refusal) text) REFUSALS ≡ o → IfSome (option_map (λ (row : RefusalRow). row.refusal) o) (λ refusal. code_told refusal ≡ Some text)
+said_coded text None e = tt
+said_coded text (Some row) e = ap Some (same_bytes (call_refusal_text row.refusal) text (found_passes (λ (row : RefusalRow). bytes_eq (call_refusal_text row.refusal) text) REFUSALS row e))
+
+pub coded_reads : (text : List ℕ) → Reads code_told text (refusal_coded text)
+unfolding refusal_coded
+coded_reads text = record {
+  said = said_coded text _ refl;
+  back = λ refusal e. ap refusal_coded (sym (same_text (call_refusal_text refusal) text e)) ∙ coded_again refusal;
 }
 
 -- ---- the row's own refusals

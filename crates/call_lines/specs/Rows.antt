@@ -1,10 +1,10 @@
 -- The rows of the lines, each at its word's place.
-use Rattle.std.specs.Prelude.{ℕ, ◌==◌, ◌&&◌, ◌||◌, nat_le, Bool, false, List, Option, Some, None, bytes_eq, find, slice_index_or}
+use Rattle.std.specs.Prelude.{ℕ, ◌==◌, ◌&&◌, nat_le, Bool, false, List, [], Option, Some, None, bytes_eq, find, slice_index_or}
+use Rattle.std.specs.List.{list_any}
 use Rattle.std.specs.Option.{option_map}
 use Rattle.calls.specs.declared.call_refusal.CallRefusal.{CallRefusal}
 use Rattle.calls.specs.contracts.call_refusal.CallRefusal as refusal
 use Rattle.call_lines.specs.Words.{word_text}
-use Rattle.call_lines.specs.declared.kind.Slots.{Slots}
 use Rattle.call_lines.specs.declared.word.Word.{Word}
 use Rattle.call_lines.specs.declared.word.Word.TheVariants.{Park}
 use Rattle.call_lines.specs.contracts.word.Word as word
@@ -19,7 +19,7 @@ no_row = record {
   word = Park;
   fields = record { first = None; second = None; third = None; fourth = None };
   form = forms.Ok;
-  refusals = record { first = None; second = None; third = None; fourth = None };
+  refusals = [];
   version = 0;
 }
 
@@ -43,5 +43,5 @@ abbrev pub is_refusal : Option CallRefusal → CallRefusal → Bool
 is_refusal None told = false
 is_refusal (Some there) told = tag_of refusal.the_type there == tag_of refusal.the_type told
 
-abbrev pub is_among : Slots CallRefusal → CallRefusal → Bool
-is_among refusals told = is_refusal refusals.first told || is_refusal refusals.second told || is_refusal refusals.third told || is_refusal refusals.fourth told
+abbrev pub is_among : List (Option CallRefusal) → CallRefusal → Bool
+is_among refusals told = list_any (λ slot. is_refusal slot told) refusals

@@ -142,14 +142,5 @@ fn behind<'a>(front: &str, text: &'a str) -> Option<&'a str>
 fn refusal_of(text: &str) -> Option<CallRefusal>
     ensures { Reads code_told text.now result }
 {
-    match text {
-        "C1" => Some(CallRefusal::Unknown),
-        "C2" => Some(CallRefusal::Limit),
-        "C3" => Some(CallRefusal::NotActive),
-        "C5" => Some(CallRefusal::GoesBack),
-        "Q2" => Some(CallRefusal::Frozen),
-        "Q3" => Some(CallRefusal::NoOpening),
-        "Q4" => Some(CallRefusal::NothingWaits),
-        _ => None,
-    }
+    CallRefusal::coded(text)
 }

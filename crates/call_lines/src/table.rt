@@ -34,7 +34,7 @@ pub struct Row {
     pub fields: Slots<Kind>,
     pub form: Form,
     /// By what it may be refused.
-    pub refusals: Slots<CallRefusal>,
+    pub refusals: [Option<CallRefusal>; 5],
     /// The first version of the formats that has the line.
     pub version: u8,
 }
@@ -51,12 +51,13 @@ pub const LINES: [Row; 9] = [
             fourth: None,
         },
         form: Form::Ccb,
-        refusals: Slots {
-            first: Some(CallRefusal::Unknown),
-            second: Some(CallRefusal::Limit),
-            third: None,
-            fourth: None,
-        },
+        refusals: [
+            Some(CallRefusal::Unknown),
+            Some(CallRefusal::Limit),
+            None,
+            None,
+            None,
+        ],
         version: 1,
     },
     // dispatch Q = ccb C
@@ -69,12 +70,13 @@ pub const LINES: [Row; 9] = [
             fourth: None,
         },
         form: Form::Ccb,
-        refusals: Slots {
-            first: Some(CallRefusal::Unknown),
-            second: Some(CallRefusal::Frozen),
-            third: Some(CallRefusal::NoOpening),
-            fourth: Some(CallRefusal::NothingWaits),
-        },
+        refusals: [
+            Some(CallRefusal::Unknown),
+            Some(CallRefusal::Frozen),
+            Some(CallRefusal::NoOpening),
+            Some(CallRefusal::NothingWaits),
+            None,
+        ],
         version: 1,
     },
     // complete C STATUS SCSI SENSE = done, or run R freeze F
@@ -87,12 +89,13 @@ pub const LINES: [Row; 9] = [
             fourth: Some(Kind::Sense),
         },
         form: Form::Completed,
-        refusals: Slots {
-            first: Some(CallRefusal::Unknown),
-            second: Some(CallRefusal::Limit),
-            third: Some(CallRefusal::NotActive),
-            fourth: None,
-        },
+        refusals: [
+            Some(CallRefusal::Unknown),
+            Some(CallRefusal::Limit),
+            Some(CallRefusal::NotActive),
+            None,
+            None,
+        ],
         version: 1,
     },
     // advance R N STOP = R0
@@ -105,12 +108,7 @@ pub const LINES: [Row; 9] = [
             fourth: None,
         },
         form: Form::R0,
-        refusals: Slots {
-            first: None,
-            second: None,
-            third: None,
-            fourth: None,
-        },
+        refusals: [None; 5],
         version: 1,
     },
     // gfreeze Q G = freeze F
@@ -123,12 +121,13 @@ pub const LINES: [Row; 9] = [
             fourth: None,
         },
         form: Form::Freeze,
-        refusals: Slots {
-            first: Some(CallRefusal::Unknown),
-            second: Some(CallRefusal::Limit),
-            third: None,
-            fourth: None,
-        },
+        refusals: [
+            Some(CallRefusal::Unknown),
+            Some(CallRefusal::Limit),
+            None,
+            None,
+            None,
+        ],
         version: 1,
     },
     // grelease F = LEFT
@@ -141,12 +140,7 @@ pub const LINES: [Row; 9] = [
             fourth: None,
         },
         form: Form::Left,
-        refusals: Slots {
-            first: None,
-            second: None,
-            third: None,
-            fourth: None,
-        },
+        refusals: [None; 5],
         version: 1,
     },
     // clock T = WENT
@@ -159,12 +153,13 @@ pub const LINES: [Row; 9] = [
             fourth: None,
         },
         form: Form::Went,
-        refusals: Slots {
-            first: Some(CallRefusal::Limit),
-            second: Some(CallRefusal::GoesBack),
-            third: None,
-            fourth: None,
-        },
+        refusals: [
+            Some(CallRefusal::Limit),
+            Some(CallRefusal::GoesBack),
+            None,
+            None,
+            None,
+        ],
         version: 1,
     },
     // park R = ok
@@ -177,12 +172,7 @@ pub const LINES: [Row; 9] = [
             fourth: None,
         },
         form: Form::Ok,
-        refusals: Slots {
-            first: None,
-            second: None,
-            third: None,
-            fourth: None,
-        },
+        refusals: [None; 5],
         version: 1,
     },
     // resume R = ok
@@ -195,12 +185,7 @@ pub const LINES: [Row; 9] = [
             fourth: None,
         },
         form: Form::Ok,
-        refusals: Slots {
-            first: Some(CallRefusal::Unknown),
-            second: None,
-            third: None,
-            fourth: None,
-        },
+        refusals: [Some(CallRefusal::Unknown), None, None, None, None],
         version: 1,
     },
 ];
@@ -237,10 +222,7 @@ impl Row {
     pub fn may_be(&self, refusal: CallRefusal) -> bool
         ensures { result ≡ is_among self.now.refusals refusal }
     {
-        is_refusal(self.refusals.first, refusal)
-            || is_refusal(self.refusals.second, refusal)
-            || is_refusal(self.refusals.third, refusal)
-            || is_refusal(self.refusals.fourth, refusal)
+        self.refusals.iter().any(|slot| is_refusal(*slot, refusal))
     }
 }
 

@@ -1,13 +1,25 @@
--- How a refusal is printed: by its code.
-use Rattle.std.specs.Prelude.{ℕ, List, codes}
+-- How a refusal is printed and read: by the code of its row.
+use Rattle.std.specs.Prelude.{ℕ, Option, List, [], ◌∷◌, bytes_eq, find, slice_index_or}
+use Rattle.std.specs.Option.{option_map}
 use Rattle.calls.specs.declared.call_refusal.CallRefusal.{CallRefusal}
-use Rattle.calls.specs.declared.call_refusal.CallRefusal.TheVariants.{Unknown, Limit, NotActive, GoesBack, Frozen, NoOpening, NothingWaits}
+use Rattle.calls.specs.declared.call_refusal.CallRefusal.TheVariants.{Unknown}
+use Rattle.calls.specs.contracts.call_refusal.CallRefusal as refusal
+use Rattle.calls.specs.declared.call_refusal.RefusalRow.{RefusalRow}
+use Rattle.calls.specs.declared.call_refusal.TheConstants.{REFUSALS}
+use denote.Enum.Declared.{tag_of}
 
+-- the row of no refusal
+abbrev pub no_row : RefusalRow
+no_row = record { refusal = Unknown; letter = 0; digit = 0 }
+
+-- the row of a refusal
+unfoldable pub row_of : CallRefusal → RefusalRow
+row_of name = slice_index_or REFUSALS (tag_of refusal.the_type name) no_row
+
+-- its code
 abbrev pub call_refusal_text : CallRefusal → List ℕ
-call_refusal_text Unknown = codes "C1"
-call_refusal_text Limit = codes "C2"
-call_refusal_text NotActive = codes "C3"
-call_refusal_text GoesBack = codes "C5"
-call_refusal_text Frozen = codes "Q2"
-call_refusal_text NoOpening = codes "Q3"
-call_refusal_text NothingWaits = codes "Q4"
+call_refusal_text name = (row_of name).letter ∷ (row_of name).digit ∷ []
+
+-- the refusal of a code
+unfoldable pub refusal_coded : List ℕ → Option CallRefusal
+refusal_coded text = option_map (λ row. row.refusal) (find (λ row. bytes_eq (call_refusal_text row.refusal) text) REFUSALS)

@@ -1,24 +1,101 @@
-// Why a call is refused, and the code by which a refusal is printed. It relies on no other crate.
+// Why a call is refused: the refusals, a row each, with the code by which one is printed and read. It relies on no other crate.
+
+ghost use Rattle.std.specs.Prelude.{◌≡◌, bytes_eq};
+ghost use Rattle.calls.specs.CallRefusalText.{call_refusal_text, refusal_coded, row_of};
 
 use std::fmt;
 
 /// Why a call was refused. A refusal changes nothing but the history. The text is the refusal's code.
 #[derive(Clone, Copy, Debug, PartialEq, Eq)]
 pub enum CallRefusal {
-    /// C1: there is no such queue, no such CCB, or no such run that is parked.
+    /// There is no such queue, no such CCB, or no such run that is parked.
     Unknown,
-    /// C2: a limit is reached.
+    /// A limit is reached.
     Limit,
-    /// C3: the CCB is not active.
+    /// The CCB is not active.
     NotActive,
-    /// C5: the clock would go back.
+    /// The clock would go back.
     GoesBack,
-    /// Q2: the queue is frozen.
+    /// The queue is frozen.
     Frozen,
-    /// Q3: as many CCBs of the queue are active as it has openings.
+    /// As many CCBs of the queue are active as it has openings.
     NoOpening,
-    /// Q4: no CCB of the queue waits.
+    /// No CCB of the queue waits.
     NothingWaits,
+}
+
+/// A refusal with its code: a letter and a digit.
+#[derive(Clone, Copy)]
+pub struct RefusalRow {
+    pub refusal: CallRefusal,
+    pub letter: u8,
+    pub digit: u8,
+}
+
+/// The refusals, in the order of their names.
+pub const REFUSALS: [RefusalRow; 7] = [
+    RefusalRow {
+        refusal: CallRefusal::Unknown,
+        letter: b'C',
+        digit: b'1',
+    },
+    RefusalRow {
+        refusal: CallRefusal::Limit,
+        letter: b'C',
+        digit: b'2',
+    },
+    RefusalRow {
+        refusal: CallRefusal::NotActive,
+        letter: b'C',
+        digit: b'3',
+    },
+    RefusalRow {
+        refusal: CallRefusal::GoesBack,
+        letter: b'C',
+        digit: b'5',
+    },
+    RefusalRow {
+        refusal: CallRefusal::Frozen,
+        letter: b'Q',
+        digit: b'2',
+    },
+    RefusalRow {
+        refusal: CallRefusal::NoOpening,
+        letter: b'Q',
+        digit: b'3',
+    },
+    RefusalRow {
+        refusal: CallRefusal::NothingWaits,
+        letter: b'Q',
+        digit: b'4',
+    },
+];
+
+impl CallRefusal {
+    #[tactic(auto, unfolding(crate::specs::CallRefusalText::row_of))]
+    fn row(self) -> RefusalRow
+        ensures { result ≡ row_of self }
+    {
+        REFUSALS[self as usize]
+    }
+
+    fn is_coded(self, text: &str) -> bool
+        ensures { result ≡ bytes_eq (call_refusal_text self) text.now }
+    {
+        let row = self.row();
+        [row.letter, row.digit].as_slice() == text.as_bytes()
+    }
+
+    /// The refusal of that code.
+    #[tactic(auto, unfolding(crate::specs::CallRefusalText::refusal_coded))]
+    pub fn coded(text: &str) -> Option<Self>
+        ensures { result ≡ refusal_coded text.now }
+    {
+        REFUSALS
+            .iter()
+            .find(|row| row.refusal.is_coded(text))
+            .map(|row| row.refusal)
+    }
 }
 
 impl fmt::Display for CallRefusal {
@@ -28,14 +105,8 @@ impl fmt::Display for CallRefusal {
     ghost output = { λ refusal. Some (call_refusal_text refusal) };
 
     fn fmt<W: fmt::Write>(&self, f: &mut fmt::Formatter<W>) -> fmt::Result {
-        f.write_str(match self {
-            CallRefusal::Unknown => "C1",
-            CallRefusal::Limit => "C2",
-            CallRefusal::NotActive => "C3",
-            CallRefusal::GoesBack => "C5",
-            CallRefusal::Frozen => "Q2",
-            CallRefusal::NoOpening => "Q3",
-            CallRefusal::NothingWaits => "Q4",
-        })
+        let row = self.row();
+        f.write_char(char::from(row.letter))?;
+        f.write_char(char::from(row.digit))
     }
 }

@@ -13,7 +13,7 @@ mod traced_bytes;
 
 pub use call::Call;
 pub use call_answer::CallAnswer;
-pub use call_refusal::CallRefusal;
+pub use call_refusal::{CallRefusal, REFUSALS, RefusalRow};
 pub use completion_record::CompletionRecord;
 pub use record::{Record, StoppedAt};
 pub use totals::Totals;

@@ -15,6 +15,7 @@ use Rattle.calls.specs.declared.call.Call.{Call}
 use Rattle.calls.specs.declared.call.Call.TheVariants.{Submit, Dispatch, Complete, GuestFreeze, GuestRelease, Clock, Park, Resume}
 use Rattle.calls.specs.declared.call_answer.CallAnswer.TheVariants as answers
 use Rattle.calls.specs.declared.call_refusal.CallRefusal.{CallRefusal}
+use Rattle.calls.specs.declared.call_refusal.CallRefusal.TheVariants.{Unknown, Limit, NotActive, GoesBack, Frozen, NoOpening}
 use Rattle.world.specs.declared.ccb_state.CcbState.TheVariants.{Waiting, Active}
 use Rattle.world.specs.Capacities.{last_reading}
 use Rattle.world.specs.World.{Setup, queue_count, LiveCcb, LiveRun, World}
@@ -32,7 +33,7 @@ use Rattle.world.specs.Laws.TookGave.{taken_by}
 use Rattle.world.specs.Laws.Headline.{is_turn_of}
 use Rattle.world.proofs.Lists.Found.{found_key}
 use Rattle.world.proofs.Lists.Entries.{freeze_key}
-use Rattle.world_laws.proofs.Steps.Refusing.{by_refusals}
+use Rattle.world_laws.proofs.Steps.Refusing.{by_refusals, none_of}
 use Rattle.world_laws.proofs.Steps.Running.{some_is, GoesOn, Exits, private_parts, exit_parts}
 use Rattle.world_laws.proofs.Steps.Calls.{Asks, asks_of}
 
@@ -291,14 +292,15 @@ call_case setup before (Submit queue priority retries) reply after e =
     elim (by_refusals (refusals_of setup before (Submit queue priority retries)) before _ reply after e) [
       | inl it ↦ refused_case setup before (called (Submit queue priority retries)) reply after it.refusal (λ n. refl) refl refl (λ n. refl) it.is
       | inr goes ↦
+          let tests = refusals_of setup before (Submit queue priority retries) in
           let last = some_is _ _ goes.1 in
           submits (record {
             queue = queue;
             priority = priority;
             retries = retries;
             event_is = refl;
-            known = leb-false _ _ goes.0.0;
-            room = goes.0.1.0;
+            known = leb-false _ _ (none_of Unknown tests goes.0);
+            room = none_of Limit tests goes.0;
             reply_is = ap (λ (x : Reply × World). x.0) last;
             after_is = ap (λ (x : Reply × World). x.1) last;
           })
@@ -307,8 +309,9 @@ call_case setup before (Dispatch queue) reply after e =
     elim (by_refusals (refusals_of setup before (Dispatch queue)) before _ reply after e) [
       | inl it ↦ refused_case setup before (called (Dispatch queue)) reply after it.refusal (λ n. refl) refl refl (λ n. refl) it.is
       | inr goes ↦
-          starts_next setup before queue reply after (next_waiting queue.0 before.transport.live) refl (leb-false _ _ goes.0.0)
-          (let none = ltb-false _ _ goes.0.1.0 in omega (arith, none)) (leb-false _ _ goes.0.1.1.0) goes.1
+          let tests = refusals_of setup before (Dispatch queue) in
+          starts_next setup before queue reply after (next_waiting queue.0 before.transport.live) refl (leb-false _ _ (none_of Unknown tests goes.0))
+          (let none = ltb-false _ _ (none_of Frozen tests goes.0) in omega (arith, none)) (leb-false _ _ (none_of NoOpening tests goes.0)) goes.1
     ]
 call_case setup before (Complete outcome) reply after e =
     elim (cases_Bool (is_completion outcome)) [
@@ -316,7 +319,8 @@ call_case setup before (Complete outcome) reply after e =
           elim (by_refusals (refusals_of setup before (Complete outcome)) before _ reply after (sym (cond-true (is_completion outcome) _ _ good) ∙ e)) [
             | inl it ↦ refused_case setup before (called (Complete outcome)) reply after it.refusal (λ n. refl) refl refl (λ n. refl) it.is
             | inr goes ↦
-                completes_one setup before outcome reply after good (ccb_of outcome.ccb.0 before.transport.live) refl goes.0.1.0 goes.0.1.1.0 goes.1
+                let tests = refusals_of setup before (Complete outcome) in
+                completes_one setup before outcome reply after good (ccb_of outcome.ccb.0 before.transport.live) refl (none_of Limit tests goes.0) (none_of NotActive tests goes.0) goes.1
           ]
       | inr bad ↦ let none = sym (cond-false (is_completion outcome) _ _ bad) ∙ e in absurd cc
     ]
@@ -324,13 +328,14 @@ call_case setup before (GuestFreeze place guest) reply after e =
     elim (by_refusals (refusals_of setup before (GuestFreeze place guest)) before _ reply after e) [
       | inl it ↦ refused_case setup before (called (GuestFreeze place guest)) reply after it.refusal (λ n. refl) refl refl (λ n. refl) it.is
       | inr goes ↦
+          let tests = refusals_of setup before (GuestFreeze place guest) in
           let last = some_is _ _ goes.1 in
           freezes_one (record {
             place = place;
             guest = guest;
             event_is = refl;
-            known = goes.0.0;
-            room = goes.0.1.0;
+            known = none_of Unknown tests goes.0;
+            room = none_of Limit tests goes.0;
             reply_is = ap (λ (x : Reply × World). x.0) last;
             after_is = ap (λ (x : Reply × World). x.1) last;
           })
@@ -340,12 +345,13 @@ call_case setup before (Clock reading) reply after e =
     elim (by_refusals (refusals_of setup before (Clock reading)) before _ reply after e) [
       | inl it ↦ refused_case setup before (called (Clock reading)) reply after it.refusal (λ n. refl) refl refl (λ n. refl) it.is
       | inr goes ↦
+          let tests = refusals_of setup before (Clock reading) in
           let last = some_is _ _ goes.1 in
           reads_clock (record {
             reading = reading;
             event_is = refl;
-            within = ltb-false _ _ goes.0.0;
-            on = ltb-false _ _ goes.0.1.0;
+            within = ltb-false _ _ (none_of Limit tests goes.0);
+            on = ltb-false _ _ (none_of GoesBack tests goes.0);
             reply_is = ap (λ (x : Reply × World). x.0) last;
             after_is = ap (λ (x : Reply × World). x.1) last;
           })

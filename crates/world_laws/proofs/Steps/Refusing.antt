@@ -1,17 +1,33 @@
 -- The refusals of a call: the first that holds is told, with the world as it was; where none holds, the call does what it does.
-use Rattle.std.proofs.Common.{◌≡◌, Bool, false, List, [], ◌∷◌, Option, Some, inl, inr, sym, ◌∙◌}
+use Rattle.std.proofs.Common.{◌≡◌, ◌==◌, Bool, false, cond, List, [], ◌∷◌, Option, Some, inl, inr, refl, sym, ◌∙◌}
 use Rattle.std.specs.Prelude.{◌⊎◌}
 use Rattle.std.proofs.lemmas.Bool.{cases_Bool, cond-true, cond-false}
 use Rattle.calls.specs.declared.call_refusal.CallRefusal.{CallRefusal}
+use Rattle.calls.specs.contracts.call_refusal.CallRefusal as refusal
 use Rattle.world.specs.World.{World}
 use Rattle.world.specs.Event.{Reply, refused}
 use Rattle.world.specs.Refusals.{unless_refused}
 use Rattle.world_laws.proofs.Steps.Running.{some_is}
+use denote.Enum.Declared.{tag_of}
 
 -- none of them holds
 abbrev pub NoneHolds : List (Bool × CallRefusal) → Type 0
 NoneHolds [] = Unit {0}
 NoneHolds (x ∷ xs) = (x.0 ≡ false) × NoneHolds xs
+
+-- the test of a name, the first one that has it
+abbrev pub test_of : CallRefusal → List (Bool × CallRefusal) → Bool
+test_of name [] = false
+test_of name (x ∷ xs) = cond (tag_of refusal.the_type x.1 == tag_of refusal.the_type name) x.0 (test_of name xs)
+
+-- it does not hold, wherever it stands
+pub none_of : (name : CallRefusal) (xs : List (Bool × CallRefusal)) → NoneHolds xs → test_of name xs ≡ false
+none_of name [] none = refl
+none_of name (x ∷ xs) none =
+    elim (cases_Bool (tag_of refusal.the_type x.1 == tag_of refusal.the_type name)) [
+      | inl its ↦ cond-true _ _ _ its ∙ none.0
+      | inr other ↦ cond-false _ _ _ other ∙ none_of name xs none.1
+    ]
 
 -- the call is refused
 pub record IsRefused (before : World) (reply : Reply) (after : World) : Type 0 where

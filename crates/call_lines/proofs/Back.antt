@@ -4,9 +4,8 @@ use Rattle.ccb.specs.Completion.{Outcome}
 use Rattle.freeze_ledger.specs.declared.place.Place.TheVariants.{Device}
 use Rattle.calls.specs.declared.call.Call.{Call}
 use Rattle.calls.specs.declared.call.Call.TheVariants as calls
-use Rattle.call_lines.specs.Calls.{one, two, three, completed, values_of, word_of}
-use Rattle.call_lines.specs.CallOf.{call_of, CallsAreLines}
-use Rattle.call_lines.specs.Words.{word_text}
+use Rattle.call_lines.specs.Calls.{one, two, three, completed, values_of, word_of, word_text, call_of}
+use Rattle.call_lines.specs.CallsAreLines.{CallsAreLines}
 use Rattle.call_lines.specs.Rows.{row_of}
 use Rattle.call_lines.specs.Lines.{fields_text}
 use Rattle.call_lines.specs.declared.kind.Kind.TheVariants as kinds

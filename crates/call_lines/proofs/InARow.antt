@@ -7,7 +7,7 @@ use Rattle.call_lines.specs.declared.kind.Kind.{Kind}
 use Rattle.call_lines.specs.declared.kind.Slots.{Slots}
 use Rattle.call_lines.specs.declared.value.Value.{Value}
 use Rattle.call_lines.specs.declared.word.Word.{Word}
-use Rattle.call_lines.specs.Words.{word_text}
+use Rattle.call_lines.specs.Calls.{word_text}
 use Rattle.call_lines.specs.Rows.{row_of, word_named, is_of_version}
 use Rattle.call_lines.specs.Texts.{field_text}
 use Rattle.call_lines.specs.Lines.{slot_text, fields_text, line_text}

@@ -3,57 +3,31 @@ use Rattle.std.proofs.Common.{◌≡◌, ℕ, Bool, true, false, Option, Some, N
 use Rattle.std.specs.Prelude.{find}
 use Rattle.std.specs.List.{list_all, AllByRecursion}
 use Rattle.std.specs.Option.{option_map}
-use Rattle.std.proofs.lemmas.Slice.Eq.{bytes_eq-Decides}
 use Rattle.call_lines.specs.declared.word.Word.{Word}
-use Rattle.call_lines.specs.declared.word.Word.TheVariants.{Submit, Dispatch, Complete, Advance, FreezeQueue, ReleaseFreeze, Clock, Park, Resume}
 use Rattle.call_lines.specs.declared.table.Row.{Row}
 use Rattle.call_lines.specs.declared.table.TheConstants.{LINES}
-use Rattle.call_lines.specs.Words.{word_text}
+use Rattle.call_lines.specs.Calls.{word_text}
 use Rattle.call_lines.specs.Rows.{row_of, word_named, is_named, is_of_version}
 use Rattle.call_lines.specs.Reading.{is_black, stops_last}
-use Rattle.call_lines.proofs.Tests.{both}
+use Rattle.call_lines.proofs.Tests.{both, same_bytes}
 
 pub word_black : (word : Word) → list_all is_black (word_text word) ≡ true
-word_black Submit = refl
-word_black Dispatch = refl
-word_black Complete = refl
-word_black Advance = refl
-word_black FreezeQueue = refl
-word_black ReleaseFreeze = refl
-word_black Clock = refl
-word_black Park = refl
-word_black Resume = refl
+word_black word = search rules
 
 pub row_stops : (word : Word) → stops_last (row_of word).fields ≡ true
 unfolding row_of
-row_stops Submit = refl
-row_stops Dispatch = refl
-row_stops Complete = refl
-row_stops Advance = refl
-row_stops FreezeQueue = refl
-row_stops ReleaseFreeze = refl
-row_stops Clock = refl
-row_stops Park = refl
-row_stops Resume = refl
+row_stops word = search rules
 
 -- a word is found by its text
 pub found_again : (word : Word) (version : ℕ) → is_of_version version word ≡ true → word_named (word_text word) version ≡ Some word
 unfolding word_named is_of_version row_of
-found_again Submit version h = rw h refl
-found_again Dispatch version h = rw h refl
-found_again Complete version h = rw h refl
-found_again Advance version h = rw h refl
-found_again FreezeQueue version h = rw h refl
-found_again ReleaseFreeze version h = rw h refl
-found_again Clock version h = rw h refl
-found_again Park version h = rw h refl
-found_again Resume version h = rw h refl
+found_again word version h = search rules
 
 -- ---- what is found
 
 all_own : AllByRecursion (λ row. row_of row.word ≡ row) LINES
 unfolding row_of
-all_own = (refl, (refl, (refl, (refl, (refl, (refl, (refl, (refl, (refl, tt)))))))))
+all_own = search rules
 
 record Found (p : Row → Bool) (row : Row) : Type 0 where
   passes : p row ≡ true
@@ -70,9 +44,6 @@ found p (first ∷ rows) row own e = at_first p first row (find p rows) (p first
 mapped : (o : Option Row) (word : Word) → option_map (λ (row : Row). row.word) o ≡ Some word → (row : Row) × (o ≡ Some row) × (row.word ≡ word)
 mapped None word e = absurd cc
 mapped (Some row) word e = (row, refl, cc)
-
-same_bytes : (xs ys : List ℕ) → bytes_eq xs ys ≡ true → xs ≡ ys
-same_bytes xs ys e = search (rules, bytes_eq-Decides xs ys)
 
 -- it has that text, and is of that version
 pub found_is : (name : List ℕ) (version : ℕ) (word : Word) → word_named name version ≡ Some word → (word_text word ≡ name) × (is_of_version version word ≡ true)

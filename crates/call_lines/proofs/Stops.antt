@@ -1,5 +1,5 @@
 -- Sense bytes, and what is told of a stop.
-use Rattle.std.proofs.Common.{◌≡◌, ◌≢◌, ◌<◌, ◌≤◌, ℕ, Bool, true, false, Option, Some, None, IfSome, List, [], ◌∷◌, ◌++◌, refl, sym, ap, ◌∙◌, arith, codes, bytes_eq, ◌⊎◌, inl, inr, subst, append_assoc, append-nil, lit<, pos, ℤ, nat_lt, ◌^◌, decimal, cond, Result, Ok, Err, OkIff, MatchOption, Bor, to_z, of_z, FitsSigned, w32}
+use Rattle.std.proofs.Common.{◌≡◌, ◌≢◌, ◌<◌, ◌≤◌, ℕ, Bool, true, false, Option, Some, None, IfSome, List, [], ◌∷◌, ◌++◌, refl, sym, ap, ◌∙◌, arith, codes, bytes_eq, ◌⊎◌, inl, inr, rules, subst, append_assoc, append-nil, pos, ℤ, nat_lt, ◌^◌, decimal, Result, Ok, Err, OkIff, MatchOption, Bor, to_z, of_z, FitsSigned, w32}
 use Rattle.std.specs.Result.{result_ok}
 use Rattle.std.specs.Str.Pattern.{FindsTextPrefix, StripsPrefix}
 use Rattle.std.proofs.lemmas.Int.{to_z-of_z}
@@ -11,7 +11,6 @@ use Rattle.std.proofs.lemmas.Bool.{lt-ltb}
 use Rattle.std.proofs.lemmas.Bool.Decides.{nat_tests}
 use Rattle.helpers.specs.Table.{number_of, helper_of}
 use Rattle.helpers.specs.declared.table.Helper.{Helper}
-use Rattle.helpers.specs.declared.table.Helper.TheVariants as helpers
 use Rattle.helpers.specs.declared.table.Row.{Row}
 use Rattle.helpers.specs.declared.table.TheConstants.{HELPERS}
 use Rattle.helpers.proofs.Numbers.{numbered}
@@ -19,7 +18,7 @@ use Rattle.call_lines.specs.declared.value.Stop.{Stop}
 use Rattle.call_lines.specs.declared.value.Stop.TheVariants as stops
 use Rattle.call_lines.specs.Texts.{where_true, bytes_text, code_text, sense_text, number_text, stop_text, told_text, told_by, tells_name, tells_bytes, tells_code, helper_text, helper_number_text}
 use Rattle.call_lines.specs.Reading.{IsOf, ReadsTold, IsCut, ends_word}
-use Rattle.call_lines.proofs.Tests.{passed, parts_of, same_text}
+use Rattle.call_lines.proofs.Tests.{passed, parts_of, same_text, found_passes}
 use Rattle.call_lines.proofs.Cutting.{cut_once}
 use Rattle.call_lines.proofs.Decimals.{decimal_black}
 use Rattle.call_lines.specs.Written.{Reads}
@@ -42,14 +41,6 @@ some_sense word read other reads = record {
 
 -- ---- a helper by its number
 
-at_first : (p : Row → Bool) (first row : Row) (others : Option Row) (test : Bool) → p first ≡ test → cond test (Some first) others ≡ Some row → (others ≡ Some row → p row ≡ true) → p row ≡ true
-at_first p first row others true is e more = let same : first ≡ row = cc in ap p (sym same) ∙ is
-at_first p first row others false is e more = more e
-
-found : (p : Row → Bool) (rows : List Row) (row : Row) → find p rows ≡ Some row → p row ≡ true
-found p [] row e = absurd cc
-found p (first ∷ rows) row e = at_first p first row (find p rows) (p first) refl e (found p rows row)
-
 same_number : (a b : ℕ) → int_eq (pos a) (pos b) ≡ true → a ≡ b
 same_number a b h = grind (arith, nat_tests)
 
@@ -60,22 +51,11 @@ mapped (Some row) helper e = (row, refl, cc)
 number_found : (number : ℕ) (helper : Helper) → helper_of (pos number) ≡ Some helper → number_of helper ≡ number
 number_found number helper e =
     let row = mapped (find (λ (row : Row). int_eq (pos (number_of row.helper)) (pos number)) HELPERS) helper e in
-    let test : int_eq (pos (number_of row.0.helper)) (pos number) ≡ true = found (λ (row : Row). int_eq (pos (number_of row.helper)) (pos number)) HELPERS row.0 row.1 in
+    let test : int_eq (pos (number_of row.0.helper)) (pos number) ≡ true = found_passes (λ (row : Row). int_eq (pos (number_of row.helper)) (pos number)) HELPERS row.0 row.1 in
     ap number_of (sym row.2) ∙ same_number (number_of row.0.helper) number test
 
 small : (helper : Helper) → number_of helper < 256
-small helpers.Freeze = lit< tt
-small helpers.Release = lit< tt
-small helpers.ReleaseAfter = lit< tt
-small helpers.Requeue = lit< tt
-small helpers.Finish = lit< tt
-small helpers.TableGet = lit< tt
-small helpers.TablePut = lit< tt
-small helpers.TableAdd = lit< tt
-small helpers.QueueInfo = lit< tt
-small helpers.Trace = lit< tt
-small helpers.Now = lit< tt
-small helpers.SetOpenings = lit< tt
+small helper = search rules
 
 number_there : (name : List ℕ) (read : Option ℕ) (helper : Helper) → Reads number_text name read → helper_number_text helper ≡ Some name → read ≡ Some (number_of helper)
 number_there name read helper reads e =

@@ -1,10 +1,9 @@
-pub mod Words
 pub mod Rows
 pub mod Texts
 pub mod Lines
 pub mod Answers
 pub mod Calls
 pub mod Values
-pub mod CallOf
+pub mod CallsAreLines
 pub mod Written
 pub mod Reading

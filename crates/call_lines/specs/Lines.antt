@@ -1,7 +1,7 @@
 -- How a line is spelled: its word and its fields, each behind a blank.
 use Rattle.std.specs.Prelude.{ℕ, Option, Some, None, List, [], codes}
 use Rattle.std.specs.Fmt.{option_append}
-use Rattle.call_lines.specs.Words.{word_text}
+use Rattle.call_lines.specs.Calls.{word_text}
 use Rattle.call_lines.specs.Rows.{row_of}
 use Rattle.call_lines.specs.Texts.{field_text}
 use Rattle.call_lines.specs.declared.kind.Kind.{Kind}

@@ -4,7 +4,7 @@ use Rattle.std.specs.List.{list_any}
 use Rattle.std.specs.Option.{option_map}
 use Rattle.calls.specs.declared.call_refusal.CallRefusal.{CallRefusal}
 use Rattle.calls.specs.contracts.call_refusal.CallRefusal as refusal
-use Rattle.call_lines.specs.Words.{word_text}
+use Rattle.call_lines.specs.Calls.{word_text}
 use Rattle.call_lines.specs.declared.word.Word.{Word}
 use Rattle.call_lines.specs.declared.word.Word.TheVariants.{Park}
 use Rattle.call_lines.specs.contracts.word.Word as word

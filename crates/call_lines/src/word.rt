@@ -1,7 +1,7 @@
 // The words with which lines begin. It relies on nothing.
 
 ghost use Rattle.std.specs.Prelude.{◌≡◌};
-ghost use Rattle.call_lines.specs.Words.{word_text};
+ghost use Rattle.call_lines.specs.Calls.{word_text};
 
 /// What a line is of: a call, or a run that went on.
 #[derive(Clone, Copy)]

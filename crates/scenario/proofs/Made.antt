@@ -6,10 +6,11 @@ use Rattle.std.proofs.lemmas.Slice.Eq.{bytes_eq-Decides}
 use Rattle.std.proofs.lemmas.List.Elements.{All-from_get_or}
 use Rattle.ccb.specs.Completion.{Outcome, IsCompletion}
 use Rattle.ccb.specs.declared.cam_status.CamStatus.TheVariants.{RequestInProgress}
+use Rattle.freeze_ledger.specs.declared.place.Place.TheVariants.{Device}
 use Rattle.call_lines.specs.declared.kind.Kind.TheVariants as kinds
 use Rattle.ccb.specs.declared.cam_status.CamStatus.{CamStatus}
 use Rattle.ccb.specs.Status.{code_of}
-use Rattle.call_lines.specs.Calls.{completed}
+use Rattle.call_lines.specs.Calls.{completed, word_text}
 use Rattle.call_lines.specs.Lines.{line_text, fields_text}
 use Rattle.call_lines.specs.Rows.{row_of, is_of_version}
 use Rattle.call_lines.specs.Texts.{pair_text, status_text, field_text}
@@ -20,7 +21,6 @@ use Rattle.call_lines.specs.declared.value.Value.{Value}
 use Rattle.call_lines.specs.declared.value.Value.TheVariants as values
 use Rattle.call_lines.specs.declared.word.Word.{Word}
 use Rattle.call_lines.specs.declared.word.Word.TheVariants as words
-use Rattle.call_lines.specs.Words.{word_text}
 use Rattle.call_lines.proofs.Tests.{parts_of, passed, same_text}
 use Rattle.call_lines.proofs.Held.{slots_of, holds_nothing, holds_number, holds_long_number, holds_status, holds_byte, holds_bytes, as_one, as_two, as_three, as_four}
 use Rattle.scenario.specs.declared.steps.Command.{Command}
@@ -70,7 +70,7 @@ line_of_it (commands.Submit queue priority retries) line other e = record { word
 line_of_it (commands.Dispatch queue) line other e = record { word = _; held = _; is = refl; text = e; version = refl; made = refl }
 line_of_it (commands.Complete outcome) line other e = record { word = _; held = _; is = refl; text = e; version = refl; made = completion_made outcome line e }
 line_of_it commands.Drain line other e = absurd (not_drain line e other)
-line_of_it (commands.GuestFreeze queue guest) line other e = record { word = _; held = _; is = refl; text = e; version = refl; made = refl }
+line_of_it (commands.GuestFreeze (Device queue) guest) line other e = record { word = _; held = _; is = refl; text = e; version = refl; made = refl }
 line_of_it (commands.GuestRelease freeze) line other e = record { word = _; held = _; is = refl; text = e; version = refl; made = refl }
 line_of_it (commands.Clock reading) line other e = record { word = _; held = _; is = refl; text = e; version = refl; made = refl }
 
@@ -175,7 +175,7 @@ only_drain (commands.Submit queue priority retries) e = absurd (no_other words.S
 only_drain (commands.Dispatch queue) e = absurd (no_other words.Dispatch _ e)
 only_drain (commands.Complete outcome) e = absurd (no_other words.Complete _ e)
 only_drain commands.Drain e = refl
-only_drain (commands.GuestFreeze queue guest) e = absurd (no_other words.FreezeQueue _ e)
+only_drain (commands.GuestFreeze (Device queue) guest) e = absurd (no_other words.FreezeQueue _ e)
 only_drain (commands.GuestRelease freeze) e = absurd (no_other words.ReleaseFreeze _ e)
 only_drain (commands.Clock reading) e = absurd (no_other words.Clock _ e)
 

@@ -2,6 +2,8 @@
 use Rattle.std.specs.Prelude.{ℕ, nat_lt, Option, Some, None, List, codes, if◌then◌else◌}
 use Rattle.ccb.specs.Status.{code_of}
 use Rattle.ccb.specs.declared.cam_status.CamStatus.{CamStatus}
+use Rattle.freeze_ledger.specs.declared.place.Place.{Place}
+use Rattle.freeze_ledger.specs.declared.place.Place.TheVariants.{Device}
 use Rattle.call_lines.specs.Calls.{one, two, three, completed}
 use Rattle.call_lines.specs.Lines.{line_text}
 use Rattle.call_lines.specs.Values.{byte_in, bytes_in, long_number_in, number_in, status_in}
@@ -19,7 +21,7 @@ line_of (commands.Submit queue priority retries) = Some (words.Submit, three (va
 line_of (commands.Dispatch queue) = Some (words.Dispatch, one (values.Number queue.0))
 line_of (commands.Complete outcome) = Some (words.Complete, completed outcome)
 line_of commands.Drain = None
-line_of (commands.GuestFreeze queue guest) = Some (words.FreezeQueue, two (values.Number queue.0) (values.Number guest))
+line_of (commands.GuestFreeze (Device queue) guest) = Some (words.FreezeQueue, two (values.Number queue.0) (values.Number guest))
 line_of (commands.GuestRelease freeze) = Some (words.ReleaseFreeze, one (values.Number freeze))
 line_of (commands.Clock reading) = Some (words.Clock, one (values.LongNumber reading))
 
@@ -40,9 +42,13 @@ abbrev pub dispatched : Option ℕ → Option Command
 dispatched (Some queue) = Some (commands.Dispatch (record { 0 = queue }))
 dispatched None = None
 
-abbrev pub frozen : Option ℕ → Option ℕ → Option Command
-frozen (Some queue) (Some guest) = Some (commands.GuestFreeze (record { 0 = queue }) guest)
-frozen queue guest = None
+abbrev pub device_named : Option ℕ → Option Place
+device_named (Some queue) = Some (Device (record { 0 = queue }))
+device_named None = None
+
+abbrev pub frozen : Option Place → Option ℕ → Option Command
+frozen (Some place) (Some guest) = Some (commands.GuestFreeze place guest)
+frozen place guest = None
 
 abbrev pub released : Option ℕ → Option Command
 released (Some freeze) = Some (commands.GuestRelease freeze)
@@ -65,7 +71,7 @@ abbrev pub command_made : Word → Slots Value → Option Command
 command_made words.Submit held = submitted (number_in held.first) (number_in held.second) (number_in held.third)
 command_made words.Dispatch held = dispatched (number_in held.first)
 command_made words.Complete held = completed_by (number_in held.first) (status_in held.second) (byte_in held.third) (bytes_in held.fourth)
-command_made words.FreezeQueue held = frozen (number_in held.first) (number_in held.second)
+command_made words.FreezeQueue held = frozen (device_named (number_in held.first)) (number_in held.second)
 command_made words.ReleaseFreeze held = released (number_in held.first)
 command_made words.Clock held = clock_read (long_number_in held.first)
 command_made words.Advance held = None

@@ -3,13 +3,14 @@
 
 ghost use Rattle.std.specs.Prelude.{◌≡◌, ◌≤◌, length};
 ghost use Rattle.call_lines.specs.Written.{Reads};
-ghost use Rattle.scenario.specs.Commands.{clock_read, command_made, command_text, completed_by, dispatched, frozen, released, reported, submitted};
+ghost use Rattle.scenario.specs.Commands.{clock_read, command_made, command_text, completed_by, dispatched, device_named, frozen, released, reported, submitted};
 
 use crate::steps::{Command, Step};
 use call_lines::{
     Slots, Value, Word, byte_in, bytes_in, long_number_in, number_in, read_line, status_in,
 };
 use ccb::{CamStatus, CcbId, Completion, QueueId};
+use freeze_ledger::Place;
 use or_memory::OrMemory;
 use short_bytes::ShortBytes;
 use std::alloc::{AllocError, Global};
@@ -76,7 +77,7 @@ fn command_made(word: Word, held: &Slots<Value>) -> Option<Command>
             byte_in(held.third),
             bytes_in(held.fourth),
         ),
-        Word::FreezeQueue => frozen(number_in(held.first), number_in(held.second)),
+        Word::FreezeQueue => frozen(device_named(number_in(held.first)), number_in(held.second)),
         Word::ReleaseFreeze => released(number_in(held.first)),
         Word::Clock => clock_read(long_number_in(held.first)),
         Word::Advance | Word::Park | Word::Resume => None,
@@ -101,11 +102,18 @@ fn dispatched(queue: Option<u32>) -> Option<Command>
     })
 }
 
-fn frozen(queue: Option<u32>, guest: Option<u32>) -> Option<Command>
-    ensures { result ≡ frozen queue guest }
+// The device queue of that number.
+fn device_named(queue: Option<u32>) -> Option<Place>
+    ensures { result ≡ device_named queue }
+{
+    Some(Place::Device(QueueId(queue?)))
+}
+
+fn frozen(place: Option<Place>, guest: Option<u32>) -> Option<Command>
+    ensures { result ≡ frozen place guest }
 {
     Some(Command::GuestFreeze {
-        queue: QueueId(queue?),
+        place: place?,
         guest: guest?,
     })
 }

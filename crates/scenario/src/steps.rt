@@ -1,6 +1,7 @@
-// What a scenario asks for, line by line. It relies on `ccb` for names and completions.
+// What a scenario asks for, line by line. It relies on `ccb` for names and completions, and on `freeze_ledger` for what freezes.
 
 use ccb::{Completion, QueueId};
+use freeze_ledger::Place;
 
 /// What a line asks for.
 #[derive(Clone, Copy, Debug, PartialEq, Eq)]
@@ -22,9 +23,9 @@ pub enum Command {
     },
     /// `drain`: the completions that were reported are served.
     Drain,
-    /// `gfreeze Q G`: the guest G freezes queue Q.
+    /// The guest freezes the place, of the kind that the line's word says: `gfreeze Q G` device queue Q.
     GuestFreeze {
-        queue: QueueId,
+        place: Place,
         guest: u32,
     },
     /// `grelease F`: the guest that holds freeze F gives it back.

@@ -8,7 +8,6 @@ use crate::completions::Completions;
 use crate::driver;
 use ccb::Completion;
 use engine_core::{Config, Engine, Event, Trace};
-use freeze_ledger::Place;
 use hands::{Hands, Told};
 use scenario::{Command, Step};
 use std::alloc::{AllocError, Global};
@@ -100,8 +99,7 @@ impl Host {
             Command::Dispatch { queue } => self.ask(Event::Dispatch { queue }),
             Command::Complete { completion } => self.complete(completion),
             Command::Drain => self.drain(),
-            Command::GuestFreeze { queue, guest } => {
-                let place = Place::Device(queue);
+            Command::GuestFreeze { place, guest } => {
                 self.ask(Event::GuestFreeze { place, guest })
             }
             Command::GuestRelease { freeze } => match self.hands.take_token(freeze) {

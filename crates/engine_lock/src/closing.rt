@@ -1,0 +1,44 @@
+// The end of a shared engine: all its callers come back, and it is one thread's again. It relies on callers being linear, so
+// that as many as were given out are all that were given out.
+
+ghost use Rattle.std.specs.Prelude.{◌≡◌, sum, IfOk, IfErr};
+ghost use Rattle.engine_lock.specs.Sharing.{IsSince};
+ghost use Rattle.engine_lock.specs.declared.fault.LockFault.TheVariants.{CallerMissing};
+
+use crate::caller::Caller;
+use crate::fault::LockFault;
+use crate::object::Object;
+use crate::shared::Shared;
+use engine_core::Engine;
+use std::sync::Mutex;
+
+/// A shared engine that was not closed, with why, and with the callers that were handed in.
+pub struct Unclosed<B: Object> {
+    pub fault: LockFault,
+    pub shared: Shared<B>,
+    pub callers: Vec<Caller<B>>,
+}
+
+impl<B: Object> Shared<B> {
+    /// Ends the sharing, with all callers, in any order: the engine, whose history has as many records beyond those with
+    /// which it began as these callers had recorded calls.
+    ///
+    /// L2 where a caller that was given out is not among them. Then all comes back, and is good for further calls.
+    pub fn close(self, callers: Vec<Caller<B>>) -> Result<Engine, Unclosed<B>>
+        ensures closed { IfOk result (IsSince B.setup B.begun (sum callers.items)) }
+        ensures unclosed { IfErr result (λ back. (back.fault ≡ CallerMissing) × (back.callers.items ≡ callers.items)) }
+    {
+        let Shared { lock } = self;
+        let locked = lock.into_inner();
+        if locked.has_all(&callers) {
+            return Ok(locked.settle(callers));
+        }
+        Err(Unclosed {
+            fault: LockFault::CallerMissing,
+            shared: Shared {
+                lock: Mutex::new(locked),
+            },
+            callers,
+        })
+    }
+}

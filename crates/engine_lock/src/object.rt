@@ -1,0 +1,67 @@
+// Which shared engine a value belongs to. It relies on the ledger of the standard library, whose shares count calls.
+
+ghost use Rattle.std.specs.Prelude.{◌≡◌};
+ghost use Rattle.engine_lock.specs.declared.object.TheConstants.{MAX_CALLERS};
+
+use crate::locked::Locked;
+use crate::shared::Shared;
+use engine_core::Engine;
+use std::marker::Brand;
+use std::sync::Mutex;
+use std::sync::ledger::{Blank, Ledger};
+
+/// How many callers may be given out.
+pub const MAX_CALLERS: u64 = 64;
+
+/// One shared engine, by what it was made of: its setup, and the history with which it began. Each call of a program that
+/// shares one picks it; all that belongs to it bears it in its type.
+pub trait Object: Ledger {
+    ghost use Rattle.std.specs.Prelude.{List};
+    ghost use Rattle.calls.specs.declared.record.Record.{Record};
+    ghost use Rattle.world.specs.World.{Setup};
+
+    ghost setup: { Setup };
+
+    ghost begun: { List Record };
+}
+
+impl Object for Brand {
+    ghost use Rattle.std.specs.Prelude.{[]};
+    ghost use Rattle.engine_lock.specs.Sharing.{no_setup};
+
+    ghost setup = { no_setup };
+
+    ghost begun = { [] };
+}
+
+/// An engine that is to be shared, and has no name yet.
+pub struct Opened {
+    engine: Engine,
+    calls: Blank,
+    pub ghost parts: { calls.parts ≡ MAX_CALLERS },
+}
+
+impl Opened {
+    /// The engine, with no caller given out. It takes no memory.
+    pub fn new(engine: Engine) -> Self
+        ensures { result.engine ≡ engine }
+    {
+        Opened {
+            engine,
+            calls: Blank::new(MAX_CALLERS),
+        }
+    }
+
+    /// The engine under its name.
+    pub fn named<B: Object>(self) -> Shared<B>
+        requires setup { self.engine.setup ≡ B.setup }
+        requires begun { self.engine.history ≡ B.begun }
+        requires name { (self.calls.name ≡ B.name) × (self.calls.parts ≡ B.parts) }
+    {
+        let Opened { engine, calls } = self;
+        let (book, rest) = calls.open::<B>();
+        Shared {
+            lock: Mutex::new(Locked::new(engine, book, rest)),
+        }
+    }
+}

@@ -1,0 +1,5 @@
+use Rattle.std.proofs.Common.{◌≡◌, ◌≤◌}
+use Rattle.workers.proofs.driving.drive.Given as goal
+
+abbrev pub invariant-loop-turn : goal.invariant-loop-turn
+invariant-loop-turn g l = (l.fn.caller ≤ l.caller) × (l.stopped.number ≡ l.fn.run.number)

@@ -1,0 +1,150 @@
+// What a worker does with one completion: it is answered, and the run that it starts is driven to its end. It relies on
+// `engine_lock` for calls, and on `engine_core` for what a run executes by itself, outside the lock.
+
+ghost use Rattle.std.specs.Prelude.{◌≡◌, ℕ, ◌+◌, ◌≤◌, true, IfErr, IfSome, OnOk};
+ghost use Rattle.engine_core.specs.Replies.{IsRunBack};
+ghost use Rattle.engine_core.specs.declared.reply.Back.TheVariants as its;
+ghost use Rattle.engine_core.specs.declared.reply.Given.TheVariants.{Started};
+ghost use Rattle.workers.specs.Serving.{HasServed, IsEnded, IsReady};
+
+use crate::gate::Gate;
+use crate::worker::{Kept, Worker};
+use engine_core::{Back, CallRefusal, Event, Given, Reply, Run};
+use engine_lock::{Caller, Object, Shared};
+use inbox::Inbox;
+use std::sync::Wait;
+
+/// How many runs one worker starts in one service at most: a sixteenth of the numbers that runs can have.
+pub(crate) const MOST_STARTED: u32 = u32::MAX / 16;
+
+/// Serves until the inbox is empty, or until something is kept.
+pub(crate) fn work<B: Object, G: Gate, R: Wait>(
+    rt: &R,
+    shared: &Shared<B>,
+    inbox: &Inbox,
+    gate: &G,
+    worker: &mut Worker<B>,
+)
+    requires { IsReady inbox.now worker.old }
+    ensures { HasServed B.setup worker.old worker.new }
+{
+    for _ in rt.forever() {
+        if !serve_next(rt, shared, inbox, gate, worker) {
+            break;
+        }
+    }
+}
+
+// Takes a completion and serves it. Whether there may be more, and nothing is kept.
+fn serve_next<B: Object, G: Gate, R: Wait>(
+    rt: &R,
+    shared: &Shared<B>,
+    inbox: &Inbox,
+    gate: &G,
+    worker: &mut Worker<B>,
+) -> bool
+    requires { IsReady inbox.now worker.old }
+    ensures served { HasServed B.setup worker.old worker.new }
+    ensures ready { result ≡ true → IsReady inbox.now worker.new }
+{
+    if worker.started == MOST_STARTED {
+        return false;
+    }
+    let Some(completion) = inbox.take(rt, &mut worker.pass) else {
+        return false;
+    };
+    let event = Event::Complete {
+        completion: &completion,
+    };
+    match shared.call(rt, &mut worker.caller, event) {
+        Reply::Given(given) => {
+            let Some(run) = started_by(given) else {
+                return true;
+            };
+            worker.started += 1;
+            match drive(rt, shared, gate, &mut worker.caller, run) {
+                Ok(()) => {
+                    worker.ended += 1;
+                    true
+                }
+                Err(run) => {
+                    worker.keep(Kept::Run(run));
+                    false
+                }
+            }
+        }
+        Reply::Refused(CallRefusal::Unknown | CallRefusal::NotActive) => true,
+        Reply::Refused(_) => {
+            worker.keep(Kept::Completion(completion));
+            false
+        }
+        Reply::OutOfMemory(back) => {
+            back.forfeit();
+            worker.keep(Kept::Completion(completion));
+            false
+        }
+        Reply::Unfit(back) => {
+            back.forfeit();
+            unreachable!()
+        }
+    }
+}
+
+// The run that was started, if one was.
+fn started_by(given: Given) -> Option<Run>
+    ensures { IfSome result (λ run. (freeze : ℕ) × (given ≡ Started run freeze)) }
+{
+    match given {
+        Given::Started(run, _) => Some(run),
+        other => {
+            other.forfeit();
+            None
+        }
+    }
+}
+
+// Drives a run to its end. The run comes back where an advance is not carried out. Each turn executes an instruction at least,
+// so an accepted program's run ends within its budget of turns.
+fn drive<B: Object, G: Gate, R: Wait>(
+    rt: &R,
+    shared: &Shared<B>,
+    gate: &G,
+    caller: &mut Caller<B>,
+    run: Run,
+) -> Result<(), Run>
+    ensures calls { caller.old ≤ caller.new }
+    ensures recorded { OnOk result (caller.old + 1 ≤ caller.new) }
+    ensures ended { OnOk result (IsEnded B.setup run.number) }
+    ensures same { IfErr result (λ kept. kept.number ≡ run.number) }
+{
+    let budget = run.program().budget();
+    let mut stopped = run.to_stop();
+    for turn in 0..budget {
+        gate.before(rt, stopped.number(), turn + 1);
+        match shared.call(rt, caller, Event::Advance { run: stopped }) {
+            Reply::Given(Given::Goes(run, _)) => stopped = run.to_stop(),
+            Reply::Given(Given::Ended(_)) => return Ok(()),
+            Reply::Unfit(back) | Reply::OutOfMemory(back) => return Err(run_of(back)),
+            Reply::Given(given) => {
+                given.forfeit();
+                unreachable!()
+            }
+            Reply::Refused(_) => unreachable!(),
+        }
+    }
+    Err(stopped.back())
+}
+
+// The run that came back.
+fn run_of(back: Back) -> Run
+    requires { IsRunBack back }
+    ensures { back ≡ its.Run result }
+{
+    match back {
+        Back::Run(run) => run,
+        other => {
+            other.forfeit();
+            unreachable!()
+        }
+    }
+}

@@ -7,8 +7,8 @@ pub invariant_of-self : goal.invariant_of-self
 invariant_of-self g c =
     let h = c.self.invariant in (
       subst (λ (n : ℕ). IsSince g.B.Object.setup g.B.Object.begun n c.answer-reply.new.self) (sym c.add.ensures.total)
-      (since_more g.B.Object.setup g.B.Object.begun c.self.inside.book.total c.self.inside.engine c.answer-reply.new.self c.args.event c.answer-reply.result h.0 c.answer-reply.ensures.fits
-      (sym c.is_recorded.ensures ∙ c.if-is_recorded.true) c.answer-reply.ensures.recorded c.answer-reply.ensures.run),
+          (since_more g.B.Object.setup g.B.Object.begun c.self.inside.book.total c.self.inside.engine c.answer-reply.new.self c.args.event c.answer-reply.result h.0 c.answer-reply.ensures.fits
+          (sym c.is_recorded.ensures ∙ c.if-is_recorded.true) c.answer-reply.ensures.recorded c.answer-reply.ensures.run),
       h.1,
       h.2,
       h.3,

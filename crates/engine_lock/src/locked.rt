@@ -2,6 +2,7 @@
 // standard library, whose book is the sum of its shares.
 
 ghost use Rattle.std.specs.Prelude.{◌≡◌, ℕ, ◌+◌, ◌<◌, ◌↔◌, List, [], ◌++◌, length, sum, IsErr, IfOk, IfErr, IsTrue, true};
+ghost use Rattle.engine_core.specs.EngineState.{IsRun};
 ghost use Rattle.engine_lock.specs.Sharing.{Answers, Counts, IsSince};
 ghost use Rattle.engine_lock.specs.declared.fault.LockFault.TheVariants.{TooManyCallers};
 ghost use Rattle.engine_lock.specs.declared.object.TheConstants.{MAX_CALLERS};
@@ -37,6 +38,7 @@ impl<B: Object> Model for Locked<B> {
 impl<B: Object> Locked<B> {
     /// An engine of which no caller was given out.
     pub(crate) fn new(engine: Engine, book: Book<B>, rest: Share<B>) -> Self
+        requires run { IsRun engine }
         requires setup { engine.setup ≡ B.setup }
         requires begun { engine.history ≡ B.begun }
         requires book { book.total ≡ 0 }

@@ -59,6 +59,8 @@ impl Opened {
         requires name { (self.calls.name ≡ B.name) × (self.calls.parts ≡ B.parts) }
     {
         let Opened { engine, calls } = self;
+        // The proof knows that its history is a run once it tells its sums.
+        let _totals = engine.totals();
         let (book, rest) = calls.open::<B>();
         Shared {
             lock: Mutex::new(Locked::new(engine, book, rest)),

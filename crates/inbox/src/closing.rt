@@ -43,6 +43,27 @@ pub struct Unclosed {
     pub takes: Vec<TakePass>,
 }
 
+impl Unclosed {
+    /// Spends all that came back: the completions that wait are let go.
+    pub fn forfeit(self) {
+        let Unclosed {
+            fault: _,
+            inbox,
+            mut puts,
+            mut takes,
+        } = self;
+        inbox.forfeit();
+        while let Some(pass) = puts.pop() {
+            pass.forfeit();
+        }
+        puts.destroy_empty();
+        while let Some(pass) = takes.pop() {
+            pass.forfeit();
+        }
+        takes.destroy_empty();
+    }
+}
+
 impl Inbox {
     ghost use Rattle.std.specs.Prelude.{◌≡◌, ◌++◌, ◌↔◌, All, map, IfOk, IfErr, IsErrAnd};
     ghost use Rattle.inbox.specs.declared.closing.CloseFault.TheVariants.{PassMissing};

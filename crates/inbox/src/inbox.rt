@@ -58,6 +58,7 @@ impl Inbox {
         ensures inbox { IfOk result (λ made. made.0.shape ≡ record { capacity = capacity; puts = puts; takes = takes }) }
         ensures puts { IfOk result (λ made. made.1.items ≡ new_passes made.0 0 puts) }
         ensures takes { IfOk result (λ made. made.2.items ≡ new_passes made.0 puts takes) }
+        ensures many { IfOk result (λ made. (vec_len made.1 ≡ puts) × (vec_len made.2 ≡ takes)) }
         ensures ours { IfOk result (λ made. All (IsOf made.0) made.1.items × All (IsOf made.0) made.2.items) }
     {
         let (queue, seat) = Queue::ruled(alloc, capacity)?;
@@ -108,6 +109,17 @@ impl Inbox {
     }
 }
 
+impl Inbox {
+    /// Lets the inbox go, with the completions that wait. Its passes are good for nothing then.
+    pub fn forfeit(self) {
+        let Inbox {
+            queue: _,
+            puts: _,
+            takes: _,
+        } = self;
+    }
+}
+
 // Makes the passes, for which there is room.
 fn deal<S: Shaped>(
     queue: Queue,
@@ -122,6 +134,7 @@ fn deal<S: Shaped>(
     requires put_room { (put_passes.items ≡ []) × (puts ≤ vec_capacity put_passes) }
     requires take_room { (take_passes.items ≡ []) × (takes ≤ vec_capacity take_passes) }
     ensures inbox { result.0.shape ≡ S.shape }
+    ensures many { (vec_len result.1 ≡ puts) × (vec_len result.2 ≡ takes) }
     ensures puts { result.1.items ≡ new_passes result.0 0 puts }
     ensures takes { result.2.items ≡ new_passes result.0 puts takes }
 {

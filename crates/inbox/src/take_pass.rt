@@ -52,4 +52,9 @@ impl TakePass {
     {
         inbox.queue.absorb::<Tells>(&mut self.seat, receipt.seat);
     }
+
+    /// Spends the pass and changes no inbox: it is for one whose inbox is let go.
+    pub fn forfeit(self) {
+        let TakePass { seat: _ } = self;
+    }
 }

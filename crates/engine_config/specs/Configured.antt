@@ -48,3 +48,11 @@ pub record KeepsConfig (limits : HelperLimits) (given : List Given) : Type 0 whe
   pub lawful : IsLawful (setup_of limits given)
   pub queues : All (IsGivenUnder limits) given
   pub known : All IsKnown given
+
+-- these have the instructions of the queues' programs, in the order of the queues' numbers
+abbrev pub AreProgramsOf : Setup → List (Arc Accepted Global) → Type 0
+AreProgramsOf setup programs = map (λ (program : Arc Accepted Global). (arc_value program).program) programs ≡ map (λ queue. queue.program) setup.queues
+
+-- the same of queues as they are given
+abbrev pub AreProgramsGiven : List Shared → List (Arc Accepted Global) → Type 0
+AreProgramsGiven queues programs = map (λ (program : Arc Accepted Global). (arc_value program).program) programs ≡ map (λ queue. (given_of queue).1.program) queues

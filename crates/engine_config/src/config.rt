@@ -1,16 +1,17 @@
 // What an engine is opened with. It relies on `accepted` for accepted programs and on `helpers` for their limits.
 
-ghost use Rattle.std.specs.Prelude.{◌≡◌, ◌<◌, ◌≤◌, ◌↔◌, length, map, All, IsSome, IsTrue, IfSome};
+ghost use Rattle.std.specs.Prelude.{◌≡◌, ◌<◌, ◌≤◌, ◌↔◌, length, map, All, IsSome, IsTrue, IfSome, IfOk};
 ghost use Rattle.std.specs.Arc.{arc_value};
 ghost use Rattle.accepted.specs.Verdict.{IsAccepted};
 ghost use Rattle.world.specs.World.{queue_count, queue_setup};
 ghost use Rattle.world.specs.Capacities.{most_queues};
 ghost use Rattle.world.specs.Lawful.{IsLawful};
-ghost use Rattle.engine_config.specs.Configured.{IsConfigured, IsGivenUnder, IsKnown, given_of, setup_of};
+ghost use Rattle.engine_config.specs.Configured.{AreProgramsGiven, AreProgramsOf, IsConfigured, IsGivenUnder, IsKnown, given_of, setup_of};
 
 use accepted::Accepted;
 use ccb::QueueId;
 use helpers::HelperLimits;
+use std::alloc::{AllocError, Global};
 use std::marker::Model;
 use std::sync::Arc;
 
@@ -95,6 +96,28 @@ impl Config {
     {
         &self.queues[queue.0 as usize].1
     }
+
+    /// The programs of all queues, in the order of the queues' numbers: they are shared, and not copied.
+    pub fn programs(&self, alloc: Global) -> Result<Vec<Arc<Accepted>>, AllocError>
+        ensures { IfOk result (λ programs. AreProgramsOf self.now programs.items) }
+    {
+        shared_programs(alloc, &self.queues)
+    }
+}
+
+// The programs of these queues, in their order.
+fn shared_programs(
+    alloc: Global,
+    queues: &[(u8, Arc<Accepted>)],
+) -> Result<Vec<Arc<Accepted>>, AllocError>
+    ensures { IfOk result (λ programs. AreProgramsGiven queues.now programs.items) }
+{
+    let mut programs = Vec::with_capacity(alloc, queues.len())?;
+    for queue in queues {
+        let program = Arc::try_clone(&queue.1)?;
+        programs.push(program)?;
+    }
+    Ok(programs)
 }
 
 // Up to 16 tables of 1 to 4096 words.

@@ -1,19 +1,22 @@
 -- An event's reply: what fits, the room for its record, and what the engine is behind it.
-use Rattle.std.proofs.Common.{◌≡◌, ℕ, ◌+◌, ◌<◌, ◌≤◌, true, false, List, [], ◌∷◌, ◌++◌, length, Result, Ok, Err, Option, Some, None, refl, sym, arith}
+use Rattle.std.proofs.Common.{◌≡◌, ℕ, ◌+◌, ◌<◌, ◌≤◌, true, false, List, [], ◌∷◌, ◌++◌, length, Result, Ok, Err, Option, Some, None, refl, ap, sym, ◌∙◌, arith}
 use Rattle.std.specs.Prelude.{IfOk, IfNone, IsSome, OnErr}
 use Rattle.std.specs.Result.{is_err}
 use Rattle.std.proofs.lemmas.List.Sums.{count_by-le-length}
+use Rattle.ccb.specs.declared.QueueId.{QueueId}
+use Rattle.runs.specs.Admits.{KnowsProgram}
 use Rattle.runs.specs.RunsState.{RunsState}
 use Rattle.calls.specs.declared.record.Record.{Record}
-use Rattle.world.specs.World.{Transport, Setup, LiveRun, World}
+use Rattle.world.specs.World.{Transport, Setup, LiveRun, World, queue_setup}
 use Rattle.engine_core.specs.declared.event.Event.{Event}
 use Rattle.engine_core.specs.declared.event.Event.TheVariants.{Submit, Dispatch, Complete, Advance, Clock, GuestFreeze, GuestRelease, Park, Resume}
 use Rattle.engine_core.specs.declared.reply.Reply.{Reply}
 use Rattle.engine_core.specs.declared.reply.Reply.TheVariants.{Given, Refused, Unfit, OutOfMemory}
 use Rattle.engine_core.specs.Invariant.{HasRoom, KeepsEngine}
 use Rattle.engine_core.specs.Performing.{FitsAt, IsRoomFor, LeavesRoom, Performs, world_with}
-use Rattle.engine_core.specs.Replies.{IsFit, IsUnfit, ToldFit, owns, record_of}
-use Rattle.engine_core.proofs.Parking.{room_to_park}
+use Rattle.engine_core.specs.RunState.{StoppedState}
+use Rattle.engine_core.specs.Replies.{IsFit, IsOfKnown, IsUnfit, ToldFit, owns, record_of}
+use Rattle.engine_core.proofs.Parking.{known_run, room_to_park}
 use Rattle.engine_core.proofs.Recording.{Goes, goes, kept_sound}
 
 -- what was not found does not fit
@@ -44,6 +47,12 @@ unfit_owns (GuestFreeze place guest) world unfit = absurd (unfit tt)
 unfit_owns (GuestRelease token) world unfit = refl
 unfit_owns (Park run) world unfit = refl
 unfit_owns (Resume run) world unfit = absurd (unfit tt)
+
+-- a queue's program is that of each live run of this queue
+pub knows_program : (setup : Setup) (history : List Record) (transport : Transport) (runs : RunsState) (run : StoppedState) (known : Option QueueId) → KeepsEngine setup history transport runs → IsOfKnown setup (Advance run) known → KnowsProgram runs.runs.list run.number run.segment.program.program known
+knows_program setup history transport runs run None kept of = tt
+knows_program setup history transport runs run (Some queue) kept of = λ it found its.
+    of ∙ (ap (λ (n : ℕ). (queue_setup setup n).program) (sym its) ∙ sym (known_run setup history transport runs run.number it kept found).program)
 
 -- what was found fits
 pub fit_at : (event : Event) (place : ℕ) (transport : Transport) (runs : RunsState) (world : World) → FitsAt place transport runs event → IsFit (world_with transport runs world) event

@@ -1,7 +1,9 @@
 -- What the reply to a call says: which record it makes, what it gives, and what comes back.
-use Rattle.std.specs.Prelude.{◌≡◌, ℕ, Bool, true, false, Option, Some, None, MatchOption, Result, Ok, Err}
+use Rattle.std.specs.Prelude.{◌≡◌, ℕ, Bool, true, false, List, Option, Some, None, IfSome, MatchOption, Result, Ok, Err}
 use Rattle.std.specs.Option.{option_map}
+use Rattle.bpf_insn.specs.declared.program.Slot.{Slot}
 use Rattle.ccb.specs.declared.CcbId.{CcbId}
+use Rattle.ccb.specs.declared.QueueId.{QueueId}
 use Rattle.freeze_ledger.specs.declared.freeze.Holder.TheVariants.{Guest}
 use Rattle.calls.specs.declared.call.Call.{Call}
 use Rattle.calls.specs.declared.call.Call.TheVariants as its
@@ -11,7 +13,7 @@ use Rattle.calls.specs.declared.call_refusal.CallRefusal.{CallRefusal}
 use Rattle.calls.specs.declared.record.Record.{Record}
 use Rattle.calls.specs.declared.record.Record.TheVariants.{Called, Advance as advanced}
 use Rattle.engine_core.specs.RunState.{IsOut, IsOutUnder, before_stop}
-use Rattle.world.specs.World.{Setup, World}
+use Rattle.world.specs.World.{Setup, World, queue_setup}
 use Rattle.engine_core.specs.declared.answers.CompleteAnswer.{CompleteAnswer}
 use Rattle.engine_core.specs.declared.answers.CompleteAnswer.TheVariants as completes
 use Rattle.engine_core.specs.declared.answers.AdvanceAnswer.{AdvanceAnswer}
@@ -181,6 +183,15 @@ IsFit world (Advance run) = IsOut world (before_stop run)
 IsFit world (GuestRelease token) = GuestHolds world token
 IsFit world (Park run) = IsOut world run
 IsFit world event = Unit {0}
+
+-- an advance is of a run with this program
+abbrev pub IsOfProgram : List Slot → Event → Type 0
+IsOfProgram program (Advance run) = run.segment.program.program ≡ program
+IsOfProgram program event = Unit {0}
+
+-- where a queue is known, an advance is of a run with that queue's program
+abbrev pub IsOfKnown : Setup → Event → Option QueueId → Type 0
+IsOfKnown setup event known = IfSome known (λ queue. IsOfProgram (queue_setup setup queue.0).program event)
 
 -- C4 and C6: it does not fit
 abbrev pub IsUnfit : World → Event → Type 0

@@ -90,7 +90,8 @@ pub(crate) fn recover(
     ensures tokens { IfOk result (λ _. HoldEntries transport.new.freezes runs.new) }
     ensures refused { OnErr result ((transport.new ≡ transport.old) × (runs.new ≡ runs.old)) }
 {
-    let program = config.program(ccb.queue);
+    let queue = ccb.queue;
+    let program = config.program(queue);
     let recorded = Arc::try_clone(program)?;
     let handed = Arc::try_clone(program)?;
     let kept = runs.place_for_machine()?;
@@ -98,5 +99,8 @@ pub(crate) fn recover(
     let next = runs.place_for_machine()?;
     let (ccb, token) = transport.fail(place, ccb, completion, runs.next_number());
     let started = runs.start(&ccb, recorded, token, kept, &mut machine);
-    Ok((Run::new(started.run, handed, machine, next), started.freeze))
+    Ok((
+        Run::new(started.run, queue, handed, machine, next),
+        started.freeze,
+    ))
 }

@@ -3,6 +3,7 @@
 // on `world` for what is recorded.
 
 ghost use Rattle.std.specs.Prelude.{◌≡◌, ◌↔◌, IsTrue, ◌+◌, ◌≤◌, ◌++◌, ◌∷◌, [], length, false, IfOk, IfErr, OnErr};
+ghost use Rattle.engine_config.specs.Configured.{AreProgramsOf};
 ghost use Rattle.runs.specs.Admits.{IsOutWith};
 ghost use Rattle.runs.specs.RunsState.{no_runs};
 ghost use Rattle.world.specs.World.{opening};
@@ -10,19 +11,22 @@ ghost use Rattle.world.specs.TotalsOf.{TotalsOf, totals_in};
 ghost use Rattle.engine_core.specs.EngineState.{opened, IsRun};
 ghost use Rattle.engine_core.specs.Performing.{IsRoomFor};
 ghost use Rattle.engine_core.specs.RunState.{IsReached};
-ghost use Rattle.engine_core.specs.Replies.{IsRecorded, Fits, ToldFit, Gives, is_park};
+ghost use Rattle.engine_core.specs.Replies.{IsOfKnown, IsRecorded, Fits, ToldFit, Gives, is_park};
 
 use crate::event::Event;
 use crate::parts::Parts;
 use crate::reply::Reply;
 use crate::run::Run;
+use accepted::Accepted;
 use calls::{Record, Totals, Trace};
+use ccb::QueueId;
 use chunked_list::ChunkedList;
 use engine_config::Config;
 use interpreter::Segment;
 use runs::{MAX_RUNS, Runs};
 use std::alloc::{AllocError, Global};
 use std::marker::Model;
+use std::sync::Arc;
 use transport::Transport;
 
 /// The room that a call makes in the history: for its own record, and for one of each run, which may be parked behind it.
@@ -114,7 +118,20 @@ impl Engine {
         ensures gives { Gives self.old.setup self.old.world event.entry self.new.world result }
         ensures run { IsRun self.new }
     {
-        let Some(place) = self.parts.fits(&event) else {
+        self.answer_known(event, None)
+    }
+
+    /// The same, where the run of an advance is known to have the program of a queue. If the run of its number is recorded
+    /// for that queue, the two programs are not compared; else nothing comes of what is known.
+    pub fn answer_known(&mut self, event: Event<'_>, known: Option<QueueId>) -> Reply
+        requires { IsOfKnown self.old.setup event known }
+        ensures recorded { IsRecorded self.old event.entry result self.new }
+        ensures fits { Fits event.entry result }
+        ensures fit { ToldFit self.old.world event.entry result }
+        ensures gives { Gives self.old.setup self.old.world event.entry self.new.world result }
+        ensures run { IsRun self.new }
+    {
+        let Some(place) = self.parts.fits(&event, known) else {
             return Reply::Unfit(event.owned());
         };
         if make_room(&mut self.history, &event).is_err() {
@@ -138,8 +155,15 @@ impl Engine {
     {
         self.parts
             .runs
-            .admit_run(run.number(), run.program(), segment.from())
+            .admit_run(run.number(), run.program(), None, segment.from())
             .is_some()
+    }
+
+    /// The programs of all queues, in the order of the queues' numbers: they are shared, and not copied.
+    pub fn programs(&self, alloc: Global) -> Result<Vec<Arc<Accepted>>, AllocError>
+        ensures { IfOk result (λ programs. AreProgramsOf self.now.setup programs.items) }
+    {
+        self.config.programs(alloc)
     }
 
     /// The sums so far.

@@ -3,10 +3,10 @@
 
 ghost use Rattle.std.specs.Prelude.{◌≡◌, false, List, IfOk, IfNone, IfSome, IfErr};
 ghost use Rattle.calls.specs.declared.record.Record.{Record as TheRecord};
-ghost use Rattle.world.specs.World.{World};
+ghost use Rattle.world.specs.World.{Setup, World};
 ghost use Rattle.engine_core.specs.Invariant.{KeepsEngine};
 ghost use Rattle.engine_core.specs.Performing.{FitsAt, Performs, world_with};
-ghost use Rattle.engine_core.specs.Replies.{IsUnfit, is_park, owned};
+ghost use Rattle.engine_core.specs.Replies.{IsOfKnown, IsUnfit, is_park, owned};
 
 use crate::ccb_events::{complete, dispatch, submit};
 use crate::event::Event;
@@ -14,6 +14,7 @@ use crate::freeze_events::{guest_freeze, guest_release, read_clock};
 use crate::reply::{Back, Reply};
 use crate::run_events::{advance, park, resume};
 use calls::Record;
+use ccb::QueueId;
 use engine_config::Config;
 use runs::Runs;
 use std::alloc::Global;
@@ -28,18 +29,21 @@ pub(crate) struct Parts {
 
 impl Parts {
     /// Where the run stands that an advance or a park is of (0 for other events), and `None`, which is C4 or C6, exactly
-    /// where the run is not out as the event says, or no guest's freeze is the token's.
-    pub(crate) fn fits(&self, event: &Event<'_>) -> Option<usize>
+    /// where the run is not out as the event says, or no guest's freeze is the token's. Where a queue is known, the run of an
+    /// advance has its program, which is not compared where the recorded run is of that queue.
+    pub(crate) fn fits(&self, event: &Event<'_>, known: Option<QueueId>) -> Option<usize>
+        requires { (setup : Setup) × (history : List TheRecord) × KeepsEngine setup history self.now.transport self.now.runs × IsOfKnown setup event.now known }
         ensures fit { IfSome result (λ place. FitsAt place self.now.transport self.now.runs event.now) }
         ensures unfit { IfNone result ((world : World) → IsUnfit (world_with self.now.transport self.now.runs world) event.now) }
     {
         match event {
             Event::Advance { run } => {
-                self.runs.admit_run(run.number(), run.program(), run.from())
+                self.runs
+                    .admit_run(run.number(), run.program(), known, run.from())
             }
             Event::Park { run } => {
                 self.runs
-                    .admit_run(run.number(), run.program(), run.machine())
+                    .admit_run(run.number(), run.program(), None, run.machine())
             }
             Event::GuestRelease { token } => {
                 if self.transport.is_guests(token) {

@@ -10,6 +10,7 @@ ghost use Rattle.engine_core.specs.RunState.{IsReached, IsStopped, before_stop};
 use crate::stopped::Stopped;
 use accepted::Accepted;
 use bpf_machine::Machine;
+use ccb::QueueId;
 use interpreter::{Segment, go_to_stop};
 use std::marker::Model;
 use std::sync::Arc;
@@ -19,6 +20,8 @@ use std::sync::Arc;
 /// are kept by its engine. Its type keeps that the machine is one that the program reaches.
 pub struct Run {
     number: u32,
+    // for which queue it was started: a hint, of which contracts know nothing
+    queue: QueueId,
     program: Arc<Accepted>,
     // apart, so that a run is moved as a few words
     machine: Box<Machine>,
@@ -41,6 +44,7 @@ impl Run {
     /// Only an engine makes one, for a run that it has just started, or that goes on.
     pub(crate) fn new(
         number: u32,
+        queue: QueueId,
         program: Arc<Accepted>,
         machine: Box<Machine>,
         next: Box<Machine>,
@@ -50,6 +54,7 @@ impl Run {
     {
         Run {
             number,
+            queue,
             program,
             machine,
             next,
@@ -61,6 +66,11 @@ impl Run {
         ensures { result ≡ self.now.number }
     {
         self.number
+    }
+
+    /// The queue for which it was started. No contract says so: it is a hint where its program may be found.
+    pub fn queue(&self) -> QueueId {
+        self.queue
     }
 
     /// The machine in which the run goes on.
@@ -96,13 +106,14 @@ impl Run {
     {
         let Run {
             number,
+            queue,
             program,
             machine,
             mut next,
         } = self;
         next.copy_from(&machine);
         let steps = go_to_stop(&program, &mut next);
-        Stopped::new(number, program, machine, next, steps)
+        Stopped::new(number, queue, program, machine, next, steps)
     }
 
     /// The same run at the stop of a segment of its program that begins in its machine.
@@ -114,12 +125,13 @@ impl Run {
     {
         let Run {
             number,
+            queue,
             program,
             machine,
             mut next,
         } = self;
         next.copy_from(segment.to());
-        Stopped::new(number, program, machine, next, segment.steps())
+        Stopped::new(number, queue, program, machine, next, segment.steps())
     }
 
     /// The same run with this machine.
@@ -129,12 +141,13 @@ impl Run {
     {
         let Run {
             number,
+            queue,
             program,
             machine: mut held,
             next,
         } = self;
         held.copy_from(machine);
-        Run::new(number, program, held, next)
+        Run::new(number, queue, program, held, next)
     }
 
     /// Spends the run and changes no engine: it is for a run whose engine was shut.
@@ -146,6 +159,7 @@ impl Run {
     pub(crate) fn spent(self) -> (Box<Machine>, Box<Machine>) {
         let Run {
             number: _,
+            queue: _,
             program: _,
             machine,
             next,

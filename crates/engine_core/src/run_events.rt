@@ -79,7 +79,8 @@ pub(crate) fn resume(config: &Config, runs: &mut Runs, run: u32) -> Result<(Repl
     let Some(place) = runs.parked(run) else {
         return Ok(refused(CallRefusal::Unknown, call));
     };
-    let Ok(program) = Arc::try_clone(config.program(runs.queue(place))) else {
+    let queue = runs.queue(place);
+    let Ok(program) = Arc::try_clone(config.program(queue)) else {
         return Err(Back::Nothing);
     };
     let Ok(mut machine) = runs.place_for_machine() else {
@@ -89,7 +90,7 @@ pub(crate) fn resume(config: &Config, runs: &mut Runs, run: u32) -> Result<(Repl
         return Err(Back::Nothing);
     };
     machine.copy_from(runs.machine(place));
-    let again = Run::new(run, program, machine, next);
+    let again = Run::new(run, queue, program, machine, next);
     runs.set_out(place, true);
     let answer = CallAnswer::Ok;
     Ok((

@@ -1,7 +1,7 @@
 // A run at its next stop: what it executed by itself, and the right to take it further. It relies on `run` for runs that
 // are out, and on `interpreter` for the stop.
 
-ghost use Rattle.std.specs.Prelude.{◌≡◌, ℕ};
+ghost use Rattle.std.specs.Prelude.{◌≡◌, ◌↔◌, ℕ, IsTrue};
 ghost use Rattle.std.specs.Arc.{arc_value};
 ghost use Rattle.bpf_semantics.specs.declared.stop.Stop.TheVariants.{Helper};
 ghost use Rattle.bpf_semantics.specs.Step.{IsAnswer, HasRoomFor, answered};
@@ -15,6 +15,7 @@ use crate::run::Run;
 use accepted::Accepted;
 use bpf_machine::Machine;
 use bpf_semantics::Stop;
+use ccb::QueueId;
 use helpers::{Answer, Request};
 use interpreter::stop_of;
 use runs::Runs;
@@ -26,6 +27,8 @@ use std::sync::Arc;
 /// machine that the program reaches.
 pub struct Stopped {
     number: u32,
+    // for which queue the run was started: a hint, of which contracts know nothing
+    queue: QueueId,
     program: Arc<Accepted>,
     // the machine before the first instruction, and the one at the stop
     from: Box<Machine>,
@@ -49,6 +52,7 @@ impl Stopped {
     /// A run that executed so many instructions, with that of its stop.
     pub(crate) fn new(
         number: u32,
+        queue: QueueId,
         program: Arc<Accepted>,
         from: Box<Machine>,
         to: Box<Machine>,
@@ -59,6 +63,7 @@ impl Stopped {
     {
         Stopped {
             number,
+            queue,
             program,
             from,
             to,
@@ -73,11 +78,24 @@ impl Stopped {
         self.number
     }
 
+    /// The queue for which the run was started. No contract says so: it is a hint where its program may be found.
+    pub fn queue(&self) -> QueueId {
+        self.queue
+    }
+
     /// The program that it runs.
     pub fn program(&self) -> &Arc<Accepted>
         ensures { arc_value result.now ≡ self.now.segment.program }
     {
         &self.program
+    }
+
+    /// Whether its program has these instructions.
+    pub fn is_of(&self, program: &Accepted) -> bool
+        ensures { IsTrue result ↔ (self.now.segment.program.program ≡ program.now.program) }
+    {
+        let own: &Accepted = &self.program;
+        *own.program() == *program.program()
     }
 
     /// The machine before the first instruction.
@@ -116,12 +134,13 @@ impl Stopped {
     {
         let Stopped {
             number,
+            queue,
             program,
             from,
             to,
             steps: _,
         } = self;
-        Run::new(number, program, from, to)
+        Run::new(number, queue, program, from, to)
     }
 
     /// Spends the run and changes no engine: it is for a run whose engine was shut.
@@ -154,6 +173,7 @@ impl Stopped {
     {
         let Stopped {
             number,
+            queue,
             program,
             mut from,
             to,
@@ -161,6 +181,6 @@ impl Stopped {
         } = self;
         let spare = runs.go_on(place, to, request, answer);
         from.copy_from(runs.machine(place));
-        Run::new(number, program, from, spare)
+        Run::new(number, queue, program, from, spare)
     }
 }

@@ -1,5 +1,6 @@
 -- Which run may be parked or taken further.
-use Rattle.std.specs.Prelude.{◌≡◌, ℕ, true, List, Some}
+use Rattle.std.specs.Prelude.{◌≡◌, ℕ, true, List, Option, Some, IfSome}
+use Rattle.ccb.specs.declared.QueueId.{QueueId}
 use Rattle.bpf_insn.specs.declared.program.Slot.{Slot}
 use Rattle.bpf_semantics.specs.MachineState.{MachineState}
 use Rattle.world.specs.World.{LiveRun}
@@ -14,3 +15,8 @@ pub record IsOutWith (runs : List LiveRun) (number : ℕ) (program : List Slot) 
   pub it : LiveRun
   pub found : run_of number runs ≡ Some it
   pub recorded : IsRecorded it program machine
+
+-- Where a queue is known, this is the program of a live run of that number which is of this queue.
+abbrev pub KnowsProgram : List LiveRun → ℕ → List Slot → Option QueueId → Type 0
+KnowsProgram runs number program known =
+    IfSome known (λ queue. (it : LiveRun) → run_of number runs ≡ Some it → it.queue ≡ queue.0 → program ≡ it.program)

@@ -19,7 +19,7 @@ ghost use Rattle.world.specs.Capacities.{most_runs};
 ghost use Rattle.world.specs.Lookups.{run_of, with_run};
 ghost use Rattle.world.specs.CcbSteps.{run_meets_limit};
 ghost use Rattle.table_store.specs.Tables.{HasWord, with_word, word_at};
-ghost use Rattle.runs.specs.Admits.{IsOutWith, IsRecorded};
+ghost use Rattle.runs.specs.Admits.{IsOutWith, IsRecorded, KnowsProgram};
 ghost use Rattle.runs.specs.LiveRuns.{live_of};
 ghost use Rattle.runs.specs.RunPlaces.{HasRunAt};
 ghost use Rattle.runs.specs.RunsState.{no_runs, run_for, told, tokens_at, tokens_of};
@@ -77,11 +77,22 @@ fn is_same_program(one: &Accepted, other: &Accepted) -> bool
     *one.program() == *other.program()
 }
 
-// Whether the recorded run is out with that program, in that machine.
-fn is_out_with(it: &RunRecord, program: &Accepted, machine: &Machine) -> bool
+// Whether the queue that is known is that of the recorded run.
+fn is_of_known(it: &RunRecord, known: Option<QueueId>) -> bool
+    ensures { IsTrue result → known ≡ Some it.now.queue }
+{
+    match known {
+        Some(queue) => queue == it.queue,
+        None => false,
+    }
+}
+
+// Whether the recorded run is out with that program, in that machine. A program that is its own for sure is not compared.
+fn is_out_with(it: &RunRecord, program: &Accepted, is_its: bool, machine: &Machine) -> bool
+    requires { IsTrue is_its → program.now.program ≡ (live_of it.now).program }
     ensures { IsTrue result ↔ IsRecorded (live_of it.now) program.now.program machine.now }
 {
-    it.out && is_same_program(program, &it.program) && machine.is_same(&it.machine)
+    it.out && (is_its || is_same_program(program, &it.program)) && machine.is_same(&it.machine)
 }
 
 // Keeps the place of a machine for a run to come, where there is room.
@@ -220,13 +231,23 @@ impl Runs {
     }
 
     /// Where the run stands that is live and out with that program, in that machine. `None`, which is C4, exactly where there
-    /// is no such run. The place is good until a run starts or ends.
-    pub fn admit_run(&self, run: u32, program: &Accepted, machine: &Machine) -> Option<usize>
+    /// is no such run. The place is good until a run starts or ends. Where the recorded run is of the queue that is known to
+    /// have this program, the two programs are not compared.
+    pub fn admit_run(
+        &self,
+        run: u32,
+        program: &Accepted,
+        known: Option<QueueId>,
+        machine: &Machine,
+    ) -> Option<usize>
+        requires { KnowsProgram self.now.runs.list run program.now.program known }
         ensures admitted { IsSome result ↔ IsOutWith self.now.runs.list run program.now.program machine.now }
         ensures place { IfSome result (λ place. (it : LiveRun) × (run_of run self.now.runs.list ≡ Some it) × HasRunAt self.now.runs.list place it) }
     {
         let place = place_of(&self.records, run)?;
-        if is_out_with(&self.records[place], program, machine) {
+        let it = &self.records[place];
+        let is_its = is_of_known(it, known);
+        if is_out_with(it, program, is_its, machine) {
             Some(place)
         } else {
             None

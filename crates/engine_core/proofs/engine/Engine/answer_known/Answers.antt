@@ -1,9 +1,15 @@
-use Rattle.std.proofs.Common.{length, refl, ap, sym, ◌∙◌, rules, arith}
+use Rattle.std.proofs.Common.{length, refl, ap, sym, subst, ◌∙◌, rules, arith}
 use Rattle.std.proofs.lemmas.List.{length_push}
-use Rattle.engine_core.specs.EngineState.{world_of}
+use Rattle.engine_core.specs.EngineState.{EngineState, world_of}
+use Rattle.engine_core.specs.Replies.{IsOfKnown}
 use Rattle.engine_core.proofs.Answering.{few_runs, fit_at, on_err, performed, room_behind, room_to_tell, told_fit, unfit_owns, unless_err}
 use Rattle.engine_core.proofs.Parking.{room_kept}
-use Rattle.engine_core.proofs.engine.Engine.answer.Goals as goal
+use Rattle.engine_core.proofs.engine.Engine.answer_known.Goals as goal
+
+-- what is known of a program
+
+pub fits-requires : goal.fits-requires
+fits-requires c = (c.self.inside.config, c.self.inside.history.items, c.self.invariant.0, subst (λ (s : EngineState). IsOfKnown s.setup c.args.event c.args.known) (sym c.self.view_is) c.requires)
 
 -- an event that is unfit
 

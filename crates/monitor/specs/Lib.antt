@@ -1,0 +1,4 @@
+pub mod LegalHistory
+pub mod Nameless
+pub mod Seats
+pub mod Telling

@@ -1,0 +1,18 @@
+-- What a part of no shared engine bears, in place of its setup, its cell and a record.
+use Rattle.std.specs.Prelude.{[]}
+use Rattle.helpers.specs.Table.{of_queues}
+use Rattle.atomic_table.specs.Seated.{TableId}
+use Rattle.calls.specs.declared.call.Call.TheVariants.{Clock}
+use Rattle.calls.specs.declared.call_answer.CallAnswer.TheVariants.{Removed}
+use Rattle.calls.specs.declared.record.Record.{Record}
+use Rattle.calls.specs.declared.record.Record.TheVariants.{Called}
+use Rattle.world.specs.World.{Setup}
+
+abbrev pub no_setup : Setup
+no_setup = record { limits = of_queues 0 []; queues = [] }
+
+abbrev pub no_table : TableId
+no_table = record { words = 0; slots = 0; views_name = 0; atom = 0; block = 0; offset = 0; slot_names = [] }
+
+abbrev pub a_record : Record
+a_record = Called (Removed 0) (Clock 0)

@@ -18,3 +18,10 @@ impl<B: Object> Model for Caller<B> {
 
     ghost invariant = { λ c. c.calls.parts ≡ 1 };
 }
+
+impl<B: Object> Caller<B> {
+    /// Spends the caller and changes no engine: it is for one whose engine is let go, which cannot be closed without it.
+    pub fn forfeit(self) {
+        let Caller { calls: _ } = self;
+    }
+}

@@ -19,6 +19,21 @@ pub struct Unclosed<B: Object> {
     pub callers: Vec<Caller<B>>,
 }
 
+impl<B: Object> Unclosed<B> {
+    /// Spends all that came back, and lets the engine go.
+    pub fn forfeit(self) {
+        let Unclosed {
+            fault: _,
+            shared: _,
+            mut callers,
+        } = self;
+        while let Some(caller) = callers.pop() {
+            caller.forfeit();
+        }
+        callers.destroy_empty();
+    }
+}
+
 impl<B: Object> Shared<B> {
     /// Ends the sharing, with all callers, in any order: the engine, whose history has as many records beyond those with
     /// which it began as these callers had recorded calls.
@@ -28,7 +43,7 @@ impl<B: Object> Shared<B> {
         ensures closed { IfOk result (IsSince B.setup B.begun (sum callers.items)) }
         ensures unclosed { IfErr result (λ back. (back.fault ≡ CallerMissing) × (back.callers.items ≡ callers.items)) }
     {
-        let Shared { lock } = self;
+        let Shared { lock, programs } = self;
         let locked = lock.into_inner();
         if locked.has_all(&callers) {
             return Ok(locked.settle(callers));
@@ -37,6 +52,7 @@ impl<B: Object> Shared<B> {
             fault: LockFault::CallerMissing,
             shared: Shared {
                 lock: Mutex::new(locked),
+                programs,
             },
             callers,
         })

@@ -4,6 +4,7 @@
 
 mod caller;
 mod closing;
+mod comparing;
 mod fault;
 mod locked;
 mod object;

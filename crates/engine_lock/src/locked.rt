@@ -3,6 +3,7 @@
 
 ghost use Rattle.std.specs.Prelude.{◌≡◌, ℕ, ◌+◌, ◌<◌, ◌↔◌, List, [], ◌++◌, length, sum, IsErr, IfOk, IfErr, IsTrue, true};
 ghost use Rattle.engine_core.specs.EngineState.{IsRun};
+ghost use Rattle.engine_core.specs.Replies.{IsOfKnown};
 ghost use Rattle.engine_lock.specs.Sharing.{Answers, Counts, IsSince};
 ghost use Rattle.engine_lock.specs.declared.fault.LockFault.TheVariants.{TooManyCallers};
 ghost use Rattle.engine_lock.specs.declared.object.TheConstants.{MAX_CALLERS};
@@ -10,6 +11,7 @@ ghost use Rattle.engine_lock.specs.declared.object.TheConstants.{MAX_CALLERS};
 use crate::caller::Caller;
 use crate::fault::LockFault;
 use crate::object::{MAX_CALLERS, Object};
+use ccb::QueueId;
 use engine_core::{Engine, Event, Reply};
 use std::marker::Model;
 use std::sync::ledger::{Book, Share};
@@ -73,13 +75,20 @@ impl<B: Object> Locked<B> {
         Ok(Caller { calls })
     }
 
-    /// Answers an event, and counts it for its caller where it is recorded.
-    pub(crate) fn call(&mut self, caller: &mut Caller<B>, event: Event<'_>) -> Reply
+    /// Answers an event, and counts it for its caller where it is recorded. Where a queue is known, an advance is of a run
+    /// with that queue's program.
+    pub(crate) fn call(
+        &mut self,
+        caller: &mut Caller<B>,
+        event: Event<'_>,
+        known: Option<QueueId>,
+    ) -> Reply
+        requires { IsOfKnown B.setup event known }
         ensures answers { Answers self.old.engine event.entry result self.new.engine }
         ensures since { (calls : ℕ) × IsSince B.setup B.begun calls self.old.engine }
         ensures counted { Counts event.entry result caller.old caller.new }
     {
-        let reply = self.engine.answer(event);
+        let reply = self.engine.answer_known(event, known);
         if reply.is_recorded() {
             let Locked {
                 engine: _,

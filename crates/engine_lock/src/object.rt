@@ -1,14 +1,17 @@
 // Which shared engine a value belongs to. It relies on the ledger of the standard library, whose shares count calls.
 
-ghost use Rattle.std.specs.Prelude.{◌≡◌};
+ghost use Rattle.std.specs.Prelude.{◌≡◌, IfOk, IfErr};
+ghost use Rattle.engine_config.specs.Configured.{AreProgramsOf};
 ghost use Rattle.engine_lock.specs.declared.object.TheConstants.{MAX_CALLERS};
 
 use crate::locked::Locked;
 use crate::shared::Shared;
+use accepted::Accepted;
 use engine_core::Engine;
+use std::alloc::{AllocError, Global};
 use std::marker::Brand;
-use std::sync::Mutex;
 use std::sync::ledger::{Blank, Ledger};
+use std::sync::{Arc, Mutex};
 
 /// How many callers may be given out.
 pub const MAX_CALLERS: u64 = 64;
@@ -38,17 +41,25 @@ impl Object for Brand {
 pub struct Opened {
     engine: Engine,
     calls: Blank,
+    programs: Vec<Arc<Accepted>>,
     pub ghost parts: { calls.parts ≡ MAX_CALLERS },
+    ghost its: { AreProgramsOf engine.setup programs.items },
 }
 
 impl Opened {
-    /// The engine, with no caller given out. It takes no memory.
-    pub fn new(engine: Engine) -> Self
-        ensures { result.engine ≡ engine }
+    /// The engine, with no caller given out. It takes memory for a handle on each queue's program; where that is refused the
+    /// engine comes back.
+    pub fn new(alloc: Global, engine: Engine) -> Result<Self, (AllocError, Engine)>
+        ensures opened { IfOk result (λ opened. opened.engine ≡ engine) }
+        ensures back { IfErr result (λ fault. fault.1 ≡ engine) }
     {
-        Opened {
-            engine,
-            calls: Blank::new(MAX_CALLERS),
+        match engine.programs(alloc) {
+            Ok(programs) => Ok(Opened {
+                engine,
+                calls: Blank::new(MAX_CALLERS),
+                programs,
+            }),
+            Err(fault) => Err((fault, engine)),
         }
     }
 
@@ -58,12 +69,17 @@ impl Opened {
         requires begun { self.engine.history ≡ B.begun }
         requires name { (self.calls.name ≡ B.name) × (self.calls.parts ≡ B.parts) }
     {
-        let Opened { engine, calls } = self;
+        let Opened {
+            engine,
+            calls,
+            programs,
+        } = self;
         // The proof knows that its history is a run once it tells its sums.
         let _totals = engine.totals();
         let (book, rest) = calls.open::<B>();
         Shared {
             lock: Mutex::new(Locked::new(engine, book, rest)),
+            programs,
         }
     }
 }

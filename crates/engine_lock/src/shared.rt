@@ -1,19 +1,28 @@
-// The engine that threads share. It relies on `locked` for what a section under the lock does.
+// The engine that threads share. It relies on `locked` for what a section under the lock does, and on `comparing` for what is
+// done before one.
 
 ghost use Rattle.std.specs.Prelude.{◌≡◌, IfOk, IfErr};
+ghost use Rattle.engine_config.specs.Configured.{AreProgramsOf};
 ghost use Rattle.engine_lock.specs.Sharing.{Answered, Counts};
 ghost use Rattle.engine_lock.specs.declared.fault.LockFault.TheVariants.{TooManyCallers};
 
 use crate::caller::Caller;
+use crate::comparing::known_queue;
 use crate::fault::LockFault;
 use crate::locked::Locked;
 use crate::object::Object;
+use accepted::Accepted;
 use engine_core::{Event, Reply};
-use std::sync::{Mutex, Wait};
+use std::sync::{Arc, Mutex, Wait};
 
-/// An engine that threads share by reference. Its type bears which engine it is.
+/// An engine that threads share by reference. Its type bears which engine it is. It may be let go; its callers are good for
+/// nothing then.
+#[derive(Drop)]
 pub struct Shared<B: Object> {
     pub(crate) lock: Mutex<Locked<B>>,
+    // those of the setup's queues, in the order of their numbers
+    pub(crate) programs: Vec<Arc<Accepted>>,
+    ghost its: { AreProgramsOf B.setup programs.items },
 }
 
 impl<B: Object> Shared<B> {
@@ -29,13 +38,15 @@ impl<B: Object> Shared<B> {
     }
 
     /// Answers an event, as the engine answers it at some moment of the call: one section under the lock. What it owned comes
-    /// back where it is not carried out. It may wait for other callers.
+    /// back where it is not carried out. It may wait for other callers. The program of a run that goes on is compared before
+    /// the lock is taken.
     pub fn call<R: Wait>(&self, rt: &R, caller: &mut Caller<B>, event: Event<'_>) -> Reply
         ensures answered { Answered B.setup event.entry result }
         ensures counted { Counts event.entry result caller.old caller.new }
     {
+        let known = known_queue(&self.programs, &event);
         let mut guard = self.lock.lock(rt);
         let locked = &mut *guard;
-        locked.call(caller, event)
+        locked.call(caller, event, known)
     }
 }

@@ -2,8 +2,8 @@
 use Rattle.std.proofs.Common.{◌≡◌, ℕ, suc, ◌+◌, ◌<◌, ◌≤◌, List, [], ◌∷◌, ◌++◌, map, length, take, drop, All, refl, ap, sym, subst, ◌∙◌, arith, append_assoc, append-nil, length-append}
 use Rattle.std.specs.Prelude.{slice_index_or}
 use Rattle.std.specs.List.{AllZip}
-use Rattle.std.proofs.lemmas.List.{take_all, drop_all}
-use Rattle.std.proofs.lemmas.List.Elements.{All-nil, All-cons, All-head, All-tail, All-append}
+use Rattle.std.proofs.lemmas.List.{take_all, drop_all, length-map}
+use Rattle.std.proofs.lemmas.List.Elements.{All-nil, All-cons, All-head, All-tail, All-append, length_all_zip}
 use Rattle.ccb.specs.Completion.{Outcome}
 use Rattle.inbox.specs.declared.account.Account.{Account}
 use Rattle.inbox.specs.InboxLists.{Takes}
@@ -19,7 +19,7 @@ use Rattle.engine_lock.specs.Sharing.{Answered}
 use Rattle.workers.specs.declared.driving.TheConstants.{MOST_STARTED}
 use Rattle.workers.specs.declared.worker.Kept.{Kept}
 use Rattle.workers.specs.declared.worker.Kept.TheVariants.{Nothing, Completion, Run}
-use Rattle.workers.specs.Serving.{HasServed, IsAnswered, IsEnded, IsReady, IsStarted, SeatState, ServedState, Serves, Took, WorkerState, all_of, at_rest, completions_in, runs_in, with_worker}
+use Rattle.workers.specs.Serving.{AreServed, HasServed, IsAnswered, IsEnded, IsReady, IsStarted, SeatState, ServedState, Serves, Took, WorkerState, all_of, at_rest, nothing_served, completions_in, runs_in, with_worker}
 
 pub took_none : (before after : PassView) → after ≡ before → Took before after []
 took_none before after same = record {
@@ -282,3 +282,34 @@ pub whole : {X : Type 0} (n : ℕ) (xs ys : List X) → length xs ≡ length ys 
 whole {X} n xs ys same is =
     ap (λ (zs : List X). take n (xs ++ zs)) (drop_all (length xs) ys (omega (arith, same)))
     ∙ (ap (take n) (append-nil xs) ∙ take_all n xs (omega (arith, is)))
+
+-- the seats that come back are those of all workers
+abbrev pub seat_of : WorkerState → SeatState
+seat_of worker = record { calls = worker.calls; pass = worker.pass }
+
+pub seats_back : (workers : List WorkerState) (served : ServedState) → (all_of workers served).seats ≡ served.seats ++ map seat_of workers
+seats_back [] served = sym (append-nil served.seats)
+seats_back (worker ∷ workers) served = seats_back workers (with_worker worker served) ∙ append_assoc served.seats (seat_of worker ∷ []) (map seat_of workers)
+
+-- and they are of the same inbox
+pub passes_back : (setup : Setup) (inbox : InboxView) (seats : List SeatState) (workers : List WorkerState) → AllZip (Serves setup) (map at_rest seats) workers → All (λ (seat : SeatState). IsOf inbox seat.pass) seats → All (λ (seat : SeatState). IsOf inbox seat.pass) (map seat_of workers)
+passes_back setup inbox [] [] each are = All-nil (λ (seat : SeatState). IsOf inbox seat.pass)
+passes_back setup inbox [] (worker ∷ workers) each are = absurd each
+passes_back setup inbox (seat ∷ seats) [] each are = absurd each
+passes_back setup inbox (seat ∷ seats) (worker ∷ workers) each are =
+    let before = All-head (λ (it : SeatState). IsOf inbox it.pass) seat seats are in
+    All-cons (λ (it : SeatState). IsOf inbox it.pass) (seat_of worker) (map seat_of workers)
+    (record { queue = each.0.pass.queue ∙ before.queue; shape = each.0.pass.shape ∙ before.shape })
+    (passes_back setup inbox seats workers each.1 (All-tail (λ (it : SeatState). IsOf inbox it.pass) seat seats are))
+
+-- of what was served, as a caller needs it
+module _ (setup : Setup) (inbox : InboxView) (seats : List SeatState) (served : ServedState) (are : AreServed setup seats served) where
+  seats_are : served.seats ≡ map seat_of are.workers
+  seats_are = ap (λ (s : ServedState). s.seats) are.served_is ∙ seats_back are.workers nothing_served
+
+  pub all_back : length served.seats ≡ length seats
+  all_back =
+      omega (arith, ap length seats_are, length-map are.workers seat_of, length_all_zip (Serves setup) (map at_rest seats) are.workers are.serve, length-map seats at_rest)
+
+  pub passes_are : All (λ (seat : SeatState). IsOf inbox seat.pass) seats → All (λ (seat : SeatState). IsOf inbox seat.pass) served.seats
+  passes_are before = subst (λ (xs : List SeatState). All (λ (seat : SeatState). IsOf inbox seat.pass) xs) (sym seats_are) (passes_back setup inbox seats are.workers are.serve before)

@@ -103,9 +103,10 @@ fn started_by(given: Given) -> Option<Run>
     }
 }
 
-// Drives a run to its end. The run comes back where an advance is not carried out. Each turn executes an instruction at least,
-// so an accepted program's run ends within its budget of turns.
-fn drive<B: Object, G: Gate, R: Wait>(
+/// Drives a run to its end, stop by stop: what is private to it is executed outside the engine's lock. The run comes back where
+/// an advance is not carried out, as where memory is refused. Each turn executes an instruction at least, so an accepted program's
+/// run ends within its budget of turns.
+pub fn drive<B: Object, G: Gate, R: Wait>(
     rt: &R,
     shared: &Shared<B>,
     gate: &G,

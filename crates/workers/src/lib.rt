@@ -8,6 +8,7 @@ mod seat;
 mod serving;
 mod worker;
 
+pub use driving::drive;
 pub use gate::{Gate, Open};
 pub use seat::Seat;
 pub use serving::{MAX_WORKERS, Served, serve};

@@ -44,6 +44,26 @@ impl<B: Object> Model for Served<B> {
     ghost view = { λ s. record { seats = s.seats.items; started = s.started; ended = s.ended; completions = s.completions.items; runs = s.runs.items } };
 }
 
+impl<B: Object> Served<B> {
+    /// The seats alone. The completions that are kept are let go, and the runs are forfeited.
+    pub fn into_seats(self) -> Vec<Seat<B>>
+        ensures { result.items ≡ self.seats }
+    {
+        let Served {
+            seats,
+            started: _,
+            ended: _,
+            completions: _,
+            mut runs,
+        } = self;
+        while let Some(run) = runs.pop() {
+            run.forfeit();
+        }
+        runs.destroy_empty();
+        seats
+    }
+}
+
 // Room for what a service needs.
 struct Room<B: Object> {
     workers: Vec<Worker<B>>,
@@ -85,7 +105,9 @@ pub fn serve<B: Object + Send + Sync, G: Gate + Sync, R: Threads + Wait + Sync>(
 ) -> Served<B>
     requires few { length seats.items ≤ MAX_WORKERS }
     requires passes { All (λ seat. IsOf inbox.now seat.pass) seats.items }
-    ensures { AreServed B.setup seats.items result }
+    ensures served { AreServed B.setup seats.items result }
+    ensures all { length result.seats ≡ length seats.items }
+    ensures passes { All (λ seat. IsOf inbox.now seat.pass) result.seats }
 {
     let alloc = *seats.allocator();
     match make_room(alloc, seats.len()) {

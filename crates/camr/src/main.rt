@@ -13,6 +13,8 @@ use commands::{Fault, carry, report_usage};
 use std::io::{BufWriter, Write};
 use std::process::ExitCode;
 use std::rt::{Env, Files};
+use std::sync::Wait;
+use std::thread::Threads;
 use std::{env, fs, io};
 
 fn main(rt: HostRuntime) -> ExitCode {
@@ -27,7 +29,7 @@ fn main(rt: HostRuntime) -> ExitCode {
 }
 
 // Does what the words say, and answers the status to end with.
-fn status<R: Env + Files + AllocGlobal, W: Write, E: Write>(
+fn status<R: Env + Files + AllocGlobal + Threads + Wait + Sync, W: Write, E: Write>(
     rt: &R,
     out: &mut W,
     err: &mut E,
@@ -50,7 +52,7 @@ fn status<R: Env + Files + AllocGlobal, W: Write, E: Write>(
 }
 
 // Carries the plan out. What goes out goes into the plan's file, if it has one, where all went well.
-fn carry_out<R: Files + AllocGlobal, W: Write, E: Write>(
+fn carry_out<R: Files + AllocGlobal + Threads + Wait + Sync, W: Write, E: Write>(
     rt: &R,
     plan: &Plan,
     inputs: &[Vec<u8>],
@@ -60,10 +62,10 @@ fn carry_out<R: Files + AllocGlobal, W: Write, E: Write>(
     requires { length inputs.now ≡ length (input_paths plan.now) }
 {
     let Some(path) = plan.output() else {
-        return carry(rt.alloc(), plan, inputs, out, err);
+        return carry(rt, rt.alloc(), plan, inputs, out, err);
     };
     let mut bytes = Vec::new(rt.alloc());
-    let status = carry(rt.alloc(), plan, inputs, &mut bytes, err);
+    let status = carry(rt, rt.alloc(), plan, inputs, &mut bytes, err);
     if status != 0 {
         return status;
     }

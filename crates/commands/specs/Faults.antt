@@ -30,9 +30,9 @@ fault_of_scenario (part.Fault line) = fault.Line line.0
 abbrev pub fault_of_run : RunFault → Fault
 fault_of_run run.OutOfMemory = fault.OutOfMemory
 fault_of_run (run.NotHeld line) = fault.NotHeld line
-fault_of_run (run.Unended number) = fault.Unended number
+fault_of_run run.Unsettled = fault.Unsettled
 
--- 2 for memory, for files and for a run that did not end, 1 for what is refused
+-- 2 for memory, for files and for what cannot be, 1 for what is refused
 abbrev pub status_of : Fault → ℕ
 status_of fault.OutOfMemory = 2
 status_of (fault.File path) = 2
@@ -41,4 +41,4 @@ status_of (fault.Program f) = 1
 status_of (fault.Manifest f) = 1
 status_of (fault.Line line) = 1
 status_of (fault.NotHeld line) = 1
-status_of (fault.Unended number) = 2
+status_of fault.Unsettled = 2

@@ -3,6 +3,7 @@
 
 ghost use Rattle.std.specs.Prelude.{◌≡◌, ◌≤◌, true, Contains, Some, IfOk, IfErr, IsErrAnd, IsUtf8, MatchResult, length, slice_get};
 ghost use Rattle.command_line.specs.Files.{input_paths, reads_text};
+ghost use Rattle.workers.specs.declared.serving.TheConstants.{MAX_WORKERS};
 ghost use Rattle.commands.specs.Faults.{status_of};
 ghost use Rattle.commands.specs.Told.{IsText, IsProgram, IsManifest, IsFaultyText, IsFaultyProgram, IsFaultyManifest, IsAsAsked, IsFaulty};
 
@@ -16,11 +17,15 @@ use manifest::Manifest;
 use std::alloc::Global;
 use std::io;
 use std::io::Write;
+use std::sync::Wait;
+use std::thread::Threads;
+use workers::MAX_WORKERS;
 
 /// Carries a plan out over the bytes of its input files, in the order of the line, and answers the status:
 /// 0 done; 1 refused; 2 for a file that is to be text and is not UTF-8, for want of memory, or where a writer fails. What is to
 /// go out is written on `out`, and one line for a fault on `err`; where there is a fault, nothing goes out.
-pub fn carry<W: Write, E: Write>(
+pub fn carry<R: Threads + Wait + Sync, W: Write, E: Write>(
+    rt: &R,
     alloc: Global,
     plan: &Plan,
     inputs: &[Vec<u8>],
@@ -51,10 +56,11 @@ pub fn carry<W: Write, E: Write>(
                 Err(fault) => fault.report(err),
             }
         }
-        Plan::Run(_, manifest, scenario) => {
+        Plan::Run(workers, manifest, scenario) => {
             let manifest = (manifest.as_str(), inputs[0].as_slice());
             let scenario = (scenario.as_str(), inputs[1].as_slice());
-            print_run(alloc, manifest, scenario, out, err)
+            let workers = usize::from(*workers).clamp(1, MAX_WORKERS);
+            print_run(rt, alloc, workers, manifest, scenario, out, err)
         }
     }
 }
@@ -97,31 +103,37 @@ fn check<'a>(alloc: Global, file: (&'a str, &[u8])) -> Result<Manifest, Fault<'a
     Ok(manifest::read(alloc, text(file)?)?)
 }
 
-// Prints the trace of a manifest and a scenario, each a path and its bytes, and answers the status.
-fn print_run<W: Write, E: Write>(
+// Prints the trace of a manifest and a scenario, each a path and its bytes, run by so many workers, and answers the status.
+fn print_run<R: Threads + Wait + Sync, W: Write, E: Write>(
+    rt: &R,
     alloc: Global,
+    workers: usize,
     manifest: (&str, &[u8]),
     scenario: (&str, &[u8]),
     out: &mut W,
     err: &mut E,
 ) -> u8
+    requires { (1 ≤ workers) × (workers ≤ MAX_WORKERS) }
     ensures status { result ≤ 2 }
     ensures manifest { ¬ (IsUtf8 manifest.entry.1.now) → result ≡ 2 }
     ensures scenario { ¬ (IsUtf8 scenario.entry.1.now) → result ≡ 2 }
     ensures done { result ≡ 0 → IsManifest manifest.entry.1.now }
 {
-    match run(alloc, manifest, scenario) {
+    match run(rt, alloc, workers, manifest, scenario) {
         Ok(trace) => status(trace::print(&trace, out)),
         Err(fault) => fault.report(err),
     }
 }
 
-// The trace of a manifest and a scenario, each a path and its bytes.
-fn run<'a>(
+// The trace of a manifest and a scenario, each a path and its bytes, run by so many workers.
+fn run<'a, R: Threads + Wait + Sync>(
+    rt: &R,
     alloc: Global,
+    workers: usize,
     manifest: (&'a str, &[u8]),
     scenario: (&'a str, &[u8]),
 ) -> Result<Trace, Fault<'a>>
+    requires { (1 ≤ workers) × (workers ≤ MAX_WORKERS) }
     ensures manifest { ¬ (IsUtf8 manifest.entry.1.now) → IsErrAnd result (λ e. status_of e ≡ 2) }
     ensures scenario { ¬ (IsUtf8 scenario.entry.1.now) → IsErrAnd result (λ e. status_of e ≡ 2) }
     ensures done { IfOk result (λ _. IsManifest manifest.entry.1.now) }
@@ -130,7 +142,7 @@ fn run<'a>(
     let scenario = text(scenario)?;
     let manifest = manifest::read(alloc, manifest)?;
     let steps = scenario::read(alloc, scenario)?;
-    Ok(scenario_host::run(alloc, manifest.config, &steps)?)
+    Ok(scenario_host::run(rt, alloc, manifest.config, &steps, workers)?)
 }
 
 fn text<'a, 'b>(file: (&'a str, &'b [u8])) -> Result<&'b str, Fault<'a>>

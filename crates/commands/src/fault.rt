@@ -34,9 +34,9 @@ pub enum Fault<'a> {
     /// That line of the scenario gives back a freeze whose token is not held.
     #[error("N2 at {0}")]
     NotHeld(usize),
-    /// The run of that number did not end, which cannot be.
-    #[error("run {0}")]
-    Unended(u32),
+    /// A scenario was not carried out to its end, which cannot be.
+    #[error("unsettled")]
+    Unsettled,
 }
 
 impl Fault<'_> {
@@ -45,7 +45,7 @@ impl Fault<'_> {
         ensures { result ≡ status_of self.now }
     {
         match self {
-            Fault::OutOfMemory | Fault::File(_) | Fault::Unended(_) => 2,
+            Fault::OutOfMemory | Fault::File(_) | Fault::Unsettled => 2,
             Fault::Text(_)
             | Fault::Program(_)
             | Fault::Manifest(_)
@@ -118,7 +118,7 @@ impl<'a> From<RunFault> for Fault<'a> {
         match fault {
             RunFault::OutOfMemory => Fault::OutOfMemory,
             RunFault::NotHeld(line) => Fault::NotHeld(line),
-            RunFault::Unended(run) => Fault::Unended(run),
+            RunFault::Unsettled => Fault::Unsettled,
         }
     }
 }

@@ -1,16 +1,24 @@
-// The host of the guests: it runs a scenario on an engine, and keeps the completions that are not served yet. It relies on
-// `hands` for the guests' tokens and for the engine's replies, and on `driver` for serving completions.
+// The host of the guests: it runs a scenario on an engine that it shares with workers, and puts completions into the inbox
+// from which they are served. It relies on `hands` for the guests' tokens, on `engine_lock` for the engine's replies, and on
+// `workers` for serving.
 
-ghost use Rattle.std.specs.Prelude.{◌≡◌, [], OnOk};
+ghost use Rattle.std.specs.Prelude.{◌≡◌, ◌+◌, ◌≤◌, [], All, length, vec_capacity};
+ghost use Rattle.inbox.specs.Views.{IsOf};
+ghost use Rattle.workers.specs.declared.serving.TheConstants.{MAX_WORKERS};
 ghost use Rattle.scenario_host.specs.declared.host.RunFault.TheVariants.{OutOfMemory};
 
-use crate::completions::Completions;
-use crate::driver;
+use crate::asking::Asked;
 use ccb::Completion;
-use engine_core::{Config, Engine, Event, Trace};
+use engine_core::Event;
+use engine_lock::{Caller, Object, Shared};
 use hands::{Hands, Told};
+use inbox::{Inbox, PutPass, TakePass};
 use scenario::{Command, Step};
-use std::alloc::{AllocError, Global};
+use std::alloc::AllocError;
+use std::mem;
+use std::sync::Wait;
+use std::thread::Threads;
+use workers::{Open, Seat, serve};
 
 /// Why a run stopped.
 #[derive(Clone, Copy, Debug, PartialEq, Eq)]
@@ -18,8 +26,9 @@ pub enum RunFault {
     OutOfMemory,
     /// N2: the `grelease` of that line is of a freeze whose token is not held.
     NotHeld(usize),
-    /// The run of that number is not the engine's, or did not end within its program's budget. Neither can be.
-    Unended(u32),
+    /// A completion finds no room in an inbox that was served until it was empty, or a caller is missing at the end. Neither
+    /// can be.
+    Unsettled,
 }
 
 impl From<AllocError> for RunFault {
@@ -30,114 +39,112 @@ impl From<AllocError> for RunFault {
     }
 }
 
-/// Runs the steps in order, and serves the completions that are left then. Tokens that are out at the end are
-/// forfeited.
-pub fn run(alloc: Global, config: Config, steps: &[Step]) -> Result<Trace, RunFault> {
-    let mut host = Host::open(alloc, config)?;
-    match host.carry_out_all(steps) {
-        Ok(()) => Ok(host.close()),
-        Err(fault) => {
-            let _ = host.close();
-            Err(fault)
-        }
-    }
+/// What a scenario is run with: the engine and the inbox, and what the host and its workers need for them.
+pub(crate) struct Host<B: Object> {
+    pub(crate) shared: Shared<B>,
+    pub(crate) caller: Caller<B>,
+    // none, with room for all callers at the end
+    pub(crate) callers: Vec<Caller<B>>,
+    pub(crate) hands: Hands,
+    pub(crate) inbox: Inbox,
+    pub(crate) put: PutPass,
+    // to see whether the workers left a completion
+    pub(crate) take: TakePass,
+    pub(crate) seats: Vec<Seat<B>>,
+    pub(crate) ghost put_is: { IsOf inbox put },
+    pub(crate) ghost take_is: { IsOf inbox take },
+    pub(crate) ghost seats_are: { All (λ seat. IsOf inbox seat.pass) seats.items },
+    pub(crate) ghost few: { length seats.items ≤ MAX_WORKERS },
+    pub(crate) ghost room: { (callers.items ≡ []) × (length seats.items + 1 ≤ vec_capacity callers) },
 }
 
-/// Asks the engine. Where memory is refused the host stops: what comes back is in its hands.
-pub(crate) fn ask(
-    engine: &mut Engine,
-    hands: &mut Hands,
-    event: Event<'_>,
-) -> Result<Told, RunFault> {
-    match hands.ask(engine, event) {
-        Ok(Told::OutOfMemory) => Err(RunFault::OutOfMemory),
-        Ok(told) => Ok(told),
-        Err(event) => {
-            event.forfeit();
-            Err(RunFault::OutOfMemory)
-        }
-    }
-}
-
-struct Host {
-    engine: Engine,
-    hands: Hands,
-    completions: Completions,
-}
-
-impl Host {
-    fn open(alloc: Global, config: Config) -> Result<Self, AllocError> {
-        let completions = Completions::with_room(alloc)?;
-        match Engine::open(alloc, config) {
-            Ok(engine) => Ok(Host {
-                engine,
-                hands: Hands::empty(alloc),
-                completions,
-            }),
-            Err((fault, _)) => Err(fault),
-        }
-    }
-
-    fn carry_out_all(&mut self, steps: &[Step]) -> Result<(), RunFault> {
+impl<B: Object + Send + Sync> Host<B> {
+    /// Carries the steps out in their order, and serves the completions that are left then.
+    pub(crate) fn carry_out_all<R: Threads + Wait + Sync>(
+        &mut self,
+        rt: &R,
+        steps: &[Step],
+    ) -> Result<(), RunFault> {
         for step in steps {
-            self.carry_out(step)?;
+            self.carry_out(rt, step)?;
         }
-        self.drain()
+        self.drain(rt)
     }
 
-    fn carry_out(&mut self, step: &Step) -> Result<(), RunFault> {
+    fn carry_out<R: Threads + Wait + Sync>(&mut self, rt: &R, step: &Step) -> Result<(), RunFault> {
         match step.command {
             Command::Submit {
                 queue,
                 priority,
                 retries,
-            } => self.ask(Event::Submit {
-                queue,
-                priority,
-                retries,
-            }),
-            Command::Dispatch { queue } => self.ask(Event::Dispatch { queue }),
-            Command::Complete { completion } => self.complete(completion),
-            Command::Drain => self.drain(),
+            } => self.ask(
+                rt,
+                Event::Submit {
+                    queue,
+                    priority,
+                    retries,
+                },
+            ),
+            Command::Dispatch { queue } => self.ask(rt, Event::Dispatch { queue }),
+            Command::Complete { completion } => self.complete(rt, completion),
+            Command::Drain => self.drain(rt),
             Command::GuestFreeze { place, guest } => {
-                self.ask(Event::GuestFreeze { place, guest })
+                self.ask(rt, Event::GuestFreeze { place, guest })
             }
             Command::GuestRelease { freeze } => match self.hands.take_token(freeze) {
-                Some(token) => self.ask(Event::GuestRelease { token }),
+                Some(token) => self.ask(rt, Event::GuestRelease { token }),
                 None => Err(RunFault::NotHeld(step.line)),
             },
-            Command::Clock { reading } => self.ask(Event::Clock { reading }),
+            Command::Clock { reading } => self.ask(rt, Event::Clock { reading }),
         }
     }
 
-    // A refusal is recorded, and the scenario goes on.
-    fn ask(&mut self, event: Event<'_>) -> Result<(), RunFault> {
-        let _ = ask(&mut self.engine, &mut self.hands, event)?;
-        Ok(())
-    }
-
-    // A full list is served first, so that there is room.
-    fn complete(&mut self, completion: Completion) -> Result<(), RunFault> {
-        if self.completions.is_full() {
-            self.drain()?;
+    // A refusal is recorded, and the scenario goes on. Where memory is refused the host stops: what comes back is in its hands.
+    fn ask<R: Threads + Wait + Sync>(&mut self, rt: &R, event: Event<'_>) -> Result<(), RunFault> {
+        let mut asked = Asked {
+            rt,
+            shared: &self.shared,
+            caller: &mut self.caller,
+        };
+        match self.hands.ask(&mut asked, event) {
+            Ok(Told::OutOfMemory) => Err(RunFault::OutOfMemory),
+            Ok(_) => Ok(()),
+            Err(event) => {
+                event.forfeit();
+                Err(RunFault::OutOfMemory)
+            }
         }
-        self.completions.put(completion);
-        Ok(())
     }
 
-    fn drain(&mut self) -> Result<(), RunFault>
-        ensures { OnOk result (self.new.completions ≡ []) }
-    {
-        driver::serve_all(&mut self.engine, &mut self.hands, &mut self.completions)
+    // A full inbox is served first, so that there is room.
+    fn complete<R: Threads + Wait + Sync>(
+        &mut self,
+        rt: &R,
+        completion: Completion,
+    ) -> Result<(), RunFault> {
+        let Err(completion) = self.inbox.put(rt, &mut self.put, completion) else {
+            return Ok(());
+        };
+        self.drain(rt)?;
+        match self.inbox.put(rt, &mut self.put, completion) {
+            Ok(()) => Ok(()),
+            Err(_) => Err(RunFault::Unsettled),
+        }
     }
 
-    fn close(self) -> Trace {
-        let Host {
-            engine,
-            hands,
-            completions: _,
-        } = self;
-        hands.forfeit();
-        engine.shut()
+    // Serves until the inbox is empty. What a worker keeps it keeps for want of memory, and where there is none for serving the
+    // inbox is left as it was.
+    fn drain<R: Threads + Wait + Sync>(&mut self, rt: &R) -> Result<(), RunFault> {
+        let none = Vec::new(*self.seats.allocator());
+        let seats = mem::replace(&mut self.seats, none);
+        let served = serve(rt, seats, &self.shared, &self.inbox, &Open);
+        let kept = served.completions.len() + served.runs.len();
+        let back = served.into_seats();
+        mem::replace(&mut self.seats, back).destroy_empty();
+        if kept == 0 && self.inbox.take(rt, &mut self.take).is_none() {
+            Ok(())
+        } else {
+            Err(RunFault::OutOfMemory)
+        }
     }
 }

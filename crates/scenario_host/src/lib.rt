@@ -1,9 +1,10 @@
-// A scenario, carried out on an engine of its own: the guests' calls, and the completions that the host serves. It
-// relies on `engine_core` for what each call leads to, on `hands` for what the host keeps, and on `scenario`.
+// A scenario, carried out on an engine of its own: the guests' calls, and the completions that workers serve. It relies on
+// `engine_lock` for what each call leads to, on `workers` for serving, on `hands` for what the host keeps, and on `scenario`.
 #![tactic(auto)]
 
-mod completions;
-mod driver;
+mod asking;
 mod host;
+mod running;
 
-pub use host::{RunFault, run};
+pub use host::RunFault;
+pub use running::run;

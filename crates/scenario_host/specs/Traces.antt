@@ -1,0 +1,16 @@
+-- What the trace of a scenario is: a whole history of one engine, with its sums.
+use Rattle.std.specs.Prelude.{List}
+use Rattle.calls.specs.declared.record.Record.{Record}
+use Rattle.calls.specs.declared.totals.Totals.{Totals}
+use Rattle.world.specs.World.{Setup, World}
+use Rattle.world.specs.Lawful.{IsLawful}
+use Rattle.world.specs.WorldRun.{WorldRun}
+use Rattle.world.specs.Flat.{flat}
+use Rattle.world.specs.TotalsOf.{TotalsOf}
+
+-- the records are a run of a lawful setup from its opening, and these are its sums
+pub record IsTraceOf (setup : Setup) (records : List Record) (totals : Totals) : Type 0 where
+  pub lawful : IsLawful setup
+  pub world : World
+  pub run : WorldRun setup (flat records) world
+  pub sums : TotalsOf setup records totals

@@ -1,0 +1,198 @@
+// A run of a scenario from the opening of its engine to the end. It relies on `host` for what the steps ask for.
+
+ghost use Rattle.std.specs.Prelude.{◌≡◌, ◌≤◌, ◌+◌, [], All, IfOk, length, vec_capacity};
+ghost use Rattle.inbox.specs.Views.{IsOf};
+ghost use Rattle.scenario_host.specs.Traces.{IsTraceOf};
+ghost use Rattle.workers.specs.declared.serving.TheConstants.{MAX_WORKERS};
+
+use crate::host::{Host, RunFault};
+use engine_core::{Config, Engine, Trace};
+use engine_lock::{Caller, Object, Opened, Shared};
+use hands::Hands;
+use inbox::{Inbox, MAX_CAPACITY, TakePass};
+use scenario::Step;
+use std::alloc::{AllocError, Global};
+use std::marker::Brand;
+use std::sync::Wait;
+use std::thread::Threads;
+use workers::Seat;
+
+/// Runs the steps in their order on an engine of this configuration, and serves the completions that are left then, by 1 to 16
+/// workers. Tokens that are out at the end are forfeited. With one worker the trace is determined; with more, completions that
+/// wait together are served in any order.
+pub fn run<R: Threads + Wait + Sync>(
+    rt: &R,
+    alloc: Global,
+    config: Config,
+    steps: &[Step],
+    workers: usize,
+) -> Result<Trace, RunFault>
+    requires { (1 ≤ workers) × (workers ≤ MAX_WORKERS) }
+    ensures { IfOk result (λ trace. IsTraceOf config trace.records.items trace.totals) }
+{
+    let engine = match Engine::open(alloc, config) {
+        Ok(engine) => engine,
+        Err((fault, _)) => return Err(RunFault::from(fault)),
+    };
+    match Opened::new(alloc, engine) {
+        Ok(opened) => run_on::<Brand, R>(rt, alloc, opened, steps, workers),
+        Err((fault, _)) => Err(RunFault::from(fault)),
+    }
+}
+
+// The same on this engine.
+fn run_on<B: Object + Send + Sync, R: Threads + Wait + Sync>(
+    rt: &R,
+    alloc: Global,
+    opened: Opened,
+    steps: &[Step],
+    workers: usize,
+) -> Result<Trace, RunFault>
+    requires few { (1 ≤ workers) × (workers ≤ MAX_WORKERS) }
+    requires setup { opened.engine.setup ≡ B.setup }
+    requires begun { opened.engine.history ≡ B.begun }
+    requires name { (opened.calls.name ≡ B.name) × (opened.calls.parts ≡ B.parts) }
+    ensures { IfOk result (λ trace. IsTraceOf B.setup trace.records.items trace.totals) }
+{
+    let mut host = open(rt, alloc, opened.named::<B>(), workers)?;
+    match host.carry_out_all(rt, steps) {
+        Ok(()) => close(host),
+        Err(fault) => {
+            let _ = close(host);
+            Err(fault)
+        }
+    }
+}
+
+// The host with its inbox and so many seats.
+fn open<B: Object, R: Wait>(
+    rt: &R,
+    alloc: Global,
+    shared: Shared<B>,
+    workers: usize,
+) -> Result<Host<B>, RunFault>
+    requires { (1 ≤ workers) × (workers ≤ MAX_WORKERS) }
+{
+    let Ok(caller) = shared.caller(rt) else {
+        return Err(RunFault::Unsettled);
+    };
+    let room = match make_room(alloc, workers) {
+        Ok(room) => room,
+        Err(fault) => {
+            caller.forfeit();
+            return Err(RunFault::from(fault));
+        }
+    };
+    // a pass to take for each worker, and one for the host
+    let (inbox, mut puts, mut takes) = match Inbox::new(alloc, MAX_CAPACITY, 1, workers + 1) {
+        Ok(made) => made,
+        Err(fault) => {
+            caller.forfeit();
+            room.forfeit();
+            return Err(RunFault::from(fault));
+        }
+    };
+    let put = puts.remove(0);
+    puts.destroy_empty();
+    let take = takes.remove(0);
+    let Room { callers, seats } = room;
+    let seats = seated(rt, &shared, &inbox, takes, seats);
+    Ok(Host {
+        shared,
+        caller,
+        callers,
+        hands: Hands::empty(alloc),
+        inbox,
+        put,
+        take,
+        seats,
+    })
+}
+
+// Room for the seats of so many workers, and for their callers with the host's.
+struct Room<B: Object> {
+    callers: Vec<Caller<B>>,
+    seats: Vec<Seat<B>>,
+    ghost none: { (callers.items ≡ []) × (seats.items ≡ []) },
+}
+
+impl<B: Object> Room<B> {
+    fn forfeit(self) {
+        let Room { callers, seats } = self;
+        callers.destroy_empty();
+        seats.destroy_empty();
+    }
+}
+
+fn make_room<B: Object>(alloc: Global, workers: usize) -> Result<Room<B>, AllocError>
+    requires { workers ≤ MAX_WORKERS }
+    ensures callers { IfOk result (λ room. workers + 1 ≤ vec_capacity room.callers) }
+    ensures seats { IfOk result (λ room. workers ≤ vec_capacity room.seats) }
+{
+    let callers = Vec::with_capacity(alloc, workers + 1)?;
+    match Vec::with_capacity(alloc, workers) {
+        Ok(seats) => Ok(Room { callers, seats }),
+        Err(fault) => {
+            callers.destroy_empty();
+            Err(fault)
+        }
+    }
+}
+
+// A seat for each pass, for which there is room.
+fn seated<B: Object, R: Wait>(
+    rt: &R,
+    shared: &Shared<B>,
+    inbox: &Inbox,
+    mut takes: Vec<TakePass>,
+    mut seats: Vec<Seat<B>>,
+) -> Vec<Seat<B>>
+    requires passes { All (IsOf inbox.now) takes.items }
+    requires room { (seats.items ≡ []) × (length takes.items ≤ vec_capacity seats) }
+    ensures passes { All (λ seat. IsOf inbox.now seat.pass) result.items }
+    ensures few { length result.items ≤ length takes.items }
+{
+    while let Some(pass) = takes.pop() {
+        match shared.caller(rt) {
+            Ok(caller) => seats.push_reserved(Seat { caller, pass }),
+            // there are fewer callers than may be given out
+            Err(_) => pass.forfeit(),
+        }
+    }
+    takes.destroy_empty();
+    seats
+}
+
+// Ends the host: the whole history of its engine.
+fn close<B: Object>(host: Host<B>) -> Result<Trace, RunFault>
+    ensures { IfOk result (λ trace. IsTraceOf B.setup trace.records.items trace.totals) }
+{
+    let Host {
+        shared,
+        caller,
+        mut callers,
+        hands,
+        inbox,
+        put,
+        take,
+        mut seats,
+    } = host;
+    hands.forfeit();
+    put.forfeit();
+    take.forfeit();
+    callers.push_reserved(caller);
+    while let Some(seat) = seats.pop() {
+        let Seat { caller, pass } = seat;
+        pass.forfeit();
+        callers.push_reserved(caller);
+    }
+    seats.destroy_empty();
+    inbox.forfeit();
+    match shared.close(callers) {
+        Ok(engine) => Ok(engine.shut()),
+        Err(unclosed) => {
+            unclosed.forfeit();
+            Err(RunFault::Unsettled)
+        }
+    }
+}

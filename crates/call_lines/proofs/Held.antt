@@ -3,6 +3,7 @@ use Rattle.std.proofs.Common.{◌≡◌, ℕ, Option, Some, None, List, refl, co
 use Rattle.call_lines.specs.declared.kind.Kind.{Kind}
 use Rattle.call_lines.specs.declared.kind.Kind.TheVariants as kinds
 use Rattle.call_lines.specs.declared.kind.Slots.{Slots}
+use Rattle.call_lines.specs.declared.value.Stop.{Stop}
 use Rattle.call_lines.specs.declared.value.Value.{Value}
 use Rattle.call_lines.specs.declared.value.Value.TheVariants as values
 use Rattle.ccb.specs.declared.cam_status.CamStatus.{CamStatus}
@@ -43,6 +44,16 @@ pub holds_long_number : (value : Option Value) (text : List ℕ) → slot_text (
 unfolding field_text
 holds_long_number (Some (values.LongNumber number)) text e = (number, refl)
 holds_long_number value text e = absurd cc
+
+pub holds_instructions : (value : Option Value) (text : List ℕ) → slot_text (Some kinds.Instructions) value ≡ Some text → (count : ℕ) × (value ≡ Some (values.Number count))
+unfolding field_text
+holds_instructions (Some (values.Number count)) text e = (count, refl)
+holds_instructions value text e = absurd cc
+
+pub holds_stop : (value : Option Value) (text : List ℕ) → slot_text (Some kinds.Stop) value ≡ Some text → (stop : Stop) × (value ≡ Some (values.Stop stop))
+unfolding field_text
+holds_stop (Some (values.Stop stop)) text e = (stop, refl)
+holds_stop value text e = absurd cc
 
 pub holds_status : (value : Option Value) (text : List ℕ) → slot_text (Some kinds.Status) value ≡ Some text
     → (status : CamStatus) × (value ≡ Some (values.Status status)) × (told : List ℕ) × (status_text status ≡ Some told)

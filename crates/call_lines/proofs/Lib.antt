@@ -11,3 +11,5 @@ pub mod Held
 pub mod Back
 pub mod InARow
 pub mod Replies
+pub mod Reported
+pub mod Plain

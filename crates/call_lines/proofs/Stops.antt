@@ -54,7 +54,7 @@ number_found number helper e =
     let test : int_eq (pos (number_of row.0.helper)) (pos number) ≡ true = found_passes (λ (row : Row). int_eq (pos (number_of row.helper)) (pos number)) HELPERS row.0 row.1 in
     ap number_of (sym row.2) ∙ same_number (number_of row.0.helper) number test
 
-small : (helper : Helper) → number_of helper < 256
+pub small : (helper : Helper) → number_of helper < 256
 small helper = search rules
 
 number_there : (name : List ℕ) (read : Option ℕ) (helper : Helper) → Reads number_text name read → helper_number_text helper ≡ Some name → read ≡ Some (number_of helper)

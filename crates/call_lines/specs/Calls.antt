@@ -1,11 +1,11 @@
 -- Calls and their lines: the word of each call and its text, what its fields hold, and the call of these. A line has its cases here.
-use Rattle.std.specs.Prelude.{ℕ, Option, Some, None, List, [], codes}
+use Rattle.std.specs.Prelude.{ℕ, Option, Some, None, List, [], codes, unwrap_or}
 use Rattle.ccb.specs.Completion.{Outcome}
 use Rattle.ccb.specs.declared.cam_status.CamStatus.TheVariants.{RequestInProgress}
 use Rattle.freeze_ledger.specs.declared.place.Place.TheVariants.{Device}
 use Rattle.calls.specs.declared.call.Call.{Call}
 use Rattle.calls.specs.declared.call.Call.TheVariants as calls
-use Rattle.call_lines.specs.Values.{byte_in, bytes_in, long_number_in, number_in, status_in}
+use Rattle.call_lines.specs.Values.{byte_in, bytes_in, long_number_at, number_at, status_in}
 use Rattle.call_lines.specs.declared.kind.Slots.{Slots}
 use Rattle.call_lines.specs.declared.value.Value.{Value}
 use Rattle.call_lines.specs.declared.value.Value.TheVariants as values
@@ -60,27 +60,23 @@ values_of (calls.Clock reading) = one (values.LongNumber reading)
 values_of (calls.Park run) = one (values.Number run)
 values_of (calls.Resume run) = one (values.Number run)
 
--- what a field holds that is there, and else this
-abbrev pub held_or : {T : Type 0} → T → Option T → T
-held_or other None = other
-held_or other (Some value) = value
-
-abbrev pub number_at : Option Value → ℕ
-number_at value = held_or 0 (number_in value)
+-- what was reported of a CCB
+abbrev pub outcome_of : Slots Value → Outcome
+outcome_of held = record {
+  ccb = record { 0 = number_at held.first };
+  status = unwrap_or (status_in held.second) RequestInProgress;
+  scsi = unwrap_or (byte_in held.third) 0;
+  sense = unwrap_or (bytes_in held.fourth) [];
+}
 
 -- the call, but of a run that went on
 abbrev pub call_of : Word → Slots Value → Option Call
 call_of words.Submit held = Some (calls.Submit (record { 0 = number_at held.first }) (number_at held.second) (number_at held.third))
 call_of words.Dispatch held = Some (calls.Dispatch (record { 0 = number_at held.first }))
-call_of words.Complete held = Some (calls.Complete (record {
-  ccb = record { 0 = number_at held.first };
-  status = held_or RequestInProgress (status_in held.second);
-  scsi = held_or 0 (byte_in held.third);
-  sense = held_or [] (bytes_in held.fourth);
-}))
+call_of words.Complete held = Some (calls.Complete (outcome_of held))
 call_of words.Advance held = None
 call_of words.FreezeQueue held = Some (calls.GuestFreeze (Device (record { 0 = number_at held.first })) (number_at held.second))
 call_of words.ReleaseFreeze held = Some (calls.GuestRelease (number_at held.first))
-call_of words.Clock held = Some (calls.Clock (held_or 0 (long_number_in held.first)))
+call_of words.Clock held = Some (calls.Clock (long_number_at held.first))
 call_of words.Park held = Some (calls.Park (number_at held.first))
 call_of words.Resume held = Some (calls.Resume (number_at held.first))

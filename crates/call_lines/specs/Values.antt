@@ -1,6 +1,7 @@
 -- What a field holds, by its type.
-use Rattle.std.specs.Prelude.{ℕ, Option, Some, None, List}
+use Rattle.std.specs.Prelude.{ℕ, Option, Some, None, List, unwrap_or}
 use Rattle.ccb.specs.declared.cam_status.CamStatus.{CamStatus}
+use Rattle.call_lines.specs.declared.value.Stop.{Stop}
 use Rattle.call_lines.specs.declared.value.Value.{Value}
 use Rattle.call_lines.specs.declared.value.Value.TheVariants as values
 
@@ -23,3 +24,14 @@ byte_in value = None
 abbrev pub bytes_in : Option Value → Option (List ℕ)
 bytes_in (Some (values.Bytes bytes)) = Some bytes
 bytes_in value = None
+
+abbrev pub stop_in : Option Value → Option Stop
+stop_in (Some (values.Stop stop)) = Some stop
+stop_in value = None
+
+-- the number, and else 0
+abbrev pub number_at : Option Value → ℕ
+number_at value = unwrap_or (number_in value) 0
+
+abbrev pub long_number_at : Option Value → ℕ
+long_number_at value = unwrap_or (long_number_in value) 0

@@ -1,13 +1,18 @@
-// Calls as lines: the word of each, and what its fields hold. It relies on `calls`.
+// Calls as lines: the word of each, and what its fields hold, there and back. It relies on `calls`.
 
-ghost use Rattle.std.specs.Prelude.{◌≡◌};
-ghost use Rattle.call_lines.specs.Calls.{completed, one, three, two, values_of, word_of};
+ghost use Rattle.std.specs.Prelude.{◌≡◌, ◌≢◌, ◌≤◌, IfOk, List, length, ℕ};
+ghost use Rattle.ccb.specs.Completion.{Outcome};
+ghost use Rattle.call_lines.specs.Calls.{call_of, completed, one, outcome_of, three, two, values_of, word_of};
+ghost use Rattle.call_lines.specs.Lines.{line_text};
 
 use crate::kind::Slots;
-use crate::value::Value;
+use crate::value::{Value, byte_in, bytes_in, long_number_at, number_at, status_in};
 use crate::word::Word;
 use calls::{Call, CompletionRecord};
+use ccb::{CamStatus, CcbId, Completion, QueueId};
 use freeze_ledger::Place;
+use short_bytes::ShortBytes;
+use std::alloc::{AllocError, Global};
 
 /// The word of a call.
 pub fn word_of(call: &Call) -> Word
@@ -94,4 +99,83 @@ fn three(first: Value, second: Value, third: Value) -> Slots<Value>
         third: Some(third),
         fourth: None,
     }
+}
+
+/// The call of that word and of what the fields of its line hold. None of a run that went on, which is no call. It takes memory for
+/// sense bytes alone.
+pub fn call_of(alloc: Global, word: Word, held: &Slots<Value>) -> Result<Option<Call>, AllocError>
+    ensures { (text : List ℕ) → line_text word held.now ≡ Some text → IfOk result (λ call. call ≡ call_of word held.now) }
+{
+    match word {
+        Word::Complete => complete_of(alloc, held),
+        _ => Ok(plain_call_of(word, held)),
+    }
+}
+
+// The call that brings no completion.
+fn plain_call_of(word: Word, held: &Slots<Value>) -> Option<Call>
+    requires { word ≢ Word.Complete }
+    ensures { result ≡ call_of word held.now }
+{
+    match word {
+        Word::Submit => Some(Call::Submit {
+            queue: QueueId(number_at(held.first)),
+            priority: number_at(held.second),
+            retries: number_at(held.third),
+        }),
+        Word::Dispatch => Some(Call::Dispatch {
+            queue: QueueId(number_at(held.first)),
+        }),
+        Word::FreezeQueue => Some(Call::GuestFreeze {
+            place: Place::Device(QueueId(number_at(held.first))),
+            guest: number_at(held.second),
+        }),
+        Word::ReleaseFreeze => Some(Call::GuestRelease {
+            freeze: number_at(held.first),
+        }),
+        Word::Clock => Some(Call::Clock {
+            reading: long_number_at(held.first),
+        }),
+        Word::Park => Some(Call::Park {
+            run: number_at(held.first),
+        }),
+        Word::Resume => Some(Call::Resume {
+            run: number_at(held.first),
+        }),
+        Word::Advance => None,
+        Word::Complete => unreachable!(),
+    }
+}
+
+// The call that brings a completion.
+fn complete_of(alloc: Global, held: &Slots<Value>) -> Result<Option<Call>, AllocError>
+    ensures { (outcome_of held.now).status ≢ CamStatus.RequestInProgress → IfOk result (λ call. call ≡ Some (Call.Complete (outcome_of held.now))) }
+{
+    let sense = bytes_in(held.fourth).unwrap_or(ShortBytes::none());
+    reported(
+        alloc,
+        CcbId(number_at(held.first)),
+        status_in(held.second).unwrap_or(CamStatus::RequestInProgress),
+        byte_in(held.third).unwrap_or(0),
+        sense.as_slice(),
+    )
+}
+
+// The call by which this is reported: never that the CCB is still in progress.
+fn reported(
+    alloc: Global,
+    ccb: CcbId,
+    status: CamStatus,
+    scsi: u8,
+    sense: &[u8],
+) -> Result<Option<Call>, AllocError>
+    requires { length sense.now ≤ 64 }
+    ensures { let outcome : Outcome = record { ccb = ccb; status = status; scsi = scsi; sense = sense.now }
+        in status ≢ CamStatus.RequestInProgress → IfOk result (λ call. call ≡ Some (Call.Complete outcome)) }
+{
+    let Some(completion) = Completion::new(ccb, status, scsi, sense) else {
+        return Ok(None);
+    };
+    let completion = CompletionRecord::new(alloc, &completion)?;
+    Ok(Some(Call::Complete { completion }))
 }

@@ -13,10 +13,14 @@ mod table;
 mod value;
 mod word;
 
-pub use call::{values_of, word_of};
+pub use call::{call_of, values_of, word_of};
 pub use kind::{Kind, Slots};
-pub use lines::{print_line, read_line};
+pub use lines::{print_fields, print_line, read_fields, read_line};
 pub use printing::{no_spelling, print_long_number};
+pub use reading::long_number;
 pub use table::{Form, LINES, Row};
-pub use value::{Stop, Value, byte_in, bytes_in, long_number_in, number_in, status_in};
+pub use value::{
+    Stop, Value, byte_in, bytes_in, long_number_at, long_number_in, number_at, number_in,
+    status_in, stop_in,
+};
 pub use word::Word;

@@ -22,8 +22,13 @@ pub fn print_line<W: Write>(word: Word, held: &Slots<Value>, out: &mut W) -> io:
     print_fields(&word.row().fields, held, out)
 }
 
+/// Writes what fields hold, each behind a blank. What has no spelling as these fields is an error.
 #[tactic(auto, unfolding(crate::specs::Lines::fields_text))]
-fn print_fields<W: Write>(fields: &Slots<Kind>, held: &Slots<Value>, out: &mut W) -> io::Result<()>
+pub fn print_fields<W: Write>(
+    fields: &Slots<Kind>,
+    held: &Slots<Value>,
+    out: &mut W,
+) -> io::Result<()>
     ensures { OnOk result (Writes (fields_text fields.now held.now) (W.contents out.old) (W.contents out.new)) }
 {
     print_slot(fields.first, held.first, out)?;
@@ -54,7 +59,8 @@ pub fn read_line(text: &str, version: u8) -> Option<(Word, Slots<Value>)>
     Some((word, read_fields(&word.row().fields, rest)?))
 }
 
-fn read_fields(fields: &Slots<Kind>, text: &str) -> Option<Slots<Value>>
+/// What fields hold that are spelled so, each behind a blank.
+pub fn read_fields(fields: &Slots<Kind>, text: &str) -> Option<Slots<Value>>
     ensures { ReadsFields fields.now text.now result }
 {
     let mut held = Slots {

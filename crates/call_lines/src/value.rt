@@ -1,7 +1,7 @@
 // What the fields of a line hold. It relies on `ccb` and `helpers` for statuses and helpers, and on `short_bytes` for bytes.
 
 ghost use Rattle.std.specs.Prelude.{◌≡◌, Some};
-ghost use Rattle.call_lines.specs.Values.{byte_in, bytes_in, long_number_in, number_in, status_in};
+ghost use Rattle.call_lines.specs.Values.{byte_in, bytes_in, long_number_at, long_number_in, number_at, number_in, status_in, stop_in};
 
 use ccb::CamStatus;
 use helpers::Helper;
@@ -51,6 +51,26 @@ pub fn long_number_in(value: Option<Value>) -> Option<u64>
     }
 }
 
+/// The number, and 0 if it is none.
+pub fn number_at(value: Option<Value>) -> u32
+    ensures { result ≡ number_at value }
+{
+    match value {
+        Some(Value::Number(number)) => number,
+        _ => 0,
+    }
+}
+
+/// The long number, and 0 if it is none.
+pub fn long_number_at(value: Option<Value>) -> u64
+    ensures { result ≡ long_number_at value }
+{
+    match value {
+        Some(Value::LongNumber(number)) => number,
+        _ => 0,
+    }
+}
+
 /// The status, if it is one.
 pub fn status_in(value: Option<Value>) -> Option<CamStatus>
     ensures { result ≡ status_in value }
@@ -81,12 +101,31 @@ pub fn bytes_in(value: Option<Value>) -> Option<ShortBytes>
     }
 }
 
+/// Where a run stopped, if it is that.
+pub fn stop_in(value: Option<Value>) -> Option<Stop>
+    ensures { result ≡ stop_in value }
+{
+    match value {
+        Some(there) => there.stop(),
+        None => None,
+    }
+}
+
 impl Value {
     fn bytes(self) -> Option<ShortBytes>
         ensures { result ≡ bytes_in (Some self) }
     {
         match self {
             Value::Bytes(bytes) => Some(bytes),
+            _ => None,
+        }
+    }
+
+    fn stop(self) -> Option<Stop>
+        ensures { result ≡ stop_in (Some self) }
+    {
+        match self {
+            Value::Stop(stop) => Some(stop),
             _ => None,
         }
     }

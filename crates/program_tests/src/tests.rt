@@ -11,7 +11,9 @@ use short_bytes::ShortBytes;
 use std::alloc::{AllocError, Global};
 use std::io;
 use std::io::Write;
+use std::sync::Wait;
 use std::test::Fail;
+use std::thread::Threads;
 use trace::print;
 
 // The two paths have 5 and 7 instructions: jeq r2, 0, +2; mov64 r1, r2; call 2; mov64 r1, 1; call 4;
@@ -63,7 +65,8 @@ fn with_room(alloc: Global, room: usize) -> Failing {
 }
 
 // The status of a run of a scenario over the manifest.
-fn run<W: Write, E: Write>(
+fn run<R: Threads + Wait + Sync, W: Write, E: Write>(
+    rt: &R,
     alloc: Global,
     scenario: &str,
     out: &mut W,
@@ -79,7 +82,7 @@ fn run<W: Write, E: Write>(
         scenario.as_bytes().to_vec(alloc)?,
     ]?;
     Ok(if inputs.len() == 2 {
-        carry(alloc, &plan, &inputs, out, err)
+        carry(rt, alloc, &plan, &inputs, out, err)
     } else {
         2
     })
@@ -93,7 +96,7 @@ fn writers_that_fail(rt: HostRuntime) -> Result<(), Fail> {
     for room in 0..TRACE.len() {
         let mut out = with_room(alloc, room);
         let mut err = Vec::new(alloc);
-        let status = run(alloc, SCENARIO, &mut out, &mut err)?;
+        let status = run(&rt, alloc, SCENARIO, &mut out, &mut err)?;
         assert_eq!(rt; status, 2, "{room} bytes");
         assert_eq!(rt; out.taken.len(), room, "{room} bytes");
         assert!(rt; TRACE.as_bytes().starts_with(&out.taken), "{room} bytes");
@@ -108,7 +111,7 @@ fn line_that_cannot_be_written(rt: HostRuntime) -> Result<(), Fail> {
     let alloc = rt.alloc();
     let mut out = Vec::new(alloc);
     let mut err = with_room(alloc, 6);
-    let status = run(alloc, "thaw 1\n", &mut out, &mut err)?;
+    let status = run(&rt, alloc, "thaw 1\n", &mut out, &mut err)?;
     assert_eq!(rt; status, 2);
     assert_eq!(rt; out.len(), 0);
     Ok(())
@@ -122,7 +125,7 @@ fn memory_refused_once(rt: HostRuntime) -> Result<(), Fail> {
     let alloc = rt.alloc();
     let mut out = Vec::new(alloc);
     let mut err = Vec::new(alloc);
-    if let Ok(status) = run(alloc, SCENARIO, &mut out, &mut err)
+    if let Ok(status) = run(&rt, alloc, SCENARIO, &mut out, &mut err)
         && status != 0
     {
         assert_eq!(rt; status, 2);
@@ -135,7 +138,7 @@ fn memory_refused_once(rt: HostRuntime) -> Result<(), Fail> {
     }
     let mut again = Vec::new(alloc);
     let mut none = Vec::new(alloc);
-    let status = run(alloc, SCENARIO, &mut again, &mut none)?;
+    let status = run(&rt, alloc, SCENARIO, &mut again, &mut none)?;
     assert_eq!(rt; status, 0);
     assert_eq!(rt; again.as_slice(), TRACE.as_bytes());
     assert_eq!(rt; none.len(), 0);

@@ -1,1 +1,7 @@
 pub mod Printing
+pub mod Cuts
+pub mod Entries
+pub mod Answered
+pub mod LastLine
+pub mod SoFar
+pub mod FirstFaulty

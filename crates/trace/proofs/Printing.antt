@@ -6,7 +6,7 @@ use Rattle.std.proofs.lemmas.List.{map_push}
 use Rattle.calls.specs.declared.record.Record.{Record}
 use Rattle.call_lines.specs.Written.{Writes}
 use Rattle.call_lines.proofs.Writing.{writes_text, writes_nothing, writes_both}
-use Rattle.trace.specs.TraceText.{answered, record_text, records_text}
+use Rattle.trace.specs.TraceText.{record_text, records_text}
 
 -- where a last write went well
 pub on_ok : {T E : Type 0} {P Q : Type 0} (r : Result T E) → (P → Q) → OnOk r P → OnOk r Q
@@ -14,29 +14,27 @@ on_ok (Ok x) f p = f p
 on_ok (Err e) f p = tt
 
 -- what is answered stands behind the line
-pub writes_answered : (line reply : Option (List ℕ)) (a b c d e : Option (List ℕ)) → Writes line a b → Appends b c (codes " = ") → Writes reply c d → Appends d e (codes "\n") → Writes (answered line reply) a e
-writes_answered line reply a b c d e first mark second feed =
-    let ended = writes_both reply (Some (codes "\n")) c d e second (writes_text (codes "\n") d e feed) in
-    let marked = writes_both (Some (codes " = ")) (option_append reply (Some (codes "\n"))) b c e (writes_text (codes " = ") b c mark) ended in
-    writes_both line (option_append (Some (codes " = ")) (option_append reply (Some (codes "\n")))) a b e first marked
+pub writes_answered : (line reply : Option (List ℕ)) (a b c d : Option (List ℕ)) → Writes line a b → Appends b c (codes " = ") → Writes reply c d → Writes (option_append line (option_append (Some (codes " = ")) reply)) a d
+writes_answered line reply a b c d first mark second =
+    writes_both line (option_append (Some (codes " = ")) reply) a b d first (writes_both (Some (codes " = ")) reply b c d (writes_text (codes " = ") b c mark) second)
 
 -- ---- the records
 
-append_three : (a b c : Option (List ℕ)) → option_append (option_append a b) c ≡ option_append a (option_append b c)
+pub append_three : (a b c : Option (List ℕ)) → option_append (option_append a b) c ≡ option_append a (option_append b c)
 append_three None b c = refl
 append_three (Some a) None c = refl
 append_three (Some a) (Some b) None = refl
 append_three (Some a) (Some b) (Some c) = ap Some (append_assoc a b c)
 
-append_nothing : (a : Option (List ℕ)) → option_append a (Some []) ≡ a
+pub append_nothing : (a : Option (List ℕ)) → option_append a (Some []) ≡ a
 append_nothing None = refl
 append_nothing (Some a) = ap Some (append-nil a)
 
-nothing_append : (a : Option (List ℕ)) → option_append (Some []) a ≡ a
+pub nothing_append : (a : Option (List ℕ)) → option_append (Some []) a ≡ a
 nothing_append None = refl
 nothing_append (Some a) = refl
 
-records_push : (entries : List Record) (entry : Record) → records_text (entries ++ entry ∷ []) ≡ option_append (records_text entries) (record_text entry)
+pub records_push : (entries : List Record) (entry : Record) → records_text (entries ++ entry ∷ []) ≡ option_append (records_text entries) (record_text entry)
 unfolding records_text
 records_push [] entry = append_nothing (record_text entry) ∙ sym (nothing_append (record_text entry))
 records_push (first ∷ entries) entry = ap (option_append (record_text first)) (records_push entries entry) ∙ sym (append_three (record_text first) (records_text entries) (record_text entry))

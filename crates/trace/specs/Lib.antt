@@ -1,1 +1,4 @@
 pub mod TraceText
+pub mod Reading
+pub mod FaultText
+pub mod OneFaultyLine

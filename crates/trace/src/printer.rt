@@ -1,14 +1,15 @@
-// The trace as text, version 1: a header, a line a record by the row of its word, and the sums. It relies on `call_lines` for lines,
+// Prints a trace, version 1: a header, a line a record by the row of its word, and the sums. It relies on `call_lines` for lines,
 // and on `calls` for records, which stand in a `chunked_list`.
 
 ghost use Rattle.std.specs.Prelude.{◌≡◌, IfSome, OnOk};
 ghost use Rattle.call_lines.specs.Written.{Writes};
-ghost use Rattle.trace.specs.TraceText.{advance_text, called_text, record_text, records_text, stop_of, totals_text, trace_text};
+ghost use Rattle.trace.specs.TraceText.{entry_text, record_text, records_text, stop_of, trace_text};
 
+use crate::sums::print_totals;
 use call_lines::{
     Slots, Stop, Value, Word, no_spelling, print_line, print_long_number, values_of, word_of,
 };
-use calls::{Call, CallAnswer, Record, StoppedAt, Totals, Trace};
+use calls::{Call, CallAnswer, Record, StoppedAt, Trace};
 use chunked_list::ChunkedList;
 use short_bytes::ShortBytes;
 use std::io;
@@ -33,18 +34,16 @@ fn print_records<W: Write>(records: &ChunkedList<Record>, out: &mut W) -> io::Re
     Ok(())
 }
 
-fn print_totals<W: Write>(totals: Totals, out: &mut W) -> io::Result<()>
-    ensures { OnOk result (Writes (totals_text totals) (W.contents out.old) (W.contents out.new)) }
-{
-    writeln!(
-        out,
-        "end {} {} {} {}",
-        totals.history, totals.frozen, totals.active, totals.runs
-    )
-}
-
 fn print_record<W: Write>(entry: &Record, out: &mut W) -> io::Result<()>
     ensures { OnOk result (Writes (record_text entry.now) (W.contents out.old) (W.contents out.new)) }
+{
+    print_entry(entry, out)?;
+    out.write_all(b"\n")
+}
+
+// A record's line without its line feed.
+fn print_entry<W: Write>(entry: &Record, out: &mut W) -> io::Result<()>
+    ensures { OnOk result (Writes (entry_text entry.now) (W.contents out.old) (W.contents out.new)) }
 {
     match entry {
         Record::Called { call, answer } => print_called(call, *answer, out),
@@ -58,13 +57,12 @@ fn print_record<W: Write>(entry: &Record, out: &mut W) -> io::Result<()>
 }
 
 fn print_called<W: Write>(call: &Call, answer: CallAnswer, out: &mut W) -> io::Result<()>
-    ensures { OnOk result (Writes (called_text call.now answer) (W.contents out.old) (W.contents out.new)) }
+    ensures { OnOk result (Writes (entry_text (Record.Called answer call.now)) (W.contents out.old) (W.contents out.new)) }
 {
     let word = word_of(call);
     print_line(word, &values_of(call), out)?;
     out.write_all(b" = ")?;
-    word.row().print_answer(answer, out)?;
-    out.write_all(b"\n")
+    word.row().print_answer(answer, out)
 }
 
 fn print_advance<W: Write>(
@@ -74,7 +72,7 @@ fn print_advance<W: Write>(
     r0: u64,
     out: &mut W,
 ) -> io::Result<()>
-    ensures { OnOk result (Writes (advance_text run instructions stop.now r0) (W.contents out.old) (W.contents out.new)) }
+    ensures { OnOk result (Writes (entry_text (Record.Advance run instructions stop.now r0)) (W.contents out.old) (W.contents out.new)) }
 {
     let Some(stop) = stop_of(stop) else {
         return Err(no_spelling());
@@ -87,8 +85,7 @@ fn print_advance<W: Write>(
     };
     print_line(Word::Advance, &held, out)?;
     out.write_all(b" = ")?;
-    print_long_number(r0, out)?;
-    out.write_all(b"\n")
+    print_long_number(r0, out)
 }
 
 // Where the run stopped. None where more bytes are told than a line has.

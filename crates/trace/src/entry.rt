@@ -1,0 +1,100 @@
+// Reads a record of its line: what was asked by the row of its word, and behind ` = ` what was answered. It relies on `call_lines` for
+// lines and answers, and on `calls` for records.
+
+ghost use Rattle.std.specs.Prelude.{◌≡◌, ◌≢◌, IfOk, List, Some, ℕ};
+ghost use Rattle.call_lines.specs.Lines.{line_text};
+ghost use Rattle.call_lines.specs.Written.{Reads};
+ghost use Rattle.trace.specs.Reading.{ReadsAnswered, stopped_at};
+ghost use Rattle.trace.specs.TraceText.{entry_text};
+
+use call_lines::{Slots, Stop, Value, Word, call_of, long_number, number_at, read_line, stop_in};
+use calls::{Record, StoppedAt, TracedBytes};
+use std::alloc::{AllocError, Global};
+
+/// The version of the formats whose lines a trace has.
+const VERSION: u8 = 1;
+
+/// The record of a line, which stands without its line feed. None where it is no record's. It takes memory for sense bytes and traced
+/// bytes alone.
+pub(crate) fn read_record(alloc: Global, line: &str) -> Result<Option<Record>, AllocError>
+    ensures { IfOk result (Reads entry_text line.now) }
+{
+    let Some((asked, told)) = line.split_once(" = ") else {
+        return Ok(None);
+    };
+    let Some((word, held)) = read_line(asked, VERSION) else {
+        return Ok(None);
+    };
+    read_answered(alloc, word, &held, told)
+}
+
+// The record of what was asked and answered.
+fn read_answered(
+    alloc: Global,
+    word: Word,
+    held: &Slots<Value>,
+    told: &str,
+) -> Result<Option<Record>, AllocError>
+    ensures { (asked : List ℕ) → line_text word held.now ≡ Some asked → IfOk result (ReadsAnswered word held.now told.now) }
+{
+    match word {
+        Word::Advance => read_advance(alloc, held, told),
+        _ => read_called(alloc, word, held, told),
+    }
+}
+
+// The record of a call.
+fn read_called(
+    alloc: Global,
+    word: Word,
+    held: &Slots<Value>,
+    told: &str,
+) -> Result<Option<Record>, AllocError>
+    requires { word ≢ Word.Advance }
+    ensures { (asked : List ℕ) → line_text word held.now ≡ Some asked → IfOk result (ReadsAnswered word held.now told.now) }
+{
+    let Some(answer) = word.row().read_answer(told) else {
+        return Ok(None);
+    };
+    match call_of(alloc, word, held)? {
+        Some(call) => Ok(Some(Record::Called { answer, call })),
+        None => Ok(None),
+    }
+}
+
+// The record of a run that went on.
+fn read_advance(
+    alloc: Global,
+    held: &Slots<Value>,
+    told: &str,
+) -> Result<Option<Record>, AllocError>
+    ensures { (asked : List ℕ) → line_text Word.Advance held.now ≡ Some asked → IfOk result (ReadsAnswered Word.Advance held.now told.now) }
+{
+    let Some(r0) = long_number(told) else {
+        return Ok(None);
+    };
+    let Some(stop) = stop_in(held.third) else {
+        return Ok(None);
+    };
+    let stop = stopped_at(alloc, stop)?;
+    Ok(Some(Record::Advance {
+        run: number_at(held.first),
+        instructions: number_at(held.second),
+        stop,
+        r0,
+    }))
+}
+
+// Where the run stopped, as the history keeps it.
+fn stopped_at(alloc: Global, stop: Stop) -> Result<StoppedAt, AllocError>
+    ensures { IfOk result (λ kept. kept ≡ stopped_at stop) }
+{
+    match stop {
+        Stop::Helper(helper) => Ok(StoppedAt::Helper(helper)),
+        Stop::Bytes(helper, bytes) => {
+            Ok(StoppedAt::Trace(helper, TracedBytes::new(alloc, bytes)?))
+        }
+        Stop::Code(helper, code) => Ok(StoppedAt::Finish(helper, code)),
+        Stop::Exit => Ok(StoppedAt::Exit),
+    }
+}

@@ -13,6 +13,8 @@ use std::alloc::Global;
 use std::io::{BufWriter, Write};
 use std::process::ExitCode;
 use std::rt::{Env, Files};
+use std::sync::Wait;
+use std::thread::Threads;
 use std::{env, fs, io};
 use tally::Tally;
 
@@ -30,26 +32,29 @@ fn main(rt: HostRuntime) -> Result<ExitCode> {
 }
 
 // The cases of all files that the words name.
-fn test_all<R: Env + Files + AllocGlobal, W: Write>(rt: &R, out: &mut W) -> Result<Tally> {
+fn test_all<R: Env + Files + AllocGlobal + Threads + Wait + Sync, W: Write>(
+    rt: &R,
+    out: &mut W,
+) -> Result<Tally> {
     let paths: Vec<String> = env::args(rt)?.skip(1).collect(rt.alloc())?;
     let mut tally = Tally::default();
     for path in &paths {
         let path = path.as_str();
         let text = fs::read_to_string(rt, path).context(path)?;
-        test_file(rt.alloc(), path, text.as_str(), &mut tally, out).context(path)?;
+        test_file(rt, path, text.as_str(), &mut tally, out).context(path)?;
     }
     Ok(tally)
 }
 
-fn test_file<W: Write>(
-    alloc: Global,
+fn test_file<R: AllocGlobal + Threads + Wait + Sync, W: Write>(
+    rt: &R,
     path: &str,
     text: &str,
     tally: &mut Tally,
     out: &mut W,
 ) -> Result<()> {
-    for case in &test_cases::read(alloc, text)? {
-        let came = running::run(alloc, case)?;
+    for case in &test_cases::read(rt.alloc(), text)? {
+        let came = running::run(rt, rt.alloc(), case)?;
         let passes = came.is_same(&case.wanted);
         if !passes {
             report::print(path, case, &came, out)?;

@@ -6,16 +6,22 @@ ghost use Rattle.command_line.specs.Files.{input_paths};
 use command_line::{Plan, not_utf8, plan};
 use commands::{Fault, carry, report_usage};
 use std::alloc::{AllocError, Global};
+use std::sync::Wait;
+use std::thread::Threads;
 use test_cases::{Case, Outcome};
 
 /// What the case's words show over its files. A file that it does not have is one that cannot be read.
-pub fn run(alloc: Global, case: &Case<'_>) -> Result<Outcome, AllocError> {
+pub fn run<R: Threads + Wait + Sync>(
+    rt: &R,
+    alloc: Global,
+    case: &Case<'_>,
+) -> Result<Outcome, AllocError> {
     let mut out = Vec::new(alloc);
     let mut err = Vec::new(alloc);
     let status = match words_of(alloc, case)? {
         Some(words) => match plan(alloc, words.as_slice()) {
             Ok(plan) => match read_inputs(alloc, &plan, case) {
-                Ok(inputs) => carry(alloc, &plan, &inputs, &mut out, &mut err),
+                Ok(inputs) => carry(rt, alloc, &plan, &inputs, &mut out, &mut err),
                 Err(fault) => fault.report(&mut err),
             },
             Err(fault) => report_usage(&fault, &mut out, &mut err),

@@ -7,7 +7,6 @@ mod engine;
 mod instructions;
 mod live_runs;
 mod parking;
-mod passes;
 mod policies;
 mod recovery;
 mod replies;

@@ -1,7 +1,7 @@
 use Rattle.std.proofs.Common.{vec_len}
 use Rattle.std.specs.List.{All}
 use Rattle.inbox.specs.Views.{IsOf}
-use Rattle.unit_tests.proofs.tests.passes.many.dismiss.Given as goal
+use Rattle.thread_tests.proofs.tests.passes.many.dismiss.Given as goal
 
 abbrev pub invariant-loop-worker : goal.invariant-loop-worker
 invariant-loop-worker g l = record {

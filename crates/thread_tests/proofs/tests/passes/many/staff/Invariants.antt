@@ -1,6 +1,6 @@
 use Rattle.std.specs.List.{All}
 use Rattle.inbox.specs.Views.{IsOf}
-use Rattle.unit_tests.proofs.tests.passes.many.staff.Given as goal
+use Rattle.thread_tests.proofs.tests.passes.many.staff.Given as goal
 
 abbrev pub invariant-loop : goal.invariant-loop
 invariant-loop g l = record {

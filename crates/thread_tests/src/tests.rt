@@ -1,0 +1,7 @@
+// A module for what is tested, and what they share.
+
+mod engines;
+mod passes;
+mod services;
+mod serving;
+mod sharing;

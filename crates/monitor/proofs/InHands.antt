@@ -8,20 +8,18 @@ use Rattle.world.specs.World.{Setup}
 use Rattle.world.specs.TotalsOf.{TotalsOf}
 use Rattle.monitor.specs.declared.knowledge.View.{View}
 use Rattle.monitor.specs.LegalHistory.{pair, records, made_by, LegalHistory}
-use Rattle.monitor.specs.Seats.{with_part, without_part, keeper_state, caller_state, IsKeeper, IsCaller, Say, Kept, published, AgreesWith, Extends, HasLooked}
+use Rattle.monitor.specs.Seats.{with_part, without_part, caller_state, IsKeeper, IsCaller, Say, Kept, published, AgreesWith, Extends, HasLooked}
 use Rattle.monitor.specs.Telling.{CallerState, Agrees, Joins, Looks, having_made}
 use Rattle.monitor.proofs.Histories.{records_push, itself, none_told}
 use Rattle.monitor.proofs.Publishing.{publishes, looks}
 
 -- The views before are those of the keeper and the caller. Then the keeper's has the part, and the caller's is without it; the
 -- keeper's takes its step; and the part comes back
-pub record Turn (setup : Setup) (keeper caller lent left stepped keeper' caller' : View) : Type 0 where
-  pub is_keeper : IsKeeper setup keeper
+pub record Turn (setup : Setup) (keeper caller lent left stepped after : View) : Type 0 where
   pub is_caller : IsCaller setup caller
   pub lent_is : lent ≡ with_part keeper caller
   pub left_is : left ≡ without_part caller
-  pub keeper_is : keeper' ≡ without_part stepped
-  pub caller_is : caller' ≡ with_part left stepped
+  pub after_is : after ≡ with_part left stepped
 
 -- in a view that has the caller's part
 agreed_of : (keeper caller lent : View) → lent ≡ with_part keeper caller → AgreesWith lent.log lent → Agrees keeper.log (caller_state caller)
@@ -42,64 +40,29 @@ pub looks_lent : (setup : Setup) (keeper caller lent : View) (seat : ℕ) → Is
 looks_lent setup keeper caller lent seat k c is =
     subst (λ (u : View). Turns Kept seat u (λ x. x) (λ v x y w. HasLooked v w)) (sym is) (looks seat (with_part keeper caller) k.keeps c.calls k.closed)
 
-module _ (setup : Setup) (keeper caller lent left stepped keeper' caller' : View) (t : Turn setup keeper caller lent left stepped keeper' caller') where
-  module _ (made : Record) (x : Extends lent made stepped) where
-    stepped_is : stepped ≡ published made (with_part keeper caller)
-    stepped_is = x.after ∙ ap (published made) t.lent_is
+module _ (setup : Setup) (keeper caller lent left stepped after : View) (t : Turn setup keeper caller lent left stepped after) where
+  pub published_joins : (made : Record) → Extends lent made stepped → Joins setup keeper.log (caller_state caller) made (caller_state after)
+  published_joins made x =
+      let later : CallerState = having_made keeper.log made (caller_state caller) in
+      let stepped_is : stepped ≡ published made (with_part keeper caller) = x.after ∙ ap (published made) t.lent_is in
+      let is : caller_state after ≡ later = ap caller_state (t.after_is ∙ (λ i. with_part (t.left_is i) (stepped_is i))) in
+      let own : made_by caller.number (keeper.log ++ pair caller.number made ∷ []) ≡ caller.mine ++ made ∷ [] =
+      subst (λ (v : View). made_by v.number (v.log ++ pair v.number made ∷ []) ≡ v.mine ++ made ∷ []) t.lent_is x.own in
+      let legal : LegalHistory setup later.seen =
+      subst (λ (s : Setup). LegalHistory s (keeper.log ++ pair caller.number made ∷ [])) t.is_caller.setup_is
+      (subst (λ (v : View). LegalHistory v.setup (v.log ++ pair v.number made ∷ [])) t.lent_is x.legal) in
+      record {
+        agreed = agreed_of keeper caller lent t.lent_is x.agreed;
+        after_is = is;
+        agrees = subst (λ (s : CallerState). Agrees s.seen s) (sym is) (record { began = itself later.seen; heard = none_told later.seen; own = own });
+        legal = subst (λ (s : CallerState). LegalHistory setup s.seen) (sym is) legal;
+      }
 
-    keeper_then : keeper' ≡ without_part (published made (with_part keeper caller))
-    keeper_then = t.keeper_is ∙ ap without_part stepped_is
-
-    caller_then : caller' ≡ with_part (without_part caller) (published made (with_part keeper caller))
-    caller_then = t.caller_is ∙ (λ i. with_part (t.left_is i) (stepped_is i))
-
-    pub published_keeper : IsKeeper setup keeper'
-    published_keeper = subst (IsKeeper setup) (sym keeper_then) (record { keeps = t.is_keeper.keeps; closed = t.is_keeper.closed; setup_is = t.is_caller.setup_is })
-
-    pub published_caller : IsCaller setup caller'
-    published_caller = subst (IsCaller setup) (sym caller_then) (record { calls = t.is_caller.calls; closed = t.is_caller.closed; setup_is = t.is_caller.setup_is })
-
-    pub published_history : keeper_state keeper' ≡ record { history = keeper.log ++ pair caller.number made ∷ []; callers = keeper.given }
-    published_history = ap keeper_state keeper_then
-
-    pub published_joins : Joins setup keeper.log (caller_state caller) made (caller_state caller')
-    published_joins =
-        let after : CallerState = having_made keeper.log made (caller_state caller) in
-        let is : caller_state caller' ≡ after = ap caller_state caller_then in
-        let own : made_by caller.number (keeper.log ++ pair caller.number made ∷ []) ≡ caller.mine ++ made ∷ [] =
-        subst (λ (v : View). made_by v.number (v.log ++ pair v.number made ∷ []) ≡ v.mine ++ made ∷ []) t.lent_is x.own in
-        let legal : LegalHistory setup after.seen =
-        subst (λ (s : Setup). LegalHistory s (keeper.log ++ pair caller.number made ∷ [])) t.is_caller.setup_is
-        (subst (λ (v : View). LegalHistory v.setup (v.log ++ pair v.number made ∷ [])) t.lent_is x.legal) in
-        record {
-          agreed = agreed_of keeper caller lent t.lent_is x.agreed;
-          after_is = is;
-          agrees = subst (λ (s : CallerState). Agrees s.seen s) (sym is) (record { began = itself after.seen; heard = none_told after.seen; own = own });
-          legal = subst (λ (s : CallerState). LegalHistory setup s.seen) (sym is) legal;
-        }
-
-  module _ (x : HasLooked lent stepped) where
-    looked_is : stepped ≡ record (with_part keeper caller) { seen = keeper.log; told = [] }
-    looked_is = x.after ∙ ap (λ (v : View). record v { seen = v.log; told = [] }) t.lent_is
-
-    keeper_again : keeper' ≡ without_part (record (with_part keeper caller) { seen = keeper.log; told = [] })
-    keeper_again = t.keeper_is ∙ ap without_part looked_is
-
-    caller_again : caller' ≡ with_part (without_part caller) (record (with_part keeper caller) { seen = keeper.log; told = [] })
-    caller_again = t.caller_is ∙ (λ i. with_part (t.left_is i) (looked_is i))
-
-    pub looked_keeper : IsKeeper setup keeper'
-    looked_keeper = subst (IsKeeper setup) (sym keeper_again) (record { keeps = t.is_keeper.keeps; closed = t.is_keeper.closed; setup_is = t.is_caller.setup_is })
-
-    pub looked_caller : IsCaller setup caller'
-    looked_caller = subst (IsCaller setup) (sym caller_again) (record { calls = t.is_caller.calls; closed = t.is_caller.closed; setup_is = t.is_caller.setup_is })
-
-    pub looked_history : keeper_state keeper' ≡ keeper_state keeper
-    looked_history = ap keeper_state keeper_again
-
-    pub looked_looks : Looks setup keeper.log (caller_state caller) (caller_state caller')
-    looked_looks = record {
-      agreed = agreed_of keeper caller lent t.lent_is x.agreed;
-      after_is = ap caller_state caller_again;
-      legal = subst (λ (s : Setup). LegalHistory s keeper.log) t.is_caller.setup_is (subst (λ (v : View). LegalHistory v.setup v.log) t.lent_is x.legal);
-    }
+  pub looked_looks : HasLooked lent stepped → Looks setup keeper.log (caller_state caller) (caller_state after)
+  looked_looks x =
+      let stepped_is : stepped ≡ record (with_part keeper caller) { seen = keeper.log; told = [] } = x.after ∙ ap (λ (v : View). record v { seen = v.log; told = [] }) t.lent_is in
+      record {
+        agreed = agreed_of keeper caller lent t.lent_is x.agreed;
+        after_is = ap caller_state (t.after_is ∙ (λ i. with_part (t.left_is i) (stepped_is i)));
+        legal = subst (λ (s : Setup). LegalHistory s keeper.log) t.is_caller.setup_is (subst (λ (v : View). LegalHistory v.setup v.log) t.lent_is x.legal);
+      }

@@ -60,4 +60,10 @@ impl<B: Origin> CallerPart<B> {
         let cell = &monitor.cell;
         cell.join_pass::<Tells>(&mut self.seat, receipt.seat);
     }
+
+    /// Spends the part and tells nobody: it is for one whose engine is let go.
+    pub fn forfeit(self) {
+        let CallerPart { seat, of: _ } = self;
+        drop(seat);
+    }
 }

@@ -1,5 +1,6 @@
 -- The caller sees the history that the keeper knows.
 use Rattle.std.proofs.Common.{rules, sym, ◌∙◌}
+use Rattle.crossbeam_utils.specs.Seq.{cell_view}
 use Rattle.monitor.proofs.InHands.{looks_lent, looked_looks}
 use Rattle.monitor.proofs.steps.look_as.Goals as goal
 
@@ -9,6 +10,6 @@ load_as-requires g c =
 
 pub returns-clause-looks : goal.returns-clause-looks
 returns-clause-looks g c =
-    looked_looks _ _ _ _ _ _ _ _
-    (record { is_keeper = c.requires.keeper; is_caller = c.requires.caller; lent_is = c.hand_over.ensures.to; left_is = c.hand_over.ensures.from; keeper_is = c.hand_over-2.ensures.from; caller_is = c.hand_over-2.ensures.to })
+    looked_looks _ (cell_view c.args.keeper.now) _ _ _ _ _
+    (record { is_caller = c.requires.caller; lent_is = c.hand_over.ensures.to; left_is = c.hand_over.ensures.from; after_is = c.hand_over-2.ensures.to })
     c.load_as.ensures.rule

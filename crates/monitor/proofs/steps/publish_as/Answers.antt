@@ -1,5 +1,6 @@
 -- The caller's record joins the history that the keeper knows.
 use Rattle.std.proofs.Common.{rules, sym, ◌∙◌}
+use Rattle.crossbeam_utils.specs.Seq.{cell_view}
 use Rattle.monitor.proofs.InHands.{publishes_lent, published_joins}
 use Rattle.monitor.proofs.steps.publish_as.Goals as goal
 
@@ -17,6 +18,6 @@ swap_as-requires g c = (
 
 pub returns-clause-joins : goal.returns-clause-joins
 returns-clause-joins g c =
-    published_joins _ _ _ _ _ _ _ _
-    (record { is_keeper = c.requires.keeper; is_caller = c.requires.caller; lent_is = c.hand_over.ensures.to; left_is = c.hand_over.ensures.from; keeper_is = c.hand_over-2.ensures.from; caller_is = c.hand_over-2.ensures.to })
+    published_joins _ (cell_view c.args.keeper.now) _ _ _ _ _
+    (record { is_caller = c.requires.caller; lent_is = c.hand_over.ensures.to; left_is = c.hand_over.ensures.from; after_is = c.hand_over-2.ensures.to })
     g.S.Told.told c.swap_as.ensures.rule

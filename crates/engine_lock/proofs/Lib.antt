@@ -1,2 +1,3 @@
 pub mod Since
 pub mod QueuePrograms
+pub mod Histories

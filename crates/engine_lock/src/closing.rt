@@ -1,8 +1,8 @@
 // The end of a shared engine: all its callers come back, and it is one thread's again. It relies on callers being linear, so
 // that as many as were given out are all that were given out.
 
-ghost use Rattle.std.specs.Prelude.{◌≡◌, sum, IfOk, IfErr};
-ghost use Rattle.engine_lock.specs.Sharing.{IsSince};
+ghost use Rattle.std.specs.Prelude.{◌≡◌, IfOk, IfErr};
+ghost use Rattle.engine_lock.specs.Sharing.{Closes};
 ghost use Rattle.engine_lock.specs.declared.fault.LockFault.TheVariants.{CallerMissing};
 
 use crate::caller::Caller;
@@ -10,7 +10,7 @@ use crate::fault::LockFault;
 use crate::object::Object;
 use crate::shared::Shared;
 use engine_core::Engine;
-use std::sync::Mutex;
+use std::sync::{Mutex, Wait};
 
 /// A shared engine that was not closed, with why, and with the callers that were handed in.
 pub struct Unclosed<B: Object> {
@@ -36,23 +36,29 @@ impl<B: Object> Unclosed<B> {
 
 impl<B: Object> Shared<B> {
     /// Ends the sharing, with all callers, in any order: the engine, whose history has as many records beyond those with
-    /// which it began as these callers had recorded calls.
+    /// which it began as these callers had recorded calls, and begins with what each of them had seen and was told of. It may wait
+    /// for those that read the monitor.
     ///
     /// L2 where a caller that was given out is not among them. Then all comes back, and is good for further calls.
-    pub fn close(self, callers: Vec<Caller<B>>) -> Result<Engine, Unclosed<B>>
-        ensures closed { IfOk result (IsSince B.setup B.begun (sum callers.items)) }
+    pub fn close<R: Wait>(self, rt: &R, callers: Vec<Caller<B>>) -> Result<Engine, Unclosed<B>>
+        ensures closed { IfOk result (Closes B.setup B.begun callers.items) }
         ensures unclosed { IfErr result (λ back. (back.fault ≡ CallerMissing) × (back.callers.items ≡ callers.items)) }
     {
-        let Shared { lock, programs } = self;
+        let Shared {
+            lock,
+            programs,
+            monitor,
+        } = self;
         let locked = lock.into_inner();
         if locked.has_all(&callers) {
-            return Ok(locked.settle(callers));
+            return Ok(locked.settle(rt, &monitor, callers));
         }
         Err(Unclosed {
             fault: LockFault::CallerMissing,
             shared: Shared {
                 lock: Mutex::new(locked),
                 programs,
+                monitor,
             },
             callers,
         })

@@ -8,10 +8,11 @@ mod comparing;
 mod fault;
 mod locked;
 mod object;
+mod publishing;
 mod shared;
 
 pub use caller::Caller;
 pub use closing::Unclosed;
 pub use fault::LockFault;
 pub use object::{Object, Opened};
-pub use shared::Shared;
+pub use shared::{Pause, Shared};

@@ -1,63 +1,74 @@
-// What stands under the lock of a shared engine. It relies on `engine_core` for what a call does, and on the ledger of the
-// standard library, whose book is the sum of its shares.
+// What stands under the lock of a shared engine. It relies on `engine_core` for what a call does, on the ledger of the standard
+// library, whose book is the sum of its shares, and on `monitor`, whose keeper knows the whole history with its callers.
 
-ghost use Rattle.std.specs.Prelude.{◌≡◌, ℕ, ◌+◌, ◌<◌, ◌↔◌, List, [], ◌++◌, length, sum, IsErr, IfOk, IfErr, IsTrue, true};
+ghost use Rattle.std.specs.Prelude.{◌≡◌, ℕ, ◌+◌, ◌↔◌, [], length, IsErr, IfOk, IfErr, IsTrue};
 ghost use Rattle.engine_core.specs.EngineState.{IsRun};
 ghost use Rattle.engine_core.specs.Replies.{IsOfKnown};
-ghost use Rattle.engine_lock.specs.Sharing.{Answers, Counts, IsSince};
+ghost use Rattle.monitor.specs.LegalHistory.{unshared};
+ghost use Rattle.monitor.specs.Telling.{new_caller};
+ghost use Rattle.engine_lock.specs.Sharing.{Answers, Closes, Counts, IsNewCaller, IsNewWatch, IsSince, Tells, is_unfit, keeper_of};
 ghost use Rattle.engine_lock.specs.declared.fault.LockFault.TheVariants.{TooManyCallers};
 ghost use Rattle.engine_lock.specs.declared.object.TheConstants.{MAX_CALLERS};
 
 use crate::caller::Caller;
 use crate::fault::LockFault;
 use crate::object::{MAX_CALLERS, Object};
+use crate::publishing::publish_last;
 use ccb::QueueId;
 use engine_core::{Engine, Event, Reply};
+use monitor::{Keeper, Monitor, Watch};
 use std::marker::Model;
+use std::sync::Wait;
 use std::sync::ledger::{Book, Share};
 
-/// The engine, how many callers were given out, the sum of their recorded calls, and what is left of the right to call.
+/// The engine, how many callers were given out, the sum of their recorded calls, what is left of the right to call, and the right
+/// to publish.
 #[derive(Drop)]
 pub(crate) struct Locked<B: Object> {
     engine: Engine,
     given: u64,
     book: Book<B>,
     rest: Share<B>,
+    keeper: Keeper<B>,
 }
 
 impl<B: Object> Model for Locked<B> {
     ghost use Rattle.std.specs.Prelude.{◌≡◌, ◌+◌};
+    ghost use Rattle.monitor.specs.LegalHistory.{records};
     ghost use Rattle.engine_lock.specs.Sharing.{IsSince, LockedState};
     ghost use Rattle.engine_lock.specs.declared.object.TheConstants.{MAX_CALLERS};
 
     ghost Value = { LockedState };
 
-    ghost view = { λ l. record { engine = l.engine; given = l.given } };
+    ghost view = { λ l. record { engine = l.engine; history = l.keeper.history; given = l.given } };
 
-    ghost invariant = { λ l. IsSince B.setup B.begun l.book.total l.engine × (l.rest.parts + l.given ≡ B.parts) × (l.rest.amount ≡ 0) × (B.parts ≡ MAX_CALLERS) };
+    ghost invariant = { λ l. IsSince B.setup B.begun l.book.total l.engine × (l.rest.parts + l.given ≡ B.parts) × (l.rest.amount ≡ 0) × (B.parts ≡ MAX_CALLERS) × (records l.keeper.history ≡ l.engine.history) × (l.keeper.callers ≡ l.given) };
 }
 
 impl<B: Object> Locked<B> {
     /// An engine of which no caller was given out.
-    pub(crate) fn new(engine: Engine, book: Book<B>, rest: Share<B>) -> Self
+    pub(crate) fn new(engine: Engine, book: Book<B>, rest: Share<B>, keeper: Keeper<B>) -> Self
         requires run { IsRun engine }
         requires setup { engine.setup ≡ B.setup }
         requires begun { engine.history ≡ B.begun }
         requires book { book.total ≡ 0 }
         requires rest { (rest.parts ≡ B.parts) × (rest.amount ≡ 0) × (B.parts ≡ MAX_CALLERS) }
-        ensures { result ≡ record { engine = engine; given = 0 } }
+        requires keeper { keeper ≡ record { history = unshared B.begun; callers = 0 } }
+        ensures { result ≡ record { engine = engine; history = unshared B.begun; given = 0 } }
     {
         Locked {
             engine,
             given: 0,
             book,
             rest,
+            keeper,
         }
     }
 
     /// A caller more, of which no call is recorded. L1 exactly where 64 were given out.
-    pub(crate) fn caller(&mut self) -> Result<Caller<B>, LockFault>
-        ensures given { IfOk result (λ caller. (caller ≡ 0) × (self.new ≡ record self.old { given = self.old.given + 1 })) }
+    pub(crate) fn caller(&mut self, monitor: &Monitor<B>) -> Result<Caller<B>, LockFault>
+        ensures caller { IfOk result (IsNewCaller B.setup) }
+        ensures given { IfOk result (λ caller. (caller ≡ new_caller (keeper_of self.old)) × (self.new ≡ record self.old { given = self.old.given + 1 })) }
         ensures full { IfErr result (λ fault. (fault ≡ TooManyCallers) × (self.new ≡ self.old)) }
         ensures refused { IsErr result ↔ (self.old.given ≡ MAX_CALLERS) }
     {
@@ -69,16 +80,29 @@ impl<B: Object> Locked<B> {
             given,
             book: _,
             rest,
+            keeper,
         } = self;
         let calls = rest.split_off(1, 0);
+        let part = keeper.caller(monitor);
         *given += 1;
-        Ok(Caller { calls })
+        Ok(Caller { calls, part })
     }
 
-    /// Answers an event, and counts it for its caller where it is recorded. Where a queue is known, an advance is of a run
+    /// A watch, which has seen the history so far, whose sums are shown.
+    pub(crate) fn watch<R: Wait>(&mut self, rt: &R, monitor: &Monitor<B>) -> Watch<B>
+        ensures same { self.new ≡ self.old }
+        ensures watch { IsNewWatch B.setup result }
+    {
+        let totals = self.engine.totals();
+        self.keeper.watch(rt, monitor, totals)
+    }
+
+    /// Answers an event, and publishes it with its caller where it is recorded. Where a queue is known, an advance is of a run
     /// with that queue's program.
-    pub(crate) fn call(
+    pub(crate) fn call<R: Wait>(
         &mut self,
+        rt: &R,
+        monitor: &Monitor<B>,
         caller: &mut Caller<B>,
         event: Event<'_>,
         known: Option<QueueId>,
@@ -86,17 +110,22 @@ impl<B: Object> Locked<B> {
         requires { IsOfKnown B.setup event known }
         ensures answers { Answers self.old.engine event.entry result self.new.engine }
         ensures since { (calls : ℕ) × IsSince B.setup B.begun calls self.old.engine }
-        ensures counted { Counts event.entry result caller.old caller.new }
+        ensures tells { Tells B.setup event.entry result caller.old caller.new }
+        ensures counted { Counts event.entry result (length caller.old.mine) (length caller.new.mine) }
     {
         let reply = self.engine.answer_known(event, known);
         if reply.is_recorded() {
             let Locked {
-                engine: _,
+                engine,
                 given: _,
                 book,
                 rest: _,
+                keeper,
             } = self;
             book.add(&mut caller.calls, 1);
+            publish_last(rt, monitor, keeper, &mut caller.part, engine);
+        } else if is_unfit(&reply) {
+            self.keeper.look(rt, monitor, &mut caller.part);
         }
         reply
     }
@@ -109,22 +138,36 @@ impl<B: Object> Locked<B> {
     }
 
     /// The engine, where all callers that were given out are here.
-    pub(crate) fn settle(self, mut callers: Vec<Caller<B>>) -> Engine
+    pub(crate) fn settle<R: Wait>(
+        self,
+        rt: &R,
+        monitor: &Monitor<B>,
+        mut callers: Vec<Caller<B>>,
+    ) -> Engine
         requires { length callers.items ≡ self.given }
-        ensures { IsSince B.setup B.begun (sum callers.items) result }
+        ensures { Closes B.setup B.begun callers.items result }
     {
         let Locked {
             engine,
             given: _,
             mut book,
             rest: mut all,
+            mut keeper,
         } = self;
         while let Some(caller) = callers.pop() {
-            let Caller { calls } = caller;
+            let Caller { calls, part } = caller;
             all.merge(calls);
+            keeper.retire(rt, monitor, part);
         }
         callers.destroy_empty();
         book.audit(&mut all);
         engine
     }
+}
+
+// Whether the engine answered C4 or C6.
+fn is_unfit(reply: &Reply) -> bool
+    ensures { result ≡ is_unfit reply.now }
+{
+    matches!(reply, Reply::Unfit(_))
 }

@@ -8,6 +8,7 @@ use crate::locked::Locked;
 use crate::shared::Shared;
 use accepted::Accepted;
 use engine_core::Engine;
+use monitor::Origin;
 use std::alloc::{AllocError, Global};
 use std::marker::Brand;
 use std::sync::ledger::{Blank, Ledger};
@@ -16,48 +17,39 @@ use std::sync::{Arc, Mutex};
 /// How many callers may be given out.
 pub const MAX_CALLERS: u64 = 64;
 
-/// One shared engine, by what it was made of: its setup, and the history with which it began. Each call of a program that
-/// shares one picks it; all that belongs to it bears it in its type.
-pub trait Object: Ledger {
-    ghost use Rattle.std.specs.Prelude.{List};
-    ghost use Rattle.calls.specs.declared.record.Record.{Record};
-    ghost use Rattle.world.specs.World.{Setup};
+/// One shared engine, by what it was made of: its setup, the history with which it began, the cell that shows its sums, and the
+/// ledger of its calls. Each call of a program that shares one picks it; all that belongs to it bears it in its type.
+pub trait Object: Ledger + Origin {}
 
-    ghost setup: { Setup };
-
-    ghost begun: { List Record };
-}
-
-impl Object for Brand {
-    ghost use Rattle.std.specs.Prelude.{[]};
-    ghost use Rattle.engine_lock.specs.Sharing.{no_setup};
-
-    ghost setup = { no_setup };
-
-    ghost begun = { [] };
-}
+impl Object for Brand {}
 
 /// An engine that is to be shared, and has no name yet.
 pub struct Opened {
     engine: Engine,
     calls: Blank,
     programs: Vec<Arc<Accepted>>,
+    monitor: monitor::Opened,
     pub ghost parts: { calls.parts ≡ MAX_CALLERS },
     ghost its: { AreProgramsOf engine.setup programs.items },
 }
 
 impl Opened {
-    /// The engine, with no caller given out. It takes memory for a handle on each queue's program; where that is refused the
-    /// engine comes back.
+    /// The engine, with no caller given out. It takes memory for a handle on each queue's program, and for the
+    /// monitor; where that is refused the engine comes back.
     pub fn new(alloc: Global, engine: Engine) -> Result<Self, (AllocError, Engine)>
         ensures opened { IfOk result (λ opened. opened.engine ≡ engine) }
         ensures back { IfErr result (λ fault. fault.1 ≡ engine) }
     {
-        match engine.programs(alloc) {
-            Ok(programs) => Ok(Opened {
+        let programs = match engine.programs(alloc) {
+            Ok(programs) => programs,
+            Err(fault) => return Err((fault, engine)),
+        };
+        match monitor::Opened::new(alloc) {
+            Ok(monitor) => Ok(Opened {
                 engine,
                 calls: Blank::new(MAX_CALLERS),
                 programs,
+                monitor,
             }),
             Err(fault) => Err((fault, engine)),
         }
@@ -68,18 +60,22 @@ impl Opened {
         requires setup { self.engine.setup ≡ B.setup }
         requires begun { self.engine.history ≡ B.begun }
         requires name { (self.calls.name ≡ B.name) × (self.calls.parts ≡ B.parts) }
+        requires table { self.monitor ≡ B.table }
     {
         let Opened {
             engine,
             calls,
             programs,
+            monitor,
         } = self;
         // The proof knows that its history is a run once it tells its sums.
         let _totals = engine.totals();
         let (book, rest) = calls.open::<B>();
+        let (monitor, keeper) = monitor.named::<B>();
         Shared {
-            lock: Mutex::new(Locked::new(engine, book, rest)),
+            lock: Mutex::new(Locked::new(engine, book, rest, keeper)),
             programs,
+            monitor,
         }
     }
 }

@@ -52,13 +52,14 @@ fn run_on<B: Object + Send + Sync, R: Threads + Wait + Sync>(
     requires setup { opened.engine.setup ≡ B.setup }
     requires begun { opened.engine.history ≡ B.begun }
     requires name { (opened.calls.name ≡ B.name) × (opened.calls.parts ≡ B.parts) }
+    requires table { opened.monitor ≡ B.table }
     ensures { IfOk result (λ trace. IsTraceOf B.setup trace.records.items trace.totals) }
 {
     let mut host = open(rt, alloc, opened.named::<B>(), workers)?;
     match host.carry_out_all(rt, steps) {
-        Ok(()) => close(host),
+        Ok(()) => close(rt, host),
         Err(fault) => {
-            let _ = close(host);
+            let _ = close(rt, host);
             Err(fault)
         }
     }
@@ -164,7 +165,7 @@ fn seated<B: Object, R: Wait>(
 }
 
 // Ends the host: the whole history of its engine.
-fn close<B: Object>(host: Host<B>) -> Result<Trace, RunFault>
+fn close<B: Object, R: Wait>(rt: &R, host: Host<B>) -> Result<Trace, RunFault>
     ensures { IfOk result (λ trace. IsTraceOf B.setup trace.records.items trace.totals) }
 {
     let Host {
@@ -188,7 +189,7 @@ fn close<B: Object>(host: Host<B>) -> Result<Trace, RunFault>
     }
     seats.destroy_empty();
     inbox.forfeit();
-    match shared.close(callers) {
+    match shared.close(rt, callers) {
         Ok(engine) => Ok(engine.shut()),
         Err(unclosed) => {
             unclosed.forfeit();

@@ -1,7 +1,7 @@
 // What a worker does with one completion: it is answered, and the run that it starts is driven to its end. It relies on
 // `engine_lock` for calls, and on `engine_core` for what a run executes by itself, outside the lock.
 
-ghost use Rattle.std.specs.Prelude.{◌≡◌, ℕ, ◌+◌, ◌≤◌, true, IfErr, IfSome, OnOk};
+ghost use Rattle.std.specs.Prelude.{◌≡◌, ℕ, ◌+◌, ◌≤◌, true, length, IfErr, IfSome, OnOk};
 ghost use Rattle.engine_core.specs.Replies.{IsRunBack};
 ghost use Rattle.engine_core.specs.declared.reply.Back.TheVariants as its;
 ghost use Rattle.engine_core.specs.declared.reply.Given.TheVariants.{Started};
@@ -113,8 +113,8 @@ pub fn drive<B: Object, G: Gate, R: Wait>(
     caller: &mut Caller<B>,
     run: Run,
 ) -> Result<(), Run>
-    ensures calls { caller.old ≤ caller.new }
-    ensures recorded { OnOk result (caller.old + 1 ≤ caller.new) }
+    ensures calls { length caller.old.mine ≤ length caller.new.mine }
+    ensures recorded { OnOk result (length caller.old.mine + 1 ≤ length caller.new.mine) }
     ensures ended { OnOk result (IsEnded B.setup run.number) }
     ensures same { IfErr result (λ kept. kept.number ≡ run.number) }
 {

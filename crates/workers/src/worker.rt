@@ -31,11 +31,12 @@ pub(crate) struct Worker<B: Object> {
 }
 
 impl<B: Object> Model for Worker<B> {
+    ghost use Rattle.std.specs.Prelude.{length};
     ghost use Rattle.workers.specs.Serving.{WorkerState};
 
     ghost Value = { WorkerState };
 
-    ghost view = { λ w. record { calls = w.caller; pass = w.pass; kept = w.kept; started = w.started; ended = w.ended } };
+    ghost view = { λ w. record { calls = length w.caller.mine; pass = w.pass; kept = w.kept; started = w.started; ended = w.ended } };
 }
 
 impl<B: Object> Worker<B> {

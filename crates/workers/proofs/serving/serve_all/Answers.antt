@@ -9,5 +9,5 @@ for_each_mut-requires-clause-accepts g c κs within i p lt e = subst (IsReady c.
 pub returns : goal.returns
 returns g c place none lt =
     let at = (c.for_each_mut.ensures place none lt).1 in
-    subst (λ (w : WorkerState). HasServed g.B.Object.setup w (slice_index_or c.for_each_mut.new.s place none)) at.argument_is
-    (subst (λ (w : WorkerState). HasServed g.B.Object.setup at.argument.now w) at.left at.call)
+    subst (λ (w : WorkerState). HasServed g.B.Origin.setup w (slice_index_or c.for_each_mut.new.s place none)) at.argument_is
+    (subst (λ (w : WorkerState). HasServed g.B.Origin.setup at.argument.now w) at.left at.call)

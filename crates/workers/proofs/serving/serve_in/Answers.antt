@@ -13,22 +13,22 @@ pub give_back-requires-clause-started : goal.give_back-requires-clause-started
 give_back-requires-clause-started g c =
     let same : length c.serve_all.new.workers ≡ length c.take_seats.new.workers.items = omega (arith, c.serve_all.auto.workers, ap length c.deref_mut.ensures.value) in
     let long : length c.serve_all.new.workers ≡ length c.args.seats.items = omega (arith, same, ap length c.take_seats.ensures.workers, length-map c.args.seats.items at_rest) in
-    let each : (i : ℕ) (d : WorkerState) → i < length c.args.seats.items → HasServed g.B.Object.setup (slice_index_or (map at_rest c.args.seats.items) i d) (slice_index_or c.serve_all.new.workers i d) =
-    subst (λ (ws : List WorkerState). (i : ℕ) (d : WorkerState) → i < length c.args.seats.items → HasServed g.B.Object.setup (slice_index_or ws i d) (slice_index_or c.serve_all.new.workers i d)) (c.deref_mut.ensures.value ∙ c.take_seats.ensures.workers)
+    let each : (i : ℕ) (d : WorkerState) → i < length c.args.seats.items → HasServed g.B.Origin.setup (slice_index_or (map at_rest c.args.seats.items) i d) (slice_index_or c.serve_all.new.workers i d) =
+    subst (λ (ws : List WorkerState). (i : ℕ) (d : WorkerState) → i < length c.args.seats.items → HasServed g.B.Origin.setup (slice_index_or ws i d) (slice_index_or c.serve_all.new.workers i d)) (c.deref_mut.ensures.value ∙ c.take_seats.ensures.workers)
     (λ i d lt. c.serve_all.ensures i d (omega (arith, lt, long, same, ap length c.deref_mut.ensures.value))) in
     subst (λ (ws : List WorkerState). All IsFew ws) (sym (whole c.take_seats.new.workers.len c.serve_all.new.workers c.take_seats.new.workers.items same (omega (arith, same, c.deref_mut.ensures.len, ap length c.deref_mut.ensures.value))))
-    (few_each g.B.Object.setup c.args.seats.items c.serve_all.new.workers long each)
+    (few_each g.B.Origin.setup c.args.seats.items c.serve_all.new.workers long each)
 
 pub returns : goal.returns
 returns g c =
     let same : length c.serve_all.new.workers ≡ length c.take_seats.new.workers.items = omega (arith, c.serve_all.auto.workers, ap length c.deref_mut.ensures.value) in
     let long : length c.serve_all.new.workers ≡ length c.args.seats.items = omega (arith, same, ap length c.take_seats.ensures.workers, length-map c.args.seats.items at_rest) in
-    let each : (i : ℕ) (d : WorkerState) → i < length c.args.seats.items → HasServed g.B.Object.setup (slice_index_or (map at_rest c.args.seats.items) i d) (slice_index_or c.serve_all.new.workers i d) =
-    subst (λ (ws : List WorkerState). (i : ℕ) (d : WorkerState) → i < length c.args.seats.items → HasServed g.B.Object.setup (slice_index_or ws i d) (slice_index_or c.serve_all.new.workers i d)) (c.deref_mut.ensures.value ∙ c.take_seats.ensures.workers)
+    let each : (i : ℕ) (d : WorkerState) → i < length c.args.seats.items → HasServed g.B.Origin.setup (slice_index_or (map at_rest c.args.seats.items) i d) (slice_index_or c.serve_all.new.workers i d) =
+    subst (λ (ws : List WorkerState). (i : ℕ) (d : WorkerState) → i < length c.args.seats.items → HasServed g.B.Origin.setup (slice_index_or ws i d) (slice_index_or c.serve_all.new.workers i d)) (c.deref_mut.ensures.value ∙ c.take_seats.ensures.workers)
     (λ i d lt. c.serve_all.ensures i d (omega (arith, lt, long, same, ap length c.deref_mut.ensures.value))) in
     record {
       workers = c.serve_all.new.workers;
-      serve = serve_each g.B.Object.setup c.args.seats.items c.serve_all.new.workers long each;
+      serve = serve_each g.B.Origin.setup c.args.seats.items c.serve_all.new.workers long each;
       served_is = c.give_back.ensures
           ∙ ap (λ (ws : List WorkerState). all_of ws nothing_served) (whole c.take_seats.new.workers.len c.serve_all.new.workers c.take_seats.new.workers.items same (omega (arith, same, c.deref_mut.ensures.len, ap length c.deref_mut.ensures.value)));
     }

@@ -1,4 +1,7 @@
-use Rattle.std.proofs.Common.{[], sym, ◌∙◌, arith, append-nil}
+use Rattle.std.proofs.Common.{[], ap, sym, ◌∙◌, arith, append-nil}
+use Rattle.monitor.specs.LegalHistory.{records}
+use Rattle.monitor.specs.Telling.{KeeperState}
+use Rattle.engine_lock.proofs.Histories.{records_unshared}
 use Rattle.engine_lock.proofs.locked.Locked.new.Goals as goal
 
 pub invariant_of-result : goal.invariant_of-result
@@ -7,10 +10,12 @@ invariant_of-result g c = (
     run = c.requires.run;
     setup_is = c.requires.setup;
     since = [];
-    history = c.requires.begun ∙ sym (append-nil g.B.Object.begun);
+    history = c.requires.begun ∙ sym (append-nil g.B.Origin.begun);
     count = sym c.requires.book;
   },
   omega (arith, c.requires.rest.0),
   c.requires.rest.1,
   c.requires.rest.2,
+  ap (λ (k : KeeperState). records k.history) c.requires.keeper ∙ (records_unshared g.B.Origin.begun ∙ sym c.requires.begun),
+  ap (λ (k : KeeperState). k.callers) c.requires.keeper,
 )

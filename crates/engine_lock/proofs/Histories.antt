@@ -1,0 +1,60 @@
+-- The shared history, one record longer.
+use Rattle.std.proofs.Common.{◌≡◌, ℕ, true, Option, List, [], ◌∷◌, ◌++◌, refl, ap, sym, subst, ◌∙◌}
+use Rattle.std.specs.Prelude.{MatchOption}
+use Rattle.calls.specs.declared.record.Record.{Record}
+use Rattle.monitor.specs.declared.knowledge.Pair.{Pair}
+use Rattle.monitor.specs.LegalHistory.{pair, records, unshared}
+use Rattle.monitor.specs.LegalHistory.{LegalHistory}
+use Rattle.monitor.specs.Telling.{CallerState, Joins, KeeperState, new_caller}
+use Rattle.world.specs.World.{Setup}
+use Rattle.world.specs.WorldRun.{WorldRun}
+use Rattle.world.specs.Flat.{flat}
+use Rattle.engine_core.specs.EngineState.{EngineState, Records}
+use Rattle.engine_core.specs.declared.event.Event.{Event}
+use Rattle.engine_core.specs.declared.reply.Reply.{Reply}
+use Rattle.engine_core.specs.Replies.{Fits, IsRecorded, is_recorded}
+use Rattle.engine_lock.specs.Publishing.{last_of}
+use Rattle.engine_lock.specs.Sharing.{IsNewCaller, IsSince, Tells, TellsUnrecorded}
+use Rattle.engine_lock.proofs.Since.{HasRecord, has_record}
+
+pub last_more : (before : List Record) (made : Record) → last_of (before ++ made ∷ []) ≡ made
+last_more [] made = refl
+last_more (only ∷ []) made = refl
+last_more (first ∷ second ∷ rest) made = last_more (second ∷ rest) made
+
+pub records_more : (history : List Pair) (caller : ℕ) (made : Record) → records (history ++ pair caller made ∷ []) ≡ records history ++ made ∷ []
+records_more [] caller made = refl
+records_more (p ∷ ps) caller made = ap (λ (rest : List Record). p.made ∷ rest) (records_more ps caller made)
+
+pub records_unshared : (before : List Record) → records (unshared before) ≡ before
+records_unshared [] = refl
+records_unshared (made ∷ rest) = ap (λ (more : List Record). made ∷ more) (records_unshared rest)
+
+-- the engine's last record is beyond what was known, and is the one that the reply makes
+module _ (known : List Record) (old new : EngineState) (event : Event) (reply : Reply) (fits : Fits event reply) (is : is_recorded reply ≡ true) (recorded : IsRecorded old event reply new) (same : known ≡ old.history) where
+  made : HasRecord event reply
+  made = has_record event reply fits is
+
+  longer : new.history ≡ known ++ made.told ∷ []
+  longer =
+      let more : Records old new made.told = subst (λ (o : Option Record). MatchOption o (new ≡ old) (λ told. Records old new told)) made.is recorded in
+      more.history ∙ ap (λ (before : List Record). before ++ made.told ∷ []) (sym same)
+
+  last_is : last_of new.history ≡ made.told
+  last_is = ap last_of longer ∙ last_more known made.told
+
+  pub last_beyond : new.history ≡ known ++ last_of new.history ∷ []
+  last_beyond = longer ∙ ap (λ (r : Record). known ++ r ∷ []) (sym last_is)
+
+  pub tells_made : (setup : Setup) (history : List Pair) (before after : CallerState) → Joins setup history before (last_of new.history) after → Tells setup event reply before after
+  tells_made setup history before after joins =
+      subst (λ (o : Option Record). MatchOption o (TellsUnrecorded setup event reply before after) (λ told. (h : List Pair) × Joins setup h before told after)) (sym made.is)
+      (history, subst (λ (r : Record). Joins setup history before r after) last_is joins)
+
+-- what is known of a shared engine is legal
+pub legal_since : (setup : Setup) (begun : List Record) (calls : ℕ) (engine : EngineState) (history : List Pair) → IsSince setup begun calls engine → records history ≡ engine.history → LegalHistory setup history
+legal_since setup begun calls engine history since same =
+    (engine.world, subst (λ (rs : List Record). WorldRun setup (flat rs) engine.world) (sym same) (subst (λ (s : Setup). WorldRun s (flat engine.history) engine.world) since.setup_is since.run.run))
+
+pub new_caller_is : (setup : Setup) (keeper : KeeperState) → LegalHistory setup keeper.history → IsNewCaller setup (new_caller keeper)
+new_caller_is setup keeper legal = record { mine = refl; told = refl; seen = legal }

@@ -130,7 +130,7 @@ fn close<B: Object, R: Abort + Wait>(
         put_in(rt, &mut callers, caller);
     }
     seats.destroy_empty();
-    match shared.close(callers) {
+    match shared.close(rt, callers) {
         Ok(engine) => engine,
         Err(_) => panic!(rt; "a caller is missing"),
     }
@@ -157,6 +157,7 @@ fn course_of<B: Object + Send + Sync, G: Gate + Sync, R: Abort + Threads + Wait 
     requires setup { opened.engine.setup ≡ B.setup }
     requires begun { opened.engine.history ≡ B.begun }
     requires name { (opened.calls.name ≡ B.name) × (opened.calls.parts ≡ B.parts) }
+    requires table { opened.monitor ≡ B.table }
     requires seats { (1 ≤ seats) × (seats ≤ MAX_WORKERS) }
 {
     let shared = opened.named::<B>();

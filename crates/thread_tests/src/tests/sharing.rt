@@ -70,8 +70,8 @@ fn submit_all<B: Object, R: Abort + Wait>(
 }
 
 // The engine, with all its callers.
-fn close<B: Object>(rt: &impl Abort, shared: Shared<B>, callers: Vec<Caller<B>>) -> Engine {
-    match shared.close(callers) {
+fn close<B: Object, R: Abort + Wait>(rt: &R, shared: Shared<B>, callers: Vec<Caller<B>>) -> Engine {
+    match shared.close(rt, callers) {
         Ok(engine) => engine,
         Err(_) => panic!(rt; "a caller is missing"),
     }
@@ -82,6 +82,7 @@ fn with_all_callers<B: Object, R: Abort + Wait>(rt: &R, alloc: Global, opened: O
     requires setup { opened.engine.setup ≡ B.setup }
     requires begun { opened.engine.history ≡ B.begun }
     requires name { (opened.calls.name ≡ B.name) × (opened.calls.parts ≡ B.parts) }
+    requires table { opened.monitor ≡ B.table }
 {
     let shared = opened.named::<B>();
     let callers = callers_of(rt, alloc, &shared, MOST);
@@ -111,6 +112,7 @@ fn with_a_caller_missing<B: Object, R: Abort + Wait>(
     requires setup { opened.engine.setup ≡ B.setup }
     requires begun { opened.engine.history ≡ B.begun }
     requires name { (opened.calls.name ≡ B.name) × (opened.calls.parts ≡ B.parts) }
+    requires table { opened.monitor ≡ B.table }
 {
     let shared = opened.named::<B>();
     let mut missing = match shared.caller(rt) {
@@ -125,7 +127,7 @@ fn with_a_caller_missing<B: Object, R: Abort + Wait>(
         fault,
         shared,
         mut callers,
-    } = match shared.close(callers) {
+    } = match shared.close(rt, callers) {
         Ok(_) => panic!(rt; "closed without a caller"),
         Err(unclosed) => unclosed,
     };

@@ -1,6 +1,6 @@
 // What is known where two paths meet. It relies on `register_kinds` for each register, and on `stack_domain` for the stack.
 
-ghost use Rattle.std.specs.Prelude.{◌≡◌, ◌↔◌, length, IfSome, IsSomeAnd, IsTrue};
+ghost use Rattle.std.specs.Prelude.{◌≡◌, ◌↔◌, length, IsTrue};
 ghost use Rattle.description.specs.Description.{Covers};
 ghost use Rattle.reg_domain.specs.Enough.{Agree, JoinsTo};
 ghost use Rattle.reg_domain.specs.AllRegisters.{EachJoins};
@@ -8,18 +8,19 @@ ghost use Rattle.reg_domain.specs.AllRegisters.{EachJoins};
 use description::Description;
 use register_kinds::Kind;
 
-/// What holds of a machine of which one or the other holds, as where two paths meet: None where they disagree on the
-/// freezes, on the CCB's disposal, or on how many frames are live.
-pub fn join(description: &Description, other: &Description) -> Option<Description>
-    ensures first { IfSome result (Covers description.now) }
-    ensures second { IfSome result (Covers other.now) }
-    ensures agree { Agree description.now other.now → IsSomeAnd result (JoinsTo description.now other.now) }
-    ensures depth { IfSome result (λ joined. length joined.stack ≡ length description.now.stack) }
+/// What is known becomes what holds of a machine of which one or the other holds, as where two paths meet. Where they disagree on
+/// the freezes, on the CCB's disposal, or on how many frames are live, the answer is false.
+pub fn join(description: &mut Description, other: &Description) -> bool
+    ensures first { IsTrue result → Covers description.old description.new }
+    ensures second { IsTrue result → Covers other.now description.new }
+    ensures agree { Agree description.old other.now → IsTrue result × JoinsTo description.old other.now description.new }
+    ensures depth { IsTrue result → length description.new.stack ≡ length description.old.stack }
 {
     if agrees(description, other) {
-        Some(joined(description, other))
+        join_agreed(description, other);
+        true
     } else {
-        None
+        false
     }
 }
 
@@ -33,16 +34,14 @@ fn agrees(description: &Description, other: &Description) -> bool
 }
 
 // What holds where one or the other does.
-fn joined(description: &Description, other: &Description) -> Description
-    requires { Agree description.now other.now }
-    ensures first { Covers description.now result }
-    ensures second { Covers other.now result }
-    ensures joins { JoinsTo description.now other.now result }
+fn join_agreed(description: &mut Description, other: &Description)
+    requires { Agree description.old other.now }
+    ensures first { Covers description.old description.new }
+    ensures second { Covers other.now description.new }
+    ensures joins { JoinsTo description.old other.now description.new }
 {
-    let mut joined = *description;
-    join_registers(&mut joined.registers, &other.registers);
-    joined.stack = description.stack.join(&other.stack);
-    joined
+    join_registers(&mut description.registers, &other.registers);
+    description.stack.join(&other.stack);
 }
 
 // What holds of each register where it holds on this path or on the other.

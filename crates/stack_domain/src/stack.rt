@@ -2,7 +2,7 @@
 // it. Clauses speak of the frames that a description covers. It relies on `stack_frame` for sets of bytes, and on
 // `padded_list` for how they are kept.
 
-ghost use Rattle.std.specs.Prelude.{◌≡◌, ◌<◌, ◌≤◌, ◌+◌, ◌-◌, ◌↔◌, ℕ, List, [], ◌∷◌, ◌++◌, Option, IsTrue, length};
+ghost use Rattle.std.specs.Prelude.{◌≡◌, ◌<◌, ◌≤◌, ◌+◌, ◌-◌, ◌↔◌, ◌&&◌, false, ℕ, List, [], ◌∷◌, ◌++◌, Option, IsTrue, length, slice_index_or};
 ghost use Rattle.stack_frame.specs.declared.byte_set.TheConstants.{MOST_BYTES};
 ghost use Rattle.stack_domain.specs.Stack.{Covers, Knows, AreWritten};
 ghost use Rattle.stack_domain.specs.Stores.{stored};
@@ -101,17 +101,26 @@ impl Stack {
     }
 
     /// What both know, as where two paths meet.
-    pub fn join(&self, other: &Self) -> Self
-        requires { length self.now ≡ length other.now }
-        ensures depth { length result ≡ length self.now }
-        ensures first { (frames : List (List (Option ℕ))) → Covers self.now frames → Covers result frames }
-        ensures second { (frames : List (List (Option ℕ))) → Covers other.now frames → Covers result frames }
-        ensures knows { (k offset : ℕ) → Knows self.now k offset → Knows other.now k offset → Knows result k offset }
+    pub fn join(&mut self, other: &Self)
+        requires { length self.old ≡ length other.now }
+        ensures depth { length self.new ≡ length self.old }
+        ensures first { (frames : List (List (Option ℕ))) → Covers self.old frames → Covers self.new frames }
+        ensures second { (frames : List (List (Option ℕ))) → Covers other.now frames → Covers self.new frames }
+        ensures knows { (k offset : ℕ) → Knows self.old k offset → Knows other.now k offset → Knows self.new k offset }
     {
-        let mut sets = self.sets;
-        for k in 0..self.sets.len() {
-            sets.set(k, self.sets.at(k).intersection(other.sets.at(k)));
-        }
-        Stack { sets }
+        intersect(&mut self.sets, &other.sets);
+    }
+}
+
+// Leaves of each set what is in the other list's set at its place too.
+fn intersect(sets: &mut PaddedList<ByteSet, MAX_FRAMES>, others: &PaddedList<ByteSet, MAX_FRAMES>)
+    requires { length sets.old ≡ length others.now }
+    ensures len { length sets.new ≡ length sets.old }
+    ensures whole { (j : ℕ) → j < length sets.old → length (slice_index_or sets.new j []) ≡ 512 }
+    ensures both { (j i : ℕ) → j < length sets.old → slice_index_or (slice_index_or sets.new j []) i false ≡ (slice_index_or (slice_index_or sets.old j []) i false && slice_index_or (slice_index_or others.now j []) i false) }
+{
+    for k in 0..sets.len() {
+        let both = sets.at(k).intersection(others.at(k));
+        sets.set(k, both);
     }
 }

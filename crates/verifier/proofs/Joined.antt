@@ -1,6 +1,6 @@
 -- What a join, and what an instruction leads on, does to a table.
-use Rattle.std.proofs.Common.{◌≡◌, ℕ, zero, suc, ◌+◌, ◌-◌, ◌<◌, ◌≤◌, ◌++◌, ◌∷◌, [], arith, List, length, Option, Some, None, refl, ap, sym, ◌∙◌, inl, inr, get_or-set_other, get_or-set_same}
-use Rattle.std.specs.Prelude.{slice_set}
+use Rattle.std.proofs.Common.{◌≡◌, ℕ, zero, suc, ◌+◌, ◌-◌, ◌<◌, ◌≤◌, ◌++◌, ◌∷◌, [], arith, List, length, Option, Some, None, refl, ap, sym, subst, ◌∙◌, inl, inr, get_or-set_other, get_or-set_same}
+use Rattle.std.specs.Prelude.{slice_set, IfSome, IsSome}
 use Rattle.std.proofs.lemmas.Bool.{cases_eq, cases_lt}
 use Rattle.std.proofs.lemmas.List.{get_or_append_left, get_or-append_right, length-append}
 use Rattle.description.specs.declared.description.Description.{Description}
@@ -41,6 +41,19 @@ joined_in before to d merged lt is =
       ];
     }
 
+-- where nothing was known, what is new is all
+pub merged_first : (d : Description) → IsMerged None d d
+merged_first d = record {
+  covers = λ callers m holds. holds;
+  keeps = λ old was. absurd (let bad : None ≡ Some old = was in cc);
+  frames = λ frames is all. is;
+}
+
+-- the same of what stands there then
+pub joined_so : (before : Table) (to : ℕ) (d : Description) (was now : Option Description) → to < length before → was ≡ described before to → IsSome now → IfSome now (IsMerged was d) → HasJoined before to d (slice_set before to now)
+joined_so before to d was (Some merged) lt is some known = joined_in before to d merged lt (subst (λ (o : Option Description). IsMerged o d merged) is known)
+joined_so before to d was None lt is some known = absurd (let bad : IsSome {T = Description} None = some in cc)
+
 -- at first one entry alone is described
 one_none : (place : ℕ) → described (None ∷ []) place ≡ None
 one_none zero = refl
@@ -66,3 +79,8 @@ left_on saved d there merged before leaves deep is = record {
   leaves = λ outer m m' holds step. (merged, refl, is.covers outer m' (leaves outer m m' holds step));
   frames = λ frames deep_there all now now_is. ap (λ (x : Description). length x.stack) (sym (same_description merged now now_is)) ∙ is.frames frames (omega (arith, deep, deep_there)) all;
 }
+
+-- the same of what is known behind the call then
+pub left_so : (saved : SavedRegisters) (d there : Description) (before now : Option Description) → ((callers : List SavedRegisters) (m m' : MachineState) → Describes (callers ++ saved ∷ []) d m → does m Exit ≡ Some m' → Describes callers there m') → length there.stack + 1 ≡ length d.stack → IsSome now → IfSome now (IsMerged before there) → HasLeft saved d before now
+left_so saved d there before (Some merged) leaves deep some known = left_on saved d there merged before leaves deep known
+left_so saved d there before None leaves deep some known = absurd (let bad : IsSome {T = Description} None = some in cc)

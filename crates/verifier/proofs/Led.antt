@@ -1,6 +1,7 @@
 -- What it is for machines to be let on one way.
-use Rattle.std.proofs.Common.{◌≡◌, ℕ, ◌≤◌, Bool, true, false, List, length, Some, Result, Ok, Err, refl, sym, subst, ◌∙◌, arith, ◌⊎◌, inl, inr}
-use Rattle.std.specs.Prelude.{IfOk}
+use Rattle.std.proofs.Common.{◌≡◌, ℕ, ◌<◌, ◌≤◌, Bool, true, false, List, length, Option, Some, None, Result, Ok, Err, refl, ap, sym, subst, ◌∙◌, arith, ◌⊎◌, inl, inr, get_or-set_other, get_or-set_same}
+use Rattle.std.specs.Prelude.{IfOk, slice_set}
+use Rattle.std.proofs.lemmas.Bool.{cases_eq}
 use Rattle.bpf_insn.specs.declared.insn.Insn.{Insn}
 use Rattle.bpf_insn.specs.declared.program.Slot.{Slot}
 use Rattle.bpf_insn.specs.Program.{insn_at}
@@ -14,13 +15,18 @@ use Rattle.reg_domain.specs.Enough.{Leaves}
 use Rattle.reg_domain.specs.Ways.{HasWay}
 use Rattle.private_insns.specs.Follows.{Follows}
 use Rattle.verifier.specs.Arrives.{AllArrive, Arrives, NeverLacks, follows, goes_to}
-use Rattle.verifier.specs.Table.{Table, described, IsKnown, HasJoined, HasLed}
-use Rattle.verifier.proofs.Joined.{same_description}
+use Rattle.verifier.specs.Table.{Table, described, IsKnown, IsMerged, HasJoined, HasLed}
+use Rattle.verifier.proofs.Joined.{joined_in, merged_first, same_description}
 
 -- what holds where all goes well, from what holds there
 pub if_ok : {A E P Q : Type 0} (result : Result A E) → (P → Q) → IfOk result (λ _. P) → IfOk result (λ _. Q)
 if_ok (Ok x) f holds = f holds
 if_ok (Err e) f holds = holds
+
+-- and from two things that hold there
+pub if_both_ok : {A E P Q R : Type 0} (result : Result A E) → (P → Q → R) → IfOk result (λ _. P) → IfOk result (λ _. Q) → IfOk result (λ _. R)
+if_both_ok (Ok x) f first second = f first second
+if_both_ok (Err e) f first second = first
 
 -- a machine that is known at an entry is described as the entry is
 pub described_so : (callers : List SavedRegisters) (table : Table) (at : ℕ) (d : Description) (m : MachineState) → described table at ≡ Some d → IsKnown callers table at m → Describes callers d m
@@ -36,6 +42,12 @@ led_on limits callers before after at insn way to d there here never goes has de
   follows = λ m m' lt known way_is step. joined.here callers m' (goes m m' (described_so callers before at d m here known) way_is step).1;
 }
 
+-- or it was made there, where nothing was known
+pub led_first : (limits : HelperLimits) (callers : List SavedRegisters) (before : Table) (at : ℕ) (insn : Insn) (way : Way) (to : ℕ) (d there : Description) → described before at ≡ Some d → to < length before → described before to ≡ None → NeverStuck limits callers insn d → Follows callers insn way d true there → HasWay insn way → length there.stack ≡ length d.stack → HasLed limits callers before at insn way to (slice_set before to (Some there))
+led_first limits callers before at insn way to d there here lt none never goes has deep =
+    let merged : IsMerged (described before to) there there = subst (λ (o : Option Description). IsMerged o there there) (sym none) (merged_first there) in
+    led_on limits callers before (slice_set before to (Some there)) at insn way to d there here never goes has deep (joined_in before to there there lt merged)
+
 -- or nothing follows in the table
 pub led_nowhere : (limits : HelperLimits) (callers : List SavedRegisters) (table : Table) (at : ℕ) (insn : Insn) (way : Way) (to : ℕ) (d there : Description) (is_open : Bool) → described table at ≡ Some d → NeverStuck limits callers insn d → Follows callers insn way d is_open there → (is_open ≡ false) ⊎ (length table ≤ to) → HasLed limits callers table at insn way to table
 led_nowhere limits callers table at insn way to d there is_open here never goes shut = record {
@@ -48,6 +60,15 @@ led_nowhere limits callers table at insn way to d there is_open here never goes 
     | inr outside ↦ omega (arith, outside, lt)
   ]);
 }
+
+-- all arrives where that is made which arrives there
+pub all_with : (program : List Slot) (table : Table) (to : ℕ) (there : Description) → to < length table → AllArrive program table → Arrives program to there → AllArrive program (slice_set table to (Some there))
+all_with program table to there lt all arrives place d is = elim (cases_eq place to) [
+  | inl same ↦
+      let here : Some there ≡ Some d = sym (get_or-set_same table to (Some there) None lt) ∙ (sym (ap (described (slice_set table to (Some there))) same) ∙ is) in
+      subst (λ (k : ℕ). Arrives program k d) (sym same) (subst (Arrives program to) (same_description there d here) arrives)
+  | inr other ↦ all place d (sym (get_or-set_other table to place (Some there) None other) ∙ is)
+]
 
 -- what is left behind an instruction arrives where that leads
 pub arrives_on : (program : List Slot) (table : Table) (place : ℕ) (insn : Insn) (way : Way) (to : ℕ) (d there : Description) → NeverLacks program → AllArrive program table → insn_at program place ≡ Some insn → goes_to place insn way ≡ Some to → described table place ≡ Some d → Leaves insn way d there → Arrives program to there

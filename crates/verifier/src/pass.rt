@@ -86,6 +86,7 @@ fn visit_function(
     let len = end_of(program, start) - start;
     let mut table = first_table(alloc, len, entry)?;
     let mut left = None;
+    let mut back = None;
     for at in 0..len {
         visit(
             alloc,
@@ -96,6 +97,7 @@ fn visit_function(
             behind_call,
             &mut table,
             &mut left,
+            &mut back,
             callers,
             visits,
         )?;
@@ -103,7 +105,8 @@ fn visit_function(
     Ok(left)
 }
 
-// Visits one place: where something leads to it, its instruction is checked, and leads on.
+// Visits one place: where something leads to it, its instruction is checked, and leads on. What comes back from a function is kept in
+// a place of the caller's, so that a visit has no description of its own.
 #[cycle(functions)]
 fn visit(
     alloc: Global,
@@ -114,6 +117,7 @@ fn visit(
     behind_call: usize,
     table: &mut [Option<Description>],
     left: &mut Option<Description>,
+    back: &mut Option<Description>,
     callers: &mut Vec<SavedRegisters>,
     visits: &mut u32,
 ) -> Result<(), VerifyError>
@@ -136,32 +140,34 @@ fn visit(
     let Some(insn) = program.fetch(place) else {
         return Ok(());
     };
-    let Some(description) = table[at] else {
+    let Some(description) = &table[at] else {
         return Ok(());
     };
     let check = Check::make(place, insn, visits);
     if let Some(target) = callee_of(place, insn) {
-        let back = call(
+        call(
             alloc,
             limits,
             program,
             place,
             target,
-            &description,
+            description,
+            back,
             callers,
             visits,
         )?;
-        return come_back(table, at + 1, &back, place + 1);
+        return come_back(table, at + 1, back, place + 1);
     }
     if let Some(saved) = returning(insn, callers) {
-        return leave(&description, &saved, left, behind_call);
+        return leave(description, &saved, left, behind_call);
     }
     check_ways(limits, program, callers, table, start, at, check)
 }
 
-// Visits the function that the instruction at a place calls where that is known. What is known behind the call is the
-// answer, if any machine comes back.
+// Visits the function that the instruction at a place calls where that is known, and puts what is known behind the call into
+// `back`, if any machine comes back. It is apart, since it has descriptions of its own.
 #[cycle(functions)]
+#[inline(never)]
 fn call(
     alloc: Global,
     limits: &HelperLimits,
@@ -169,16 +175,17 @@ fn call(
     place: usize,
     callee: usize,
     description: &Description,
+    back: &mut Option<Description>,
     callers: &mut Vec<SavedRegisters>,
     visits: &mut u32,
-) -> Result<Option<Description>, VerifyError>
+) -> Result<(), VerifyError>
     requires lawful { IsLawfulProgram program.now }
     requires own { IsOwn program.now callers.old.items (function_of program.now place) place description.now }
     requires calls { callee_at program.now place ≡ Some callee }
     requires few { visits.old + written_out (deep_under callers.old.items) program.now callee ≤ MAX_WRITTEN_OUT }
     ensures unstuck { (limits : HelperLimits) (distance : ℤ) → NeverStuck limits callers.old.items (Call (Local distance)) description.now }
-    ensures sound { IfOk result (λ left. IsCallVisited limits.now program.now callers.old.items description.now place callee left visits.old visits.new) }
-    ensures frames { IfOk result (λ left. (d : Description) → left ≡ Some d → length d.stack ≡ length callers.old.items + 1) }
+    ensures sound { IfOk result (λ _. IsCallVisited limits.now program.now callers.old.items description.now place callee back.new visits.old visits.new) }
+    ensures frames { IfOk result (λ _. (d : Description) → back.new ≡ Some d → length d.stack ≡ length callers.old.items + 1) }
     ensures callers { OnOk result (callers.new.items ≡ callers.old.items) }
     ensures visits { OnOk result (visits.new ≤ visits.old + written_out (deep_under callers.old.items) program.now callee) }
     ensures counted { OnOk result (visits.old < visits.new) }
@@ -199,7 +206,8 @@ fn call(
         visits,
     )?;
     callers.pop();
-    Ok(left)
+    *back = left;
+    Ok(())
 }
 
 // Checks the instruction at a place by which control stays in its function, and lets it lead on both ways.

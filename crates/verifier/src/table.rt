@@ -1,7 +1,7 @@
 // A table of what is known at each slot of a function, and what a check of an instruction does to it. It relies on
 // `description` for what is known, on `reg_domain` for what an instruction makes of it, and on `local_calls` for a return.
 
-ghost use Rattle.std.specs.Prelude.{◌≡◌, ◌<◌, ◌≤◌, ◌+◌, ◌++◌, ◌∷◌, [], List, ℕ, length, Some, IfOk, IfErr, IsOkAnd};
+ghost use Rattle.std.specs.Prelude.{◌≡◌, ◌<◌, ◌≤◌, ◌+◌, ◌++◌, ◌∷◌, [], List, ℕ, length, Some, None, IfOk, IfErr, IfSome, IsOkAnd, IsSome, IsTrue};
 ghost use Rattle.bpf_insn.specs.declared.insn.Insn.TheVariants.{Exit};
 ghost use Rattle.bpf_insn.specs.declared.program.Slot.{Slot};
 ghost use Rattle.bpf_insn.specs.Program.{insn_at};
@@ -12,7 +12,7 @@ ghost use Rattle.description.specs.declared.saved.SavedRegisters.{SavedRegisters
 ghost use Rattle.description.specs.Description.{NeverStuck};
 ghost use Rattle.reg_domain.specs.Ways.{Stays};
 ghost use Rattle.verifier.specs.Arrives.{AllArrive, Arrives, FailsUnless, NeverLacks, goes_to};
-ghost use Rattle.verifier.specs.Table.{HasComeBack, HasJoined, HasLed, HasLeft, IsFirstTable, IsMerged};
+ghost use Rattle.verifier.specs.Table.{HasComeBack, HasJoined, HasLed, HasLeft, IsFirstTable, IsMerged, described};
 
 use crate::refusal::{Refusal, VerifyError};
 use bpf_insn::Insn;
@@ -90,6 +90,40 @@ pub fn lead(
     ensures passes { (program : List Slot) → NeverLacks program → AllArrive program table.old → length table.old ≤ length program → insn_at program at ≡ Some check.insn → goes_to at check.insn way ≡ Some to → IsOkAnd result (λ _. AllArrive program table.new) }
     ensures fails { IfErr result (FailsUnless ⊥) }
 {
+    if table[at].is_some() && is_blank(table, to) {
+        lead_first(limits, callers, table, at, check, way, to)
+    } else {
+        lead_more(limits, callers, table, at, check, way, to)
+    }
+}
+
+// Whether there is such an entry and nothing has led to it.
+fn is_blank(table: &[Option<Description>], to: usize) -> bool
+    ensures { IsTrue result → (to < length table.now) × (described table.now to ≡ None) }
+{
+    match table.get(to) {
+        Some(known) => known.is_none(),
+        None => false,
+    }
+}
+
+// The same where something has led to the other entry, or there is none.
+fn lead_more(
+    limits: &HelperLimits,
+    callers: &[SavedRegisters],
+    table: &mut [Option<Description>],
+    at: usize,
+    check: Check,
+    way: Way,
+    to: usize,
+) -> Result<(), VerifyError>
+    requires at { at < length table.old }
+    requires stays { Stays callers.now check.insn }
+    ensures whole { length table.new ≡ length table.old }
+    ensures led { IfOk result (λ _. HasLed limits.now callers.now table.old at check.insn way to table.new) }
+    ensures passes { (program : List Slot) → NeverLacks program → AllArrive program table.old → length table.old ≤ length program → insn_at program at ≡ Some check.insn → goes_to at check.insn way ≡ Some to → IsOkAnd result (λ _. AllArrive program table.new) }
+    ensures fails { IfErr result (FailsUnless ⊥) }
+{
     let Some(description) = &table[at] else {
         return Ok(());
     };
@@ -101,6 +135,40 @@ pub fn lead(
             } else {
                 Ok(())
             }
+        }
+        Err(cause) => Err(OrMemory::Fault(Refusal::Check(cause, check.place))),
+    }
+}
+
+// The same where nothing has led to the other entry yet: what is known there is made in its place.
+fn lead_first(
+    limits: &HelperLimits,
+    callers: &[SavedRegisters],
+    table: &mut [Option<Description>],
+    at: usize,
+    check: Check,
+    way: Way,
+    to: usize,
+) -> Result<(), VerifyError>
+    requires at { at < length table.old }
+    requires here { IsSome (described table.old at) }
+    requires to { to < length table.old }
+    requires none { described table.old to ≡ None }
+    requires stays { Stays callers.now check.insn }
+    ensures whole { length table.new ≡ length table.old }
+    ensures led { IfOk result (λ _. HasLed limits.now callers.now table.old at check.insn way to table.new) }
+    ensures passes { (program : List Slot) → NeverLacks program → AllArrive program table.old → length table.old ≤ length program → insn_at program at ≡ Some check.insn → goes_to at check.insn way ≡ Some to → IsOkAnd result (λ _. AllArrive program table.new) }
+    ensures fails { IfErr result (FailsUnless ⊥) }
+{
+    table[to] = table[at];
+    let Some(there) = &mut table[to] else {
+        return Ok(());
+    };
+    match follow(there, limits, callers, check.insn, check.number, way) {
+        Ok(true) => Ok(()),
+        Ok(false) => {
+            table[to] = None;
+            Ok(())
         }
         Err(cause) => Err(OrMemory::Fault(Refusal::Check(cause, check.place))),
     }
@@ -119,27 +187,32 @@ pub fn join_into(
     ensures passes { (program : List Slot) → NeverLacks program → AllArrive program table.old → to < length program → Arrives program to new.now → IsOkAnd result (λ _. AllArrive program table.new) }
     ensures fails { IfErr result (FailsUnless ⊥) }
 {
-    let merged = merged(&table[to], new, place)?;
-    table[to] = Some(merged);
-    Ok(())
+    merge(&mut table[to], new, place)
 }
 
-// What is known at a place to which something more leads.
-fn merged(
-    before: &Option<Description>,
+// Something more is known at a place, to which it leads.
+fn merge(
+    known: &mut Option<Description>,
     new: &Description,
     place: usize,
-) -> Result<Description, VerifyError>
-    ensures merged { IfOk result (λ after. IsMerged before.now new.now after) }
-    ensures passes { (program : List Slot) (to : ℕ) → NeverLacks program → to < length program → Arrives program to new.now → ((old : Description) → before.now ≡ Some old → Arrives program to old) → IsOkAnd result (Arrives program to) }
+) -> Result<(), VerifyError>
+    ensures merged { IfOk result (λ _. IfSome known.new (IsMerged known.old new.now)) }
+    ensures some { IfOk result (λ _. IsSome known.new) }
+    ensures passes { (program : List Slot) (to : ℕ) → NeverLacks program → to < length program → Arrives program to new.now → ((old : Description) → known.old ≡ Some old → Arrives program to old) → IsOkAnd result (λ _. IfSome known.new (Arrives program to)) }
     ensures fails { IfErr result (FailsUnless ⊥) }
 {
-    match before {
-        None => Ok(*new),
-        Some(old) => match join(old, new) {
-            Some(both) => Ok(both),
-            None => Err(OrMemory::Fault(Refusal::Check(Cause::PathsDisagree, place))),
-        },
+    match known {
+        None => {
+            *known = Some(*new);
+            Ok(())
+        }
+        Some(old) => {
+            if join(old, new) {
+                Ok(())
+            } else {
+                Err(OrMemory::Fault(Refusal::Check(Cause::PathsDisagree, place)))
+            }
+        }
     }
 }
 
@@ -175,7 +248,5 @@ pub fn leave(
 {
     let mut there = *description;
     local_calls::leave(&mut there, saved);
-    let merged = merged(left, &there, place)?;
-    *left = Some(merged);
-    Ok(())
+    merge(left, &there, place)
 }

@@ -118,11 +118,11 @@ visit-call-requires t c =
       ),
     )
 
-pub visit-returns-in_err-back-clause-fails : goal.visit-returns-in_err-back-clause-fails
-visit-returns-in_err-back-clause-fails t c =
+pub visit-returns-in_err-call-clause-fails : goal.visit-returns-in_err-call-clause-fails
+visit-returns-in_err-call-clause-fails t c =
     let there : described c.args.table.now c.args.at ≡ Some c.in-Some-table.description = get_or_default c.args.table.now c.args.at None _ c.requires.at ∙ c.in-Some-table.is in
     let p = err_from_is_err_and c.from_residual.result c.from_residual.ensures.1 in
-    rw (p.1, p.2) (fails_so ⊥ (IsNeverLacking c.args.program.now c.args.callers.now.items c.args.start × AllArrive c.args.program.now c.args.table.now) c.in_err-back.field-0.0 c.in_err-back.ensures.fails
+    rw (p.1, p.2) (fails_so ⊥ (IsNeverLacking c.args.program.now c.args.callers.now.items c.args.start × AllArrive c.args.program.now c.args.table.now) c.in_err-call.field-0.0 c.in_err-call.ensures.fails
     (λ never. never_calls c.args.program.now c.args.callers.now.items c.args.start c.args.table.now c.args.at c.in-Some.insn c.in-Some-callee_of.target c.in-Some-table.description never.0 never.1
     (sym c.in-Some.ensures.value) (sym c.in-Some-callee_of.ensures) there))
 
@@ -145,11 +145,11 @@ visit-returns-in-Some-callee_of-clause-done t c =
     let there : described c.args.table.now c.args.at ≡ Some c.in-Some-table.description = get_or_default c.args.table.now c.args.at None _ c.requires.at ∙ c.in-Some-table.is in
     if_ok c.come_back.result
     (λ come first are.
-    let inside = c.in_ok-back.ensures.sound in
+    let inside = c.in_ok-call.ensures.sound in
     visited_more limits program callers c.args.start c.args.table.now c.args.left.now c.args.at c.in-Some.insn c.come_back.new.table c.args.left.now first c.args.visits.now c.call.new.visits are
     (outermost place ∷ inside.checks) here
-    (visited_call limits program callers c.args.start c.args.table.now c.args.left.now c.args.at c.in-Some.insn c.in-Some-callee_of.target c.in-Some-table.description c.in_ok-back.back c.come_back.new.table are.checks inside.checks
-    c.requires.lawful here leads there are.done c.call.ensures.unstuck inside.sound c.in_ok-back.ensures.frames c.come_back.ensures.whole come)
+    (visited_call limits program callers c.args.start c.args.table.now c.args.left.now c.args.at c.in-Some.insn c.in-Some-callee_of.target c.in-Some-table.description c.call.new.back c.come_back.new.table are.checks inside.checks
+    c.requires.lawful here leads there are.done c.call.ensures.unstuck inside.sound c.in_ok-call.ensures.frames c.come_back.ensures.whole come)
     (omega (arith, inside.made, c.make-check.ensures.counted))
     (call_once place inside.checks inside.once inside.inside)
     (Contains-append_left (outermost place ∷ []) inside.checks (outermost place) (alone (outermost place)))
@@ -164,7 +164,7 @@ visit-returns-in-Some-callee_of-clause-visits t c =
     let there : described c.args.table.now c.args.at ≡ Some c.in-Some-table.description = get_or_default c.args.table.now c.args.at None _ c.requires.at ∙ c.in-Some-table.is in
     let own = c.requires.before.1.done.own c.args.at c.in-Some-table.description there in
     let checks = checks_call (deep_under callers) program c.args.start place c.in-Some.insn c.in-Some-callee_of.target own.within (sym c.in-Some.ensures.value) (sym c.in-Some-callee_of.ensures) in
-    on_ok c.come_back.result (omega (arith, checks, c.in_ok-back.ensures.visits))
+    on_ok c.come_back.result (omega (arith, checks, c.in_ok-call.ensures.visits))
 
 pub visit-returns-in-Some-callee_of-clause-arrives : goal.visit-returns-in-Some-callee_of-clause-arrives
 visit-returns-in-Some-callee_of-clause-arrives t c =

@@ -4,8 +4,8 @@ use Rattle.reg_domain.specs.Enough.{Leaves}
 use Rattle.private_insns.specs.Follows.{Follows}
 use Rattle.verifier.specs.Table.{described}
 use Rattle.verifier.proofs.Led.{if_ok, led_on, led_nowhere, arrives_on}
-use Rattle.verifier.proofs.table.lead.Goals.{else-is_open-via-then-is_open+else-to-table, else-is_open-via-else-is_open}
-use Rattle.verifier.proofs.table.lead.Goals as goal
+use Rattle.verifier.proofs.table.lead_more.Goals.{else-is_open-via-then-is_open+else-to-table, else-is_open-via-else-is_open}
+use Rattle.verifier.proofs.table.lead_more.Goals as goal
 
 pub returns-then-to-table-clause-led : goal.returns-then-to-table-clause-led
 returns-then-to-table-clause-led c =

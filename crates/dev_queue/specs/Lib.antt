@@ -1,4 +1,5 @@
 pub mod Waiting
+pub mod Heap
 pub mod Invariant
 pub mod State
 pub mod Faults

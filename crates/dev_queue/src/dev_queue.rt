@@ -1,5 +1,5 @@
-// One device queue: its waiting CCBs, two counts and its openings. It relies on `waiting_list` for
-// the list, on `frozen` for the count of freezes, and on `queue_fault`.
+// One device queue: its waiting CCBs, two counts and its openings. It relies on `waiting_heap` for
+// the heap, on `frozen` for the count of freezes, and on `queue_fault`.
 
 ghost use Rattle.std.specs.Prelude.{◌≡◌, ◌<◌, ◌≤◌, false, length, IfOk, OnOk, OnErr};
 ghost use Rattle.std.specs.Result.{result_err};
@@ -10,7 +10,7 @@ ghost use Rattle.dev_queue.specs.Faults.{insert_fault, start_fault};
 use crate::frozen::Frozen;
 use crate::queue_fault::QueueFault;
 use crate::waiting_ccb::WaitingCcb;
-use crate::waiting_list::WaitingList;
+use crate::waiting_heap::WaitingHeap;
 use ccb::CcbId;
 use std::alloc::{AllocError, Global};
 use std::marker::Model;
@@ -18,27 +18,31 @@ use std::marker::Model;
 /// How many CCBs of one queue can be live at a time, so that each of them finds room to wait.
 pub const MAX_LIVE: u32 = 256;
 
+/// How many times at most a call compares two waiting CCBs: on eight levels twice each.
+pub const MAX_STEPS: u32 = 16;
+
 /// The live CCBs of one device queue: which wait, how many are active, and how many in recovery, at most
 /// 256 in all. Openings, from 1 to 255, are how many may be active for another one to start. Contracts
 /// see the waiting ones in the order of their numbers.
 #[derive(Drop)]
 pub struct DevQueue {
-    waiting: WaitingList,
+    waiting: WaitingHeap,
     active: u32,
     recovering: u32,
     openings: u8,
+    steps: u32,
 }
 
 impl Model for DevQueue {
     ghost use Rattle.std.specs.Prelude.{◌+◌, ◌≤◌, length};
-    ghost use Rattle.dev_queue.specs.declared.dev_queue.TheConstants.{MAX_LIVE};
+    ghost use Rattle.dev_queue.specs.declared.dev_queue.TheConstants.{MAX_LIVE, MAX_STEPS};
     ghost use Rattle.dev_queue.specs.State.{QueueState};
 
     ghost Value = { QueueState };
 
     ghost view = { λ q. record { waiting = q.waiting; active = q.active; recovering = q.recovering; openings = q.openings } };
 
-    ghost invariant = { λ q. (length q.waiting + q.active + q.recovering ≤ MAX_LIVE) × (1 ≤ q.openings) };
+    ghost invariant = { λ q. (length q.waiting + q.active + q.recovering ≤ MAX_LIVE) × (1 ≤ q.openings) × (q.steps ≤ MAX_STEPS) };
 }
 
 impl DevQueue {
@@ -49,10 +53,11 @@ impl DevQueue {
         ensures { IfOk result (λ queue. queue ≡ empty_queue openings) }
     {
         Ok(DevQueue {
-            waiting: WaitingList::with_room(alloc)?,
+            waiting: WaitingHeap::with_room(alloc)?,
             active: 0,
             recovering: 0,
             openings,
+            steps: 0,
         })
     }
 
@@ -68,7 +73,8 @@ impl DevQueue {
         if waiting + active + recovering >= MAX_LIVE {
             return Err(QueueFault::Full);
         }
-        self.waiting.add(WaitingCcb { priority, number });
+        self.waiting
+            .add(WaitingCcb { priority, number }, &mut self.steps);
         Ok(())
     }
 
@@ -88,7 +94,7 @@ impl DevQueue {
         if self.active >= u32::from(self.openings) {
             return Err(QueueFault::NoOpening);
         }
-        let Some(pair) = self.waiting.take_least() else {
+        let Some(pair) = self.waiting.take_least(&mut self.steps) else {
             return Err(QueueFault::NothingWaits);
         };
         self.active += 1;
@@ -114,7 +120,8 @@ impl DevQueue {
         ensures { self.new ≡ with_waiting number priority (with_left self.old) }
     {
         self.leave();
-        self.waiting.add(WaitingCcb { priority, number });
+        self.waiting
+            .add(WaitingCcb { priority, number }, &mut self.steps);
     }
 
     /// A CCB in recovery is out, and leaves room for another one. It asks for one in recovery.
@@ -139,6 +146,14 @@ impl DevQueue {
         ensures { result ≡ waits number self.now.waiting }
     {
         self.waiting.waits(number)
+    }
+
+    /// How many times the last `insert`, `start` or `put_back` that was not refused compared two waiting CCBs, 0 before
+    /// any: at most 16.
+    pub fn steps(&self) -> u32
+        ensures { result ≤ MAX_STEPS }
+    {
+        self.steps
     }
 
     /// How many CCBs may be active for another one to start, from 1 to 255.

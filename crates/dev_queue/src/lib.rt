@@ -7,10 +7,11 @@ mod dev_queue;
 mod frozen;
 pub mod laws;
 mod queue_fault;
+mod starts_before;
 mod waiting_ccb;
-mod waiting_list;
+mod waiting_heap;
 
-pub use dev_queue::{DevQueue, MAX_LIVE};
+pub use dev_queue::{DevQueue, MAX_LIVE, MAX_STEPS};
 pub use frozen::Frozen;
 pub use queue_fault::QueueFault;
 pub use waiting_ccb::WaitingCcb;

@@ -15,6 +15,11 @@ pub lowered : (low lower : ℕ) (fs : List Freeze) (high : ℕ) → lower ≤ lo
 lowered low lower [] high le h = omega arith
 lowered low lower (f ∷ fs) high le h = (omega arith, h.1)
 
+-- and below a higher one
+pub raised : (low : ℕ) (fs : List Freeze) (high higher : ℕ) → high ≤ higher → AreNumbered low fs high → AreNumbered low fs higher
+raised low [] high higher le h = omega (arith, h, le)
+raised low (f ∷ fs) high higher le h = (h.0, raised f.number fs high higher le h.1)
+
 -- one more at the end, whose number is the next
 pub numbered_push : (low : ℕ) (fs : List Freeze) (high : ℕ) (f : Freeze) → AreNumbered low fs high → f.number ≡ high + 1 → AreNumbered low (fs ++ f ∷ []) (high + 1)
 numbered_push low [] high f h e = (omega arith, omega arith)

@@ -1,4 +1,9 @@
 pub mod Places
 pub mod Freezes
 pub mod State
+pub mod Entries
 pub mod Invariant
+pub mod Index
+pub mod Deadlines
+pub mod Links
+pub mod Chained

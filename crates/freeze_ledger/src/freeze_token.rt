@@ -7,9 +7,11 @@ use crate::place::Place;
 use std::marker::Model;
 
 /// Stands for one freeze that was taken. It is neither copied nor dropped: it is given back to a
-/// ledger, handed over to a timer, or forfeited. Contracts see it as its freeze.
+/// ledger, handed over to a timer, or forfeited. Contracts see it as its freeze. It keeps the key under which
+/// its entry was entered, which says where to look first and no more: keys are used again.
 pub struct FreezeToken {
     freeze: Freeze,
+    key: usize,
 }
 
 impl Model for FreezeToken {
@@ -22,10 +24,10 @@ impl Model for FreezeToken {
 
 impl FreezeToken {
     /// Only the ledger makes one, for a freeze that it has just entered.
-    pub(crate) fn new(freeze: Freeze) -> Self
+    pub(crate) fn new(freeze: Freeze, key: usize) -> Self
         ensures { result ≡ freeze }
     {
-        FreezeToken { freeze }
+        FreezeToken { freeze, key }
     }
 
     /// The number of the freeze, from 1.
@@ -51,12 +53,17 @@ impl FreezeToken {
 
     /// Spends the token and leaves its entry where it is: the place stays frozen.
     pub fn forfeit(self) {
-        let FreezeToken { freeze: _ } = self;
+        let FreezeToken { freeze: _, key: _ } = self;
     }
 
     pub(crate) fn freeze(&self) -> Freeze
         ensures { result ≡ self.now }
     {
         self.freeze
+    }
+
+    /// The key under which its entry was entered.
+    pub(crate) fn key(&self) -> usize {
+        self.key
     }
 }

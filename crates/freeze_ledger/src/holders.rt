@@ -1,15 +1,21 @@
-// The holders of one place's freezes, one after another. It relies on `freeze`.
+// The holders of one place's freezes, one after another along its chain. It relies on `chains` for the links.
 
+ghost use Rattle.std.specs.Prelude.{◌≡◌};
+ghost use Rattle.freeze_ledger.specs.Links.{link_at};
+
+use crate::chains::Link;
 use crate::freeze::{Freeze, Holder};
-use crate::place::Place;
+use slab::Slab;
 use std::marker::Model;
 
 /// The number and the holder of each freeze of one place, by rising number, seen as the list of those
 /// that are left.
 #[derive(Drop)]
 pub struct Holders<'a> {
-    pub(crate) place: Place,
-    pub(crate) freezes: &'a [Freeze],
+    pub(crate) slots: &'a Slab<Freeze>,
+    pub(crate) links: &'a [Link],
+    pub(crate) at: Option<usize>,
+    pub(crate) left: u32,
 }
 
 impl<'a> Model for Holders<'a> {
@@ -18,9 +24,9 @@ impl<'a> Model for Holders<'a> {
 
     ghost Value = { List (ℕ × Holder) };
 
-    ghost use Rattle.freeze_ledger.specs.Freezes.{holders_of};
+    ghost use Rattle.freeze_ledger.specs.Links.{walk};
 
-    ghost view = { λ h. holders_of h.place h.freezes.now };
+    ghost view = { λ h. walk h.left h.slots.now.slots h.links.now h.at };
 }
 
 impl<'a> Iterator for Holders<'a> {
@@ -33,12 +39,27 @@ impl<'a> Iterator for Holders<'a> {
     ghost remaining = { item_count (λ rest. rest) };
 
     fn next(&mut self) -> Option<(u32, Holder)> {
-        while let Some((first, others)) = self.freezes.split_first() {
-            self.freezes = others;
-            if first.place.is_same(self.place) {
-                return Some((first.number, first.holder));
+        if self.left == 0 {
+            return None;
+        }
+        let key = self.at?;
+        match self.slots.get(key) {
+            None => None,
+            Some(freeze) => {
+                self.left -= 1;
+                self.at = later(self.links, key);
+                Some((freeze.number, freeze.holder))
             }
         }
-        None
+    }
+}
+
+// The key behind this one.
+fn later(links: &[Link], key: usize) -> Option<usize>
+    ensures { result ≡ (link_at links.now key).later }
+{
+    match links.get(key) {
+        Some(link) => link.later,
+        None => None,
     }
 }

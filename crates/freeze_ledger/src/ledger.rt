@@ -1,15 +1,20 @@
-// The ledger as a plain list of entries in the order of their numbers, beside a stored count a place.
-// It relies on `freeze` for what an entry is and on `freeze_token` for the right to give one back.
+// The ledger: entries under keys, beside an index of the deadlines of those that timers hold. It relies on `entries` and
+// `deadlines` for these, on `indexed` for the changes of both, and on `freeze_token` for the right to give one back.
 
-ghost use Rattle.std.specs.Prelude.{◌≡◌, ◌≢◌, ◌+◌, ◌<◌, ◌≤◌, ◌^◌, ◌++◌, ◌∷◌, ◌↔◌, [], length, map, IsTrue, IsSome, IsOk, Some, IsNone, IfSome, IfNone, IfOk, IfErr, OnOk, All, Contains, slice_index_or};
+ghost use Rattle.std.specs.Prelude.{◌≡◌, ◌<◌, ◌≤◌, ◌↔◌, [], false, length, map, IsTrue, IsSome, IsOk, Some, IsNone, IfSome, IfNone, IfOk, IfErr, OnOk, Contains};
 ghost use Rattle.ccb.specs.Rising.{AreRising};
+ghost use Rattle.freeze_ledger.specs.Deadlines.{IsFirstDeadline, some_timer};
 ghost use Rattle.freeze_ledger.specs.Freezes.{frozen, meets_limit, entry_of, without, handed_over, HasTimer, holders_of};
 ghost use Rattle.freeze_ledger.specs.Places.{index_of};
 ghost use Rattle.freeze_ledger.specs.State.{LedgerState, empty_ledger, next_freeze, with_entry, with_freezes};
 
-use crate::freeze::{Freeze, Holder};
+use crate::chains::Chains;
+use crate::deadlines::Deadlines;
+use crate::entries::Entries;
+use crate::freeze::Holder;
 use crate::freeze_token::FreezeToken;
 use crate::holders::Holders;
+use crate::indexed::{enter, hand_over, take_out};
 use crate::place::Place;
 use std::alloc::{AllocError, Global};
 use std::marker::Model;
@@ -27,40 +32,22 @@ pub const MAX_FREEZE_NUMBER: u32 = 4_294_967_295;
 /// number given so far, and the freezes in the order of their numbers.
 #[derive(Drop)]
 pub struct Ledger {
-    freezes: Vec<Freeze>,
-    counts: Vec<u8>,
-    greatest: u32,
+    entries: Entries,
+    chains: Chains,
+    deadlines: Deadlines,
 }
 
 impl Model for Ledger {
-    ghost use Rattle.std.specs.Prelude.{length};
     ghost use Rattle.freeze_ledger.specs.State.{LedgerState};
+    ghost use Rattle.freeze_ledger.specs.Chained.{IsChained};
+    ghost use Rattle.freeze_ledger.specs.Deadlines.{IsIndex};
+    ghost use Rattle.freeze_ledger.specs.Entries.{all_of, ledger_of};
 
     ghost Value = { LedgerState };
 
-    ghost use Rattle.freeze_ledger.specs.Invariant.{IsKept};
+    ghost view = { λ l. ledger_of l.entries };
 
-    ghost view = { λ l. record { queues = length l.counts.items; greatest = l.greatest; freezes = l.freezes.items } };
-
-    ghost invariant = { λ l. IsKept l.freezes l.counts.items l.greatest };
-}
-
-// Where this very freeze stands.
-fn place_of(freezes: &[Freeze], freeze: Freeze) -> Option<usize>
-    ensures within { IfSome result (λ place. place < length freezes.now) }
-    ensures found { IfSome result (λ place. slice_index_or freezes.now place freeze ≡ freeze) }
-    ensures held { IsSome result ↔ Contains freezes.now freeze }
-{
-    freezes.iter().position(|held| held.is_same(&freeze))
-}
-
-// Where the freeze of this number stands.
-fn place_of_number(freezes: &[Freeze], number: u32) -> Option<usize>
-    ensures within { IfSome result (λ place. place < length freezes.now) }
-    ensures found { IfSome result (λ place. (other : Freeze) → (slice_index_or freezes.now place other).number ≡ number) }
-    ensures none { IfNone result (All (λ freeze. freeze.number ≢ number) freezes.now) }
-{
-    freezes.iter().position(|held| held.number == number)
+    ghost invariant = { λ l. IsIndex l.entries.slots (all_of l.entries) l.deadlines × IsChained l.entries l.chains.links.items l.chains.ends.items };
 }
 
 impl Ledger {
@@ -69,12 +56,13 @@ impl Ledger {
     pub fn with_room(alloc: Global, queues: u32) -> Result<Self, AllocError>
         ensures { IfOk result (λ ledger. ledger ≡ empty_ledger queues) }
     {
-        let freezes = Vec::with_capacity(alloc, MAX_FREEZES)?;
-        let counts = vec![in alloc; 0u8; queues as usize]?;
+        let entries = Entries::with_room(alloc, queues)?;
+        let chains = Chains::with_room(alloc, queues, entries.keys())?;
+        let deadlines = Deadlines::with_room(alloc)?;
         Ok(Ledger {
-            freezes,
-            counts,
-            greatest: 0,
+            entries,
+            chains,
+            deadlines,
         })
     }
 
@@ -88,23 +76,17 @@ impl Ledger {
         ensures entered { IfSome result (λ token. self.new ≡ with_entry self.old token) }
         ensures none { IfNone result (self.new ≡ self.old) }
     {
-        let at = place.index();
-        let count = self.counts[at];
-        if count == MAX_PLACE_FREEZES
-            || self.freezes.len() == MAX_FREEZES
-            || self.greatest == MAX_FREEZE_NUMBER
-        {
+        if self.entries.meets_limit(place) {
             return None;
         }
-        let freeze = Freeze {
-            number: self.greatest + 1,
+        let (key, freeze) = enter(
+            &mut self.entries,
+            &mut self.chains,
+            &mut self.deadlines,
             place,
             holder,
-        };
-        self.freezes.push_reserved(freeze);
-        self.counts[at] = count + 1;
-        self.greatest = freeze.number;
-        Some(FreezeToken::new(freeze))
+        );
+        Some(FreezeToken::new(freeze, key))
     }
 
     /// Removes the token's entry, and answers how many freezes its place has left, at most 254. The
@@ -117,11 +99,17 @@ impl Ledger {
         ensures refused { IfErr result (λ back. (back ≡ token) × (self.new ≡ self.old)) }
     {
         let freeze = token.freeze();
-        let Some(entry) = place_of(&self.freezes, freeze) else {
+        let Some(key) = self.entries.key_of(freeze, token.key()) else {
             return Err(token);
         };
         token.forfeit();
-        self.remove_at(entry);
+        take_out(
+            &mut self.entries,
+            &mut self.chains,
+            &mut self.deadlines,
+            key,
+            freeze,
+        );
         Ok(self.count(freeze.place))
     }
 
@@ -135,12 +123,11 @@ impl Ledger {
         ensures refused { IfErr result (λ back. (back ≡ token) × (self.new ≡ self.old)) }
     {
         let freeze = token.freeze();
-        let Some(entry) = place_of(&self.freezes, freeze) else {
+        let Some(key) = self.entries.key_of(freeze, token.key()) else {
             return Err(token);
         };
         token.forfeit();
-        let holder = Holder::Timer(due);
-        self.freezes[entry] = Freeze { holder, ..freeze };
+        hand_over(&mut self.entries, &mut self.deadlines, key, freeze, due);
         Ok(())
     }
 
@@ -150,28 +137,39 @@ impl Ledger {
         requires { HasTimer number self.old.freezes }
         ensures { self.new ≡ with_freezes self.old (without number self.old.freezes) }
     {
-        let Some(entry) = place_of_number(&self.freezes, number) else {
+        let Some(deadline) = self.deadlines.of(number) else {
             unreachable!()
         };
-        self.remove_at(entry);
+        let key = deadline.key;
+        let freeze = self.entries.at(key);
+        take_out(
+            &mut self.entries,
+            &mut self.chains,
+            &mut self.deadlines,
+            key,
+            freeze,
+        );
     }
 
-    // Removes the entry that stands there: its place has one freeze fewer.
-    fn remove_at(&mut self, entry: usize)
-        requires { entry < length self.old.freezes }
-        ensures { (other : Freeze) → self.new ≡ with_freezes self.old (without (slice_index_or self.old.freezes entry other).number self.old.freezes) }
+    /// When the timer is due that goes first, in milliseconds, and the number of the freeze that it holds: of all timers the
+    /// one of the least time, and among these that of the lowest number. `None` exactly where no timer holds a freeze. It reads
+    /// one entry of the index.
+    pub fn first_deadline(&self) -> Option<(u64, u32)>
+        ensures first { IfSome result (λ first. IsFirstDeadline self.now.freezes first.0 first.1) }
+        ensures none { IsNone result ↔ (some_timer self.now.freezes ≡ false) }
     {
-        let freeze = self.freezes.remove(entry);
-        let at = freeze.place.index();
-        let count = self.counts[at] - 1;
-        self.counts[at] = count;
+        self.entries.are_listed();
+        match self.deadlines.first() {
+            Some(first) => Some((first.due, first.number)),
+            None => None,
+        }
     }
 
     /// Whether an entry has the token's number, place and holder.
     pub fn holds(&self, token: &FreezeToken) -> bool
         ensures { IsTrue result ↔ Contains self.now.freezes token.now }
     {
-        self.freezes.contains(&token.freeze())
+        self.entries.key_of(token.freeze(), token.key()).is_some()
     }
 
     /// How many freezes the place has, at most 255. It is a stored number.
@@ -180,7 +178,7 @@ impl Ledger {
         ensures entries { result ≡ frozen place self.now.freezes }
         ensures bound { result ≤ MAX_PLACE_FREEZES }
     {
-        u32::from(self.counts[place.index()])
+        self.entries.count(place)
     }
 
     /// How many freezes there are in all, at most 1024.
@@ -188,30 +186,28 @@ impl Ledger {
         ensures entries { result ≡ length self.now.freezes }
         ensures bound { result ≤ MAX_FREEZES }
     {
-        self.freezes.len()
+        self.entries.len()
     }
 
     /// Whether no place is frozen.
     pub fn is_empty(&self) -> bool
         ensures { IsTrue result ↔ (self.now.freezes ≡ []) }
     {
-        self.freezes.is_empty()
+        self.entries.len() == 0
     }
 
     /// How many queues the ledger was made for.
     pub fn queues(&self) -> u32
         ensures { result ≡ self.now.queues }
     {
-        self.counts.len() as u32
+        self.entries.places()
     }
 
-    /// All entries, at most 1024, by rising number.
-    pub fn entries(&self) -> &[Freeze]
-        ensures entries { result.now ≡ self.now.freezes }
-        ensures bound { length result.now ≤ MAX_FREEZES }
-        ensures rising { AreRising 0 (map (λ freeze. freeze.number) result.now) self.now.greatest }
+    /// That no two freezes bear one number: a fact for the contracts of callers, which does nothing and costs nothing.
+    pub fn numbers_rise(&self)
+        ensures { AreRising 0 (map (λ freeze. freeze.number) self.now.freezes) self.now.greatest }
     {
-        &self.freezes
+        self.entries.are_numbered();
     }
 
     /// The number and the holder of each freeze of the place, by rising number.
@@ -220,9 +216,12 @@ impl Ledger {
         ensures entries { result ≡ holders_of place self.now.freezes }
         ensures rising { AreRising 0 (map (λ holder. holder.0) result) self.now.greatest }
     {
+        self.entries.are_numbered();
         Holders {
-            place,
-            freezes: &self.freezes,
+            slots: self.entries.slots(),
+            links: self.chains.links(),
+            at: self.chains.first(place.index()),
+            left: self.entries.count(place),
         }
     }
 }

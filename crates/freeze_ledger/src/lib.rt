@@ -1,10 +1,15 @@
 // The ledger of freezes: each is an entry with a number, a place and a holder, and a place's frozen count is the number of
-// its entries. It relies on `ccb` for the name of a queue.
+// its entries. It relies on `ccb` for the name of a queue and on `slab` for the keys of entries.
 #![tactic(auto)]
 
+mod chains;
+mod deadline;
+mod deadlines;
+mod entries;
 mod freeze;
 mod freeze_token;
 mod holders;
+mod indexed;
 mod ledger;
 mod place;
 

@@ -5,7 +5,8 @@ use Rattle.freeze_ledger.specs.declared.freeze.Holder.TheVariants.{Run, Timer, G
 use Rattle.freeze_ledger.specs.declared.freeze.Freeze.{Freeze}
 use Rattle.freeze_ledger.specs.Places.{device}
 use Rattle.freeze_ledger.specs.Freezes.{without}
-use Rattle.timer_events.specs.Next.{some_due, all_behind, IsNext}
+use Rattle.freeze_ledger.specs.Deadlines.{all_behind}
+use Rattle.timer_events.specs.Next.{some_due, IsNext}
 
 abbrev freeze : ℕ → Holder → Freeze
 freeze number holder = record { number = number; place = device 4; holder = holder }

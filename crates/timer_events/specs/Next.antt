@@ -1,27 +1,16 @@
 -- Which timer is next at a clock reading: of the freezes that timers hold, the one that goes first, once it is due.
 -- Times and readings are in milliseconds.
-use Rattle.std.specs.Prelude.{◌≡◌, ℕ, ◌≤◌, Bool, true, ◌==◌, ◌||◌, ◌&&◌, nat_lt, nat_le, List, Some}
-use Rattle.std.specs.List.{list_all, list_any}
+use Rattle.std.specs.Prelude.{◌≡◌, ℕ, ◌≤◌, Bool, true, List, Some}
+use Rattle.std.specs.List.{list_any}
 use Rattle.freeze_ledger.specs.declared.place.Place.{Place}
-use Rattle.freeze_ledger.specs.declared.freeze.Holder.{Holder}
-use Rattle.freeze_ledger.specs.declared.freeze.Holder.TheVariants.{Run, Timer, Guest}
+use Rattle.freeze_ledger.specs.declared.freeze.Holder.TheVariants.{Timer}
 use Rattle.freeze_ledger.specs.declared.freeze.Freeze.{Freeze}
 use Rattle.freeze_ledger.specs.Freezes.{entry_of, is_due}
+use Rattle.freeze_ledger.specs.Deadlines.{all_behind}
 
 -- a timer holds one of these freezes, and is due
 abbrev pub some_due : ℕ → List Freeze → Bool
 some_due reading freezes = list_any (λ freeze. is_due reading freeze.holder) freezes
-
--- a freeze with this holder and number does not go before one that is due then under that number: no timer holds it, or
--- its timer is due later, or at the same time and its number is not lower
-abbrev pub goes_behind : (due number : ℕ) → Holder → ℕ → Bool
-goes_behind due number (Run run) other = true
-goes_behind due number (Timer later) other = nat_lt due later || (due == later && nat_le number other)
-goes_behind due number (Guest guest) other = true
-
--- none of these freezes goes before one that is due then under this number
-abbrev pub all_behind : (due number : ℕ) → List Freeze → Bool
-all_behind due number freezes = list_all (λ other. goes_behind due number other.holder other.number) freezes
 
 -- the freeze of this number is next: a timer holds it, is due, and no other freeze goes before it
 pub record IsNext (reading : ℕ) (freezes : List Freeze) (number : ℕ) : Type 0 where

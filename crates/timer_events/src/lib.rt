@@ -2,7 +2,6 @@
 // entries and who holds them.
 #![tactic(auto)]
 
-mod due_timer;
 pub mod laws;
 mod timers;
 

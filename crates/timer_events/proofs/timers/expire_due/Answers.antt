@@ -33,7 +33,7 @@ left_at_end reading before now left none = sym (none_due reading now.freezes non
 pub overflow_sub-result : goal.overflow_sub-result
 overflow_sub-result c =
     let left = left_at_end c.args.reading c.args.ledger.now c.loop-number.ledger c.loop-number.invariant (search rules) in
-    omega (arith, c.len.ensures.entries, ap (λ (fs : List Freeze). length fs) left, ap (λ (fs : List Freeze). length fs) c.entries-entries.ensures.entries, due_or_not c.args.reading c.args.ledger.now.freezes)
+    omega (arith, c.len.ensures.entries, ap (λ (fs : List Freeze). length fs) left, c.len-entries.ensures.entries, due_or_not c.args.reading c.args.ledger.now.freezes)
 
 pub returns-clause-others : goal.returns-clause-others
 returns-clause-others c =
@@ -43,4 +43,4 @@ returns-clause-others c =
 pub returns-clause-count : goal.returns-clause-count
 returns-clause-count c =
     let left = left_at_end c.args.reading c.args.ledger.now c.loop-number.ledger c.loop-number.invariant (search rules) in
-    omega (arith, c.len.ensures.entries, ap (λ (fs : List Freeze). length fs) left, ap (λ (fs : List Freeze). length fs) c.entries-entries.ensures.entries, due_or_not c.args.reading c.args.ledger.now.freezes)
+    omega (arith, c.len.ensures.entries, ap (λ (fs : List Freeze). length fs) left, c.len-entries.ensures.entries, due_or_not c.args.reading c.args.ledger.now.freezes)

@@ -12,3 +12,5 @@ pub mod Calls
 pub mod Going
 pub mod Performing
 pub mod Answering
+pub mod Guests
+pub mod Unrecording

@@ -14,11 +14,11 @@ use Rattle.engine_core.specs.EngineState.{world_of}
 use Rattle.engine_core.specs.Invariant.{HoldEntries, KeepsEngine}
 use Rattle.engine_core.specs.TakingOver.{LeadsTo}
 
-flat_push : (history : List Record) (r : Record) → flat (history ++ r ∷ []) ≡ flat history ++ events_of r
+pub flat_push : (history : List Record) (r : Record) → flat (history ++ r ∷ []) ≡ flat history ++ events_of r
 flat_push history r = flat_map-append events_of history (r ∷ []) ∙ ap (λ xs. flat history ++ xs) (append-nil (events_of r))
 
 -- a world to which the history leads, and which has what the fields say, is the fields read as a world
-world_is : (setup : Setup) (history : List Record) (transport : Transport) (runs : Runs) (world : World) → WorldRun setup (flat history) world → world ≡ record world { transport = transport; runs = runs } → world_of setup history transport runs ≡ world
+pub world_is : (setup : Setup) (history : List Record) (transport : Transport) (runs : Runs) (world : World) → WorldRun setup (flat history) world → world ≡ record world { transport = transport; runs = runs } → world_of setup history transport runs ≡ world
 world_is setup history transport runs world run fields =
     ap (λ (w : World). record w { transport = transport; runs = runs }) (world_after_leads setup (opening setup) (flat history) world run) ∙ sym fields
 

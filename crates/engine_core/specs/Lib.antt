@@ -16,3 +16,4 @@ pub mod Courses
 pub mod TakingOver
 pub mod Replies
 pub mod Performing
+pub mod Unrecorded

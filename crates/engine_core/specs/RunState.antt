@@ -58,3 +58,11 @@ pub record IsOutAs (runs : List LiveRun) (number : ℕ) (program : List Slot) (s
   pub found : run_of number runs ≡ Some it
   pub out : it.out ≡ true
   pub next : IsNext it program segment
+
+-- The run again, as it is recorded, and its program is that of its queue, under the setup's limits.
+pub record IsAgain (setup : Setup) (it : LiveRun) (run : RunState) : Type 0 where
+  pub number : run.number ≡ it.number
+  pub program : run.program.program ≡ it.program
+  pub machine : run.machine ≡ it.machine
+  pub budget : run.program.budget ≡ (queue_setup setup it.queue).budget
+  pub limits : run.program.limits ≡ setup.limits

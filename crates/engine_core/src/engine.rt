@@ -7,6 +7,7 @@ ghost use Rattle.engine_config.specs.Configured.{AreProgramsOf};
 ghost use Rattle.runs.specs.Admits.{IsOutWith};
 ghost use Rattle.runs.specs.RunsState.{no_runs};
 ghost use Rattle.world.specs.World.{opening};
+ghost use Rattle.world.specs.Lawful.{IsLawful};
 ghost use Rattle.world.specs.TotalsOf.{TotalsOf, totals_in};
 ghost use Rattle.engine_core.specs.EngineState.{opened, IsRun};
 ghost use Rattle.engine_core.specs.Performing.{IsRoomFor};
@@ -72,10 +73,11 @@ fn make_room(history: &mut ChunkedList<Record>, event: &Event<'_>) -> Result<(),
     }
 }
 
-// The queues and tables of the configuration, with no CCB, no freeze and no run.
-fn rooms(alloc: Global, config: &Config) -> Result<Parts, AllocError>
+/// The queues and tables of the configuration, with no CCB, no freeze and no run.
+pub(crate) fn rooms(alloc: Global, config: &Config) -> Result<Parts, AllocError>
     ensures transport { IfOk result (λ parts. parts.transport ≡ (opening config.now).transport) }
     ensures runs { IfOk result (λ parts. parts.runs ≡ no_runs config.now.limits.table_lengths) }
+    ensures lawful { IsLawful config.now }
 {
     let mut openings = Vec::with_capacity(alloc, config.queues() as usize)?;
     for queue in 0..config.queues() {

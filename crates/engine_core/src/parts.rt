@@ -101,4 +101,20 @@ impl Parts {
             Event::Resume { run } => resume(config, &mut self.runs, run),
         }
     }
+
+    /// Spends what a reply gives or hands back. The places of a run's machines are kept for runs to come.
+    pub(crate) fn spend(&mut self, reply: Reply)
+        ensures { self.new ≡ self.old }
+    {
+        match reply {
+            Reply::Given(given) => {
+                if let Some(run) = given.run() {
+                    let (machine, next) = run.spent();
+                    self.runs.keep_place(machine);
+                    self.runs.keep_place(next);
+                }
+            }
+            other => other.forfeit(),
+        }
+    }
 }

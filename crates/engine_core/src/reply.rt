@@ -112,6 +112,17 @@ impl Given {
         }
     }
 
+    /// The run that is out, if one is given. What else is given is spent.
+    pub(crate) fn run(self) -> Option<Run> {
+        match self {
+            Given::Started(run, _) | Given::Goes(run, _) | Given::Resumed(run) => Some(run),
+            other => {
+                other.forfeit();
+                None
+            }
+        }
+    }
+
     /// The CCB of a submission or a start.
     pub(crate) fn ccb(self) -> CcbId
         requires { IsCcb self }

@@ -1,16 +1,17 @@
 // The events of a run: an advance, a park and a resume. It relies on `runs` for what is recorded of a run, and on
 // `taking_over` for what its segment's stop does.
 
-ghost use Rattle.std.specs.Prelude.{◌≡◌, List, IfOk, IfErr};
+ghost use Rattle.std.specs.Prelude.{◌≡◌, ℕ, List, IfOk, IfErr};
 ghost use Rattle.world.specs.World.{Transport as TheTransport};
 ghost use Rattle.calls.specs.declared.record.Record.{Record as TheRecord};
 ghost use Rattle.runs.specs.Admits.{IsOutWith};
-ghost use Rattle.world.specs.World.{Setup};
+ghost use Rattle.world.specs.World.{Setup, LiveRun};
+ghost use Rattle.runs.specs.RunPlaces.{HasRunAt};
 ghost use Rattle.engine_core.specs.declared.event.Event.TheVariants.{Advance, Park, Resume};
 ghost use Rattle.engine_core.specs.declared.reply.Back.TheVariants as back;
 ghost use Rattle.engine_core.specs.Invariant.{KeepsEngine};
 ghost use Rattle.engine_core.specs.Performing.{IsPlaced, Performs};
-ghost use Rattle.engine_core.specs.RunState.{before_stop};
+ghost use Rattle.engine_core.specs.RunState.{before_stop, IsAgain};
 
 use crate::reply::{Back, Given, Reply};
 use crate::run::Run;
@@ -20,7 +21,7 @@ use crate::told::refused;
 use calls::{Call, CallAnswer, CallRefusal, Record};
 use engine_config::Config;
 use runs::Runs;
-use std::alloc::Global;
+use std::alloc::{AllocError, Global};
 use std::sync::Arc;
 use transport::Transport;
 
@@ -79,22 +80,34 @@ pub(crate) fn resume(config: &Config, runs: &mut Runs, run: u32) -> Result<(Repl
     let Some(place) = runs.parked(run) else {
         return Ok(refused(CallRefusal::Unknown, call));
     };
-    let queue = runs.queue(place);
-    let Ok(program) = Arc::try_clone(config.program(queue)) else {
+    let Ok(again) = run_at(config, runs, place) else {
         return Err(Back::Nothing);
     };
-    let Ok(mut machine) = runs.place_for_machine() else {
-        return Err(Back::Nothing);
-    };
-    let Ok(next) = runs.place_for_machine() else {
-        return Err(Back::Nothing);
-    };
-    machine.copy_from(runs.machine(place));
-    let again = Run::new(run, queue, program, machine, next);
     runs.set_out(place, true);
     let answer = CallAnswer::Ok;
     Ok((
         Reply::Given(Given::Resumed(again)),
         Record::Called { answer, call },
+    ))
+}
+
+/// The right to take the run at this place further, made anew, for one whose right was spent. Where memory is refused nothing
+/// changes.
+pub(crate) fn run_at(config: &Config, runs: &mut Runs, place: usize) -> Result<Run, AllocError>
+    requires of { (transport : TheTransport) × (history : List TheRecord) × KeepsEngine config.now history transport runs.old }
+    requires place { (run : ℕ) × IsPlaced runs.old.runs.list run place }
+    ensures again { (it : LiveRun) → HasRunAt runs.old.runs.list place it → IfOk result (IsAgain config.now it) }
+    ensures same { runs.new ≡ runs.old }
+{
+    let program = Arc::try_clone(config.program(runs.queue(place)))?;
+    let mut machine = runs.place_for_machine()?;
+    let next = runs.place_for_machine()?;
+    machine.copy_from(runs.machine(place));
+    Ok(Run::new(
+        runs.number(place),
+        runs.queue(place),
+        program,
+        machine,
+        next,
     ))
 }

@@ -4,6 +4,7 @@ ghost use Rattle.std.specs.Prelude.{◌≡◌};
 ghost use Rattle.calls.specs.declared.record.Record.TheVariants.{Called};
 ghost use Rattle.calls.specs.Answered.{ccb_answer, removed_answer};
 ghost use Rattle.engine_core.specs.Replies.{ccb_reply, removed_reply, refused_as};
+ghost use Rattle.engine_core.specs.Unrecorded.{IsCalled, answer_told};
 
 use crate::reply::{Given, Reply};
 use calls::{Call, CallAnswer, CallRefusal, Record};
@@ -46,5 +47,16 @@ pub(crate) fn removed_told(answer: Result<u32, CallRefusal>, call: Call) -> (Rep
             )
         }
         Err(refusal) => refused(refusal, call),
+    }
+}
+
+/// What a call was answered, of its record.
+pub(crate) fn answer_in(told: Record) -> CallAnswer
+    requires { IsCalled told }
+    ensures { result ≡ answer_told told }
+{
+    match told {
+        Record::Called { answer, call: _ } => answer,
+        Record::Advance { .. } => unreachable!(),
     }
 }

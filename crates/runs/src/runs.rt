@@ -268,6 +268,20 @@ impl Runs {
         }
     }
 
+    /// Where the run of that number stands, which is live and out; `None` exactly where there is no such run. The place is good
+    /// until a run starts or ends.
+    pub fn out_at(&self, run: u32) -> Option<usize>
+        ensures place { IfSome result (λ place. (it : LiveRun) × (run_of run self.now.runs.list ≡ Some it) × (it.out ≡ true) × HasRunAt self.now.runs.list place it) }
+        ensures none { IfNone result ((it : LiveRun) → run_of run self.now.runs.list ≡ Some it → it.out ≡ false) }
+    {
+        let place = place_of(&self.records, run)?;
+        if self.records[place].out {
+            Some(place)
+        } else {
+            None
+        }
+    }
+
     /// The run at this place is out from now on, or is parked.
     pub fn set_out(&mut self, place: usize, out: bool)
         requires { (it : LiveRun) × HasRunAt self.old.runs.list place it }

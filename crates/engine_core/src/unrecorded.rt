@@ -1,0 +1,203 @@
+// An engine that keeps no history: it is asked for the calls and the advances that a history tells, by the numbers of runs and
+// freezes, and has the runs and the tokens itself. It relies on `parts` for what an event does, and on `world` for what may
+// happen.
+
+ghost use Rattle.std.specs.Prelude.{◌≡◌, ◌∷◌, [], ◌++◌, Some, IfOk, OnErr, false};
+ghost use Rattle.calls.specs.declared.call.Call.{Call as TheCall};
+ghost use Rattle.calls.specs.declared.call.Call.TheVariants.{Complete, GuestFreeze, GuestRelease, Park};
+ghost use Rattle.calls.specs.declared.record.Record.TheVariants.{Called};
+ghost use Rattle.engine_core.specs.Replies.{call_of};
+ghost use Rattle.engine_core.specs.Unrecorded.{Advances, Answers, CannotFollow, Follows, IsPlain, opened_unrecorded, sums_behind};
+
+use crate::engine::rooms;
+use crate::event::Event;
+use crate::guest_tokens::{GuestToken, take_token};
+use crate::parts::Parts;
+use crate::run_events::{advance, run_at};
+use crate::told::answer_in;
+use calls::{Call, CallAnswer, CompletionRecord, Record, Totals};
+use ccb::Completion;
+use engine_config::Config;
+use freeze_ledger::Place;
+use std::alloc::{AllocError, Global};
+use std::marker::Model;
+
+/// Device queues with their CCBs, freezes and recovery runs, of which no history is kept. It is asked by plain calls, and has all
+/// runs and all guests' tokens itself. Contracts see the setup, and what it has of a world.
+#[derive(Drop)]
+pub struct Unrecorded<'a> {
+    config: &'a Config,
+    parts: Parts,
+    // those of all guests' freezes, in the order of their numbers
+    tokens: Vec<GuestToken>,
+}
+
+impl<'a> Model for Unrecorded<'a> {
+    ghost use Rattle.engine_core.specs.Unrecorded.{UnrecordedState, KeepsUnrecorded};
+
+    ghost Value = { UnrecordedState };
+
+    ghost view = { λ u. record { setup = u.config.now; transport = u.parts.transport; runs = u.parts.runs.runs } };
+
+    ghost invariant = { λ u. KeepsUnrecorded u.config.now u.parts.transport u.parts.runs u.tokens.items };
+}
+
+impl<'a> Unrecorded<'a> {
+    /// An engine of unfrozen queues without CCBs. It takes room for all the CCBs, runs and freezes that there may be.
+    pub fn open(alloc: Global, config: &'a Config) -> Result<Self, AllocError>
+        ensures { IfOk result (λ engine. engine ≡ opened_unrecorded config.now) }
+    {
+        Ok(Unrecorded {
+            config,
+            parts: rooms(alloc, config)?,
+            tokens: Vec::new(alloc),
+        })
+    }
+
+    /// Carries a call out, or refuses it: its answer. `None`, which changes nothing, exactly where the call is no event here: a
+    /// completion that no device reports, a park of a run that is not out, or a release of a freeze that no guest holds. Where
+    /// memory is refused nothing changes.
+    pub fn call(&mut self, call: &Call) -> Result<Option<CallAnswer>, AllocError>
+        ensures answered { IfOk result (λ answer. Answers self.old call.now answer self.new) }
+        ensures setup { self.new.setup ≡ self.old.setup }
+        ensures refused { OnErr result (self.new ≡ self.old) }
+    {
+        match call {
+            Call::Submit {
+                queue,
+                priority,
+                retries,
+            } => self.ask(Event::Submit {
+                queue: *queue,
+                priority: *priority,
+                retries: *retries,
+            }),
+            Call::Dispatch { queue } => self.ask(Event::Dispatch { queue: *queue }),
+            Call::Complete { completion } => self.complete(completion),
+            Call::GuestFreeze { place, guest } => self.guest_freeze(*place, *guest),
+            Call::GuestRelease { freeze } => Ok(self.guest_release(*freeze)),
+            Call::Clock { reading } => self.ask(Event::Clock { reading: *reading }),
+            Call::Park { run } => Ok(self.park(*run)),
+            Call::Resume { run } => self.ask(Event::Resume { run: *run }),
+        }
+    }
+
+    // What a call is answered that is always an event, and of no guest.
+    fn ask(&mut self, event: Event<'_>) -> Result<Option<CallAnswer>, AllocError>
+        requires { IsPlain event }
+        ensures answered { IfOk result (λ answer. (call : TheCall) → call_of event.entry ≡ Some call → Answers self.old call answer self.new) }
+        ensures setup { self.new.setup ≡ self.old.setup }
+        ensures refused { OnErr result (self.new ≡ self.old) }
+    {
+        let alloc = *self.tokens.allocator();
+        match self.parts.perform(alloc, self.config, 0, event) {
+            Ok((reply, told)) => {
+                self.parts.spend(reply);
+                Ok(Some(answer_in(told)))
+            }
+            Err(back) => {
+                back.forfeit();
+                Err(AllocError)
+            }
+        }
+    }
+
+    fn complete(&mut self, completion: &CompletionRecord) -> Result<Option<CallAnswer>, AllocError>
+        ensures answered { IfOk result (λ answer. Answers self.old (Complete completion.now) answer self.new) }
+        ensures setup { self.new.setup ≡ self.old.setup }
+        ensures refused { OnErr result (self.new ≡ self.old) }
+    {
+        let sense = completion.sense();
+        match Completion::new(
+            completion.ccb(),
+            completion.status(),
+            completion.scsi(),
+            sense.as_slice(),
+        ) {
+            Some(completion) => self.ask(Event::Complete {
+                completion: &completion,
+            }),
+            None => Ok(None),
+        }
+    }
+
+    // A guest's freeze, of which the token is kept.
+    fn guest_freeze(&mut self, place: Place, guest: u32) -> Result<Option<CallAnswer>, AllocError>
+        ensures answered { IfOk result (λ answer. Answers self.old (GuestFreeze place guest) answer self.new) }
+        ensures setup { self.new.setup ≡ self.old.setup }
+        ensures refused { OnErr result (self.new ≡ self.old) }
+    {
+        self.tokens.reserve(1)?;
+        match self.parts.transport.guest_freeze(place, guest) {
+            Ok(token) => {
+                let number = token.number();
+                self.tokens.push_reserved(GuestToken::new(token));
+                Ok(Some(CallAnswer::Freeze(number)))
+            }
+            Err(refusal) => Ok(Some(CallAnswer::Refused(refusal))),
+        }
+    }
+
+    // A guest's release, if a guest holds the freeze of that number.
+    fn guest_release(&mut self, freeze: u32) -> Option<CallAnswer>
+        ensures answered { Answers self.old (GuestRelease freeze) result self.new }
+        ensures setup { self.new.setup ≡ self.old.setup }
+    {
+        let token = take_token(&mut self.tokens, freeze)?;
+        let count = self.parts.transport.guest_release(token);
+        Some(CallAnswer::Left(count))
+    }
+
+    // A park, if a run of that number is out.
+    fn park(&mut self, run: u32) -> Option<CallAnswer>
+        ensures answered { Answers self.old (Park run) result self.new }
+        ensures setup { self.new.setup ≡ self.old.setup }
+    {
+        let place = self.parts.runs.out_at(run)?;
+        self.parts.runs.set_out(place, false);
+        Some(CallAnswer::Ok)
+    }
+
+    /// Lets the run of that number go on to its next stop, a helper call or its exit, and takes over what it did: the record of
+    /// that advance. `None`, which changes nothing, exactly where no run of that number is out. It executes as many instructions
+    /// as are left of the run's budget at most. Where memory is refused nothing changes.
+    pub fn advance(&mut self, run: u32) -> Result<Option<Record>, AllocError>
+        ensures advanced { IfOk result (λ told. Advances self.old run told self.new) }
+        ensures setup { self.new.setup ≡ self.old.setup }
+        ensures refused { OnErr result (self.new ≡ self.old) }
+    {
+        let Some(place) = self.parts.runs.out_at(run) else {
+            return Ok(None);
+        };
+        let stopped = run_at(self.config, &mut self.parts.runs, place)?.to_stop();
+        let alloc = *self.tokens.allocator();
+        match advance(
+            alloc,
+            &mut self.parts.transport,
+            &mut self.parts.runs,
+            place,
+            stopped,
+        ) {
+            Ok((reply, told)) => {
+                self.parts.spend(reply);
+                Ok(Some(told))
+            }
+            Err(back) => {
+                back.forfeit();
+                Err(AllocError)
+            }
+        }
+    }
+
+    /// The sums, behind so many records.
+    pub fn totals(&self, records: u64) -> Totals
+        ensures { result ≡ sums_behind records self.now }
+    {
+        Totals {
+            history: records,
+            frozen: self.parts.transport.frozen(),
+            active: self.parts.transport.active(),
+            runs: self.parts.runs.len(),
+        }
+    }
+}

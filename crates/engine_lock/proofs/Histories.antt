@@ -3,7 +3,7 @@ use Rattle.std.proofs.Common.{◌≡◌, ℕ, true, Option, List, [], ◌∷◌,
 use Rattle.std.specs.Prelude.{MatchOption}
 use Rattle.calls.specs.declared.record.Record.{Record}
 use Rattle.monitor.specs.declared.knowledge.Pair.{Pair}
-use Rattle.monitor.specs.LegalHistory.{pair, records, unshared}
+use Rattle.monitor.specs.LegalHistory.{pair, records}
 use Rattle.monitor.specs.LegalHistory.{LegalHistory}
 use Rattle.monitor.specs.Telling.{CallerState, Joins, KeeperState, new_caller}
 use Rattle.world.specs.World.{Setup}
@@ -12,23 +12,15 @@ use Rattle.world.specs.Flat.{flat}
 use Rattle.engine_core.specs.EngineState.{EngineState, Records}
 use Rattle.engine_core.specs.declared.event.Event.{Event}
 use Rattle.engine_core.specs.declared.reply.Reply.{Reply}
-use Rattle.engine_core.specs.Replies.{Fits, IsRecorded, is_recorded}
+use Rattle.engine_core.specs.Replies.{Fits, Gives, IsRecorded, ToldFit, is_recorded}
 use Rattle.engine_lock.specs.Publishing.{last_of}
-use Rattle.engine_lock.specs.Sharing.{IsNewCaller, IsSince, Tells, TellsUnrecorded}
+use Rattle.engine_lock.specs.Sharing.{Answers, IsNewCaller, IsSince, Tells, TellsUnrecorded}
 use Rattle.engine_lock.proofs.Since.{HasRecord, has_record}
 
 pub last_more : (before : List Record) (made : Record) → last_of (before ++ made ∷ []) ≡ made
 last_more [] made = refl
 last_more (only ∷ []) made = refl
 last_more (first ∷ second ∷ rest) made = last_more (second ∷ rest) made
-
-pub records_more : (history : List Pair) (caller : ℕ) (made : Record) → records (history ++ pair caller made ∷ []) ≡ records history ++ made ∷ []
-records_more [] caller made = refl
-records_more (p ∷ ps) caller made = ap (λ (rest : List Record). p.made ∷ rest) (records_more ps caller made)
-
-pub records_unshared : (before : List Record) → records (unshared before) ≡ before
-records_unshared [] = refl
-records_unshared (made ∷ rest) = ap (λ (more : List Record). made ∷ more) (records_unshared rest)
 
 -- the engine's last record is beyond what was known, and is the one that the reply makes
 module _ (known : List Record) (old new : EngineState) (event : Event) (reply : Reply) (fits : Fits event reply) (is : is_recorded reply ≡ true) (recorded : IsRecorded old event reply new) (same : known ≡ old.history) where
@@ -58,3 +50,12 @@ legal_since setup begun calls engine history since same =
 
 pub new_caller_is : (setup : Setup) (keeper : KeeperState) → LegalHistory setup keeper.history → IsNewCaller setup (new_caller keeper)
 new_caller_is setup keeper legal = record { mine = refl; told = refl; seen = legal }
+
+-- what is said of the engine inside the lock is said of the one that contracts see
+module _ (inside seen : EngineState) (same : inside ≡ seen) where
+  pub answered_so : (event : Event) (reply : Reply) (after : EngineState) → IsRecorded inside event reply after → Fits event reply → ToldFit inside.world event reply → Gives inside.setup inside.world event after.world reply → Answers seen event reply after
+  answered_so event reply after recorded fits fit gives =
+      subst (λ (e : EngineState). Answers e event reply after) same (record { recorded = recorded; fits = fits; fit = fit; gives = gives })
+
+  pub stands_since : (setup : Setup) (begun : List Record) (calls : ℕ) → IsSince setup begun calls inside → (n : ℕ) × IsSince setup begun n seen
+  stands_since setup begun calls since = (calls, subst (λ (e : EngineState). IsSince setup begun calls e) same since)

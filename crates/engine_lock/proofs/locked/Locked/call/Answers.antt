@@ -1,10 +1,11 @@
 use Rattle.std.proofs.Common.{ℕ, ap, sym, subst, ◌∙◌}
 use Rattle.monitor.specs.LegalHistory.{records}
 use Rattle.monitor.specs.Telling.{CallerState, KeeperState}
+use Rattle.monitor.proofs.Histories.{records_push}
 use Rattle.world.specs.World.{Setup}
 use Rattle.engine_core.specs.Replies.{IsOfKnown}
-use Rattle.engine_lock.specs.Sharing.{Answers, IsSince, LockedState, Tells}
-use Rattle.engine_lock.proofs.Histories.{last_beyond, records_more, tells_made}
+use Rattle.engine_lock.specs.Sharing.{IsSince, LockedState, Tells}
+use Rattle.engine_lock.proofs.Histories.{answered_so, last_beyond, stands_since, tells_made}
 use Rattle.engine_lock.proofs.Since.{since_more}
 use Rattle.engine_lock.proofs.locked.Locked.call.Goals as goal
 
@@ -26,7 +27,7 @@ invariant_of-self g c =
       h.2,
       h.3,
       ap (λ (k : KeeperState). records k.history) c.publish_last.ensures.history
-          ∙ (records_more c.self.inside.keeper.history _ _
+          ∙ (records_push c.self.inside.keeper.history _
           ∙ sym (last_beyond (records c.self.inside.keeper.history) c.self.inside.engine c.answer_known-reply.new.self c.args.event c.answer_known-reply.result c.answer_known-reply.ensures.fits
           (sym c.is_recorded.ensures ∙ c.if-is_recorded.true) c.answer_known-reply.ensures.recorded h.4)),
       ap (λ (k : KeeperState). k.callers) c.publish_last.ensures.history ∙ h.5,
@@ -34,45 +35,27 @@ invariant_of-self g c =
 
 pub returns-then-is_recorded-clause-answers : goal.returns-then-is_recorded-clause-answers
 returns-then-is_recorded-clause-answers g c =
-    subst (λ (l : LockedState). Answers l.engine c.args.event c.answer_known-reply.result c.answer_known-reply.new.self) c.self.view_is
-    (record {
-      recorded = c.answer_known-reply.ensures.recorded;
-      fits = c.answer_known-reply.ensures.fits;
-      fit = c.answer_known-reply.ensures.fit;
-      gives = c.answer_known-reply.ensures.gives;
-    })
+    let it = c.answer_known-reply in
+    answered_so c.self.inside.engine c.args.self.now.engine (ap (λ (l : LockedState). l.engine) c.self.view_is) c.args.event it.result it.new.self it.ensures.recorded it.ensures.fits it.ensures.fit it.ensures.gives
 
 pub returns-then-is_recorded-clause-since : goal.returns-then-is_recorded-clause-since
-returns-then-is_recorded-clause-since g c =
-    (c.self.inside.book.total, subst (λ (l : LockedState). IsSince g.B.Origin.setup g.B.Origin.begun c.self.inside.book.total l.engine) c.self.view_is c.self.invariant.0)
+returns-then-is_recorded-clause-since g c = stands_since c.self.inside.engine c.args.self.now.engine (ap (λ (l : LockedState). l.engine) c.self.view_is) g.B.Origin.setup g.B.Origin.begun c.self.inside.book.total c.self.invariant.0
 
 pub returns-then-is_unfit-clause-answers : goal.returns-then-is_unfit-clause-answers
 returns-then-is_unfit-clause-answers g c =
-    subst (λ (l : LockedState). Answers l.engine c.args.event c.answer_known-reply.result c.answer_known-reply.new.self) c.self.view_is
-    (record {
-      recorded = c.answer_known-reply.ensures.recorded;
-      fits = c.answer_known-reply.ensures.fits;
-      fit = c.answer_known-reply.ensures.fit;
-      gives = c.answer_known-reply.ensures.gives;
-    })
+    let it = c.answer_known-reply in
+    answered_so c.self.inside.engine c.args.self.now.engine (ap (λ (l : LockedState). l.engine) c.self.view_is) c.args.event it.result it.new.self it.ensures.recorded it.ensures.fits it.ensures.fit it.ensures.gives
 
 pub returns-then-is_unfit-clause-since : goal.returns-then-is_unfit-clause-since
-returns-then-is_unfit-clause-since g c =
-    (c.self.inside.book.total, subst (λ (l : LockedState). IsSince g.B.Origin.setup g.B.Origin.begun c.self.inside.book.total l.engine) c.self.view_is c.self.invariant.0)
+returns-then-is_unfit-clause-since g c = stands_since c.self.inside.engine c.args.self.now.engine (ap (λ (l : LockedState). l.engine) c.self.view_is) g.B.Origin.setup g.B.Origin.begun c.self.inside.book.total c.self.invariant.0
 
 pub returns-else-is_unfit-clause-answers : goal.returns-else-is_unfit-clause-answers
 returns-else-is_unfit-clause-answers g c =
-    subst (λ (l : LockedState). Answers l.engine c.args.event c.answer_known-reply.result c.answer_known-reply.new.self) c.self.view_is
-    (record {
-      recorded = c.answer_known-reply.ensures.recorded;
-      fits = c.answer_known-reply.ensures.fits;
-      fit = c.answer_known-reply.ensures.fit;
-      gives = c.answer_known-reply.ensures.gives;
-    })
+    let it = c.answer_known-reply in
+    answered_so c.self.inside.engine c.args.self.now.engine (ap (λ (l : LockedState). l.engine) c.self.view_is) c.args.event it.result it.new.self it.ensures.recorded it.ensures.fits it.ensures.fit it.ensures.gives
 
 pub returns-else-is_unfit-clause-since : goal.returns-else-is_unfit-clause-since
-returns-else-is_unfit-clause-since g c =
-    (c.self.inside.book.total, subst (λ (l : LockedState). IsSince g.B.Origin.setup g.B.Origin.begun c.self.inside.book.total l.engine) c.self.view_is c.self.invariant.0)
+returns-else-is_unfit-clause-since g c = stands_since c.self.inside.engine c.args.self.now.engine (ap (λ (l : LockedState). l.engine) c.self.view_is) g.B.Origin.setup g.B.Origin.begun c.self.inside.book.total c.self.invariant.0
 
 pub returns-then-is_recorded-clause-tells : goal.returns-then-is_recorded-clause-tells
 returns-then-is_recorded-clause-tells g c =

@@ -1,7 +1,7 @@
 use Rattle.std.proofs.Common.{[], ap, sym, ◌∙◌, arith, append-nil}
 use Rattle.monitor.specs.LegalHistory.{records}
 use Rattle.monitor.specs.Telling.{KeeperState}
-use Rattle.engine_lock.proofs.Histories.{records_unshared}
+use Rattle.monitor.proofs.Histories.{records_unshared}
 use Rattle.engine_lock.proofs.locked.Locked.new.Goals as goal
 
 pub invariant_of-result : goal.invariant_of-result

@@ -8,17 +8,20 @@ ghost use Rattle.workers.specs.declared.serving.TheConstants.{MAX_WORKERS};
 ghost use Rattle.scenario_host.specs.declared.host.RunFault.TheVariants.{OutOfMemory};
 
 use crate::asking::Asked;
+use crate::watching::Watching;
 use ccb::Completion;
 use engine_core::Event;
 use engine_lock::{Caller, Object, Shared};
 use hands::{Hands, Told};
 use inbox::{Inbox, PutPass, TakePass};
+use monitor::Watch;
+use notices::Notices;
 use scenario::{Command, Step};
 use std::alloc::AllocError;
 use std::mem;
-use std::sync::Wait;
+use std::sync::{Mutex, Wait};
 use std::thread::Threads;
-use workers::{Open, Seat, serve};
+use workers::{Seat, serve};
 
 /// Why a run stopped.
 #[derive(Clone, Copy, Debug, PartialEq, Eq)]
@@ -39,8 +42,9 @@ impl From<AllocError> for RunFault {
     }
 }
 
-/// What a scenario is run with: the engine and the inbox, and what the host and its workers need for them.
-pub(crate) struct Host<B: Object> {
+/// What a scenario is run with: the engine and the inbox, what the host and its workers need for them, and who is told how far it
+/// is.
+pub(crate) struct Host<'a, B: Object, N: Notices> {
     pub(crate) shared: Shared<B>,
     pub(crate) caller: Caller<B>,
     // none, with room for all callers at the end
@@ -51,6 +55,8 @@ pub(crate) struct Host<B: Object> {
     // to see whether the workers left a completion
     pub(crate) take: TakePass,
     pub(crate) seats: Vec<Seat<B>>,
+    pub(crate) watch: Mutex<Watch<B>>,
+    pub(crate) notices: &'a N,
     pub(crate) ghost put_is: { IsOf inbox put },
     pub(crate) ghost take_is: { IsOf inbox take },
     pub(crate) ghost seats_are: { All (λ seat. IsOf inbox seat.pass) seats.items },
@@ -58,7 +64,7 @@ pub(crate) struct Host<B: Object> {
     pub(crate) ghost room: { (callers.items ≡ []) × (length seats.items + 1 ≤ vec_capacity callers) },
 }
 
-impl<B: Object + Send + Sync> Host<B> {
+impl<'a, B: Object + Send + Sync, N: Notices + Sync> Host<'a, B, N> {
     /// Carries the steps out in their order, and serves the completions that are left then.
     pub(crate) fn carry_out_all<R: Threads + Wait + Sync>(
         &mut self,
@@ -137,7 +143,12 @@ impl<B: Object + Send + Sync> Host<B> {
     fn drain<R: Threads + Wait + Sync>(&mut self, rt: &R) -> Result<(), RunFault> {
         let none = Vec::new(*self.seats.allocator());
         let seats = mem::replace(&mut self.seats, none);
-        let served = serve(rt, seats, &self.shared, &self.inbox, &Open);
+        let gate = Watching {
+            shared: &self.shared,
+            watch: &self.watch,
+            notices: self.notices,
+        };
+        let served = serve(rt, seats, &self.shared, &self.inbox, &gate);
         let kept = served.completions.len() + served.runs.len();
         let back = served.into_seats();
         mem::replace(&mut self.seats, back).destroy_empty();

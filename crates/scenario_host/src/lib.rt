@@ -5,6 +5,7 @@
 mod asking;
 mod host;
 mod running;
+mod watching;
 
 pub use host::RunFault;
 pub use running::run;

@@ -10,22 +10,24 @@ use engine_core::{Config, Engine, Trace};
 use engine_lock::{Caller, Object, Opened, Shared};
 use hands::Hands;
 use inbox::{Inbox, MAX_CAPACITY, TakePass};
+use notices::Notices;
 use scenario::Step;
 use std::alloc::{AllocError, Global};
 use std::marker::Brand;
-use std::sync::Wait;
+use std::sync::{Mutex, Wait};
 use std::thread::Threads;
 use workers::Seat;
 
 /// Runs the steps in their order on an engine of this configuration, and serves the completions that are left then, by 1 to 16
 /// workers. Tokens that are out at the end are forfeited. With one worker the trace is determined; with more, completions that
-/// wait together are served in any order.
-pub fn run<R: Threads + Wait + Sync>(
+/// wait together are served in any order. While workers serve, the engine's sums are told where they are wanted.
+pub fn run<N: Notices + Sync, R: Threads + Wait + Sync>(
     rt: &R,
     alloc: Global,
     config: Config,
     steps: &[Step],
     workers: usize,
+    notices: &N,
 ) -> Result<Trace, RunFault>
     requires { (1 ≤ workers) × (workers ≤ MAX_WORKERS) }
     ensures { IfOk result (λ trace. IsTraceOf config trace.records.items trace.totals) }
@@ -35,18 +37,19 @@ pub fn run<R: Threads + Wait + Sync>(
         Err((fault, _)) => return Err(RunFault::from(fault)),
     };
     match Opened::new(alloc, engine) {
-        Ok(opened) => run_on::<Brand, R>(rt, alloc, opened, steps, workers),
+        Ok(opened) => run_on::<Brand, N, R>(rt, alloc, opened, steps, workers, notices),
         Err((fault, _)) => Err(RunFault::from(fault)),
     }
 }
 
 // The same on this engine.
-fn run_on<B: Object + Send + Sync, R: Threads + Wait + Sync>(
+fn run_on<B: Object + Send + Sync, N: Notices + Sync, R: Threads + Wait + Sync>(
     rt: &R,
     alloc: Global,
     opened: Opened,
     steps: &[Step],
     workers: usize,
+    notices: &N,
 ) -> Result<Trace, RunFault>
     requires few { (1 ≤ workers) × (workers ≤ MAX_WORKERS) }
     requires setup { opened.engine.setup ≡ B.setup }
@@ -55,7 +58,7 @@ fn run_on<B: Object + Send + Sync, R: Threads + Wait + Sync>(
     requires table { opened.monitor ≡ B.table }
     ensures { IfOk result (λ trace. IsTraceOf B.setup trace.records.items trace.totals) }
 {
-    let mut host = open(rt, alloc, opened.named::<B>(), workers)?;
+    let mut host = open(rt, alloc, opened.named::<B>(), workers, notices)?;
     match host.carry_out_all(rt, steps) {
         Ok(()) => close(rt, host),
         Err(fault) => {
@@ -66,12 +69,13 @@ fn run_on<B: Object + Send + Sync, R: Threads + Wait + Sync>(
 }
 
 // The host with its inbox and so many seats.
-fn open<B: Object, R: Wait>(
+fn open<'a, B: Object, N: Notices, R: Wait>(
     rt: &R,
     alloc: Global,
     shared: Shared<B>,
     workers: usize,
-) -> Result<Host<B>, RunFault>
+    notices: &'a N,
+) -> Result<Host<'a, B, N>, RunFault>
     requires { (1 ≤ workers) × (workers ≤ MAX_WORKERS) }
 {
     let Ok(caller) = shared.caller(rt) else {
@@ -98,6 +102,7 @@ fn open<B: Object, R: Wait>(
     let take = takes.remove(0);
     let Room { callers, seats } = room;
     let seats = seated(rt, &shared, &inbox, takes, seats);
+    let watch = Mutex::new(shared.watch(rt));
     Ok(Host {
         shared,
         caller,
@@ -107,6 +112,8 @@ fn open<B: Object, R: Wait>(
         put,
         take,
         seats,
+        watch,
+        notices,
     })
 }
 
@@ -165,7 +172,7 @@ fn seated<B: Object, R: Wait>(
 }
 
 // Ends the host: the whole history of its engine.
-fn close<B: Object, R: Wait>(rt: &R, host: Host<B>) -> Result<Trace, RunFault>
+fn close<B: Object, N: Notices, R: Wait>(rt: &R, host: Host<'_, B, N>) -> Result<Trace, RunFault>
     ensures { IfOk result (λ trace. IsTraceOf B.setup trace.records.items trace.totals) }
 {
     let Host {
@@ -177,6 +184,8 @@ fn close<B: Object, R: Wait>(rt: &R, host: Host<B>) -> Result<Trace, RunFault>
         put,
         take,
         mut seats,
+        watch: _,
+        notices: _,
     } = host;
     hands.forfeit();
     put.forfeit();

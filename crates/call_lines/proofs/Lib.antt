@@ -1,5 +1,5 @@
 pub mod Tests
-pub mod Writing
+pub mod Putting
 pub mod Cutting
 pub mod Decimals
 pub mod Pairs

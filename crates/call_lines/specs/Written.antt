@@ -1,12 +1,15 @@
--- What is written and what is read, where some values have a text.
-use Rattle.std.specs.Prelude.{◌≡◌, ℕ, Option, Some, IfSome, List}
-use Rattle.std.specs.Io.KnownBytes.{Appends}
+-- What is printed and what is read, where some values have a text.
+use Rattle.std.specs.Prelude.{◌≡◌, ℕ, Option, Some, None, IfSome, Result, Ok, Err, List}
+use Rattle.std.specs.Fmt.{option_append}
 
--- a writer's known bytes grow by a text that there is
-pub record Writes (text : Option (List ℕ)) (old new : Option (List ℕ)) : Type 0 where
-  pub bytes : List ℕ
-  pub is : text ≡ Some bytes
-  pub appended : Appends old new bytes
+-- a text that there is stands behind what stood there
+abbrev pub IsPut : Option (List ℕ) → List ℕ → List ℕ → Type 0
+IsPut text old new = option_append (Some old) text ≡ Some new
+
+-- the text, if there is one, is put; else it is told that there is none
+abbrev pub Puts : {T E : Type 0} → Option (List ℕ) → List ℕ → Result T E → List ℕ → Type 0
+Puts text old (Ok done) new = IsPut text old new
+Puts text old (Err none) new = text ≡ None
 
 -- What is read is spelled as it stands there, and what is spelled so is read.
 pub record Reads {T : Type 0} (text_of : T → Option (List ℕ)) (text : List ℕ) (read : Option T) : Type 0 where

@@ -1,63 +1,94 @@
-// Prints and reads what a line is answered, by its row. It relies on `table` for rows, and on `printing` and `reading` for numbers.
+// Prints and reads what a line is answered, by its row. It relies on `table` for rows, on `text`, and on `printing` and `reading` for numbers.
 
-ghost use Rattle.std.specs.Prelude.{◌≡◌, ◌++◌, OnOk, MatchOption};
+ghost use Rattle.std.specs.Prelude.{◌≡◌, ◌+◌, ◌≤◌, ◌++◌, length, MatchOption};
+ghost use Rattle.calls.specs.CallRefusalText.{call_refusal_text};
 ghost use Rattle.call_lines.specs.Answers.{answer_text, code_told, form_text, named_number_text, refusal_text, started_text};
 ghost use Rattle.call_lines.specs.declared.table.Form.TheVariants.{Completed};
-ghost use Rattle.call_lines.specs.Written.{Reads, Writes};
+ghost use Rattle.call_lines.specs.Written.{IsPut, Puts, Reads};
 
-use crate::printing::{no_spelling, print_number};
+use crate::no_text::NoText;
+use crate::printing::{NUMBER, print_number};
 use crate::reading::{first_word, number};
 use crate::table::{Form, Row};
-use calls::{CallAnswer, CallRefusal};
+use crate::text::{ROOM, Text};
+use calls::{CallAnswer, CallRefusal, REFUSALS};
 use ccb::CcbId;
-use std::io;
-use std::io::Write;
+
+/// How long an answer may be.
+pub const ANSWER: usize = 40;
 
 impl Row {
-    /// Writes what a call of this line is answered. An answer of another form, and a refusal that no such call is given, have no
-    /// spelling: that is an error.
-    pub fn print_answer<W: Write>(&self, answer: CallAnswer, out: &mut W) -> io::Result<()>
-        ensures { OnOk result (Writes (answer_text self.now answer) (W.contents out.old) (W.contents out.new)) }
+    /// Puts what a call of this line is answered. An answer of another form, and a refusal that no such call is given, have no
+    /// text.
+    pub fn print_answer(&self, answer: CallAnswer, text: &mut Text) -> Result<(), NoText>
+        requires room { length text.old + ANSWER ≤ ROOM }
+        ensures text { Puts (answer_text self.now answer) text.old result text.new }
+        ensures few { length text.new ≤ length text.old + ANSWER }
     {
         match answer {
             CallAnswer::Refused(refusal) => {
                 if !self.may_be(refusal) {
-                    return Err(no_spelling());
+                    return Err(NoText);
                 }
-                write!(out, "{refusal}")
+                text.put(&code_of(refusal));
+                Ok(())
             }
-            _ => self.form.print(answer, out),
+            _ => self.form.print(answer, text),
         }
     }
+}
+
+// The code of a refusal, a letter and a digit.
+#[tactic(auto, unfolding(calls::specs::CallRefusalText::row_of))]
+fn code_of(refusal: CallRefusal) -> [u8; 2]
+    ensures { result ≡ call_refusal_text refusal }
+{
+    let row = REFUSALS[refusal as usize];
+    [row.letter, row.digit]
 }
 
 impl Form {
     // What is no refusal.
-    fn print<W: Write>(self, answer: CallAnswer, out: &mut W) -> io::Result<()>
-        ensures { OnOk result (Writes (form_text self answer) (W.contents out.old) (W.contents out.new)) }
+    fn print(self, answer: CallAnswer, text: &mut Text) -> Result<(), NoText>
+        requires room { length text.old + ANSWER ≤ ROOM }
+        ensures text { Puts (form_text self answer) text.old result text.new }
+        ensures few { length text.new ≤ length text.old + ANSWER }
     {
         match (self, answer) {
-            (Form::Ccb, CallAnswer::Ccb(ccb)) => print_named("ccb ", ccb.0, out),
-            (Form::Completed, CallAnswer::Done) => out.write_all(b"done"),
+            (Form::Ccb, CallAnswer::Ccb(ccb)) => print_named("ccb ", ccb.0, text),
+            (Form::Completed, CallAnswer::Done) => text.put(b"done"),
             (Form::Completed, CallAnswer::Started { run, freeze }) => {
-                print_named("run ", run, out)?;
-                print_named(" freeze ", freeze, out)
+                print_started(run, freeze, text)
             }
-            (Form::Freeze, CallAnswer::Freeze(freeze)) => print_named("freeze ", freeze, out),
-            (Form::Left, CallAnswer::Left(count)) => print_number(count, out),
-            (Form::Went, CallAnswer::Removed(count)) => print_number(count, out),
-            (Form::Ok, CallAnswer::Ok) => out.write_all(b"ok"),
-            _ => Err(no_spelling()),
+            (Form::Freeze, CallAnswer::Freeze(freeze)) => print_named("freeze ", freeze, text),
+            (Form::Left, CallAnswer::Left(count)) => print_number(count, text),
+            (Form::Went, CallAnswer::Removed(count)) => print_number(count, text),
+            (Form::Ok, CallAnswer::Ok) => text.put(b"ok"),
+            _ => return Err(NoText),
         }
+        Ok(())
     }
 }
 
-// A number behind its name.
-fn print_named<W: Write>(name: &str, number: u32, out: &mut W) -> io::Result<()>
-    ensures { OnOk result (Writes (named_number_text name.now number) (W.contents out.old) (W.contents out.new)) }
+// A run, and its freeze.
+fn print_started(run: u32, freeze: u32, text: &mut Text)
+    requires room { length text.old + ANSWER ≤ ROOM }
+    ensures text { IsPut (started_text (run, freeze)) text.old text.new }
+    ensures few { length text.new ≤ length text.old + ANSWER }
 {
-    out.write_all(name.as_bytes())?;
-    print_number(number, out)
+    print_named("run ", run, text);
+    print_named(" freeze ", freeze, text);
+}
+
+// A number behind its name, which is short.
+fn print_named(name: &str, number: u32, text: &mut Text)
+    requires short { length name.now ≤ 8 }
+    requires room { length text.old + 18 ≤ ROOM }
+    ensures text { IsPut (named_number_text name.now number) text.old text.new }
+    ensures few { length text.new ≤ length text.old + length name.now + NUMBER }
+{
+    text.put(name.as_bytes());
+    print_number(number, text);
 }
 
 impl Row {

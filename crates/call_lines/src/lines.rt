@@ -1,52 +1,63 @@
 // Prints and reads a line's word and fields by its row. It relies on `table` for rows, and on `printing` and `reading` for fields.
 
-ghost use Rattle.std.specs.Prelude.{◌≡◌, OnOk};
+ghost use Rattle.std.specs.Prelude.{◌≡◌, ◌+◌, ◌≤◌, length};
 ghost use Rattle.call_lines.specs.Lines.{fields_text, line_text, slot_text};
 ghost use Rattle.call_lines.specs.Rows.{is_of_version};
 ghost use Rattle.call_lines.specs.Reading.{IsCutFor, ReadsFields, ReadsLine, ReadsSlot};
-ghost use Rattle.call_lines.specs.Written.{Writes};
+ghost use Rattle.call_lines.specs.Written.{Puts};
 
 use crate::kind::{Kind, Slots};
-use crate::printing::no_spelling;
+use crate::no_text::NoText;
+use crate::printing::FIELD;
 use crate::reading::{behind_blank, first_word};
+use crate::text::{ROOM, Text};
 use crate::value::Value;
 use crate::word::Word;
-use std::io;
-use std::io::Write;
 
-/// Writes a line's word and what its fields hold, each behind a blank. What has no spelling as that line is an error.
-pub fn print_line<W: Write>(word: Word, held: &Slots<Value>, out: &mut W) -> io::Result<()>
-    ensures { OnOk result (Writes (line_text word held.now) (W.contents out.old) (W.contents out.new)) }
+/// How long up to four fields may be, each behind a blank, and a word with these.
+pub const FIELDS: usize = 644;
+
+pub const LINE: usize = 653;
+
+/// Puts a line's word and what its fields hold, each behind a blank, unless it has no spelling as that line.
+pub fn print_line(word: Word, held: &Slots<Value>, text: &mut Text) -> Result<(), NoText>
+    requires room { length text.old + LINE ≤ ROOM }
+    ensures text { Puts (line_text word held.now) text.old result text.new }
+    ensures few { length text.new ≤ length text.old + LINE }
 {
-    out.write_all(word.text().as_bytes())?;
-    print_fields(&word.row().fields, held, out)
+    text.put(word.text().as_bytes());
+    print_fields(&word.row().fields, held, text)
 }
 
-/// Writes what fields hold, each behind a blank. What has no spelling as these fields is an error.
+/// Puts what fields hold, each behind a blank, unless it has no spelling as these fields.
 #[tactic(auto, unfolding(crate::specs::Lines::fields_text))]
-pub fn print_fields<W: Write>(
+pub fn print_fields(
     fields: &Slots<Kind>,
     held: &Slots<Value>,
-    out: &mut W,
-) -> io::Result<()>
-    ensures { OnOk result (Writes (fields_text fields.now held.now) (W.contents out.old) (W.contents out.new)) }
+    text: &mut Text,
+) -> Result<(), NoText>
+    requires room { length text.old + FIELDS ≤ ROOM }
+    ensures text { Puts (fields_text fields.now held.now) text.old result text.new }
+    ensures few { length text.new ≤ length text.old + FIELDS }
 {
-    print_slot(fields.first, held.first, out)?;
-    print_slot(fields.second, held.second, out)?;
-    print_slot(fields.third, held.third, out)?;
-    print_slot(fields.fourth, held.fourth, out)
+    print_slot(fields.first, held.first, text)?;
+    print_slot(fields.second, held.second, text)?;
+    print_slot(fields.third, held.third, text)?;
+    print_slot(fields.fourth, held.fourth, text)
 }
 
-fn print_slot<W: Write>(kind: Option<Kind>, value: Option<Value>, out: &mut W) -> io::Result<()>
-    ensures { OnOk result (Writes (slot_text kind value) (W.contents out.old) (W.contents out.new)) }
+fn print_slot(kind: Option<Kind>, value: Option<Value>, text: &mut Text) -> Result<(), NoText>
+    requires room { length text.old + FIELD + 1 ≤ ROOM }
+    ensures text { Puts (slot_text kind value) text.old result text.new }
+    ensures few { length text.new ≤ length text.old + FIELD + 1 }
 {
     match (kind, value) {
         (Some(kind), Some(value)) => {
-            out.write_all(b" ")?;
-            kind.print(value, out)
+            text.push(b' ');
+            kind.print(value, text)
         }
         (None, None) => Ok(()),
-        _ => Err(no_spelling()),
+        _ => Err(NoText),
     }
 }
 

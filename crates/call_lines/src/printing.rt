@@ -1,16 +1,18 @@
-// Prints fields: one function a kind. It relies on `kind` and `value`, and on `helpers` for what a call tells.
+// Prints fields: one function a kind, which puts the field behind a text. It relies on `kind` and `value`, on `text`, and on `helpers`
+// for what a call tells.
 
-ghost use Rattle.std.specs.Prelude.{◌≡◌, ◌<◌, OnOk, Some, false};
+ghost use Rattle.std.specs.Prelude.{◌≡◌, ◌+◌, ◌<◌, ◌≤◌, Some, false, length};
 ghost use Rattle.std.specs.Fmt.{digit_glyph};
 ghost use Rattle.call_lines.specs.Texts.{byte_text, bytes_text, code_text, field_text, finished_text, helper_text, instructions_text, long_number_text, named_text, number_text, sense_text, status_text, stop_text, traced_text};
-ghost use Rattle.call_lines.specs.Written.{Writes};
+ghost use Rattle.call_lines.specs.Written.{IsPut, Puts};
 
 use crate::kind::Kind;
+use crate::no_text::NoText;
+use crate::text::{ROOM, Text};
 use crate::value::{Stop, Value};
 use ccb::CamStatus;
 use helpers::{Helper, Tells};
-use std::io;
-use std::io::Write;
+use itoa::Buffer;
 
 /// The most instructions of an advance.
 pub(crate) const MOST_INSTRUCTIONS: u32 = 65536;
@@ -21,57 +23,86 @@ pub(crate) const GREATEST_CODE: u8 = 63;
 /// The most bytes of a field.
 pub(crate) const MOST_BYTES: usize = 64;
 
+/// How long a field may be: a number below 2^32, one below 2^64, a helper, bytes, and any field.
+pub const NUMBER: usize = 10;
+
+pub const LONG_NUMBER: usize = 20;
+
+pub const HELPER: usize = 17;
+
+pub const BYTES: usize = 128;
+
+pub const FIELD: usize = 160;
+
 impl Kind {
-    /// Writes what a field of this kind holds. What has no spelling of this kind is an error.
+    /// Puts what a field of this kind holds behind a text, unless it has no spelling of this kind.
     #[tactic(auto, unfolding(crate::specs::Texts::field_text))]
-    pub fn print<W: Write>(self, value: Value, out: &mut W) -> io::Result<()>
-        ensures { OnOk result (Writes (field_text self value) (W.contents out.old) (W.contents out.new)) }
+    pub fn print(self, value: Value, text: &mut Text) -> Result<(), NoText>
+        requires room { length text.old + FIELD ≤ ROOM }
+        ensures text { Puts (field_text self value) text.old result text.new }
+        ensures few { length text.new ≤ length text.old + FIELD }
     {
         match (self, value) {
-            (Kind::Number, Value::Number(number)) => print_number(number, out),
-            (Kind::LongNumber, Value::LongNumber(number)) => print_long_number(number, out),
-            (Kind::Instructions, Value::Number(count)) => print_instructions(count, out),
-            (Kind::Status, Value::Status(status)) => print_status(status, out),
-            (Kind::Byte, Value::Byte(byte)) => print_byte(byte, out),
-            (Kind::Sense, Value::Bytes(bytes)) => print_sense(bytes.as_slice(), out),
-            (Kind::Stop, Value::Stop(stop)) => print_stop(stop, out),
-            _ => Err(no_spelling()),
+            (Kind::Number, Value::Number(number)) => {
+                print_number(number, text);
+                Ok(())
+            }
+            (Kind::LongNumber, Value::LongNumber(number)) => {
+                print_long_number(number, text);
+                Ok(())
+            }
+            (Kind::Instructions, Value::Number(count)) => print_instructions(count, text),
+            (Kind::Status, Value::Status(status)) => print_status(status, text),
+            (Kind::Byte, Value::Byte(byte)) => {
+                print_byte(byte, text);
+                Ok(())
+            }
+            (Kind::Sense, Value::Bytes(bytes)) => print_sense(bytes.as_slice(), text),
+            (Kind::Stop, Value::Stop(stop)) => print_stop(stop, text),
+            _ => Err(NoText),
         }
     }
 }
 
-/// The error of what has no spelling.
-pub fn no_spelling() -> io::Error {
-    io::Error::from(io::ErrorKind::InvalidData)
-}
-
 /// A number below 2^32.
-pub fn print_number<W: Write>(number: u32, out: &mut W) -> io::Result<()>
-    ensures { OnOk result (Writes (number_text number) (W.contents out.old) (W.contents out.new)) }
+pub fn print_number(number: u32, text: &mut Text)
+    requires room { length text.old + NUMBER ≤ ROOM }
+    ensures text { IsPut (number_text number) text.old text.new }
+    ensures few { length text.new ≤ length text.old + NUMBER }
 {
-    write!(out, "{number}")
+    let mut digits = Buffer::new();
+    text.put(digits.format(number).as_bytes());
 }
 
 /// A number below 2^64.
-pub fn print_long_number<W: Write>(number: u64, out: &mut W) -> io::Result<()>
-    ensures { OnOk result (Writes (long_number_text number) (W.contents out.old) (W.contents out.new)) }
+pub fn print_long_number(number: u64, text: &mut Text)
+    requires room { length text.old + LONG_NUMBER ≤ ROOM }
+    ensures text { IsPut (long_number_text number) text.old text.new }
+    ensures few { length text.new ≤ length text.old + LONG_NUMBER }
 {
-    write!(out, "{number}")
+    let mut digits = Buffer::new();
+    text.put(digits.format(number).as_bytes());
 }
 
-fn print_instructions<W: Write>(count: u32, out: &mut W) -> io::Result<()>
-    ensures { OnOk result (Writes (instructions_text count) (W.contents out.old) (W.contents out.new)) }
+fn print_instructions(count: u32, text: &mut Text) -> Result<(), NoText>
+    requires room { length text.old + NUMBER ≤ ROOM }
+    ensures text { Puts (instructions_text count) text.old result text.new }
+    ensures few { length text.new ≤ length text.old + NUMBER }
 {
     if count == 0 || count > MOST_INSTRUCTIONS {
-        return Err(no_spelling());
+        return Err(NoText);
     }
-    write!(out, "{count}")
+    print_number(count, text);
+    Ok(())
 }
 
-fn print_byte<W: Write>(byte: u8, out: &mut W) -> io::Result<()>
-    ensures { OnOk result (Writes (byte_text byte) (W.contents out.old) (W.contents out.new)) }
+fn print_byte(byte: u8, text: &mut Text)
+    requires room { length text.old + 2 ≤ ROOM }
+    ensures text { IsPut (byte_text byte) text.old text.new }
+    ensures few { length text.new ≤ length text.old + 2 }
 {
-    out.write_all(&[digit_of(byte / 16), digit_of(byte % 16)])
+    text.push(digit_of(byte / 16));
+    text.push(digit_of(byte % 16));
 }
 
 // A digit of base 16.
@@ -86,96 +117,123 @@ fn digit_of(digit: u8) -> u8
     }
 }
 
-fn print_status<W: Write>(status: CamStatus, out: &mut W) -> io::Result<()>
-    ensures { OnOk result (Writes (status_text status) (W.contents out.old) (W.contents out.new)) }
+fn print_status(status: CamStatus, text: &mut Text) -> Result<(), NoText>
+    requires room { length text.old + 2 ≤ ROOM }
+    ensures text { Puts (status_text status) text.old result text.new }
+    ensures few { length text.new ≤ length text.old + 2 }
 {
     let code = status.code();
     if code == 0 {
-        return Err(no_spelling());
+        return Err(NoText);
     }
-    print_byte(code, out)
+    print_byte(code, text);
+    Ok(())
 }
 
-fn print_code<W: Write>(code: u8, out: &mut W) -> io::Result<()>
-    ensures { OnOk result (Writes (code_text code) (W.contents out.old) (W.contents out.new)) }
+fn print_code(code: u8, text: &mut Text) -> Result<(), NoText>
+    requires room { length text.old + 2 ≤ ROOM }
+    ensures text { Puts (code_text code) text.old result text.new }
+    ensures few { length text.new ≤ length text.old + 2 }
 {
     if code > GREATEST_CODE {
-        return Err(no_spelling());
+        return Err(NoText);
     }
-    print_byte(code, out)
+    print_byte(code, text);
+    Ok(())
 }
 
 // From 1 to 64 bytes.
-fn print_bytes<W: Write>(bytes: &[u8], out: &mut W) -> io::Result<()>
-    ensures { OnOk result (Writes (bytes_text bytes.now) (W.contents out.old) (W.contents out.new)) }
+fn print_bytes(bytes: &[u8], text: &mut Text) -> Result<(), NoText>
+    requires room { length text.old + BYTES ≤ ROOM }
+    ensures text { Puts (bytes_text bytes.now) text.old result text.new }
+    ensures few { length text.new ≤ length text.old + BYTES }
 {
     if bytes.is_empty() || bytes.len() > MOST_BYTES {
-        return Err(no_spelling());
+        return Err(NoText);
     }
     for byte in bytes {
-        print_byte(*byte, out)?;
+        print_byte(*byte, text);
     }
     Ok(())
 }
 
-fn print_sense<W: Write>(bytes: &[u8], out: &mut W) -> io::Result<()>
-    ensures { OnOk result (Writes (sense_text bytes.now) (W.contents out.old) (W.contents out.new)) }
+fn print_sense(bytes: &[u8], text: &mut Text) -> Result<(), NoText>
+    requires room { length text.old + BYTES ≤ ROOM }
+    ensures text { Puts (sense_text bytes.now) text.old result text.new }
+    ensures few { length text.new ≤ length text.old + BYTES }
 {
     if bytes.is_empty() {
-        return write!(out, "-");
+        text.push(b'-');
+        return Ok(());
     }
-    print_bytes(bytes, out)
+    print_bytes(bytes, text)
 }
 
-fn print_stop<W: Write>(stop: Stop, out: &mut W) -> io::Result<()>
-    ensures { OnOk result (Writes (stop_text stop) (W.contents out.old) (W.contents out.new)) }
+fn print_stop(stop: Stop, text: &mut Text) -> Result<(), NoText>
+    requires room { length text.old + FIELD ≤ ROOM }
+    ensures text { Puts (stop_text stop) text.old result text.new }
+    ensures few { length text.new ≤ length text.old + FIELD }
 {
     match stop {
-        Stop::Helper(helper) => print_named(helper, out),
-        Stop::Bytes(helper, bytes) => print_traced(helper, bytes.as_slice(), out),
-        Stop::Code(helper, code) => print_finished(helper, code, out),
-        Stop::Exit => write!(out, "exit"),
+        Stop::Helper(helper) => print_named(helper, text),
+        Stop::Bytes(helper, bytes) => print_traced(helper, bytes.as_slice(), text),
+        Stop::Code(helper, code) => print_finished(helper, code, text),
+        Stop::Exit => {
+            text.put(b"exit");
+            Ok(())
+        }
     }
 }
 
-fn print_named<W: Write>(helper: Helper, out: &mut W) -> io::Result<()>
-    ensures { OnOk result (Writes (named_text helper) (W.contents out.old) (W.contents out.new)) }
+fn print_named(helper: Helper, text: &mut Text) -> Result<(), NoText>
+    requires room { length text.old + FIELD ≤ ROOM }
+    ensures text { Puts (named_text helper) text.old result text.new }
+    ensures few { length text.new ≤ length text.old + FIELD }
 {
     match helper.row().tells {
-        Tells::Name => print_helper(helper, out),
-        _ => Err(no_spelling()),
+        Tells::Name => {
+            print_helper(helper, text);
+            Ok(())
+        }
+        _ => Err(NoText),
     }
 }
 
-fn print_traced<W: Write>(helper: Helper, bytes: &[u8], out: &mut W) -> io::Result<()>
-    ensures { OnOk result (Writes (traced_text helper bytes.now) (W.contents out.old) (W.contents out.new)) }
+fn print_traced(helper: Helper, bytes: &[u8], text: &mut Text) -> Result<(), NoText>
+    requires room { length text.old + FIELD ≤ ROOM }
+    ensures text { Puts (traced_text helper bytes.now) text.old result text.new }
+    ensures few { length text.new ≤ length text.old + FIELD }
 {
     match helper.row().tells {
         Tells::Bytes => {
-            print_helper(helper, out)?;
-            write!(out, " ")?;
-            print_bytes(bytes, out)
+            print_helper(helper, text);
+            text.push(b' ');
+            print_bytes(bytes, text)
         }
-        _ => Err(no_spelling()),
+        _ => Err(NoText),
     }
 }
 
-fn print_finished<W: Write>(helper: Helper, code: u8, out: &mut W) -> io::Result<()>
-    ensures { OnOk result (Writes (finished_text helper code) (W.contents out.old) (W.contents out.new)) }
+fn print_finished(helper: Helper, code: u8, text: &mut Text) -> Result<(), NoText>
+    requires room { length text.old + FIELD ≤ ROOM }
+    ensures text { Puts (finished_text helper code) text.old result text.new }
+    ensures few { length text.new ≤ length text.old + FIELD }
 {
     match helper.row().tells {
         Tells::Code => {
-            print_helper(helper, out)?;
-            write!(out, " ")?;
-            print_code(code, out)
+            print_helper(helper, text);
+            text.push(b' ');
+            print_code(code, text)
         }
-        _ => Err(no_spelling()),
+        _ => Err(NoText),
     }
 }
 
-fn print_helper<W: Write>(helper: Helper, out: &mut W) -> io::Result<()>
-    ensures { OnOk result (Writes (Some (helper_text helper)) (W.contents out.old) (W.contents out.new)) }
+fn print_helper(helper: Helper, text: &mut Text)
+    requires room { length text.old + HELPER ≤ ROOM }
+    ensures text { IsPut (Some (helper_text helper)) text.old text.new }
+    ensures few { length text.new ≤ length text.old + HELPER }
 {
-    let number = helper.number();
-    write!(out, "helper {number}")
+    text.put(b"helper ");
+    print_number(u32::from(helper.number()), text);
 }

@@ -1,4 +1,4 @@
-// Why a text is no trace, and how each fault is printed.
+// Why a text is no trace, and how each such fault is printed; and why a trace is not printed.
 
 use or_memory::OrMemory;
 use std::error::Error;
@@ -32,3 +32,13 @@ impl fmt::Display for TraceFault {
 }
 
 impl Error for TraceFault {}
+
+/// Why a trace was not printed.
+#[derive(Clone, Copy, Debug, PartialEq, Eq)]
+pub enum PrintFault {
+    /// A write failed: so many bytes of the text are out, from its beginning.
+    Device { written: u128 },
+    /// The record at this place has no text, the first being at 0: a reply of another call's form, or a number, a status or bytes that
+    /// no line has.
+    NoText { record: usize },
+}

@@ -5,10 +5,13 @@
 mod entry;
 mod fault;
 pub mod laws;
+mod page;
 mod printer;
 mod reader;
+mod sink;
 mod sums;
 
-pub use fault::{TraceError, TraceFault};
+pub use fault::{PrintFault, TraceError, TraceFault};
 pub use printer::print;
 pub use reader::read;
+pub use sink::{Sink, WriteFailed};

@@ -1,103 +1,134 @@
-// Prints a trace, version 1: a header, a line a record by the row of its word, and the sums. It relies on `call_lines` for lines,
-// and on `calls` for records, which stand in a `chunked_list`.
+// Prints a trace, version 1: a header, a line a record by the row of its word, and the sums. It relies on `page` for what goes out, on
+// `call_lines` for lines, and on `calls` for records, which stand in a `chunked_list`.
 
-ghost use Rattle.std.specs.Prelude.{◌≡◌, IfSome, OnOk};
-ghost use Rattle.call_lines.specs.Written.{Writes};
-ghost use Rattle.trace.specs.TraceText.{entry_text, record_text, records_text, stop_of, trace_text};
+ghost use Rattle.std.specs.Prelude.{◌≡◌, ◌+◌, ◌*◌, ◌^◌, ◌≤◌, length, None, IfOk, OnErr};
+ghost use Rattle.call_lines.specs.Texts.{stop_text};
+ghost use Rattle.call_lines.specs.Written.{Puts};
+ghost use Rattle.trace.specs.Printed.{Prints, PrintsRecords};
+ghost use Rattle.trace.specs.TraceText.{entry_text, record_text, stop_of};
 
+use crate::fault::PrintFault;
+use crate::page::{Page, RECORD, flush, make_room};
+use crate::sink::Sink;
 use crate::sums::print_totals;
 use call_lines::{
-    Slots, Stop, Value, Word, no_spelling, print_line, print_long_number, values_of, word_of,
+    NoText, ROOM, Slots, Stop, Text, Value, Word, print_line, print_long_number, values_of, word_of,
 };
 use calls::{Call, CallAnswer, Record, StoppedAt, Trace};
 use chunked_list::ChunkedList;
 use short_bytes::ShortBytes;
-use std::io;
-use std::io::Write;
 
-/// Writes the whole trace. It fails where the writer fails, or where a record has no spelling: a reply of another call's form, or a
-/// number, a status or bytes that no such line has.
-pub fn print<W: Write>(trace: &Trace, out: &mut W) -> io::Result<()>
-    ensures { OnOk result (Writes (trace_text trace.now) (W.contents out.old) (W.contents out.new)) }
+/// How long a line may be without its line feed.
+const ENTRY: usize = 696;
+
+/// Hands the whole text of a trace on to a sink. Where a write fails it answers how many bytes of the text are out. A record may have no
+/// text: it holds a reply of another call's form, or a number, a status or bytes that no such line has. It takes no memory.
+pub fn print<S: Sink>(trace: &Trace, out: &mut S) -> Result<(), PrintFault>
+    ensures { Prints trace.now (S.bytes out.old) (S.failures out.old) result (S.bytes out.new) (S.failures out.new) }
 {
-    out.write_all(b"camr-trace 1\n")?;
-    print_records(&trace.records, out)?;
-    print_totals(trace.totals, out)
+    let mut page = Page {
+        text: Text::none(),
+        written: 0,
+    };
+    page.text.put(b"camr-trace 1\n");
+    print_records(&trace.records, &mut page, out)?;
+    make_room(&mut page, out)?;
+    print_totals(trace.totals, &mut page.text);
+    flush(&mut page, out)
 }
 
-fn print_records<W: Write>(records: &ChunkedList<Record>, out: &mut W) -> io::Result<()>
-    ensures { OnOk result (Writes (records_text records.now.items) (W.contents out.old) (W.contents out.new)) }
+fn print_records<S: Sink>(
+    records: &ChunkedList<Record>,
+    page: &mut Page,
+    out: &mut S,
+) -> Result<(), PrintFault>
+    requires { page.old.written ≡ 0 }
+    ensures text { PrintsRecords records.now.items page.old (S.bytes out.old) (S.failures out.old) result page.new (S.bytes out.new) (S.failures out.new) }
+    ensures most { page.new.written ≤ 2 ^ 80 }
 {
-    for entry in records.iter() {
-        print_record(entry, out)?;
+    for number in 0..records.len() {
+        make_room(page, out)?;
+        if let Err(NoText) = print_record(&records[number], &mut page.text) {
+            return Err(PrintFault::NoText { record: number });
+        }
     }
     Ok(())
 }
 
-fn print_record<W: Write>(entry: &Record, out: &mut W) -> io::Result<()>
-    ensures { OnOk result (Writes (record_text entry.now) (W.contents out.old) (W.contents out.new)) }
+fn print_record(entry: &Record, text: &mut Text) -> Result<(), NoText>
+    requires room { length text.old + RECORD ≤ ROOM }
+    ensures text { Puts (record_text entry.now) text.old result text.new }
+    ensures few { length text.new ≤ length text.old + RECORD }
 {
-    print_entry(entry, out)?;
-    out.write_all(b"\n")
+    print_entry(entry, text)?;
+    text.push(b'\n');
+    Ok(())
 }
 
 // A record's line without its line feed.
-fn print_entry<W: Write>(entry: &Record, out: &mut W) -> io::Result<()>
-    ensures { OnOk result (Writes (entry_text entry.now) (W.contents out.old) (W.contents out.new)) }
+fn print_entry(entry: &Record, text: &mut Text) -> Result<(), NoText>
+    requires room { length text.old + ENTRY ≤ ROOM }
+    ensures text { Puts (entry_text entry.now) text.old result text.new }
+    ensures few { length text.new ≤ length text.old + ENTRY }
 {
     match entry {
-        Record::Called { call, answer } => print_called(call, *answer, out),
+        Record::Called { call, answer } => print_called(call, *answer, text),
         Record::Advance {
             run,
             instructions,
             stop,
             r0,
-        } => print_advance(*run, *instructions, stop, *r0, out),
+        } => print_advance(*run, *instructions, stop, *r0, text),
     }
 }
 
-fn print_called<W: Write>(call: &Call, answer: CallAnswer, out: &mut W) -> io::Result<()>
-    ensures { OnOk result (Writes (entry_text (Record.Called answer call.now)) (W.contents out.old) (W.contents out.new)) }
+fn print_called(call: &Call, answer: CallAnswer, text: &mut Text) -> Result<(), NoText>
+    requires room { length text.old + ENTRY ≤ ROOM }
+    ensures text { Puts (entry_text (Record.Called answer call.now)) text.old result text.new }
+    ensures few { length text.new ≤ length text.old + ENTRY }
 {
     let word = word_of(call);
-    print_line(word, &values_of(call), out)?;
-    out.write_all(b" = ")?;
-    word.row().print_answer(answer, out)
+    print_line(word, &values_of(call), text)?;
+    text.put(b" = ");
+    word.row().print_answer(answer, text)
 }
 
-fn print_advance<W: Write>(
+fn print_advance(
     run: u32,
     instructions: u32,
     stop: &StoppedAt,
     r0: u64,
-    out: &mut W,
-) -> io::Result<()>
-    ensures { OnOk result (Writes (entry_text (Record.Advance run instructions stop.now r0)) (W.contents out.old) (W.contents out.new)) }
+    text: &mut Text,
+) -> Result<(), NoText>
+    requires room { length text.old + ENTRY ≤ ROOM }
+    ensures text { Puts (entry_text (Record.Advance run instructions stop.now r0)) text.old result text.new }
+    ensures few { length text.new ≤ length text.old + ENTRY }
 {
-    let Some(stop) = stop_of(stop) else {
-        return Err(no_spelling());
-    };
+    let stop = stop_of(stop)?;
     let held = Slots {
         first: Some(Value::Number(run)),
         second: Some(Value::Number(instructions)),
         third: Some(Value::Stop(stop)),
         fourth: None,
     };
-    print_line(Word::Advance, &held, out)?;
-    out.write_all(b" = ")?;
-    print_long_number(r0, out)
+    print_line(Word::Advance, &held, text)?;
+    text.put(b" = ");
+    print_long_number(r0, text);
+    Ok(())
 }
 
-// Where the run stopped. None where more bytes are told than a line has.
-fn stop_of(stop: &StoppedAt) -> Option<Stop>
-    ensures { IfSome result (λ its. its ≡ stop_of stop.now) }
+// Where the run stopped. What tells more bytes than a line has no text.
+fn stop_of(stop: &StoppedAt) -> Result<Stop, NoText>
+    ensures stop { IfOk result (λ its. its ≡ stop_of stop.now) }
+    ensures none { OnErr result (stop_text (stop_of stop.now) ≡ None) }
 {
     match stop {
-        StoppedAt::Helper(helper) => Some(Stop::Helper(*helper)),
-        StoppedAt::Trace(helper, bytes) => {
-            Some(Stop::Bytes(*helper, ShortBytes::new(bytes.as_slice())?))
-        }
-        StoppedAt::Finish(helper, code) => Some(Stop::Code(*helper, *code)),
-        StoppedAt::Exit => Some(Stop::Exit),
+        StoppedAt::Helper(helper) => Ok(Stop::Helper(*helper)),
+        StoppedAt::Trace(helper, bytes) => match ShortBytes::new(bytes.as_slice()) {
+            Some(bytes) => Ok(Stop::Bytes(*helper, bytes)),
+            None => Err(NoText),
+        },
+        StoppedAt::Finish(helper, code) => Ok(Stop::Code(*helper, *code)),
+        StoppedAt::Exit => Ok(Stop::Exit),
     }
 }

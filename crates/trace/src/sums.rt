@@ -1,14 +1,17 @@
 // The last line of a trace, the sums over its records, printed and read as a line's fields are. It relies on `call_lines` for fields.
 
-ghost use Rattle.std.specs.Prelude.{◌≡◌, ◌++◌, codes, MatchOption, OnOk};
-ghost use Rattle.call_lines.specs.Written.{Reads, Writes};
+ghost use Rattle.std.specs.Prelude.{◌≡◌, ◌+◌, ◌≤◌, ◌++◌, codes, length, MatchOption};
+ghost use Rattle.call_lines.specs.Lines.{fields_text};
+ghost use Rattle.call_lines.specs.Written.{IsPut, Reads};
 ghost use Rattle.trace.specs.Reading.{sums_of};
 ghost use Rattle.trace.specs.TraceText.{sums_text, totals_text, values_of_sums};
 
-use call_lines::{Kind, Slots, Value, long_number_at, number_at, print_fields, read_fields};
+use crate::page::RECORD;
+use call_lines::{
+    Kind, ROOM, Slots, Text, Value, long_number_at, number_at, print_long_number, print_number,
+    read_fields,
+};
 use calls::Totals;
-use std::io;
-use std::io::Write;
 
 // What stands behind `end`: how many records there are, how many freezes, active CCBs and live runs.
 const SUMS: Slots<Kind> = Slots {
@@ -18,24 +21,41 @@ const SUMS: Slots<Kind> = Slots {
     fourth: Some(Kind::Number),
 };
 
-/// Writes the last line.
-pub(crate) fn print_totals<W: Write>(totals: Totals, out: &mut W) -> io::Result<()>
-    ensures { OnOk result (Writes (totals_text totals) (W.contents out.old) (W.contents out.new)) }
+/// How long they may be.
+const SUMS_LENGTH: usize = 54;
+
+/// Puts the last line, which always has a text.
+pub(crate) fn print_totals(totals: Totals, text: &mut Text)
+    requires room { length text.old + RECORD ≤ ROOM }
+    ensures text { IsPut (totals_text totals) text.old text.new }
+    ensures few { length text.new ≤ length text.old + RECORD }
 {
-    out.write_all(b"end")?;
-    print_fields(&SUMS, &values_of_sums(totals), out)?;
-    out.write_all(b"\n")
+    text.put(b"end");
+    print_sums(
+        totals.history,
+        totals.frozen,
+        totals.active,
+        totals.runs,
+        text,
+    );
+    text.push(b'\n');
 }
 
-fn values_of_sums(totals: Totals) -> Slots<Value>
-    ensures { result ≡ values_of_sums totals }
+// What stands behind `end`.
+#[tactic(auto, unfolding(call_lines::specs::Lines::fields_text, call_lines::specs::Texts::field_text))]
+fn print_sums(history: u64, frozen: u32, active: u32, runs: u32, text: &mut Text)
+    requires room { length text.old + SUMS_LENGTH ≤ ROOM }
+    ensures text { IsPut (fields_text SUMS (values_of_sums (record { history = history; frozen = frozen; active = active; runs = runs }))) text.old text.new }
+    ensures few { length text.new ≤ length text.old + SUMS_LENGTH }
 {
-    Slots {
-        first: Some(Value::LongNumber(totals.history)),
-        second: Some(Value::Number(totals.frozen)),
-        third: Some(Value::Number(totals.active)),
-        fourth: Some(Value::Number(totals.runs)),
-    }
+    text.push(b' ');
+    print_long_number(history, text);
+    text.push(b' ');
+    print_number(frozen, text);
+    text.push(b' ');
+    print_number(active, text);
+    text.push(b' ');
+    print_number(runs, text);
 }
 
 /// The sums of the last line, which stands without its line feed.

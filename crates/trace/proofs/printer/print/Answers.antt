@@ -1,13 +1,24 @@
-use Rattle.std.proofs.Common.{codes, Some}
-use Rattle.std.specs.Fmt.{option_append}
-use Rattle.call_lines.proofs.Writing.{writes_text, writes_both}
-use Rattle.trace.specs.TraceText.{records_text, totals_text}
-use Rattle.trace.proofs.Printing.{on_ok}
+use Rattle.std.proofs.Common.{◌≡◌, ◌++◌, ◌∙◌, ap, refl}
+use Rattle.std.proofs.lemmas.Result.{err_from_is_err_and}
+use Rattle.trace.specs.TraceText.{header}
+use Rattle.trace.proofs.Printing.{records_stopped, room_stopped, last_put, ended}
 use Rattle.trace.proofs.printer.print.Goals as goal
+
+pub returns-in_err-print_records : goal.returns-in_err-print_records
+returns-in_err-print_records g c =
+    let first : c.put.new.self ≡ header = c.put.ensures ∙ ap (λ t. t ++ header) c.none.ensures in
+    let p = err_from_is_err_and c.from_residual.result c.from_residual.ensures.1 in
+    rw (p.1, p.2) (records_stopped c.args.trace.now _ _ _ _ _ _ _ first refl c.in_err-print_records.ensures.text)
+
+pub returns-in_err-make_room : goal.returns-in_err-make_room
+returns-in_err-make_room g c =
+    let first : c.put.new.self ≡ header = c.put.ensures ∙ ap (λ t. t ++ header) c.none.ensures in
+    let p = err_from_is_err_and c.from_residual-in_err-make_room.result c.from_residual-in_err-make_room.ensures.1 in
+    rw (p.1, p.2) (room_stopped c.args.trace.now _ _ _ _ _ _ _ _ _ _ first refl c.in_ok-print_records.ensures.text c.in_err-make_room.ensures.text)
 
 pub returns : goal.returns
 returns g c =
-    on_ok c.print_totals.result
-    (λ sums. writes_both (Some (codes "camr-trace 1\n")) (option_append (records_text c.args.trace.now.records.items) (totals_text c.args.trace.now.totals)) _ _ _
-    (writes_text (codes "camr-trace 1\n") _ _ c.in_ok-write_all.ensures.bytes) (writes_both (records_text c.args.trace.now.records.items) (totals_text c.args.trace.now.totals) _ _ _ c.in_ok-print_records.ensures sums))
-    c.print_totals.ensures
+    let first : c.put.new.self ≡ header = c.put.ensures ∙ ap (λ t. t ++ header) c.none.ensures in
+    ended c.args.trace.now c.flush.result _ _ _ _ _ _ _ _ _ first refl
+    (last_put c.args.trace.now _ _ _ _ _ _ _ _ _ _ c.in_ok-print_records.ensures.text c.in_ok-make_room.ensures.text c.print_totals.ensures.text refl)
+    c.flush.ensures.text c.flush.ensures.empty

@@ -1,8 +1,11 @@
 -- the records so far
-use Rattle.std.proofs.Common.{map}
-use Rattle.call_lines.specs.Written.{Writes}
+use Rattle.std.proofs.Common.{◌*◌, ◌≤◌, take}
+use Rattle.trace.specs.Pages.{Passed}
 use Rattle.trace.specs.TraceText.{records_text}
 use Rattle.trace.proofs.printer.print_records.Given as goal
 
-abbrev pub invariant-loop-entry : goal.invariant-loop-entry
-invariant-loop-entry g l = Writes (records_text (map (λ entry. entry.now) l.yielded)) (g.W.Write.contents l.fn.out) (g.W.Write.contents l.out)
+abbrev pub invariant-loop-number : goal.invariant-loop-number
+invariant-loop-number g l = record {
+  so_far : Passed (records_text (take l.number l.records.items)) l.initial.page (g.S.Sink.bytes l.fn.out) (g.S.Sink.failures l.fn.out) l.page (g.S.Sink.bytes l.out) (g.S.Sink.failures l.out);
+  most : l.page.written ≤ 4096 * l.number;
+}

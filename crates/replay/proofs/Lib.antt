@@ -1,0 +1,4 @@
+pub mod OneStretch
+pub mod Followed
+pub mod Replayed
+pub mod OneVerdict

@@ -1,0 +1,9 @@
+-- the records so far are behind the engine, and the others are those that are left
+use Rattle.std.proofs.Common.{◌≡◌, ◌++◌, map, length}
+use Rattle.engine_core.specs.Unrecorded.{IsBehind}
+use Rattle.replay.proofs.replaying.followed.Given as goal
+
+abbrev pub invariant-loop-record : goal.invariant-loop-record
+invariant-loop-record g l =
+    IsBehind (map (λ told. told.now) l.yielded) l.engine × (l.engine.setup ≡ l.fn.engine.setup) × (l.count ≡ length (map (λ told. told.now) l.yielded))
+    × (map (λ told. told.now) l.yielded ++ l.record-iterator ≡ l.fn.records.items)

@@ -1,0 +1,3 @@
+pub mod Replaying
+pub mod OneVerdict
+pub mod OwnTrace

@@ -1,0 +1,44 @@
+-- What a replay says of a trace: that its records lead from the opening of the setup and its last line is their sums, or which line
+-- is the first that does not follow.
+use Rattle.std.specs.Prelude.{◌≡◌, ℕ, ◌+◌, ◌<◌, ◌⊎◌, Bool, true, false, List, length, take, ◌++◌, codes, decimal, Result, Ok, Err}
+use Rattle.calls.specs.declared.record.Record.{Record}
+use Rattle.calls.specs.declared.totals.Totals.{Totals}
+use Rattle.or_memory.specs.declared.OrMemory.{OrMemory}
+use Rattle.or_memory.specs.declared.OrMemory.TheVariants.{OutOfMemory, Fault}
+use Rattle.world.specs.World.{Setup}
+use Rattle.world.specs.TotalsOf.{TotalsOf}
+use Rattle.engine_core.specs.Unrecorded.{UnrecordedState, IsBehind, IsHistory, Follows, CannotFollow}
+use Rattle.replay.specs.declared.fault.ReplayFault.{ReplayFault}
+
+-- how a fault is printed: by the number of the line behind the header and these records
+abbrev pub fault_text : ReplayFault → List ℕ
+fault_text fault = codes "X3 at " ++ decimal (fault.0 + 2)
+
+-- with one more nothing leads; or these are all, and the last line is not their sums
+abbrev pub StopsAt : Setup → List Record → Totals → ℕ → Type 0
+StopsAt setup records totals count =
+    ((count < length records) × (IsHistory setup (take (count + 1) records) → ⊥)) ⊎ ((count ≡ length records) × (TotalsOf setup records totals → ⊥))
+
+-- The line behind so many records is the first that does not follow: these lead from the opening, and there it stops.
+pub record IsFirstFaulty (setup : Setup) (records : List Record) (totals : Totals) (count : ℕ) : Type 0 where
+  pub lead : IsHistory setup (take count records)
+  pub stops : StopsAt setup records totals count
+
+-- what a replay says; want of memory says nothing
+abbrev pub Replays : Setup → List Record → Totals → Result (Unit {0}) (OrMemory ReplayFault) → Type 0
+Replays setup records totals (Ok done) = TotalsOf setup records totals
+Replays setup records totals (Err OutOfMemory) = Unit {0}
+Replays setup records totals (Err (Fault fault)) = IsFirstFaulty setup records totals fault.0
+
+-- ---- inside
+
+-- the record follows, and is behind the engine now, or cannot follow
+abbrev pub FollowsIf : Bool → UnrecordedState → Record → UnrecordedState → Type 0
+FollowsIf true old told new = Follows old told new
+FollowsIf false old told new = CannotFollow old told
+
+-- so many records lead, and these are all, behind the engine, or with one more nothing leads
+abbrev pub Leads : Setup → List Record → ℕ → UnrecordedState → Type 0
+Leads setup records count engine =
+    IsHistory setup (take count records)
+    × (((count < length records) × (IsHistory setup (take (count + 1) records) → ⊥)) ⊎ ((count ≡ length records) × IsBehind records engine × (engine.setup ≡ setup)))

@@ -1,18 +1,18 @@
--- What `clap` makes of the lines that ask for an assembly, for a program's text and for a check, and what follows for their
--- plans.
+-- What `clap` makes of the lines that ask for an assembly, for a program's text, for a check and for a replay, and what follows
+-- for their plans.
 use Rattle.std.proofs.Common.{◌≡◌, List, [], ◌∷◌, Option, Some, false, codes, sym, subst, ◌∙◌, ap}
 use Rattle.std.specs.Prelude.{find, string_bytes, unwrap_or}
 use Rattle.clap.specs.Words.{Row, Rule, Text, first_of, subcommand_of}
 use Rattle.clap.specs.Walk.{Walk, answers_to, arg_by_index, finished, idle, nothing_held, rows_after, to_positional, walked}
 use Rattle.clap.specs.Simple.{built, entered, label_of, new_shape}
-use Rattle.command_line.specs.FileLines.{IsAsm, IsCheck, IsDis, asm_line, check_line, dis_line}
+use Rattle.command_line.specs.FileLines.{IsAsm, IsCheck, IsDis, IsReplay, asm_line, check_line, dis_line, replay_line}
 use Rattle.command_line.specs.FoundPlan.{HasFound, HasFoundBehind}
 use Rattle.command_line.specs.RunCommand.{camr_command}
 use Rattle.command_line.specs.RunLine.{IsPlain}
 use Rattle.command_line.specs.declared.plans.Plan.{Plan}
-use Rattle.command_line.specs.declared.plans.Plan.TheVariants.{Asm, Dis, Check, Run}
+use Rattle.command_line.specs.declared.plans.Plan.TheVariants.{Asm, Dis, Check, Run, Replay}
 use Rattle.command_line.proofs.PlainWords.{walk_at, walked_path}
-use Rattle.command_line.proofs.Planned.{asm_not_check, asm_not_dis, asm_not_run, check_not_run, dis_not_check, dis_not_run}
+use Rattle.command_line.proofs.Planned.{asm_not_check, asm_not_dis, asm_not_replay, asm_not_run, check_not_replay, check_not_run, dis_not_check, dis_not_replay, dis_not_run, replay_not_run}
 use Rattle.command_line.proofs.RunWords.{stays_stopped, stopped_at, top, top_names, top_walk}
 
 -- the rules of a subcommand as it is built
@@ -28,6 +28,9 @@ dis_rules = rules_of (codes "dis")
 abbrev check_rules : List Rule
 check_rules = rules_of (codes "check")
 
+abbrev replay_rules : List Rule
+replay_rules = rules_of (codes "replay")
+
 asm_walk : (rest : List Text) → top_walk (codes "asm" ∷ rest) ≡ stopped_at nothing_held idle 1 false (codes "asm") rest
 unfolding walked
 asm_walk rest = stays_stopped top.rules top_names nothing_held idle 1 false (codes "asm") [] rest
@@ -40,6 +43,10 @@ check_walk : (rest : List Text) → top_walk (codes "check" ∷ rest) ≡ stoppe
 unfolding walked
 check_walk rest = stays_stopped top.rules top_names nothing_held idle 1 false (codes "check") [] rest
 
+replay_walk : (rest : List Text) → top_walk (codes "replay" ∷ rest) ≡ stopped_at nothing_held idle 1 false (codes "replay") rest
+unfolding walked
+replay_walk rest = stays_stopped top.rules top_names nothing_held idle 1 false (codes "replay") [] rest
+
 -- the words behind the first one are for the subcommand
 enters_asm : (rest : List Text) → subcommand_of camr_command (codes "asm" ∷ rest) ≡ Some (codes "asm", rows_after asm_rules [] rest)
 enters_asm rest = ap (λ (w : Walk). entered (built camr_command) w.stopped) (asm_walk rest)
@@ -49,6 +56,9 @@ enters_dis rest = ap (λ (w : Walk). entered (built camr_command) w.stopped) (di
 
 enters_check : (rest : List Text) → subcommand_of camr_command (codes "check" ∷ rest) ≡ Some (codes "check", rows_after check_rules [] rest)
 enters_check rest = ap (λ (w : Walk). entered (built camr_command) w.stopped) (check_walk rest)
+
+enters_replay : (rest : List Text) → subcommand_of camr_command (codes "replay" ∷ rest) ≡ Some (codes "replay", rows_after replay_rules [] rest)
+enters_replay rest = ap (λ (w : Walk). entered (built camr_command) w.stopped) (replay_walk rest)
 
 -- the walk behind a path
 abbrev path_walk : List Rule → Walk → Text → Walk
@@ -77,6 +87,18 @@ text_found text program plain_text plain_program = ap (first_of (codes "IN")) (a
 program_found : (text program : Text) → IsPlain text → IsPlain program → first_of (codes "OUT") (rows_after asm_rules [] (text ∷ program ∷ [])) ≡ Some program
 program_found text program plain_text plain_program = ap (first_of (codes "OUT")) (asm_rows text program plain_text plain_program)
 
+replay_rows : (manifest trace : Text) → IsPlain manifest → IsPlain trace → rows_after replay_rules [] (manifest ∷ trace ∷ []) ≡ finished replay_rules (path_walk replay_rules (path_walk replay_rules start manifest) trace).held
+replay_rows manifest trace plain_manifest plain_trace =
+    let first = path_walk replay_rules start manifest in
+    ap (λ (w : Walk). finished replay_rules (walked replay_rules [] w trace).held) (walked_path replay_rules nothing_held 1 manifest plain_manifest)
+    ∙ ap (λ (w : Walk). finished replay_rules w.held) (walked_path replay_rules first.held 2 trace plain_trace)
+
+replayed_found : (manifest trace : Text) → IsPlain manifest → IsPlain trace → first_of (codes "MANIFEST") (rows_after replay_rules [] (manifest ∷ trace ∷ [])) ≡ Some manifest
+replayed_found manifest trace plain_manifest plain_trace = ap (first_of (codes "MANIFEST")) (replay_rows manifest trace plain_manifest plain_trace)
+
+trace_found : (manifest trace : Text) → IsPlain manifest → IsPlain trace → first_of (codes "TRACE") (rows_after replay_rules [] (manifest ∷ trace ∷ [])) ≡ Some trace
+trace_found manifest trace plain_manifest plain_trace = ap (first_of (codes "TRACE")) (replay_rows manifest trace plain_manifest plain_trace)
+
 same_text : (a b : Text) (o : Option Text) → o ≡ Some a → o ≡ Some b → a ≡ b
 same_text a b o p q = ap (λ (x : Option Text). unwrap_or x a) (sym p ∙ q)
 
@@ -84,19 +106,29 @@ behind_asm : (text program : Text) (rows : List Row) (plan : Plan) → first_of 
 behind_asm text program rows (Asm a b) is_text is_program found = (same_text (string_bytes a) text _ found.1 is_text, same_text (string_bytes b) program _ found.2 is_program)
 behind_asm text program rows (Dis path) is_text is_program found = absurd (asm_not_dis found.0)
 behind_asm text program rows (Check path) is_text is_program found = absurd (asm_not_check found.0)
-behind_asm text program rows (Run workers a b) is_text is_program found = absurd (asm_not_run found.0)
+behind_asm text program rows (Run workers watch a b) is_text is_program found = absurd (asm_not_run found.0)
+behind_asm text program rows (Replay a b) is_text is_program found = absurd (asm_not_replay found.0)
 
 behind_dis : (program : Text) (rows : List Row) (plan : Plan) → first_of (codes "FILE") rows ≡ Some program → HasFoundBehind (codes "dis") rows plan → IsDis program plan
 behind_dis program rows (Dis path) is found = same_text (string_bytes path) program _ found.1 is
 behind_dis program rows (Asm a b) is found = absurd (asm_not_dis (sym found.0))
 behind_dis program rows (Check path) is found = absurd (dis_not_check found.0)
-behind_dis program rows (Run workers a b) is found = absurd (dis_not_run found.0)
+behind_dis program rows (Run workers watch a b) is found = absurd (dis_not_run found.0)
+behind_dis program rows (Replay a b) is found = absurd (dis_not_replay found.0)
 
 behind_check : (manifest : Text) (rows : List Row) (plan : Plan) → first_of (codes "MANIFEST") rows ≡ Some manifest → HasFoundBehind (codes "check") rows plan → IsCheck manifest plan
 behind_check manifest rows (Check path) is found = same_text (string_bytes path) manifest _ found.1 is
 behind_check manifest rows (Asm a b) is found = absurd (asm_not_check (sym found.0))
 behind_check manifest rows (Dis path) is found = absurd (dis_not_check (sym found.0))
-behind_check manifest rows (Run workers a b) is found = absurd (check_not_run found.0)
+behind_check manifest rows (Run workers watch a b) is found = absurd (check_not_run found.0)
+behind_check manifest rows (Replay a b) is found = absurd (check_not_replay found.0)
+
+behind_replay : (manifest trace : Text) (rows : List Row) (plan : Plan) → first_of (codes "MANIFEST") rows ≡ Some manifest → first_of (codes "TRACE") rows ≡ Some trace → HasFoundBehind (codes "replay") rows plan → IsReplay manifest trace plan
+behind_replay manifest trace rows (Replay a b) is_manifest is_trace found = (same_text (string_bytes a) manifest _ found.1 is_manifest, same_text (string_bytes b) trace _ found.2 is_trace)
+behind_replay manifest trace rows (Asm a b) is_manifest is_trace found = absurd (asm_not_replay (sym found.0))
+behind_replay manifest trace rows (Dis path) is_manifest is_trace found = absurd (dis_not_replay (sym found.0))
+behind_replay manifest trace rows (Check path) is_manifest is_trace found = absurd (check_not_replay (sym found.0))
+behind_replay manifest trace rows (Run workers watch a b) is_manifest is_trace found = absurd (replay_not_run found.0)
 
 -- the plan of the line is what it asks for
 pub asm_plan : (words : List Text) (text program : Text) (plan : Plan) → words ≡ asm_line text program → IsPlain text → IsPlain program → HasFound (subcommand_of camr_command words) plan → IsAsm text program plan
@@ -116,3 +148,9 @@ check_plan words manifest plan line plain found =
     let rows = rows_after check_rules [] (manifest ∷ []) in
     let here : HasFound (Some (codes "check", rows)) plan = subst (λ f. HasFound f plan) (ap (subcommand_of camr_command) line ∙ enters_check (manifest ∷ [])) found in
     behind_check manifest rows plan (manifest_found manifest plain) here
+
+pub replay_plan : (words : List Text) (manifest trace : Text) (plan : Plan) → words ≡ replay_line manifest trace → IsPlain manifest → IsPlain trace → HasFound (subcommand_of camr_command words) plan → IsReplay manifest trace plan
+replay_plan words manifest trace plan line plain_manifest plain_trace found =
+    let rows = rows_after replay_rules [] (manifest ∷ trace ∷ []) in
+    let here : HasFound (Some (codes "replay", rows)) plan = subst (λ f. HasFound f plan) (ap (subcommand_of camr_command) line ∙ enters_replay (manifest ∷ trace ∷ [])) found in
+    behind_replay manifest trace rows plan (replayed_found manifest trace plain_manifest plain_trace) (trace_found manifest trace plain_manifest plain_trace) here

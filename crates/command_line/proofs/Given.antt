@@ -5,8 +5,9 @@ use Rattle.std.specs.Borrow.{Bor}
 use Rattle.clap.specs.Words.{Row, Text, first_of, first_value, rows_of}
 use Rattle.clap.specs.declared.parser.matches.Found.{Found}
 use Rattle.clap.proofs.WalkLemmas.{first_value-rows}
-use Rattle.command_line.specs.FoundPlan.{ReadsWorkers}
-use Rattle.command_line.specs.RunLine.{IsLawfulNumber, Spells, SpellsNoLawfulNumber}
+use Rattle.command_line.specs.FoundPlan.{ReadsWatch, ReadsWorkers}
+use Rattle.command_line.specs.RunLine.{IsLawfulNumber, Spells, SpellsNoLawfulNumber, watch_word}
+use Rattle.command_line.specs.declared.plans.Watch.{Watch}
 
 -- the text that `get_str` gives
 pub text_given : (f : Found) (id : Text) (o : Option (Bor (List ℕ))) (t : Bor (List ℕ)) → option_map (λ s. s.now) o ≡ first_value f id → o ≡ Some t
@@ -25,3 +26,9 @@ pub workers_read : (rows : List Row) (word : Text) (o : Option ℕ) → first_of
 workers_read rows word (Some n) is read = (read.1, (word, is, read.0))
 workers_read rows word None is none = λ other is_other.
     subst SpellsNoLawfulNumber (ap (λ (x : Option Text). unwrap_or x word) (sym is ∙ is_other)) none
+
+-- what is read in the word that was given is when sums are told
+pub watch_read : (rows : List Row) (word : Text) (o : Option Watch) → first_of (codes "watch") rows ≡ Some word
+    → MatchOption o ((watch : Watch) → word ≡ watch_word watch → ⊥) (λ watch. word ≡ watch_word watch) → ReadsWatch rows o
+watch_read rows word (Some watch) is read = is ∙ ap Some read
+watch_read rows word None is none = λ watch found. none watch (ap (λ (x : Option Text). unwrap_or x word) (sym is ∙ found))

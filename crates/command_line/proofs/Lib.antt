@@ -7,3 +7,4 @@ pub mod Given
 pub mod Planned
 pub mod PlanLines
 pub mod FileWords
+pub mod SpelledOut

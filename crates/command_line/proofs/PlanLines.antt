@@ -9,9 +9,10 @@ use Rattle.command_line.specs.FoundPlan.{HasFound, HasFoundBehind, HasFoundIn, P
 use Rattle.command_line.specs.RunCommand.{camr_command}
 use Rattle.command_line.specs.RunLine.{IsPlain, IsRun, RunLine, SpellsNoLawfulNumber}
 use Rattle.command_line.specs.declared.plans.Plan.{Plan}
-use Rattle.command_line.specs.declared.plans.Plan.TheVariants.{Asm, Dis, Check, Run}
+use Rattle.command_line.specs.declared.plans.Watch.TheVariants.{Never}
+use Rattle.command_line.specs.declared.plans.Plan.TheVariants.{Asm, Dis, Check, Run, Replay}
 use Rattle.command_line.proofs.Numbers.{refused_number}
-use Rattle.command_line.proofs.Planned.{asm_not_run, check_not_run, dis_not_run}
+use Rattle.command_line.proofs.Planned.{asm_not_run, check_not_run, dis_not_run, replay_not_run}
 use Rattle.command_line.proofs.Readings.{line_reading, one_to_sixteen}
 
 module _ (words : List Text) (number manifest scenario : Text) (line : RunLine words number manifest scenario)
@@ -19,30 +20,32 @@ module _ (words : List Text) (number manifest scenario : Text) (line : RunLine w
   abbrev passes : Bool
   passes = accepts false one_to_sixteen number
 
-  pub line_plan : (plan : Plan) → HasFound (subcommand_of camr_command words) plan → IsRun number manifest scenario plan
+  pub line_plan : (plan : Plan) → HasFound (subcommand_of camr_command words) plan → IsRun number (codes "never") manifest scenario plan
   line_plan plan found =
       let read = line_reading words number manifest scenario line plain_n plain_m plain_s in
       let here : HasFound (Some (codes "run", read.rows)) plan = subst (λ f. HasFound f plan) read.enters found in
-      go plan read.rows (run_found plan read.rows here) read.says.workers read.says.manifest_is read.says.scenario_is
+      go plan read.rows (run_found plan read.rows here) read.says.workers read.says.watch_is read.says.manifest_is read.says.scenario_is
     where
       run_found : (plan : Plan) (rows : List Row) → HasFoundBehind (codes "run") rows plan → HasFoundIn rows plan
-      run_found (Run workers a b) rows found = found.1
+      run_found (Run workers watch a b) rows found = found.1
       run_found (Asm text program) rows found = absurd (asm_not_run (sym found.0))
       run_found (Dis program) rows found = absurd (dis_not_run (sym found.0))
       run_found (Check path) rows found = absurd (check_not_run (sym found.0))
+      run_found (Replay manifest trace) rows found = absurd (replay_not_run (sym found.0))
 
-      go : (plan : Plan) (rows : List Row) → HasFoundIn rows plan → first_of (codes "workers") rows ≡ Some number
-          → first_of (codes "MANIFEST") rows ≡ Some manifest → first_of (codes "SCENARIO") rows ≡ Some scenario → IsRun number manifest scenario plan
-      go plan rows found w m s =
+      go : (plan : Plan) (rows : List Row) → HasFoundIn rows plan → first_of (codes "workers") rows ≡ Some number → first_of (codes "watch") rows ≡ Some (codes "never")
+          → first_of (codes "MANIFEST") rows ≡ Some manifest → first_of (codes "SCENARIO") rows ≡ Some scenario → IsRun number (codes "never") manifest scenario plan
+      go plan rows found w t m s =
           let some : (a b : Text) (o : Option Text) → o ≡ Some a → o ≡ Some b → a ≡ b = λ a b o p q. ap (λ (x : Option Text). unwrap_or x a) (sym p ∙ q) in
-          subst (λ t. IsRun number manifest t plan) (some found.scenario scenario _ found.scenario_found s)
-          (subst (λ t. IsRun number t found.scenario plan) (some found.manifest manifest _ found.manifest_found m)
-          (subst (λ t. IsRun t found.manifest found.scenario plan) (some found.number number _ found.workers_found w) found.same))
+          subst (λ x. IsRun number (codes "never") manifest x plan) (some found.scenario scenario _ found.scenario_found s)
+          (subst (λ x. IsRun number (codes "never") x found.scenario plan) (some found.manifest manifest _ found.manifest_found m)
+          (subst (λ x. IsRun number x found.manifest found.scenario plan) (some found.when (codes "never") _ found.watch_found t)
+          (subst (λ x. IsRun x found.when found.manifest found.scenario plan) (some found.number number _ found.workers_found w) found.same)))
 
   pub line_refuses : PlansFound (subcommand_of camr_command words) None → SpellsNoLawfulNumber number
   line_refuses nothing =
       let read = line_reading words number manifest scenario line plain_n plain_m plain_s in
-      nothing read.rows read.enters number manifest scenario read.says.workers read.says.manifest_is read.says.scenario_is
+      nothing read.rows read.enters number manifest scenario Never read.says.workers read.says.watch_is read.says.manifest_is read.says.scenario_is
 
   pub line_fault : (e : Error) → HasKind (fault_of camr_command words) e
       → (kind_of e ≡ kind.OutOfMemory) ⊎ ((kind_of e ≡ kind.ValueValidation) × SpellsNoLawfulNumber number)

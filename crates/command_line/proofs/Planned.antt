@@ -8,7 +8,7 @@ use Rattle.clap.specs.declared.parser.matches.ArgMatches.TheViews.{out-ArgMatche
 use Rattle.clap.specs.declared.parser.matches.SubCommand.{SubCommand}
 use Rattle.command_line.specs.FoundPlan.{HasFound, PlansBehind, PlansFound, PlansRows}
 use Rattle.command_line.specs.declared.plans.Plan.{Plan}
-use Rattle.command_line.specs.declared.plans.Plan.TheVariants.{Asm, Dis, Check, Run}
+use Rattle.command_line.specs.declared.plans.Plan.TheVariants.{Asm, Dis, Check, Run, Replay}
 
 abbrev pub rows_in : Option (Text × List Row) → Option (List Row)
 rows_in = option_map (λ (p : Text × List Row). p.1)
@@ -52,12 +52,29 @@ asm_not_check = first_apart (codes "asm") (codes "check") (λ bad. omega (arith,
 pub dis_not_check : codes "dis" ≡ codes "check" → ⊥
 dis_not_check = first_apart (codes "dis") (codes "check") (λ bad. omega (arith, bad))
 
+-- those that begin alike differ in their second letter
+second_apart : (a b : Text) → (get_or a 1 0 ≡ get_or b 1 0 → ⊥) → a ≡ b → ⊥
+second_apart a b apart e = apart (ap (λ (t : Text). get_or t 1 0) e)
+
+pub replay_not_run : codes "replay" ≡ codes "run" → ⊥
+replay_not_run = second_apart (codes "replay") (codes "run") (λ bad. omega (arith, bad))
+
+pub asm_not_replay : codes "asm" ≡ codes "replay" → ⊥
+asm_not_replay = first_apart (codes "asm") (codes "replay") (λ bad. omega (arith, bad))
+
+pub dis_not_replay : codes "dis" ≡ codes "replay" → ⊥
+dis_not_replay = first_apart (codes "dis") (codes "replay") (λ bad. omega (arith, bad))
+
+pub check_not_replay : codes "check" ≡ codes "replay" → ⊥
+check_not_replay = first_apart (codes "check") (codes "replay") (λ bad. omega (arith, bad))
+
 pub plan_in : (found : Option (Text × List Row)) (rows : List Row) (planned : Option Plan) → found ≡ Some (codes "run", rows)
     → PlansRows rows planned → PlansFound found planned
-plan_in found rows (Some (Run workers a b)) is h = (subst (λ f. HasFound f (Run workers a b)) (sym is) (refl, h.0), h.1)
+plan_in found rows (Some (Run workers watch a b)) is h = (subst (λ f. HasFound f (Run workers watch a b)) (sym is) (refl, h.0), h.1)
 plan_in found rows (Some (Asm text program)) is h = absurd h.0.same
 plan_in found rows (Some (Dis program)) is h = absurd h.0.same
 plan_in found rows (Some (Check path)) is h = absurd h.0.same
+plan_in found rows (Some (Replay manifest trace)) is h = absurd h.0.same
 plan_in found rows None is h = λ other is_other.
     let same : rows ≡ other = ap (λ f. unwrap_or (rows_in f) rows) (sym is ∙ is_other) in
     subst (λ r. PlansRows r None) same h

@@ -2,9 +2,9 @@
 use Rattle.std.proofs.Common.{◌≡◌, List, [], ◌∷◌, ◌++◌, Some, true, false, codes, pos, refl, ◌∙◌, ap}
 use Rattle.clap.specs.Words.{Row, Text, first_of, subcommand_of}
 use Rattle.clap.specs.ValueTests.{accepts}
-use Rattle.clap.specs.Walk.{Walk, idle, nothing_held, reacted, finished}
-use Rattle.clap.specs.Faults.{defaults_fault, fault_of}
-use Rattle.clap.specs.Kinds.{Kinds}
+use Rattle.clap.specs.Walk.{Walk, idle, nothing_held, reacted, finished, value}
+use Rattle.clap.specs.Faults.{defaults_fault, fault_of, react_fault, settle_fault, step_fault}
+use Rattle.clap.specs.Kinds.{Kinds, or_else}
 use Rattle.clap.specs.declared.error.kind.ErrorKind.TheVariants as kind
 use Rattle.clap.specs.declared.builder.value_parser.ValueParser.{ValueParser}
 use Rattle.clap.specs.declared.builder.value_parser.ValueParser.TheVariants as value_parser
@@ -12,7 +12,7 @@ use Rattle.command_line.specs.RunCommand.{camr_command}
 use Rattle.command_line.specs.RunLine.{IsPlain, RunLine}
 use Rattle.command_line.specs.RunLine.RunLine.{unnumbered, before, between, behind, joined_before, joined_between, joined_behind}
 use Rattle.command_line.proofs.PlainWords.{walk_at}
-use Rattle.command_line.proofs.RunWords.{enters_run, fault_is}
+use Rattle.command_line.proofs.RunWords.{enters_run, fault_is, run_shape}
 use Rattle.command_line.proofs.Traces.{Trace, built_workers, end_fault, number_walk, path_walk, run_rules, trace_joined, trace_nil, trace_path, trace_workers, traced_fault, traced_rows}
 
 abbrev pub one_to_sixteen : ValueParser
@@ -21,6 +21,7 @@ one_to_sixteen = value_parser.Signed (pos 1) (pos 16)
 -- what the rows behind `run` say
 pub record Says (rows : List Row) (number manifest scenario : Text) : Type 0 where
   pub workers : first_of (codes "workers") rows ≡ Some number
+  pub watch_is : first_of (codes "watch") rows ≡ Some (codes "never")
   pub manifest_is : first_of (codes "MANIFEST") rows ≡ Some manifest
   pub scenario_is : first_of (codes "SCENARIO") rows ≡ Some scenario
 
@@ -57,6 +58,20 @@ joined_walk n w = walk_at (reacted run_rules built_workers (n ∷ []) w.held) id
 abbrev numbered_walk : Text → Walk → Walk
 numbered_walk n w = number_walk w.held w.position n
 
+-- the number is tested where it is read, in the word of its option, or else before the next word
+module _ (n : Text) where
+  taken : accepts false one_to_sixteen n ≡ true → react_fault run_rules false built_workers (n ∷ []) nothing_held ≡ []
+  taken e = rw e refl
+
+  refused : accepts false one_to_sixteen n ≡ false → react_fault run_rules false built_workers (n ∷ []) nothing_held ≡ kind.ValueValidation ∷ []
+  refused e = rw e refl
+
+  taken_behind : accepts false one_to_sixteen n ≡ true → step_fault run_shape 1 (numbered_walk n start).held value ≡ []
+  taken_behind e = rw e refl
+
+  refused_behind : accepts false one_to_sixteen n ≡ false → step_fault run_shape 1 (numbered_walk n start).held value ≡ kind.ValueValidation ∷ []
+  refused_behind e = rw e refl
+
 module _ (n m s : Text) (plain_m : IsPlain m) (plain_s : IsPlain s) where
   read_unnumbered : Reading (codes "run" ∷ m ∷ s ∷ []) (codes "1") m s
   unfolding defaults_fault
@@ -66,7 +81,7 @@ module _ (n m s : Text) (plain_m : IsPlain m) (plain_s : IsPlain s) where
       reading _ (codes "1") m s _ w2
       (trace_path start.held 1 m _ _ w2 plain_m (trace_path w1.held 2 s [] [] w2 plain_s (trace_nil w2)))
       (λ e. refl) (λ e. let bad : true ≡ false = e in cc)
-      (record { workers = refl; manifest_is = refl; scenario_is = refl })
+      (record { workers = refl; watch_is = refl; manifest_is = refl; scenario_is = refl })
 
   read_joined_before : Reading (codes "run" ∷ (codes "--workers=" ++ n) ∷ m ∷ s ∷ []) n m s
   unfolding defaults_fault
@@ -76,8 +91,9 @@ module _ (n m s : Text) (plain_m : IsPlain m) (plain_s : IsPlain s) where
       let w3 = path_walk w2 s in
       reading _ n m s _ w3
       (trace_joined start.held 1 n _ _ w3 (trace_path w1.held 1 m _ _ w3 plain_m (trace_path w2.held 2 s [] [] w3 plain_s (trace_nil w3))))
-      (λ e. rw e refl) (λ e. rw e refl)
-      (record { workers = refl; manifest_is = refl; scenario_is = refl })
+      (λ e. ap (λ (k : Kinds). end_fault (or_else k (or_else (step_fault run_shape 1 w1.held value) (or_else (step_fault run_shape 2 w2.held value) []))) w3) (taken n e))
+      (λ e. ap (λ (k : Kinds). end_fault (or_else k (or_else (step_fault run_shape 1 w1.held value) (or_else (step_fault run_shape 2 w2.held value) []))) w3) (refused n e))
+      (record { workers = refl; watch_is = refl; manifest_is = refl; scenario_is = refl })
 
   read_joined_between : Reading (codes "run" ∷ m ∷ (codes "--workers=" ++ n) ∷ s ∷ []) n m s
   unfolding defaults_fault
@@ -88,7 +104,7 @@ module _ (n m s : Text) (plain_m : IsPlain m) (plain_s : IsPlain s) where
       reading _ n m s _ w3
       (trace_path start.held 1 m _ _ w3 plain_m (trace_joined w1.held 2 n _ _ w3 (trace_path w2.held 2 s [] [] w3 plain_s (trace_nil w3))))
       (λ e. rw e refl) (λ e. rw e refl)
-      (record { workers = refl; manifest_is = refl; scenario_is = refl })
+      (record { workers = refl; watch_is = refl; manifest_is = refl; scenario_is = refl })
 
   read_joined_behind : Reading (codes "run" ∷ m ∷ s ∷ (codes "--workers=" ++ n) ∷ []) n m s
   unfolding defaults_fault
@@ -99,7 +115,7 @@ module _ (n m s : Text) (plain_m : IsPlain m) (plain_s : IsPlain s) where
       reading _ n m s _ w3
       (trace_path start.held 1 m _ _ w3 plain_m (trace_path w1.held 2 s _ _ w3 plain_s (trace_joined w2.held 3 n [] [] w3 (trace_nil w3))))
       (λ e. rw e refl) (λ e. rw e refl)
-      (record { workers = refl; manifest_is = refl; scenario_is = refl })
+      (record { workers = refl; watch_is = refl; manifest_is = refl; scenario_is = refl })
 
   module _ (plain_n : IsPlain n) where
     read_before : Reading (codes "run" ∷ codes "--workers" ∷ n ∷ m ∷ s ∷ []) n m s
@@ -110,8 +126,9 @@ module _ (n m s : Text) (plain_m : IsPlain m) (plain_s : IsPlain s) where
         let w3 = path_walk w2 s in
         reading _ n m s _ w3
         (trace_workers start.held 1 n _ _ w3 plain_n (trace_path w1.held 1 m _ _ w3 plain_m (trace_path w2.held 2 s [] [] w3 plain_s (trace_nil w3))))
-        (λ e. rw e refl) (λ e. rw e refl)
-        (record { workers = refl; manifest_is = refl; scenario_is = refl })
+        (λ e. ap (λ (k : Kinds). end_fault (or_else (settle_fault run_rules false start.held) (or_else k (or_else (step_fault run_shape 2 w2.held value) []))) w3) (taken_behind n e))
+        (λ e. ap (λ (k : Kinds). end_fault (or_else (settle_fault run_rules false start.held) (or_else k (or_else (step_fault run_shape 2 w2.held value) []))) w3) (refused_behind n e))
+        (record { workers = refl; watch_is = refl; manifest_is = refl; scenario_is = refl })
 
     read_between : Reading (codes "run" ∷ m ∷ codes "--workers" ∷ n ∷ s ∷ []) n m s
     unfolding defaults_fault
@@ -122,7 +139,7 @@ module _ (n m s : Text) (plain_m : IsPlain m) (plain_s : IsPlain s) where
         reading _ n m s _ w3
         (trace_path start.held 1 m _ _ w3 plain_m (trace_workers w1.held 2 n _ _ w3 plain_n (trace_path w2.held 2 s [] [] w3 plain_s (trace_nil w3))))
         (λ e. rw e refl) (λ e. rw e refl)
-        (record { workers = refl; manifest_is = refl; scenario_is = refl })
+        (record { workers = refl; watch_is = refl; manifest_is = refl; scenario_is = refl })
 
     read_behind : Reading (codes "run" ∷ m ∷ s ∷ codes "--workers" ∷ n ∷ []) n m s
     unfolding defaults_fault
@@ -133,7 +150,7 @@ module _ (n m s : Text) (plain_m : IsPlain m) (plain_s : IsPlain s) where
         reading _ n m s _ w3
         (trace_path start.held 1 m _ _ w3 plain_m (trace_path w1.held 2 s _ _ w3 plain_s (trace_workers w2.held 3 n [] [] w3 plain_n (trace_nil w3))))
         (λ e. rw e refl) (λ e. rw e refl)
-        (record { workers = refl; manifest_is = refl; scenario_is = refl })
+        (record { workers = refl; watch_is = refl; manifest_is = refl; scenario_is = refl })
 
 pub line_reading : (words : List Text) (number manifest scenario : Text) → RunLine words number manifest scenario
     → IsPlain number → IsPlain manifest → IsPlain scenario → Reading words number manifest scenario

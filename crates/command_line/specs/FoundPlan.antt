@@ -1,30 +1,35 @@
 -- The plan of what `clap` found.
 use Rattle.std.specs.Prelude.{◌≡◌, ℕ, List, Option, Some, None, codes, string_bytes}
 use Rattle.clap.specs.Words.{Row, Text, first_of}
-use Rattle.command_line.specs.RunLine.{HasLawfulNumber, IsLawfulNumber, IsRun, Spells}
+use Rattle.command_line.specs.RunLine.{HasLawfulNumber, IsLawfulNumber, IsRun, Spells, watch_word}
 use Rattle.command_line.specs.RunLine.{SpellsNoLawfulNumber}
 use Rattle.command_line.specs.declared.plans.Plan.{Plan}
-use Rattle.command_line.specs.declared.plans.Plan.TheVariants.{Asm, Dis, Check, Run}
+use Rattle.command_line.specs.declared.plans.Watch.{Watch}
+use Rattle.command_line.specs.declared.plans.Plan.TheVariants.{Asm, Dis, Check, Run, Replay}
 
 -- the plan has what `clap` found behind `run` under the arguments' names
 pub record HasFoundIn (rows : List Row) (plan : Plan) : Type 0 where
   pub number : Text
+  pub when : Text
   pub manifest : Text
   pub scenario : Text
   pub workers_found : first_of (codes "workers") rows ≡ Some number
+  pub watch_found : first_of (codes "watch") rows ≡ Some when
   pub manifest_found : first_of (codes "MANIFEST") rows ≡ Some manifest
   pub scenario_found : first_of (codes "SCENARIO") rows ≡ Some scenario
-  pub same : IsRun number manifest scenario plan
+  pub same : IsRun number when manifest scenario plan
 
 -- the plan is what was asked for by that word, with what `clap` found behind it
 abbrev pub HasFoundBehind : Text → List Row → Plan → Type 0
-HasFoundBehind name rows (Run workers a b) = (name ≡ codes "run") × HasFoundIn rows (Run workers a b)
+HasFoundBehind name rows (Run workers watch a b) = (name ≡ codes "run") × HasFoundIn rows (Run workers watch a b)
 HasFoundBehind name rows (Asm text program) =
     (name ≡ codes "asm") × (first_of (codes "IN") rows ≡ Some (string_bytes text)) × (first_of (codes "OUT") rows ≡ Some (string_bytes program))
 HasFoundBehind name rows (Dis program) =
     (name ≡ codes "dis") × (first_of (codes "FILE") rows ≡ Some (string_bytes program))
 HasFoundBehind name rows (Check path) =
     (name ≡ codes "check") × (first_of (codes "MANIFEST") rows ≡ Some (string_bytes path))
+HasFoundBehind name rows (Replay manifest trace) =
+    (name ≡ codes "replay") × (first_of (codes "MANIFEST") rows ≡ Some (string_bytes manifest)) × (first_of (codes "TRACE") rows ≡ Some (string_bytes trace))
 
 -- the words asked for something, and the plan is that
 abbrev pub HasFound : Option (Text × List Row) → Plan → Type 0
@@ -38,11 +43,17 @@ ReadsWorkers rows (Some n) = IsLawfulNumber n
 ReadsWorkers rows None = (word : Text) → first_of (codes "workers") rows ≡ Some word
     → SpellsNoLawfulNumber word
 
+-- when those rows say that sums are told, and none only where they say it by no such word
+abbrev pub ReadsWatch : List Row → Option Watch → Type 0
+ReadsWatch rows (Some watch) = first_of (codes "watch") rows ≡ Some (watch_word watch)
+ReadsWatch rows None = (watch : Watch) → first_of (codes "watch") rows ≡ Some (watch_word watch) → ⊥
+
 -- the plan that those rows ask for, and none only where a part of one is missing
 abbrev pub PlansRows : List Row → Option Plan → Type 0
 PlansRows rows (Some plan) = HasFoundIn rows plan × HasLawfulNumber plan
-PlansRows rows None = (number manifest scenario : Text)
+PlansRows rows None = (number manifest scenario : Text) (watch : Watch)
     → first_of (codes "workers") rows ≡ Some number
+    → first_of (codes "watch") rows ≡ Some (watch_word watch)
     → first_of (codes "MANIFEST") rows ≡ Some manifest
     → first_of (codes "SCENARIO") rows ≡ Some scenario
     → SpellsNoLawfulNumber number

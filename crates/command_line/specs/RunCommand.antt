@@ -16,13 +16,21 @@ workers_rule = record (new_rule (codes "workers")) {
   parser = Some (value_parser.Signed (pos 1) (pos 16));
 }
 
+-- the option `--watch=WHEN`, any text, which is `never` where it is not given
+abbrev pub watch_rule : Rule
+watch_rule = record (new_rule (codes "watch")) {
+  long = Some (codes "watch");
+  value_names = 1;
+  defaults = codes "never" ∷ [];
+}
+
 -- a path that has to be there
 abbrev pub path_rule : Text → Rule
 path_rule name = record (new_rule name) { required = true }
 
--- `run`, with its option and its two paths in their order
+-- `run`, with its options and its two paths in their order
 abbrev pub run_command : App
-run_command = with_rule (with_rule (with_rule (new_app (codes "run")) workers_rule)
+run_command = with_rule (with_rule (with_rule (with_rule (new_app (codes "run")) workers_rule) watch_rule)
     (path_rule (codes "MANIFEST"))) (path_rule (codes "SCENARIO"))
 
 -- `asm` with the text that it reads and the program that it writes
@@ -36,6 +44,10 @@ dis_command = with_rule (new_app (codes "dis")) (path_rule (codes "FILE"))
 -- `check` with its manifest
 abbrev pub check_command : App
 check_command = with_rule (new_app (codes "check")) (path_rule (codes "MANIFEST"))
+
+-- `replay` with its two paths in their order
+abbrev pub replay_command : App
+replay_command = with_rule (with_rule (new_app (codes "replay")) (path_rule (codes "MANIFEST"))) (path_rule (codes "TRACE"))
 
 -- the program, whose words begin behind its own name; where there are none it shows its help
 abbrev pub bare_command : App
@@ -55,9 +67,13 @@ texts_command = with_subcommand (with_subcommand bare_command asm_command.top) d
 abbrev pub programs_command : App
 programs_command = with_subcommand texts_command check_command.top
 
+-- with `run` too
+abbrev pub runs_command : App
+runs_command = with_subcommand programs_command run_command.top
+
 -- the whole command line
 abbrev pub camr_command : App
-camr_command = with_subcommand programs_command run_command.top
+camr_command = with_subcommand runs_command replay_command.top
 
 -- ---- what is made for `clap`
 

@@ -6,5 +6,5 @@ mod plans;
 mod usage;
 mod words;
 
-pub use plans::{MAX_WORKERS, MIN_WORKERS, Plan};
+pub use plans::{MAX_WORKERS, MIN_WORKERS, Plan, Watch};
 pub use words::{UsageFault, not_utf8, plan};

@@ -8,6 +8,16 @@ pub const MIN_WORKERS: u8 = 1;
 
 pub const MAX_WORKERS: u8 = 16;
 
+/// When a run tells its sums on standard error.
+#[derive(Clone, Copy, Debug, PartialEq, Eq)]
+pub enum Watch {
+    Never,
+    /// Where standard error is a terminal.
+    Terminal,
+    /// Always, a line each time.
+    Lines,
+}
+
 /// What is to be done, with the paths of the files in the order of the line.
 #[derive(Debug, Drop)]
 pub enum Plan {
@@ -17,8 +27,10 @@ pub enum Plan {
     Dis(String),
     /// Verifies the programs of a manifest.
     Check(String),
-    /// Runs a scenario over a manifest's queues: the number of workers, 1 to 16, the manifest, the scenario.
-    Run(u8, String, String),
+    /// Runs a scenario over a manifest's queues: the number of workers, 1 to 16, when sums are told, the manifest, the scenario.
+    Run(u8, Watch, String, String),
+    /// Replays a trace over a manifest's queues: the manifest, the trace.
+    Replay(String, String),
 }
 
 impl Plan {
@@ -28,7 +40,7 @@ impl Plan {
     {
         match self {
             Plan::Asm(..) | Plan::Dis(_) | Plan::Check(_) => 1,
-            Plan::Run(..) => 2,
+            Plan::Run(..) | Plan::Replay(..) => 2,
         }
     }
 
@@ -42,10 +54,11 @@ impl Plan {
                 Plan::Asm(first, _)
                 | Plan::Dis(first)
                 | Plan::Check(first)
-                | Plan::Run(_, first, _),
+                | Plan::Run(_, _, first, _)
+                | Plan::Replay(first, _),
                 0,
             ) => { first.as_str() }
-            (Plan::Run(_, _, scenario), 1) => scenario.as_str(),
+            (Plan::Run(_, _, _, second) | Plan::Replay(_, second), 1) => second.as_str(),
             _ => "",
         }
     }
@@ -56,7 +69,14 @@ impl Plan {
     {
         match self {
             Plan::Asm(_, output) => Some(output.as_str()),
-            Plan::Dis(_) | Plan::Check(_) | Plan::Run(..) => None,
+            Plan::Dis(_) | Plan::Check(_) | Plan::Run(..) | Plan::Replay(..) => None,
+        }
+    }
+    /// When sums are told.
+    pub fn watch(&self) -> Watch {
+        match self {
+            Plan::Run(_, watch, _, _) => *watch,
+            Plan::Asm(..) | Plan::Dis(_) | Plan::Check(_) | Plan::Replay(..) => Watch::Never,
         }
     }
 }

@@ -4,7 +4,7 @@
 ghost use Rattle.std.specs.Prelude.{◌≡◌, IfOk};
 ghost use Rattle.command_line.specs.RunCommand.{IsArgument, IsCommand, camr_command};
 ghost use Rattle.command_line.specs.RunCommand.{asm_command, check_command, dis_command, programs_command, texts_command};
-ghost use Rattle.command_line.specs.RunCommand.{path_rule, run_command, workers_rule};
+ghost use Rattle.command_line.specs.RunCommand.{path_rule, replay_command, run_command, runs_command, watch_rule, workers_rule};
 
 use clap::{Arg, Command, value_parser};
 use std::alloc::{AllocError, Global};
@@ -15,6 +15,20 @@ pub fn camr_command<'a>(alloc: Global) -> Result<Command<'a>, AllocError>
 {
     let run = run_command(alloc)?;
     let check = check_command(alloc)?;
+    let replay = replay_command(alloc)?;
+    runs_command(alloc, check, run)?.subcommand(replay)
+}
+
+// The command with all but `replay`.
+fn runs_command<'a>(
+    alloc: Global,
+    check: Command<'a>,
+    run: Command<'a>,
+) -> Result<Command<'a>, AllocError>
+    requires check { IsCommand check_command check }
+    requires run { IsCommand run_command run }
+    ensures { IfOk result (IsCommand runs_command) }
+{
     programs_command(alloc, check)?.subcommand(run)
 }
 
@@ -94,8 +108,24 @@ pub fn run_command<'a>(alloc: Global) -> Result<Command<'a>, AllocError>
     Command::new(alloc, "run")
         .about("Runs a scenario and prints its trace")
         .arg(workers(alloc))?
+        .arg(watch(alloc))?
         .arg(manifest)?
         .arg(scenario)
+}
+
+fn replay_command<'a>(alloc: Global) -> Result<Command<'a>, AllocError>
+    ensures { IfOk result (IsCommand replay_command) }
+{
+    let manifest = path(
+        alloc,
+        "MANIFEST",
+        "The queues, their programs and their tables",
+    );
+    let trace = path(alloc, "TRACE", "What was recorded, a line a record");
+    Command::new(alloc, "replay")
+        .about("Replays a trace and says whether it is lawful")
+        .arg(manifest)?
+        .arg(trace)
 }
 
 fn workers<'a>(alloc: Global) -> Arg<'a>
@@ -107,6 +137,16 @@ fn workers<'a>(alloc: Global) -> Arg<'a>
         .value_parser(value_parser!(u8).range(1..=16))
         .default_value("1")
         .help("How many workers serve completions, 1 to 16")
+}
+
+fn watch<'a>(alloc: Global) -> Arg<'a>
+    ensures { IsArgument watch_rule result }
+{
+    Arg::new(alloc, "watch")
+        .long("watch")
+        .value_name("WHEN")
+        .default_value("never")
+        .help("Tells sums on standard error: `terminal`, where that is one, or `lines`, always")
 }
 
 fn path<'a>(alloc: Global, name: &'a str, help: &'a str) -> Arg<'a>

@@ -5,14 +5,15 @@ ghost use Rattle.std.specs.Prelude.{◌≡◌, IfOk, MatchOption, codes, map, st
 ghost use Rattle.clap.specs.Words.{FailsBy, Text, fault_of, found_of, kind_of, rows_of};
 ghost use Rattle.clap.specs.Words.{subcommand_of, subcommand_rows_of};
 ghost use Rattle.command_line.specs.FoundPlan.{HasFound, PlansBehind, PlansFound, PlansRows};
-ghost use Rattle.command_line.specs.FoundPlan.{ReadsWorkers};
-ghost use Rattle.command_line.specs.FileLines.{IsAsm, IsCheck, IsDis, asm_line, check_line, dis_line};
+ghost use Rattle.command_line.specs.FoundPlan.{ReadsWatch, ReadsWorkers};
+ghost use Rattle.command_line.specs.FileLines.{IsAsm, IsCheck, IsDis, IsReplay};
+ghost use Rattle.command_line.specs.FileLines.{asm_line, check_line, dis_line, replay_line};
 ghost use Rattle.command_line.specs.RunCommand.{camr_command};
 ghost use Rattle.command_line.specs.RunLine.{GivesRun, HasLawfulNumber, IsLawfulNumber, IsPlain};
-ghost use Rattle.command_line.specs.RunLine.{RunLine, Spells, SpellsNoLawfulNumber};
+ghost use Rattle.command_line.specs.RunLine.{RunLine, Spells, SpellsNoLawfulNumber, spelled_out, watch_word};
 ghost use Rattle.command_line.specs.UsageFault.{IsValueFault};
 
-use crate::plans::{MAX_WORKERS, MIN_WORKERS, Plan};
+use crate::plans::{MAX_WORKERS, MIN_WORKERS, Plan, Watch};
 use crate::usage::{camr_command, run_command};
 use clap::error::ErrorKind;
 use clap::{ArgMatches, Error};
@@ -22,12 +23,12 @@ use std::alloc::{AllocError, Global};
 /// `exit_code` is the status to end with.
 pub type UsageFault = Error;
 
-/// Reads the words after the program's name. A line that asks for an assembly, for a program's text or for a check gives
-/// that or an error. A line that asks for a run gives that run, or an error where its number is none from 1 to 16 in decimal digits alone
-/// or memory is refused. Whatever the words are, a run has 1 to 16 workers and the paths that `clap` found in
-/// their places.
+/// Reads the words after the program's name. A line that asks for an assembly, for a program's text, for a check or for a
+/// replay gives that or an error. A line that asks for a run gives that run, or an error where its number is none from 1 to 16 in
+/// decimal digits alone or memory is refused. `--watch` by itself stands for `--watch=terminal`. Whatever the words are, a run has 1 to
+/// 16 workers, tells its sums when the word that `clap` found says, and has the paths that it found in their places.
 pub fn plan(alloc: Global, words: &[String]) -> Result<Plan, UsageFault>
-    ensures found { IfOk result (HasFound (subcommand_of camr_command (map string_bytes words.now))) }
+    ensures found { IfOk result (HasFound (subcommand_of camr_command (map spelled_out (map string_bytes words.now)))) }
     ensures bounded { IfOk result HasLawfulNumber }
     ensures lines { (number manifest scenario : Text)
         → RunLine (map string_bytes words.now) number manifest scenario
@@ -42,11 +43,36 @@ pub fn plan(alloc: Global, words: &[String]) -> Result<Plan, UsageFault>
     ensures checks { (manifest : Text)
         → map string_bytes words.now ≡ check_line manifest → IsPlain manifest
         → IfOk result (IsCheck manifest) }
+    ensures replays { (manifest trace : Text)
+        → map string_bytes words.now ≡ replay_line manifest trace → IsPlain manifest → IsPlain trace
+        → IfOk result (IsReplay manifest trace) }
 {
-    let matches = matches(alloc, words)?;
+    let spelled = spelled_out(alloc, words)?;
+    let matches = matches(alloc, &spelled)?;
     match planned(alloc, &matches)? {
         Some(plan) => Ok(plan),
-        None => Err(no_number(alloc, &matches)),
+        None => Err(no_plan(alloc, &matches)),
+    }
+}
+
+// The words, with `--watch` by itself spelled out.
+fn spelled_out<'a>(alloc: Global, words: &'a [String]) -> Result<Vec<&'a str>, AllocError>
+    ensures { IfOk result (λ spelled. map (λ word. word.now) spelled.items ≡ map spelled_out (map string_bytes words.entry.now)) }
+{
+    let mut spelled = Vec::with_capacity(alloc, words.len())?;
+    for word in words {
+        spelled.push(spelled_word(word.as_str()))?;
+    }
+    Ok(spelled)
+}
+
+fn spelled_word(word: &str) -> &str
+    ensures { result.now ≡ spelled_out word.entry.now }
+{
+    if word == "--watch" {
+        "--watch=terminal"
+    } else {
+        word
     }
 }
 
@@ -70,10 +96,10 @@ fn utf8_fault(alloc: Global) -> Result<Error, AllocError>
 }
 
 // What clap makes of the words.
-fn matches(alloc: Global, words: &[String]) -> Result<ArgMatches<'_>, Error>
+fn matches<'a>(alloc: Global, words: &'a [&'a str]) -> Result<ArgMatches<'a>, Error>
     ensures rows { IfOk result (λ m.
-        subcommand_rows_of m ≡ subcommand_of camr_command (map string_bytes words.now)) }
-    ensures faults { FailsBy (fault_of camr_command (map string_bytes words.now)) result }
+        subcommand_rows_of m ≡ subcommand_of camr_command (map (λ word. word.now) words.entry.now)) }
+    ensures faults { FailsBy (fault_of camr_command (map (λ word. word.now) words.entry.now)) result }
 {
     camr_command(alloc)?.try_get_matches_from(words)
 }
@@ -86,6 +112,7 @@ fn planned(alloc: Global, matches: &ArgMatches) -> Result<Option<Plan>, AllocErr
         Some(("asm", asm)) => asm_plan(alloc, asm),
         Some(("dis", dis)) => dis_plan(alloc, dis),
         Some(("check", check)) => check_plan(alloc, check),
+        Some(("replay", replay)) => replay_plan(alloc, replay),
         Some(("run", run)) => run_plan(alloc, run),
         _ => Ok(None),
     }
@@ -126,11 +153,29 @@ fn check_plan(alloc: Global, check: &ArgMatches) -> Result<Option<Plan>, AllocEr
     Ok(Some(Plan::Check(String::from_str(alloc, manifest)?)))
 }
 
+// The plan of what clap found behind `replay`.
+fn replay_plan(alloc: Global, replay: &ArgMatches) -> Result<Option<Plan>, AllocError>
+    ensures { IfOk result (PlansBehind (codes "replay") (rows_of (found_of replay.now))) }
+{
+    let Some(manifest) = replay.get_str("MANIFEST") else {
+        return Ok(None);
+    };
+    let Some(trace) = replay.get_str("TRACE") else {
+        return Ok(None);
+    };
+    let manifest = String::from_str(alloc, manifest)?;
+    let trace = String::from_str(alloc, trace)?;
+    Ok(Some(Plan::Replay(manifest, trace)))
+}
+
 // The plan of what clap found behind `run`.
 fn run_plan(alloc: Global, run: &ArgMatches) -> Result<Option<Plan>, AllocError>
     ensures { IfOk result (PlansRows (rows_of (found_of run.now))) }
 {
     let Some(workers) = workers_given(run) else {
+        return Ok(None);
+    };
+    let Some(watch) = watch_given(run) else {
         return Ok(None);
     };
     let Some(manifest) = run.get_str("MANIFEST") else {
@@ -141,7 +186,7 @@ fn run_plan(alloc: Global, run: &ArgMatches) -> Result<Option<Plan>, AllocError>
     };
     let manifest = String::from_str(alloc, manifest)?;
     let scenario = String::from_str(alloc, scenario)?;
-    Ok(Some(Plan::Run(workers, manifest, scenario)))
+    Ok(Some(Plan::Run(workers, watch, manifest, scenario)))
 }
 
 fn workers_given(run: &ArgMatches) -> Option<u8>
@@ -168,15 +213,43 @@ fn workers_in(word: &str) -> Option<u8>
     }
 }
 
-// That the number of workers is none: clap has refused each other word that is no number from 1 to 16.
-fn no_number(alloc: Global, matches: &ArgMatches) -> Error
+fn watch_given(run: &ArgMatches) -> Option<Watch>
+    ensures { ReadsWatch (rows_of (found_of run.now)) result }
+{
+    let Some(word) = run.get_str("watch") else {
+        return None;
+    };
+    watch_in(word)
+}
+
+// When sums are told, by the option's word.
+fn watch_in(word: &str) -> Option<Watch>
+    ensures { MatchOption result ((watch : Watch) → word.now ≡ watch_word watch → ⊥) (λ watch. word.now ≡ watch_word watch) }
+{
+    match word {
+        "never" => Some(Watch::Never),
+        "terminal" => Some(Watch::Terminal),
+        "lines" => Some(Watch::Lines),
+        _ => None,
+    }
+}
+
+// What is wrong with an option's word: clap has refused each other that is no number from 1 to 16.
+fn no_plan(alloc: Global, matches: &ArgMatches) -> Error
     ensures { IsValueFault result }
 {
-    let word = match matches.subcommand() {
-        Some((_, command)) => command.get_str("workers").unwrap_or(""),
-        None => "",
+    let (workers, watch) = match matches.subcommand() {
+        Some((_, run)) => (
+            run.get_str("workers").unwrap_or(""),
+            run.get_str("watch").unwrap_or(""),
+        ),
+        None => ("", ""),
     };
-    match number_fault(alloc, word) {
+    let fault = match workers_in(workers) {
+        None => number_fault(alloc, workers),
+        Some(_) => watch_fault(alloc, watch),
+    };
+    match fault {
         Ok(fault) => fault,
         Err(error) => Error::from(error),
     }
@@ -188,7 +261,22 @@ fn number_fault(alloc: Global, word: &str) -> Result<Error, AllocError>
     let text = format!(in alloc;
         "invalid value '{word}' for '--workers <N>': invalid digit found in string"
     )?;
+    run_fault(alloc, text.as_str())
+}
+
+fn watch_fault(alloc: Global, word: &str) -> Result<Error, AllocError>
+    ensures { IfOk result (λ e. kind_of e ≡ ErrorKind.ValueValidation) }
+{
+    let text = format!(in alloc;
+        "invalid value '{word}' for '--watch <WHEN>': it is `terminal` or `lines`"
+    )?;
+    run_fault(alloc, text.as_str())
+}
+
+fn run_fault(alloc: Global, text: &str) -> Result<Error, AllocError>
+    ensures { IfOk result (λ e. kind_of e ≡ ErrorKind.ValueValidation) }
+{
     run_command(alloc)?
         .bin_name("camr run")?
-        .error(ErrorKind::ValueValidation, text.as_str())
+        .error(ErrorKind::ValueValidation, text)
 }

@@ -3,16 +3,19 @@
 #![tactic(auto)]
 
 mod replacing;
+mod telling;
 
 ghost use Rattle.std.specs.Prelude.{◌≡◌, length, IfOk};
 ghost use Rattle.command_line.specs.Files.{input_paths};
 
 use crate::replacing::replace;
+use crate::telling::Telling;
 use command_line::{Plan, not_utf8, plan};
 use commands::{Fault, carry, report_usage};
-use std::io::{BufWriter, Write};
+use notices::Notices;
+use std::io::{BufWriter, Stderr, Write};
 use std::process::ExitCode;
-use std::rt::{Env, Files};
+use std::rt::{Clock, Env, Files};
 use std::sync::Wait;
 use std::thread::Threads;
 use std::{env, fs, io};
@@ -21,7 +24,7 @@ fn main(rt: HostRuntime) -> ExitCode {
     let mut err = rt.stderr();
     ExitCode::from(match BufWriter::new(rt.alloc(), io::writer(&rt)) {
         Ok(mut out) => {
-            let status = status(&rt, &mut out, &mut err);
+            let status = status(&rt, err, &mut out, &mut err);
             if out.flush().is_ok() { status } else { 2 }
         }
         Err(_) => Fault::OutOfMemory.report(&mut err),
@@ -29,8 +32,9 @@ fn main(rt: HostRuntime) -> ExitCode {
 }
 
 // Does what the words say, and answers the status to end with.
-fn status<R: Env + Files + AllocGlobal + Threads + Wait + Sync, W: Write, E: Write>(
+fn status<R: Clock + Env + Files + AllocGlobal + Threads + Wait + Sync, W: Write, E: Write>(
     rt: &R,
+    told: Stderr,
     out: &mut W,
     err: &mut E,
 ) -> u8 {
@@ -44,7 +48,7 @@ fn status<R: Env + Files + AllocGlobal + Threads + Wait + Sync, W: Write, E: Wri
     };
     match plan(rt.alloc(), words.as_slice()) {
         Ok(plan) => match read_inputs(rt, &plan) {
-            Ok(inputs) => carry_out(rt, &plan, &inputs, out, err),
+            Ok(inputs) => carry_out(rt, &plan, &inputs, &Telling::new(rt, told, &plan), out, err),
             Err(fault) => fault.report(err),
         },
         Err(fault) => report_usage(&fault, out, err),
@@ -52,20 +56,21 @@ fn status<R: Env + Files + AllocGlobal + Threads + Wait + Sync, W: Write, E: Wri
 }
 
 // Carries the plan out. What goes out goes into the plan's file, if it has one, where all went well.
-fn carry_out<R: Files + AllocGlobal + Threads + Wait + Sync, W: Write, E: Write>(
+fn carry_out<N: Notices + Sync, R: Files + AllocGlobal + Threads + Wait + Sync, W: Write, E: Write>(
     rt: &R,
     plan: &Plan,
     inputs: &[Vec<u8>],
+    notices: &N,
     out: &mut W,
     err: &mut E,
 ) -> u8
     requires { length inputs.now ≡ length (input_paths plan.now) }
 {
     let Some(path) = plan.output() else {
-        return carry(rt, rt.alloc(), plan, inputs, out, err);
+        return carry(rt, rt.alloc(), plan, inputs, notices, out, err);
     };
     let mut bytes = Vec::new(rt.alloc());
-    let status = carry(rt, rt.alloc(), plan, inputs, &mut bytes, err);
+    let status = carry(rt, rt.alloc(), plan, inputs, notices, &mut bytes, err);
     if status != 0 {
         return status;
     }

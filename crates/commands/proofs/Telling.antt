@@ -1,12 +1,13 @@
 -- What is told of a manifest that was not read.
-use Rattle.std.proofs.Common.{◌≡◌, ℕ, List, [], ◌∷◌, Some, get_or}
+use Rattle.std.proofs.Common.{◌≡◌, ◌⊎◌, ◌∙◌, ℕ, zero, suc, List, [], ◌∷◌, Some, get_or, length, arith, inl, inr}
+use Rattle.std.specs.List.{Contains}
 use Rattle.std.specs.Prelude.{slice_get}
 use Rattle.manifest.specs.Meaning.{HasFault}
 use Rattle.manifest.specs.declared.ManifestFault.{ManifestFault}
 use Rattle.or_memory.specs.declared.OrMemory.{OrMemory}
 use Rattle.or_memory.specs.declared.OrMemory.TheVariants.{OutOfMemory, Fault}
 use Rattle.commands.specs.Faults.{fault_of_manifest, status_of}
-use Rattle.commands.specs.Told.{IsFaultyManifest}
+use Rattle.commands.specs.Told.{IsAcceptedTrace, IsFaultyManifest, IsManifest}
 
 -- a fault of these bytes, where it is one
 abbrev pub IsTold : List ℕ → OrMemory ManifestFault → Type 0
@@ -22,3 +23,21 @@ refused_for_fault bytes (Fault fault) told refused = (fault, told)
 pub first_is : {X : Type 0} (xs : List X) (x y : X) → x ≡ get_or xs 0 x → slice_get xs 0 ≡ Some y → x ≡ y
 first_is [] x y read there = absurd cc
 first_is (z ∷ zs) x y read there = cc
+
+pub second_is : {X : Type 0} (xs : List X) (x y : X) → x ≡ get_or xs 1 x → slice_get xs 1 ≡ Some y → x ≡ y
+second_is [] x y read there = absurd cc
+second_is (z ∷ []) x y read there = absurd cc
+second_is (z ∷ w ∷ zs) x y read there = cc
+
+-- a trace that is accepted is so over a manifest
+pub over_manifest : (manifest text : List ℕ) → IsAcceptedTrace manifest text → IsManifest manifest
+over_manifest manifest text accepted = (accepted.0, accepted.1, accepted.3)
+
+-- of two that are read each is one
+pub one_of_two : {X : Type 0} (xs : List X) (a b y : X) → length xs ≡ 2 → a ≡ get_or xs 0 a → b ≡ get_or xs 1 b → Contains xs y → (a ≡ y) ⊎ (b ≡ y)
+one_of_two [] a b y two first second there = absurd (omega (arith, two))
+one_of_two (x ∷ []) a b y two first second there = absurd (omega (arith, two))
+one_of_two (x ∷ z ∷ []) a b y two first second (zero, lt, is) = inl (first ∙ is)
+one_of_two (x ∷ z ∷ []) a b y two first second (suc zero, lt, is) = inr (second ∙ is)
+one_of_two (x ∷ z ∷ []) a b y two first second (suc (suc k), lt, is) = absurd (omega (arith, lt))
+one_of_two (x ∷ z ∷ w ∷ rest) a b y two first second there = absurd (omega (arith, two))

@@ -9,7 +9,9 @@ use Rattle.scenario_host.specs.declared.host.RunFault.TheVariants as run
 use Rattle.manifest.specs.declared.ManifestFault.{ManifestFault}
 use Rattle.or_memory.specs.declared.OrMemory.{OrMemory}
 use Rattle.or_memory.specs.declared.OrMemory.TheVariants as part
+use Rattle.replay.specs.declared.fault.ReplayFault.{ReplayFault}
 use Rattle.scenario.specs.declared.reading.FaultyLine.{FaultyLine}
+use Rattle.trace.specs.declared.fault.TraceFault.{TraceFault}
 
 abbrev pub fault_of_text : OrMemory AsmFault → Fault
 fault_of_text part.OutOfMemory = fault.OutOfMemory
@@ -32,6 +34,14 @@ fault_of_run run.OutOfMemory = fault.OutOfMemory
 fault_of_run (run.NotHeld line) = fault.NotHeld line
 fault_of_run run.Unsettled = fault.Unsettled
 
+abbrev pub fault_of_trace : OrMemory TraceFault → Fault
+fault_of_trace part.OutOfMemory = fault.OutOfMemory
+fault_of_trace (part.Fault f) = fault.Trace f
+
+abbrev pub fault_of_replay : OrMemory ReplayFault → Fault
+fault_of_replay part.OutOfMemory = fault.OutOfMemory
+fault_of_replay (part.Fault f) = fault.Replay f
+
 -- 2 for memory, for files and for what cannot be, 1 for what is refused
 abbrev pub status_of : Fault → ℕ
 status_of fault.OutOfMemory = 2
@@ -41,4 +51,6 @@ status_of (fault.Program f) = 1
 status_of (fault.Manifest f) = 1
 status_of (fault.Line line) = 1
 status_of (fault.NotHeld line) = 1
+status_of (fault.Trace f) = 1
+status_of (fault.Replay f) = 1
 status_of fault.Unsettled = 2

@@ -1,5 +1,5 @@
 -- What the status of a plan tells of the first file that it reads.
-use Rattle.std.specs.Prelude.{ℕ, List}
+use Rattle.std.specs.Prelude.{◌≡◌, ℕ, List, Some}
 use Rattle.bpf_decode.specs.Spells.{Spells}
 use Rattle.bpf_decode.specs.FirstFault.{HasFault as HasDecodeFault}
 use Rattle.bpf_decode.specs.declared.fault.DecodeFault.{DecodeFault}
@@ -7,8 +7,11 @@ use Rattle.bpf_asm.specs.Assembly.{Says, HasFault as HasAsmFault}
 use Rattle.bpf_asm.specs.declared.fault.AsmFault.{AsmFault}
 use Rattle.manifest.specs.declared.ManifestFault.{ManifestFault}
 use Rattle.manifest.specs.Meaning.{Means, HasFault}
+use Rattle.calls.specs.declared.trace.Trace.{Trace}
+use Rattle.trace.specs.TraceText.{trace_text}
+use Rattle.world.specs.TotalsOf.{TotalsOf}
 use Rattle.command_line.specs.declared.plans.Plan.{Plan}
-use Rattle.command_line.specs.declared.plans.Plan.TheVariants.{Asm, Dis, Check, Run}
+use Rattle.command_line.specs.declared.plans.Plan.TheVariants.{Asm, Dis, Check, Run, Replay}
 
 -- the bytes are the text of a program, spell one, or are a manifest
 abbrev pub IsText : List ℕ → Type 0
@@ -35,11 +38,23 @@ abbrev pub IsAsAsked : Plan → List ℕ → Type 0
 IsAsAsked (Asm text program) bytes = IsText bytes
 IsAsAsked (Dis program) bytes = IsProgram bytes
 IsAsAsked (Check manifest) bytes = IsManifest bytes
-IsAsAsked (Run workers manifest scenario) bytes = IsManifest bytes
+IsAsAsked (Run workers watch manifest scenario) bytes = IsManifest bytes
+IsAsAsked (Replay manifest trace) bytes = IsManifest bytes
 
--- it has a fault; where a scenario is read too, the fault may be there
+-- it has a fault; where a scenario or a trace is read too, the fault may be there
 abbrev pub IsFaulty : Plan → List ℕ → Type 0
 IsFaulty (Asm text program) bytes = IsFaultyText bytes
 IsFaulty (Dis program) bytes = IsFaultyProgram bytes
 IsFaulty (Check manifest) bytes = IsFaultyManifest bytes
-IsFaulty (Run workers manifest scenario) bytes = Unit {0}
+IsFaulty (Run workers watch manifest scenario) bytes = Unit {0}
+IsFaulty (Replay manifest trace) bytes = Unit {0}
+
+-- The one text is a manifest, and the other the trace of a history of an engine of its setup, whose last line has its sums.
+abbrev pub IsAcceptedTrace : List ℕ → List ℕ → Type 0
+IsAcceptedTrace manifest text =
+    (setup : _) × (programs : _) × (trace : Trace) × Means manifest setup programs × (trace_text trace ≡ Some text) × TotalsOf setup trace.records.items trace.totals
+
+-- what a plan's second file is, beside the first, where the plan was carried out
+abbrev pub IsAccepted : Plan → List ℕ → List ℕ → Type 0
+IsAccepted (Replay manifest trace) first second = IsAcceptedTrace first second
+IsAccepted plan first second = Unit {0}

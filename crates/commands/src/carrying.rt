@@ -1,21 +1,23 @@
-// A plan, carried out over the bytes of its files. It relies on the crates that read a manifest and a scenario,
-// on `scenario_host`, and on `trace` and `verdicts` for what goes out.
+// A plan, carried out over the bytes of its files. It relies on the crates that read a manifest, a scenario and a trace,
+// on `scenario_host` and `replay`, and on `trace` and `verdicts` for what goes out.
 
 ghost use Rattle.std.specs.Prelude.{◌≡◌, ◌≤◌, true, Contains, Some, IfOk, IfErr, IsErrAnd, IsUtf8, MatchResult, length, slice_get};
 ghost use Rattle.command_line.specs.Files.{input_paths, reads_text};
 ghost use Rattle.workers.specs.declared.serving.TheConstants.{MAX_WORKERS};
 ghost use Rattle.commands.specs.Faults.{status_of};
-ghost use Rattle.commands.specs.Told.{IsText, IsProgram, IsManifest, IsFaultyText, IsFaultyProgram, IsFaultyManifest, IsAsAsked, IsFaulty};
+ghost use Rattle.commands.specs.Told.{IsText, IsProgram, IsManifest, IsFaultyText, IsFaultyProgram, IsFaultyManifest, IsAsAsked, IsAccepted, IsAcceptedTrace, IsFaulty};
 
 use crate::fault::Fault;
+use crate::handing::Handing;
 use crate::verdicts;
 use bpf_asm::{assemble, disassemble};
 use bpf_decode::{decode, encode};
 use calls::Trace;
 use command_line::Plan;
 use manifest::Manifest;
+use notices::Notices;
+use replay::replay;
 use std::alloc::Global;
-use std::io;
 use std::io::Write;
 use std::sync::Wait;
 use std::thread::Threads;
@@ -23,12 +25,14 @@ use workers::MAX_WORKERS;
 
 /// Carries a plan out over the bytes of its input files, in the order of the line, and answers the status:
 /// 0 done; 1 refused; 2 for a file that is to be text and is not UTF-8, for want of memory, or where a writer fails. What is to
-/// go out is written on `out`, and one line for a fault on `err`; where there is a fault, nothing goes out.
-pub fn carry<R: Threads + Wait + Sync, W: Write, E: Write>(
+/// go out is written on `out`, and one line for a fault on `err`; where there is a fault, nothing goes out. How far a run or a replay
+/// is, is told where that is wanted.
+pub fn carry<N: Notices + Sync, R: Threads + Wait + Sync, W: Write, E: Write>(
     rt: &R,
     alloc: Global,
     plan: &Plan,
     inputs: &[Vec<u8>],
+    notices: &N,
     out: &mut W,
     err: &mut E,
 ) -> u8
@@ -37,7 +41,9 @@ pub fn carry<R: Threads + Wait + Sync, W: Write, E: Write>(
     ensures no_text { reads_text plan.now ≡ true → (input : _) → Contains inputs.now input → ¬ (IsUtf8 input.items) → result ≡ 2 }
     // Done only where the first file is what the plan asks for.
     ensures done { result ≡ 0 → (input : _) → slice_get inputs.now 0 ≡ Some input → IsAsAsked plan.now input.items }
-    // Refused only where it has a fault, or a scenario behind it has one.
+    // A replay is done only where the second file is the trace of a history of an engine of the first.
+    ensures accepted { result ≡ 0 → (first second : _) → slice_get inputs.now 0 ≡ Some first → slice_get inputs.now 1 ≡ Some second → IsAccepted plan.now first.items second.items }
+    // Refused only where it has a fault, or a scenario or a trace behind it has one.
     ensures refused { result ≡ 1 → (input : _) → slice_get inputs.now 0 ≡ Some input → IsFaulty plan.now input.items }
 {
     match plan {
@@ -56,17 +62,22 @@ pub fn carry<R: Threads + Wait + Sync, W: Write, E: Write>(
                 Err(fault) => fault.report(err),
             }
         }
-        Plan::Run(workers, manifest, scenario) => {
+        Plan::Run(workers, _, manifest, scenario) => {
             let manifest = (manifest.as_str(), inputs[0].as_slice());
             let scenario = (scenario.as_str(), inputs[1].as_slice());
             let workers = usize::from(*workers).clamp(1, MAX_WORKERS);
-            print_run(rt, alloc, workers, manifest, scenario, out, err)
+            print_run(rt, alloc, workers, manifest, scenario, notices, out, err)
+        }
+        Plan::Replay(manifest, trace) => {
+            let manifest = (manifest.as_str(), inputs[0].as_slice());
+            let trace = (trace.as_str(), inputs[1].as_slice());
+            print_replay(alloc, manifest, trace, notices, out, err)
         }
     }
 }
 
 // What is to go out went out, or a writer failed.
-fn status(written: io::Result<()>) -> u8
+fn status<E: Drop>(written: Result<(), E>) -> u8
     ensures { MatchResult written (λ _. result ≡ 0) (λ _. result ≡ 2) }
 {
     match written {
@@ -104,12 +115,13 @@ fn check<'a>(alloc: Global, file: (&'a str, &[u8])) -> Result<Manifest, Fault<'a
 }
 
 // Prints the trace of a manifest and a scenario, each a path and its bytes, run by so many workers, and answers the status.
-fn print_run<R: Threads + Wait + Sync, W: Write, E: Write>(
+fn print_run<N: Notices + Sync, R: Threads + Wait + Sync, W: Write, E: Write>(
     rt: &R,
     alloc: Global,
     workers: usize,
     manifest: (&str, &[u8]),
     scenario: (&str, &[u8]),
+    notices: &N,
     out: &mut W,
     err: &mut E,
 ) -> u8
@@ -119,19 +131,20 @@ fn print_run<R: Threads + Wait + Sync, W: Write, E: Write>(
     ensures scenario { ¬ (IsUtf8 scenario.entry.1.now) → result ≡ 2 }
     ensures done { result ≡ 0 → IsManifest manifest.entry.1.now }
 {
-    match run(rt, alloc, workers, manifest, scenario) {
-        Ok(trace) => status(trace::print(&trace, out)),
+    match run(rt, alloc, workers, manifest, scenario, notices) {
+        Ok(trace) => status(trace::print(&trace, &mut Handing::new(out))),
         Err(fault) => fault.report(err),
     }
 }
 
 // The trace of a manifest and a scenario, each a path and its bytes, run by so many workers.
-fn run<'a, R: Threads + Wait + Sync>(
+fn run<'a, N: Notices + Sync, R: Threads + Wait + Sync>(
     rt: &R,
     alloc: Global,
     workers: usize,
     manifest: (&'a str, &[u8]),
     scenario: (&'a str, &[u8]),
+    notices: &N,
 ) -> Result<Trace, Fault<'a>>
     requires { (1 ≤ workers) × (workers ≤ MAX_WORKERS) }
     ensures manifest { ¬ (IsUtf8 manifest.entry.1.now) → IsErrAnd result (λ e. status_of e ≡ 2) }
@@ -142,7 +155,45 @@ fn run<'a, R: Threads + Wait + Sync>(
     let scenario = text(scenario)?;
     let manifest = manifest::read(alloc, manifest)?;
     let steps = scenario::read(alloc, scenario)?;
-    Ok(scenario_host::run(rt, alloc, manifest.config, &steps, workers)?)
+    Ok(scenario_host::run(rt, alloc, manifest.config, &steps, workers, notices)?)
+}
+
+// Prints that a trace is accepted, over a manifest, each a path and its bytes, and answers the status.
+fn print_replay<N: Notices, W: Write, E: Write>(
+    alloc: Global,
+    manifest: (&str, &[u8]),
+    trace: (&str, &[u8]),
+    notices: &N,
+    out: &mut W,
+    err: &mut E,
+) -> u8
+    ensures status { result ≤ 2 }
+    ensures manifest { ¬ (IsUtf8 manifest.entry.1.now) → result ≡ 2 }
+    ensures trace { ¬ (IsUtf8 trace.entry.1.now) → result ≡ 2 }
+    ensures done { result ≡ 0 → IsAcceptedTrace manifest.entry.1.now trace.entry.1.now }
+{
+    match replayed(alloc, manifest, trace, notices) {
+        Ok(()) => status(out.write_all(b"accepted\n")),
+        Err(fault) => fault.report(err),
+    }
+}
+
+// Whether a trace is accepted, over a manifest, each a path and its bytes.
+fn replayed<'a, N: Notices>(
+    alloc: Global,
+    manifest: (&'a str, &[u8]),
+    trace: (&'a str, &[u8]),
+    notices: &N,
+) -> Result<(), Fault<'a>>
+    ensures manifest { ¬ (IsUtf8 manifest.entry.1.now) → IsErrAnd result (λ e. status_of e ≡ 2) }
+    ensures trace { ¬ (IsUtf8 trace.entry.1.now) → IsErrAnd result (λ e. status_of e ≡ 2) }
+    ensures done { IfOk result (λ _. IsAcceptedTrace manifest.entry.1.now trace.entry.1.now) }
+{
+    let manifest = text(manifest)?;
+    let trace = text(trace)?;
+    let manifest = manifest::read(alloc, manifest)?;
+    let trace = trace::read(alloc, trace)?;
+    Ok(replay(alloc, &manifest.config, &trace, notices)?)
 }
 
 fn text<'a, 'b>(file: (&'a str, &'b [u8])) -> Result<&'b str, Fault<'a>>

@@ -1,16 +1,18 @@
 // Why a plan was not carried out, as a line for the user and as a status. It relies on the faults of the parts.
 
 ghost use Rattle.std.specs.Prelude.{◌≡◌, ◌≤◌, ◌⊎◌};
-ghost use Rattle.commands.specs.Faults.{fault_of_manifest, fault_of_program, fault_of_run, fault_of_scenario, fault_of_text, status_of};
+ghost use Rattle.commands.specs.Faults.{fault_of_manifest, fault_of_program, fault_of_replay, fault_of_run, fault_of_scenario, fault_of_text, fault_of_trace, status_of};
 
 use bpf_asm::{AsmError, AsmFault};
 use bpf_decode::{DecodeError, DecodeFault};
 use manifest::{ManifestError, ManifestFault};
 use or_memory::OrMemory;
+use replay::{ReplayError, ReplayFault};
 use scenario::{FaultyLine, ScenarioError};
 use scenario_host::RunFault;
 use std::io::Write;
 use thiserror::Error;
+use trace::{TraceError, TraceFault};
 
 /// Why a plan was not carried out.
 #[derive(Debug, Drop, Error)]
@@ -34,6 +36,12 @@ pub enum Fault<'a> {
     /// That line of the scenario gives back a freeze whose token is not held.
     #[error("N2 at {0}")]
     NotHeld(usize),
+    /// The text is no trace.
+    #[error("{0}")]
+    Trace(TraceFault),
+    /// The trace is no history of an engine of the manifest.
+    #[error("{0}")]
+    Replay(ReplayFault),
     /// A scenario was not carried out to its end, which cannot be.
     #[error("unsettled")]
     Unsettled,
@@ -50,7 +58,9 @@ impl Fault<'_> {
             | Fault::Program(_)
             | Fault::Manifest(_)
             | Fault::Line(_)
-            | Fault::NotHeld(_) => 1,
+            | Fault::NotHeld(_)
+            | Fault::Trace(_)
+            | Fault::Replay(_) => 1,
         }
     }
 
@@ -119,6 +129,28 @@ impl<'a> From<RunFault> for Fault<'a> {
             RunFault::OutOfMemory => Fault::OutOfMemory,
             RunFault::NotHeld(line) => Fault::NotHeld(line),
             RunFault::Unsettled => Fault::Unsettled,
+        }
+    }
+}
+
+impl<'a> From<TraceError> for Fault<'a> {
+    ghost from_gives = { λ error fault. fault ≡ fault_of_trace error };
+
+    fn from(error: TraceError) -> Self {
+        match error {
+            OrMemory::OutOfMemory => Fault::OutOfMemory,
+            OrMemory::Fault(fault) => Fault::Trace(fault),
+        }
+    }
+}
+
+impl<'a> From<ReplayError> for Fault<'a> {
+    ghost from_gives = { λ error fault. fault ≡ fault_of_replay error };
+
+    fn from(error: ReplayError) -> Self {
+        match error {
+            OrMemory::OutOfMemory => Fault::OutOfMemory,
+            OrMemory::Fault(fault) => Fault::Replay(fault),
         }
     }
 }

@@ -4,9 +4,11 @@
 
 mod carrying;
 mod fault;
+mod handing;
 mod usage;
 mod verdicts;
 
 pub use carrying::carry;
 pub use fault::Fault;
+pub use handing::Handing;
 pub use usage::report_usage;

@@ -1,0 +1,79 @@
+// Who is told on standard error how far a run or a replay is. It relies on `notices` for what there is to tell.
+
+use command_line::{Plan, Watch};
+use notices::{Notice, Notices};
+use std::io::{IsTerminal, Stderr, Write};
+use std::rt::Clock;
+use std::sync::atomic::{AtomicU64, Ordering};
+use std::time::Duration;
+
+/// How long it is silent, in milliseconds: at first, and after each notice.
+const SILENCE: u64 = 500;
+
+/// Tells on standard error, at most twice a second, where that is wanted.
+#[derive(Drop)]
+pub struct Telling<'a, C: Clock> {
+    clock: &'a C,
+    err: Stderr,
+    is_on: bool,
+    // when the next notice may be, in milliseconds of the clock
+    due: AtomicU64,
+}
+
+impl<'a, C: Clock> Telling<'a, C> {
+    /// For this plan: a run tells when its line says so, and a replay where standard error is a terminal.
+    pub fn new(clock: &'a C, err: Stderr, plan: &Plan) -> Self {
+        let is_on = match plan {
+            Plan::Run(_, Watch::Lines, _, _) => true,
+            Plan::Run(_, Watch::Terminal, _, _) | Plan::Replay(..) => err.is_terminal(),
+            Plan::Run(_, Watch::Never, _, _) | Plan::Asm(..) | Plan::Dis(_) | Plan::Check(_) =>
+                false,
+        };
+        let due = match clock.monotonic() {
+            Ok(now) => milliseconds(now).saturating_add(SILENCE),
+            Err(_) => 0,
+        };
+        Telling {
+            clock,
+            err,
+            is_on,
+            due: AtomicU64::new(due),
+        }
+    }
+}
+
+fn milliseconds(time: Duration) -> u64 {
+    time.as_secs()
+        .saturating_mul(1000)
+        .saturating_add(u64::from(time.subsec_millis()))
+}
+
+impl<'a, C: Clock> Notices for Telling<'a, C> {
+    // Of threads that ask at one time one is told so.
+    fn is_wanted(&self) -> bool {
+        if !self.is_on {
+            return false;
+        }
+        let Ok(now) = self.clock.monotonic() else {
+            return false;
+        };
+        let now = milliseconds(now);
+        let due = self.due.load(Ordering::Relaxed);
+        due <= now
+            && self
+                .due
+                .compare_exchange(
+                    due,
+                    now.saturating_add(SILENCE),
+                    Ordering::Relaxed,
+                    Ordering::Relaxed,
+                )
+                .is_ok()
+    }
+
+    // What cannot be written is not told.
+    fn tell(&self, notice: Notice) {
+        let mut err = &self.err;
+        let _ = writeln!(err, "camr: {notice}");
+    }
+}

@@ -1,20 +1,15 @@
-// What no command shows: writers that fail, memory that is refused, and records that no scenario makes yet.
+// What no command shows: writers that fail, and memory that is refused.
 // Expected texts are worked out by hand.
 
-use calls::{Call, CallAnswer, CompletionRecord, Record, StoppedAt, Totals, Trace, TracedBytes};
-use ccb::{CamStatus, CcbId, Completion};
-use chunked_list::ChunkedList;
-use command_line::Plan;
+use command_line::{Plan, Watch};
 use commands::carry;
-use helpers::Helper;
-use short_bytes::ShortBytes;
+use notices::Silent;
 use std::alloc::{AllocError, Global};
 use std::io;
 use std::io::Write;
 use std::sync::Wait;
 use std::test::Fail;
 use std::thread::Threads;
-use trace::print;
 
 // The two paths have 5 and 7 instructions: jeq r2, 0, +2; mov64 r1, r2; call 2; mov64 r1, 1; call 4;
 // mov64 r0, 0; exit.
@@ -74,15 +69,42 @@ fn run<R: Threads + Wait + Sync, W: Write, E: Write>(
 ) -> Result<u8, AllocError> {
     let plan = Plan::Run(
         1,
+        Watch::Never,
         String::from_str(alloc, "m.toml")?,
         String::from_str(alloc, "s.txt")?,
     );
+    carried(rt, alloc, &plan, scenario, out, err)
+}
+
+// The status of a replay of the trace over the manifest.
+fn replay<R: Threads + Wait + Sync, W: Write, E: Write>(
+    rt: &R,
+    alloc: Global,
+    out: &mut W,
+    err: &mut E,
+) -> Result<u8, AllocError> {
+    let plan = Plan::Replay(
+        String::from_str(alloc, "m.toml")?,
+        String::from_str(alloc, "t.txt")?,
+    );
+    carried(rt, alloc, &plan, TRACE, out, err)
+}
+
+// The status of a plan over the manifest and a second file.
+fn carried<R: Threads + Wait + Sync, W: Write, E: Write>(
+    rt: &R,
+    alloc: Global,
+    plan: &Plan,
+    second: &str,
+    out: &mut W,
+    err: &mut E,
+) -> Result<u8, AllocError> {
     let inputs = vec![in alloc;
         MANIFEST.as_bytes().to_vec(alloc)?,
-        scenario.as_bytes().to_vec(alloc)?,
+        second.as_bytes().to_vec(alloc)?,
     ]?;
-    Ok(if inputs.len() == 2 {
-        carry(rt, alloc, &plan, &inputs, out, err)
+    Ok(if inputs.len() == plan.input_count() {
+        carry(rt, alloc, plan, &inputs, &Silent, out, err)
     } else {
         2
     })
@@ -145,47 +167,27 @@ fn memory_refused_once(rt: HostRuntime) -> Result<(), Fail> {
     Ok(())
 }
 
-// Sense bytes, and the greatest numbers.
+// Where a replay is refused memory it says so and nothing goes out, and the same again is accepted. Which allocation is refused is
+// set from outside, as above.
 #[test]
-fn records_of_no_scenario(rt: HostRuntime) -> Result<(), Fail> {
+fn replay_refused_memory_once(rt: HostRuntime) -> Result<(), Fail> {
     let alloc = rt.alloc();
-    let sense = [0x70, 0, 6, 10];
-    let completion = Completion::new(CcbId(1), CamStatus::ScsiStatusError, 2, &sense);
-    let completion = completion.ok_or("no completion")?;
-    let bytes = ShortBytes::new(&[0, 255]).ok_or("no bytes")?;
-    let started = Record::Called {
-        call: Call::Complete {
-            completion: CompletionRecord::new(alloc, &completion)?,
-        },
-        answer: CallAnswer::Started { run: 1, freeze: 1 },
-    };
-    let ended = Record::Advance {
-        run: 4294967295,
-        instructions: 65536,
-        stop: StoppedAt::Exit,
-        r0: 18446744073709551615,
-    };
-    let traced = Record::Advance {
-        run: 2,
-        instructions: 1,
-        stop: StoppedAt::Trace(Helper::Trace, TracedBytes::new(alloc, bytes)?),
-        r0: 0,
-    };
-    let mut records = ChunkedList::with_room(alloc)?;
-    records.push_reserved(started);
-    records.push_reserved(traced);
-    records.push_reserved(ended);
-    let totals = Totals {
-        history: 3,
-        frozen: 1024,
-        active: 4096,
-        runs: 256,
-    };
     let mut out = Vec::new(alloc);
-    print(&Trace { records, totals }, &mut out)?;
-    let text = "camr-trace 1\ncomplete 1 0c 02 7000060a = run 1 freeze 1\n\
-        advance 2 1 helper 10 00ff = 0\n\
-        advance 4294967295 65536 exit = 18446744073709551615\nend 3 1024 4096 256\n";
-    assert_eq!(rt; out.as_slice(), text.as_bytes());
+    let mut err = Vec::new(alloc);
+    if let Ok(status) = replay(&rt, alloc, &mut out, &mut err)
+        && status != 0
+    {
+        assert_eq!(rt; status, 2);
+        assert_eq!(rt; out.len(), 0);
+        if !err.is_empty() {
+            assert_eq!(rt; err.as_slice(), "camr: out of memory\n".as_bytes());
+        }
+    }
+    let mut again = Vec::new(alloc);
+    let mut none = Vec::new(alloc);
+    let status = replay(&rt, alloc, &mut again, &mut none)?;
+    assert_eq!(rt; status, 0);
+    assert_eq!(rt; again.as_slice(), "accepted\n".as_bytes());
+    assert_eq!(rt; none.len(), 0);
     Ok(())
 }

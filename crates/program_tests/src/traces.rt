@@ -1,6 +1,7 @@
 // Texts that are traces are printed again as they stood, and of others the first faulty line is told. Where all else of a text is in
 // order, its line alone stands here. The texts are worked out by hand.
 
+use commands::Handing;
 use or_memory::OrMemory;
 use std::alloc::{AllocError, Global};
 use std::io::Write;
@@ -197,7 +198,11 @@ const TEXTS: [(&str, &str); 22] = [
 fn told(alloc: Global, text: &str) -> Result<Vec<u8>, Fail> {
     let mut out = Vec::new(alloc);
     match read(alloc, text) {
-        Ok(trace) => print(&trace, &mut out)?,
+        Ok(trace) => {
+            if print(&trace, &mut Handing::new(&mut out)).is_err() {
+                return Err(Fail::from(AllocError));
+            }
+        }
         Err(OrMemory::Fault(fault)) => write!(out, "{fault}")?,
         Err(OrMemory::OutOfMemory) => return Err(Fail::from(AllocError)),
     }

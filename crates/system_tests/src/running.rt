@@ -5,6 +5,7 @@ ghost use Rattle.command_line.specs.Files.{input_paths};
 
 use command_line::{Plan, not_utf8, plan};
 use commands::{Fault, carry, report_usage};
+use notices::Silent;
 use std::alloc::{AllocError, Global};
 use std::sync::Wait;
 use std::thread::Threads;
@@ -21,7 +22,7 @@ pub fn run<R: Threads + Wait + Sync>(
     let status = match words_of(alloc, case)? {
         Some(words) => match plan(alloc, words.as_slice()) {
             Ok(plan) => match read_inputs(alloc, &plan, case) {
-                Ok(inputs) => carry(rt, alloc, &plan, &inputs, &mut out, &mut err),
+                Ok(inputs) => carry(rt, alloc, &plan, &inputs, &Silent, &mut out, &mut err),
                 Err(fault) => fault.report(&mut err),
             },
             Err(fault) => report_usage(&fault, &mut out, &mut err),

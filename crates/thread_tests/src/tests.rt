@@ -5,3 +5,4 @@ mod passes;
 mod services;
 mod serving;
 mod sharing;
+mod watching;

@@ -69,7 +69,7 @@ struct Course {
 }
 
 // An inbox with room for 16, with its one pass to put, and so many to take.
-fn open<R: Abort + Wait>(
+pub fn open<R: Abort + Wait>(
     rt: &R,
     alloc: Global,
     seats: usize,
@@ -82,7 +82,13 @@ fn open<R: Abort + Wait>(
 }
 
 // Puts a completion of the CCB of that number.
-fn put<R: Abort + Wait>(rt: &R, inbox: &Inbox, puts: &mut Vec<PutPass>, ccb: u32, status: CamStatus)
+pub fn put<R: Abort + Wait>(
+    rt: &R,
+    inbox: &Inbox,
+    puts: &mut Vec<PutPass>,
+    ccb: u32,
+    status: CamStatus,
+)
     requires { (vec_len puts.old ≡ 1) × All (IsOf inbox.now) puts.old.items }
     ensures { (vec_len puts.new ≡ 1) × All (IsOf inbox.now) puts.new.items }
 {
@@ -94,7 +100,7 @@ fn put<R: Abort + Wait>(rt: &R, inbox: &Inbox, puts: &mut Vec<PutPass>, ccb: u32
 }
 
 // A seat for each pass.
-fn seated<B: Object, R: Abort + Wait>(
+pub fn seated<B: Object, R: Abort + Wait>(
     rt: &R,
     alloc: Global,
     shared: &Shared<B>,
@@ -117,7 +123,7 @@ fn seated<B: Object, R: Abort + Wait>(
 }
 
 // The engine, when its callers are back. The inbox is let go.
-fn close<B: Object, R: Abort + Wait>(
+pub fn close<B: Object, R: Abort + Wait>(
     rt: &R,
     alloc: Global,
     shared: Shared<B>,
@@ -137,7 +143,7 @@ fn close<B: Object, R: Abort + Wait>(
 }
 
 // Lets the passes go.
-fn dismiss(mut puts: Vec<PutPass>) {
+pub fn dismiss(mut puts: Vec<PutPass>) {
     while let Some(pass) = puts.pop() {
         pass.forfeit();
     }

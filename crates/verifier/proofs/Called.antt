@@ -1,5 +1,5 @@
 -- A local call: what is called is sound from what is known there, and what comes back is known behind the call.
-use Rattle.std.proofs.Common.{◌≡◌, true, false, ℕ, ℤ, ◌+◌, ◌<◌, ◌≤◌, List, [], ◌∷◌, ◌++◌, length, Option, Some, refl, ap, sym, subst, ◌∙◌, arith, inl, inr}
+use Rattle.std.proofs.Common.{◌≡◌, true, false, ℕ, ℤ, ◌+◌, ◌<◌, ◌≤◌, List, [], ◌∷◌, ◌++◌, length, Option, Some, None, refl, ap, sym, subst, ◌∙◌, arith, inl, inr}
 use Rattle.std.specs.Option.{option_and_then}
 use Rattle.std.specs.List.{Contains}
 use Rattle.std.proofs.lemmas.Bool.{cases_eq}
@@ -27,13 +27,15 @@ use Rattle.verifier.specs.Checks.{returns_of}
 use Rattle.verifier.specs.Function.{AreDone, IsLawfulProgram, IsOwn, Stands}
 use Rattle.verifier.specs.Goes.{FunctionIsSound, IsBack, IsCallVisited, IsChecked, IsLeft, IsVisited, StaysWell}
 use Rattle.verifier.specs.OnTheWay.{IsChain}
-use Rattle.verifier.specs.Table.{Table, described, HasComeBack, IsKnown}
+use Rattle.verifier.specs.Table.{AllHave, Grows, HasJoined, Table, described, IsKnown}
+use Rattle.verifier.proofs.Joined.{same_description}
+use Rattle.verifier.proofs.Passed.{IsTaken, carried, carry}
 use Rattle.verifier.proofs.Led.{described_so}
 use Rattle.verifier.proofs.OnItsWay.{callee_own, chain_back, chain_called, local_call, room_left}
 use Rattle.verifier.proofs.Checks.{all_under, opened_inside, under_from, under_length, under_once, under_returns, under_there}
-use Rattle.verifier.proofs.Sound.{well_so}
+use Rattle.verifier.proofs.Sound.{inside_table, well_so}
 use Rattle.verifier.proofs.Steps.{enters}
-use Rattle.verifier.proofs.Visited.{HasVisited, checked_among, same_widens}
+use Rattle.verifier.proofs.Visited.{HasVisited, checked_among, known_as, same_widens}
 
 -- the local call at a place
 pub call_at : (program : List Slot) (place callee : ℕ) → begins program place ≡ true → callee_at program place ≡ Some callee → (distance : ℤ) × (insn_at program place ≡ Some (Call (Local distance))) × (target place distance ≡ callee)
@@ -125,6 +127,32 @@ call_visited limits program callers saved d entry place callee left before after
   sound = call_sound limits program callers saved d entry place callee left is.checks known is.sound;
 }
 
+-- What comes back from a function that was called, if anything does, was joined into a table.
+pub record HasComeBack (before : Table) (to : ℕ) (back : Option Description) (after : Table) : Type 0 where
+  pub whole : length after ≡ length before
+  pub others : (at : ℕ) → (at ≡ to → ⊥) → described after at ≡ described before at
+  pub grows : Grows before after
+  pub here : (d : Description) → back ≡ Some d → (callers : List SavedRegisters) (m : MachineState) → Describes callers d m → IsKnown callers after to m
+  pub frames : (frames : ℕ) → ((d : Description) → back ≡ Some d → length d.stack ≡ frames) → AllHave frames before → AllHave frames after
+
+pub came_back : (before : Table) (to : ℕ) (back : Description) (after : Table) → length after ≡ length before → HasJoined before to back after → HasComeBack before to (Some back) after
+came_back before to back after whole joined = record {
+  whole = whole;
+  others = joined.others;
+  grows = joined.grows;
+  here = λ d is callers m holds. joined.here callers m (subst (λ (x : Description). Describes callers x m) (sym (same_description back d is)) holds);
+  frames = λ frames new all. joined.frames frames (new back refl) all;
+}
+
+pub none_came : (table : Table) (to : ℕ) → HasComeBack table to None table
+none_came table to = record {
+  whole = refl;
+  others = λ at apart. refl;
+  grows = λ callers at m known. known;
+  here = λ d is callers m holds. absurd (let bad : None ≡ Some d = is in cc);
+  frames = λ frames new all. all;
+}
+
 back_stands : (callers : List SavedRegisters) (start : ℕ) (before : Table) (at : ℕ) (back : Option Description) (after : Table) (calls : List OpenCall) → HasComeBack before (at + 1) back after → (m : MachineState) → IsBack callers back (start + at + 1) calls m → Stands callers calls start after m
 back_stands callers start before at back after calls come m is = record {
   at = at + 1;
@@ -133,46 +161,54 @@ back_stands callers start before at back after calls come m is = record {
   calls_are = is.calls_are;
 }
 
+-- what comes back is known behind the call alone
+pub behind_alone : (before : Table) (at : ℕ) (back : Option Description) (after : Table) → HasComeBack before (at + 1) back after → (k : ℕ) → k ≤ at → described after k ≡ described before k
+behind_alone before at back after come k le = come.others k (λ same. omega (arith, same, le))
+
 -- a place where a function is called is done with
-pub visited_call : (limits : HelperLimits) (program : List Slot) (callers : List SavedRegisters) (start : ℕ) (before : Table) (left : Option Description) (at : ℕ) (insn : Insn) (callee : ℕ) (d : Description) (back : Option Description) (after : Table) (checks more : List Standing) → IsLawfulProgram program → insn_at program (start + at) ≡ Some insn → callee_in (start + at) insn ≡ Some callee → described before at ≡ Some d → AreDone limits program callers start before left checks at → ((limits : HelperLimits) (distance : ℤ) → NeverStuck limits callers (Call (Local distance)) d) → ((distance : ℤ) (m m' : MachineState) → Describes callers d m → m.place ≡ start + at → target (start + at) distance ≡ callee → StepsBy m (Call (Local distance)) m' → (n : ℕ) → StaysWell program (IsChecked limits program more m.open_calls) (IsBack callers back (start + at + 1) m.open_calls) n m') → ((there : Description) → back ≡ Some there → length there.stack ≡ length callers + 1) → length after ≡ length before → HasComeBack before (at + 1) back after → HasVisited limits program callers start before left at insn after left (checks ++ (outermost (start + at) ∷ more))
-visited_call limits program callers start before left at insn callee d back after checks more lawful here leads there are unstuck sound frames whole come =
+pub visited_call : (limits : HelperLimits) (program : List Slot) (callers : List SavedRegisters) (start : ℕ) (all : Table) (left : Option Description) (at : ℕ) (insn : Insn) (callee : ℕ) (d : Description) (back : Option Description) (before after : Table) (checks more : List Standing) → IsLawfulProgram program → insn_at program (start + at) ≡ Some insn → callee_in (start + at) insn ≡ Some callee → described all at ≡ Some d → AreDone limits program callers start all left checks at → IsTaken all at before → ((limits : HelperLimits) (distance : ℤ) → NeverStuck limits callers (Call (Local distance)) d) → ((distance : ℤ) (m m' : MachineState) → Describes callers d m → m.place ≡ start + at → target (start + at) distance ≡ callee → StepsBy m (Call (Local distance)) m' → (n : ℕ) → StaysWell program (IsChecked limits program more m.open_calls) (IsBack callers back (start + at + 1) m.open_calls) n m') → ((there : Description) → back ≡ Some there → length there.stack ≡ length callers + 1) → HasComeBack before (at + 1) back after → HasVisited limits program callers start all left at insn (carried at all after) left (checks ++ (outermost (start + at) ∷ more))
+visited_call limits program callers start all left at insn callee d back before after checks more lawful here leads there are taken unstuck sound frames come =
     let call = local_call (start + at) callee insn leads in
     let call_here : insn_at program (start + at) ≡ Some (Call (Local call.0)) = here ∙ ap Some call.1 in
     let own = are.own at d there in
     let next = further_behind program (start + at) (Call (Local call.0)) lawful.0 lawful.1.frames.calls.functions call_here refl in
     let slot : start + at + 1 ≡ start + (at + 1) = omega arith in
-    let kept : (k : ℕ) → k ≤ at → described after k ≡ described before k = λ k le. come.others k (λ same. omega (arith, same, le)) in
-    let all = come.frames (length callers + 1) frames (λ k e is. (are.own k e is).frames) in
+    let carries = carry all before after at (inside_table all at d there) taken come.whole come.grows (behind_alone before at back after come) in
+    let so : (m : MachineState) → IsKnown callers (carried at all after) at m → Describes callers d m = λ m known. described_so callers all at d m there (known_as callers (carried at all after) all at m (sym (carries.kept at (omega arith))) known) in
+    let deep = come.frames (length callers + 1) frames (λ k e is. (are.own k e (taken.known k e is)).frames) in
     record {
-      whole = whole;
-      grows = come.grows;
+      whole = carries.whole;
+      grows = carries.grows;
       widens = same_widens left;
-      kept = kept;
-      own = λ k e is. elim (cases_eq k (at + 1)) [
-        | inl same ↦
-            let place : start + at + 1 ≡ start + k = omega (arith, same) in
-            record {
-              begun = subst (λ (n : ℕ). begins program n ≡ true) place next.there;
-              within = subst (λ (n : ℕ). function_of program n ≡ start) place (next.within ∙ own.within);
-              frames = all k e is;
-              chain = subst (IsChain program (length callers)) place (chain_back program (length callers) (start + at) call.0 lawful call_here own.chain);
-            }
-        | inr other ↦ are.own k e (sym (come.others k other) ∙ is)
+      kept = carries.kept;
+      own = λ k e is. elim (carries.of k e is) [
+        | inl was ↦ are.own k e was
+        | inr now ↦ elim (cases_eq k (at + 1)) [
+          | inl same ↦
+              let place : start + at + 1 ≡ start + k = omega (arith, same) in
+              record {
+                begun = subst (λ (n : ℕ). begins program n ≡ true) place next.there;
+                within = subst (λ (n : ℕ). function_of program n ≡ start) place (next.within ∙ own.within);
+                frames = deep k e now;
+                chain = subst (IsChain program (length callers)) place (chain_back program (length callers) (start + at) call.0 lawful call_here own.chain);
+              }
+          | inr other ↦ are.own k e (taken.known k e (sym (come.others k other) ∙ now))
+        ]
       ];
       left_frames = are.left_frames;
       done = record {
         unstuck = λ m known.
-            let was : IsKnown callers before at m = record { description = known.description; there = sym (kept at (omega arith)) ∙ known.there; holds = known.holds } in
-            let stuck = unstuck limits call.0 m (described_so callers before at d m there was) in
+            let stuck = unstuck limits call.0 m (so m known) in
             subst (λ (i : Insn). insn_is_stuck limits m i ≡ false) (sym call.1) stuck;
         follows = λ m m' place known step.
-            let was : IsKnown callers before at m = record { description = known.description; there = sym (kept at (omega arith)) ∙ known.there; holds = known.holds } in
             let stepped : StepsBy m (Call (Local call.0)) m' = subst (λ (i : Insn). StepsBy m i m') call.1 step in
             inr (inr (λ n.
-            well_so program (IsChecked limits program more m.open_calls) (IsChecked limits program (checks ++ (outermost (start + at) ∷ more)) m.open_calls) (IsBack callers back (start + at + 1) m.open_calls) (Stands callers m.open_calls start after)
+            well_so program (IsChecked limits program more m.open_calls) (IsChecked limits program (checks ++ (outermost (start + at) ∷ more)) m.open_calls) (IsBack callers back (start + at + 1) m.open_calls) (Stands callers m.open_calls start (carried at all after))
             (checked_among limits program more (checks ++ (outermost (start + at) ∷ more)) m.open_calls (λ check is.
             Contains-append_right checks (outermost (start + at) ∷ more) check (Contains-append_right (outermost (start + at) ∷ []) more check is)))
-            (back_stands callers start before at back after m.open_calls come) n m'
-            (sound call.0 m m' (described_so callers before at d m there was) place call.2 stepped n)));
+            (λ m'' is.
+            let stands = back_stands callers start before at back after m.open_calls come m'' is in
+            record { at = stands.at; place = stands.place; known = carries.knows callers stands.at m'' stands.known; calls_are = stands.calls_are }) n m'
+            (sound call.0 m m' (so m known) place call.2 stepped n)));
       };
     }

@@ -12,13 +12,15 @@ use Rattle.call_shape.specs.Shape.{behind, goes_on_behind, target_in}
 use Rattle.call_shape.proofs.Lawful.{jumps_lawfully}
 use Rattle.helpers.specs.declared.limits.HelperLimits.{HelperLimits}
 use Rattle.private_insns.specs.declared.way.Way.TheVariants.{FallThrough, Taken}
+use Rattle.description.specs.declared.description.Description.{Description}
 use Rattle.description.specs.declared.saved.SavedRegisters.{SavedRegisters}
+use Rattle.description.specs.Description.{Describes}
 use Rattle.private_insns.specs.Follows.{GoesBy, StepsBy}
 use Rattle.reg_domain.specs.Ways.{Stays, falls_through}
 use Rattle.register_kinds.specs.Freezes.{FreezeNumbers}
 use Rattle.description.specs.OpenCalls.{AreOpen}
 use Rattle.verifier.specs.Function.{HasChecked, IsEnd, IsLawfulProgram, Stands}
-use Rattle.verifier.specs.Table.{Table, HasLed, IsKnown}
+use Rattle.verifier.specs.Table.{Table, HasLed}
 use Rattle.verifier.proofs.Steps.{is_inside, leaves, onward}
 
 falls_on : (insn : Insn) → falls_through insn ≡ true → goes_on_behind insn ≡ true
@@ -66,10 +68,10 @@ none_open : (numbers : FreezeNumbers) (callers : List SavedRegisters) (calls : L
 none_open numbers callers [] none are = refl
 none_open numbers callers (call ∷ calls) none (outer, saved, is, known, rest) = absurd (omega (arith, ap length (sym none ∙ is), length-append outer (saved ∷ [])))
 
-ends_run : (callers : List SavedRegisters) (table : Table) (at : ℕ) (m m' : MachineState) (insn : Insn) → insn ≡ Exit → callers ≡ [] → IsKnown callers table at m → StepsBy m insn m' → ⊥
-ends_run callers table at m m' insn exit none known step =
+ends_run : (callers : List SavedRegisters) (d : Description) (m m' : MachineState) (insn : Insn) → insn ≡ Exit → callers ≡ [] → Describes callers d m → StepsBy m insn m' → ⊥
+ends_run callers d m m' insn exit none holds step =
     let left = leaves m m' (subst (λ (i : Insn). StepsBy m i m') exit step) in
-    let no_call = none_open known.holds.0 callers m.open_calls none known.holds.1.calls in
+    let no_call = none_open holds.0 callers m.open_calls none holds.1.calls in
     let bad : [] ≡ left.call ∷ left.outer = sym no_call ∙ left.before in
     absurd cc
 
@@ -77,52 +79,52 @@ target_is : (x y : ℕ) (o : Option ℕ) → o ≡ Some x → o ≡ Some y → x
 target_is x y o e f = cc
 
 -- behind an instruction
-lands_behind : (limits : HelperLimits) (program : List Slot) (callers : List SavedRegisters) (start : ℕ) (before after : Table) (at to : ℕ) (insn : Insn) (m m' : MachineState) → to ≡ at + length (slots_of insn) → insn_at program (start + at) ≡ Some insn → at < length before → IsEnd program start (start + length before) → HasLed limits callers before at insn FallThrough to after → m.place ≡ start + at → IsKnown callers before at m → StepsBy m insn m' → goes_on_behind insn ≡ true → m'.place ≡ behind m.place insn → m'.open_calls ≡ m.open_calls → GoesBy m insn FallThrough → Stands callers m.open_calls start after m'
-lands_behind limits program callers start before after at to insn m m' slot here inside end led at_place known step goes_on place calls way =
+lands_behind : (limits : HelperLimits) (program : List Slot) (callers : List SavedRegisters) (start : ℕ) (d : Description) (before after : Table) (at to : ℕ) (insn : Insn) (m m' : MachineState) → to ≡ at + length (slots_of insn) → insn_at program (start + at) ≡ Some insn → at < length before → IsEnd program start (start + length before) → HasLed limits callers d before insn FallThrough to after → m.place ≡ start + at → Describes callers d m → StepsBy m insn m' → goes_on_behind insn ≡ true → m'.place ≡ behind m.place insn → m'.open_calls ≡ m.open_calls → GoesBy m insn FallThrough → Stands callers m.open_calls start after m'
+lands_behind limits program callers start d before after at to insn m m' slot here inside end led at_place holds step goes_on place calls way =
     let lt = (end.closed (start + at) insn (omega arith) (omega (arith, inside)) here).goes_on goes_on in
     record {
       at = to;
       place = omega (arith, place, at_place, slot);
-      known = led.follows m m' (omega (arith, lt, slot)) known way step;
+      known = led.follows m m' (omega (arith, lt, slot)) holds way step;
       calls_are = calls;
     }
 
 -- where an instruction is no jump, one way is all
-pub checked_straight : (limits : HelperLimits) (program : List Slot) (callers : List SavedRegisters) (start : ℕ) (before after : Table) (at to : ℕ) (insn : Insn) → to ≡ at + length (slots_of insn) → insn_at program (start + at) ≡ Some insn → at < length before → IsEnd program start (start + length before) → Stays callers insn → target_in (start + at) insn ≡ None → HasLed limits callers before at insn FallThrough to after → HasChecked limits callers start before at insn after
-checked_straight limits program callers start before after at to insn slot here inside end stays none led = record {
+pub checked_straight : (limits : HelperLimits) (program : List Slot) (callers : List SavedRegisters) (start : ℕ) (d : Description) (before after : Table) (at to : ℕ) (insn : Insn) → to ≡ at + length (slots_of insn) → insn_at program (start + at) ≡ Some insn → at < length before → IsEnd program start (start + length before) → Stays callers insn → target_in (start + at) insn ≡ None → HasLed limits callers d before insn FallThrough to after → HasChecked limits callers start d before at insn after
+checked_straight limits program callers start d before after at to insn slot here inside end stays none led = record {
   others = λ k not_behind not_target. led.others k (λ has same. not_behind (falls_on insn has) (omega (arith, same, slot)));
   grows = led.grows;
   frames = led.frames;
   unstuck = led.unstuck;
-  follows = λ m m' at_place known step. elim (stays_so callers insn stays) [
-    | inr (exit, none_waits) ↦ absurd (ends_run callers before at m m' insn exit none_waits known step)
+  follows = λ m m' at_place holds step. elim (stays_so callers insn stays) [
+    | inr (exit, none_waits) ↦ absurd (ends_run callers d m m' insn exit none_waits holds step)
     | inl within ↦
         let on = onward m m' insn within step in
         elim on.goes [
-          | inl next ↦ lands_behind limits program callers start before after at to insn m m' slot here inside end led at_place known step next.2 next.1 on.calls next.0
+          | inl next ↦ lands_behind limits program callers start d before after at to insn m m' slot here inside end led at_place holds step next.2 next.1 on.calls next.0
           | inr taken ↦ absurd (let bad : None ≡ Some m'.place = sym none ∙ (sym (ap (λ (k : ℕ). target_in k insn) at_place) ∙ taken.1) in cc)
         ]
   ];
 }
 
 -- a jump has two
-pub checked_jump : (limits : HelperLimits) (program : List Slot) (callers : List SavedRegisters) (start : ℕ) (before between after : Table) (at to target : ℕ) (insn : Insn) → IsLawfulProgram program → to ≡ at + length (slots_of insn) → insn_at program (start + at) ≡ Some insn → at < length before → length between ≡ length before → IsEnd program start (start + length before) → Stays callers insn → target_in (start + at) insn ≡ Some target → HasLed limits callers before at insn FallThrough to between → HasLed limits callers between at insn Taken (target - start) after → HasChecked limits callers start before at insn after
-checked_jump limits program callers start before between after at to target insn lawful slot here inside whole end stays leads led jumped =
+pub checked_jump : (limits : HelperLimits) (program : List Slot) (callers : List SavedRegisters) (start : ℕ) (d : Description) (before between after : Table) (at to target : ℕ) (insn : Insn) → IsLawfulProgram program → to ≡ at + length (slots_of insn) → insn_at program (start + at) ≡ Some insn → at < length before → length between ≡ length before → IsEnd program start (start + length before) → Stays callers insn → target_in (start + at) insn ≡ Some target → HasLed limits callers d before insn FallThrough to between → HasLed limits callers d between insn Taken (target - start) after → HasChecked limits callers start d before at insn after
+checked_jump limits program callers start d before between after at to target insn lawful slot here inside whole end stays leads led jumped =
     let ahead : start + at < target = (jumps_lawfully program (start + at) target insn lawful.0 lawful.1 here leads).0 in
     record {
       others = λ k not_behind not_target.
           jumped.others k (λ has same. not_target (leads ∙ ap Some (let e : target ≡ start + k = omega (arith, same, ahead) in e)))
           ∙ led.others k (λ has same. not_behind (falls_on insn has) (omega (arith, same, slot)));
       grows = λ others k m known. jumped.grows others k m (led.grows others k m known);
-      frames = λ frames all. jumped.frames frames (led.frames frames all);
+      frames = λ frames is all. jumped.frames frames is (led.frames frames is all);
       unstuck = led.unstuck;
-      follows = λ m m' at_place known step. elim (stays_so callers insn stays) [
-        | inr (exit, none_waits) ↦ absurd (ends_run callers before at m m' insn exit none_waits known step)
+      follows = λ m m' at_place holds step. elim (stays_so callers insn stays) [
+        | inr (exit, none_waits) ↦ absurd (ends_run callers d m m' insn exit none_waits holds step)
         | inl within ↦
             let on = onward m m' insn within step in
             elim on.goes [
               | inl next ↦
-                  let stands = lands_behind limits program callers start before between at to insn m m' slot here inside end led at_place known step next.2 next.1 on.calls next.0 in
+                  let stands = lands_behind limits program callers start d before between at to insn m m' slot here inside end led at_place holds step next.2 next.1 on.calls next.0 in
                   record { at = stands.at; place = stands.place; known = jumped.grows callers stands.at m' stands.known; calls_are = stands.calls_are }
               | inr taken ↦
                   let is : target ≡ m'.place = target_is target m'.place (target_in (start + at) insn) leads (sym (ap (λ (k : ℕ). target_in k insn) at_place) ∙ taken.1) in
@@ -130,7 +132,7 @@ checked_jump limits program callers start before between after at to target insn
                   record {
                     at = target - start;
                     place = omega (arith, is, ahead);
-                    known = jumped.follows m m' (omega (arith, lt, whole, ahead)) (led.grows callers at m known) taken.0 step;
+                    known = jumped.follows m m' (omega (arith, lt, whole, ahead)) holds taken.0 step;
                     calls_are = on.calls;
                   }
             ]

@@ -33,45 +33,29 @@ pub described_so : (callers : List SavedRegisters) (table : Table) (at : ℕ) (d
 described_so callers table at d m here known = subst (λ (x : Description). Describes callers x m) (same_description known.description d (sym known.there ∙ here)) known.holds
 
 -- what follows one way was joined where that leads
-pub led_on : (limits : HelperLimits) (callers : List SavedRegisters) (before after : Table) (at : ℕ) (insn : Insn) (way : Way) (to : ℕ) (d there : Description) → described before at ≡ Some d → NeverStuck limits callers insn d → Follows callers insn way d true there → HasWay insn way → length there.stack ≡ length d.stack → HasJoined before to there after → HasLed limits callers before at insn way to after
-led_on limits callers before after at insn way to d there here never goes has deep joined = record {
+pub led_on : (limits : HelperLimits) (callers : List SavedRegisters) (before after : Table) (insn : Insn) (way : Way) (to : ℕ) (d there : Description) → NeverStuck limits callers insn d → Follows callers insn way d true there → HasWay insn way → length there.stack ≡ length d.stack → HasJoined before to there after → HasLed limits callers d before insn way to after
+led_on limits callers before after insn way to d there never goes has deep joined = record {
   others = λ other apart. joined.others other (apart has);
   grows = joined.grows;
-  frames = λ frames all. joined.frames frames (deep ∙ all at d here) all;
-  unstuck = λ m known. never m (described_so callers before at d m here known);
-  follows = λ m m' lt known way_is step. joined.here callers m' (goes m m' (described_so callers before at d m here known) way_is step).1;
+  frames = λ frames is all. joined.frames frames (deep ∙ is) all;
+  unstuck = never;
+  follows = λ m m' lt holds way_is step. joined.here callers m' (goes m m' holds way_is step).1;
 }
 
--- or it was made there, where nothing was known
-pub led_first : (limits : HelperLimits) (callers : List SavedRegisters) (before : Table) (at : ℕ) (insn : Insn) (way : Way) (to : ℕ) (d there : Description) → described before at ≡ Some d → to < length before → described before to ≡ None → NeverStuck limits callers insn d → Follows callers insn way d true there → HasWay insn way → length there.stack ≡ length d.stack → HasLed limits callers before at insn way to (slice_set before to (Some there))
-led_first limits callers before at insn way to d there here lt none never goes has deep =
-    let merged : IsMerged (described before to) there there = subst (λ (o : Option Description). IsMerged o there there) (sym none) (merged_first there) in
-    led_on limits callers before (slice_set before to (Some there)) at insn way to d there here never goes has deep (joined_in before to there there lt merged)
-
 -- or nothing follows in the table
-pub led_nowhere : (limits : HelperLimits) (callers : List SavedRegisters) (table : Table) (at : ℕ) (insn : Insn) (way : Way) (to : ℕ) (d there : Description) (is_open : Bool) → described table at ≡ Some d → NeverStuck limits callers insn d → Follows callers insn way d is_open there → (is_open ≡ false) ⊎ (length table ≤ to) → HasLed limits callers table at insn way to table
-led_nowhere limits callers table at insn way to d there is_open here never goes shut = record {
+pub led_nowhere : (limits : HelperLimits) (callers : List SavedRegisters) (table : Table) (insn : Insn) (way : Way) (to : ℕ) (d there : Description) (is_open : Bool) → NeverStuck limits callers insn d → Follows callers insn way d is_open there → (is_open ≡ false) ⊎ (length table ≤ to) → HasLed limits callers d table insn way to table
+led_nowhere limits callers table insn way to d there is_open never goes shut = record {
   others = λ other apart. refl;
   grows = λ others other m known. known;
-  frames = λ frames all. all;
-  unstuck = λ m known. never m (described_so callers table at d m here known);
-  follows = λ m m' lt known way_is step. absurd (elim shut [
-    | inl closed ↦ let both = (goes m m' (described_so callers table at d m here known) way_is step).0 in let bad : false ≡ true = sym closed ∙ both in cc
+  frames = λ frames is all. all;
+  unstuck = never;
+  follows = λ m m' lt holds way_is step. absurd (elim shut [
+    | inl closed ↦ let both = (goes m m' holds way_is step).0 in let bad : false ≡ true = sym closed ∙ both in cc
     | inr outside ↦ omega (arith, outside, lt)
   ]);
 }
 
--- all arrives where that is made which arrives there
-pub all_with : (program : List Slot) (table : Table) (to : ℕ) (there : Description) → to < length table → AllArrive program table → Arrives program to there → AllArrive program (slice_set table to (Some there))
-all_with program table to there lt all arrives place d is = elim (cases_eq place to) [
-  | inl same ↦
-      let here : Some there ≡ Some d = sym (get_or-set_same table to (Some there) None lt) ∙ (sym (ap (described (slice_set table to (Some there))) same) ∙ is) in
-      subst (λ (k : ℕ). Arrives program k d) (sym same) (subst (Arrives program to) (same_description there d here) arrives)
-  | inr other ↦ all place d (sym (get_or-set_other table to place (Some there) None other) ∙ is)
-]
-
 -- what is left behind an instruction arrives where that leads
-pub arrives_on : (program : List Slot) (table : Table) (place : ℕ) (insn : Insn) (way : Way) (to : ℕ) (d there : Description) → NeverLacks program → AllArrive program table → insn_at program place ≡ Some insn → goes_to place insn way ≡ Some to → described table place ≡ Some d → Leaves insn way d there → Arrives program to there
-arrives_on program table place insn way to d there lacks_not all at goes here leaves =
-    let arrives = all place d here in
+pub arrives_on : (program : List Slot) (place : ℕ) (insn : Insn) (way : Way) (to : ℕ) (d there : Description) → NeverLacks program → Arrives program place d → insn_at program place ≡ Some insn → goes_to place insn way ≡ Some to → Leaves insn way d there → Arrives program to there
+arrives_on program place insn way to d there lacks_not arrives at goes leaves =
     follows place to insn way d there arrives at (lacks_not.enough place insn d arrives at) goes leaves

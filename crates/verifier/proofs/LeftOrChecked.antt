@@ -20,10 +20,12 @@ use Rattle.private_insns.specs.Follows.{StepsBy}
 use Rattle.verifier.specs.Function.{AreDone, HasChecked, IsLawfulProgram, IsOwn}
 use Rattle.verifier.specs.Goes.{IsLeft}
 use Rattle.verifier.specs.OnTheWay.{IsChain}
-use Rattle.verifier.specs.Table.{Table, described, HasLeft}
+use Rattle.verifier.specs.Table.{Table, described, HasLeft, IsKnown}
 use Rattle.verifier.proofs.Led.{described_so}
 use Rattle.verifier.proofs.OnItsWay.{chain_behind, chain_target}
 use Rattle.verifier.proofs.Steps.{leaves}
+use Rattle.verifier.proofs.Passed.{IsTaken, carried, carry, carry_same}
+use Rattle.verifier.proofs.Sound.{inside_table}
 use Rattle.verifier.proofs.Visited.{HasVisited, known_as, same_widens}
 
 gone : (callers outer : List SavedRegisters) (saved : SavedRegisters) (d : Description) (left wider : Option Description) (m m' : MachineState) → callers ≡ outer ++ saved ∷ [] → HasLeft saved d left wider → Describes callers d m → StepsBy m Exit m' → IsLeft callers wider m.open_calls m'
@@ -44,22 +46,28 @@ gone callers outer saved d left wider m m' waits has holds step =
       holds = now.2;
     }
 
-pub visited_leave : (limits : HelperLimits) (program : List Slot) (callers : List SavedRegisters) (start : ℕ) (table : Table) (left : Option Description) (at : ℕ) (insn : Insn) (outer : List SavedRegisters) (saved : SavedRegisters) (d : Description) (wider : Option Description) (checks more : List Standing) → insn ≡ Exit → callers ≡ outer ++ saved ∷ [] → described table at ≡ Some d → AreDone limits program callers start table left checks at → ((limits : HelperLimits) (outer : List SavedRegisters) → NeverStuck limits (outer ++ saved ∷ []) Exit d) → HasLeft saved d left wider → HasVisited limits program callers start table left at insn table wider (checks ++ more)
-visited_leave limits program callers start table left at insn outer saved d wider checks more exit waits there are unstuck has = record {
-  whole = refl;
-  grows = λ others k m known. known;
-  widens = has.keeps;
-  kept = λ k le. refl;
-  own = are.own;
-  left_frames = has.frames (length callers) (are.own at d there).frames are.left_frames;
-  done = record {
-    unstuck = λ m known.
-        let holds = subst (λ (cs : List SavedRegisters). Describes cs d m) waits (described_so callers table at d m there known) in
-        subst (λ (i : Insn). insn_is_stuck limits m i ≡ false) (sym exit) (unstuck limits outer m holds);
-    follows = λ m m' place known step.
-        inr (inl (gone callers outer saved d left wider m m' waits has (described_so callers table at d m there known) (subst (λ (i : Insn). StepsBy m i m') exit step)));
-  };
-}
+pub visited_leave : (limits : HelperLimits) (program : List Slot) (callers : List SavedRegisters) (start : ℕ) (all : Table) (left : Option Description) (at : ℕ) (insn : Insn) (outer : List SavedRegisters) (saved : SavedRegisters) (d : Description) (before : Table) (wider : Option Description) (checks more : List Standing) → insn ≡ Exit → callers ≡ outer ++ saved ∷ [] → described all at ≡ Some d → AreDone limits program callers start all left checks at → IsTaken all at before → ((limits : HelperLimits) (outer : List SavedRegisters) → NeverStuck limits (outer ++ saved ∷ []) Exit d) → HasLeft saved d left wider → HasVisited limits program callers start all left at insn (carried at all before) wider (checks ++ more)
+visited_leave limits program callers start all left at insn outer saved d before wider checks more exit waits there are taken unstuck has =
+    let carries = carry_same all before at (inside_table all at d there) taken in
+    let so : (m : MachineState) → IsKnown callers (carried at all before) at m → Describes callers d m = λ m known. described_so callers all at d m there (known_as callers (carried at all before) all at m (sym (carries.kept at (omega arith))) known) in
+    record {
+      whole = carries.whole;
+      grows = carries.grows;
+      widens = has.keeps;
+      kept = carries.kept;
+      own = λ k e is. elim (carries.of k e is) [
+        | inl was ↦ are.own k e was
+        | inr now ↦ are.own k e (taken.known k e now)
+      ];
+      left_frames = has.frames (length callers) (are.own at d there).frames are.left_frames;
+      done = record {
+        unstuck = λ m known.
+            let holds = subst (λ (cs : List SavedRegisters). Describes cs d m) waits (so m known) in
+            subst (λ (i : Insn). insn_is_stuck limits m i ≡ false) (sym exit) (unstuck limits outer m holds);
+        follows = λ m m' place known step.
+            inr (inl (gone callers outer saved d left wider m m' waits has (so m known) (subst (λ (i : Insn). StepsBy m i m') exit step)));
+      };
+    }
 
 further_target : (program : List Slot) (place to : ℕ) (insn : Insn) → AreContained program → insn_at program place ≡ Some insn → target_in place insn ≡ Some to → IsFurther program place to
 further_target program place to insn functions here leads =
@@ -86,33 +94,44 @@ cases_target (Some k) n = elim (cases_eq k n) [
   | inr apart ↦ inr (λ e. apart (let is : k ≡ n = cc in is))
 ]
 
-pub visited_check : (limits : HelperLimits) (program : List Slot) (callers : List SavedRegisters) (start : ℕ) (before : Table) (left : Option Description) (at : ℕ) (insn : Insn) (d : Description) (after : Table) (checks more : List Standing) → IsLawfulProgram program → insn_at program (start + at) ≡ Some insn → Stays callers insn → described before at ≡ Some d → AreDone limits program callers start before left checks at → length after ≡ length before → HasChecked limits callers start before at insn after → HasVisited limits program callers start before left at insn after left (checks ++ more)
-visited_check limits program callers start before left at insn d after checks more lawful here stays there are whole checked =
+-- places from which an instruction leads on are kept
+pub ahead_alone : (program : List Slot) (limits : HelperLimits) (callers : List SavedRegisters) (start : ℕ) (d : Description) (before : Table) (at : ℕ) (insn : Insn) (after : Table) → IsLawfulProgram program → insn_at program (start + at) ≡ Some insn → HasChecked limits callers start d before at insn after → (k : ℕ) → k ≤ at → described after k ≡ described before k
+ahead_alone program limits callers start d before at insn after lawful here checked k le =
+    checked.others k (λ goes same. omega (arith, same, le)) (λ leads. omega (arith, le, (further_target program (start + at) (start + k) insn lawful.1.frames.calls.functions here leads).forward))
+
+pub visited_check : (limits : HelperLimits) (program : List Slot) (callers : List SavedRegisters) (start : ℕ) (all : Table) (left : Option Description) (at : ℕ) (insn : Insn) (d : Description) (before after : Table) (checks more : List Standing) → IsLawfulProgram program → insn_at program (start + at) ≡ Some insn → Stays callers insn → described all at ≡ Some d → AreDone limits program callers start all left checks at → IsTaken all at before → length after ≡ length before → HasChecked limits callers start d before at insn after → HasVisited limits program callers start all left at insn (carried at all after) left (checks ++ more)
+visited_check limits program callers start all left at insn d before after checks more lawful here stays there are taken whole checked =
     let own = are.own at d there in
     let functions = lawful.1.frames.calls.functions in
-    let all = checked.frames (length callers + 1) (λ k e is. (are.own k e is).frames) in
-    let kept : (k : ℕ) → k ≤ at → described after k ≡ described before k = λ k le.
-    checked.others k (λ goes same. omega (arith, same, le)) (λ leads. omega (arith, le, (further_target program (start + at) (start + k) insn functions here leads).forward)) in
+    let inside = inside_table all at d there in
+    let frames = checked.frames (length callers + 1) own.frames (λ k e is. (are.own k e (taken.known k e is)).frames) in
+    let carries = carry all before after at inside taken whole checked.grows (ahead_alone program limits callers start d before at insn after lawful here checked) in
     record {
-      whole = whole;
-      grows = checked.grows;
+      whole = carries.whole;
+      grows = carries.grows;
       widens = same_widens left;
-      kept = kept;
-      own = λ k e is. elim (cases_target (target_in (start + at) insn) (start + k)) [
-        | inl leads ↦ own_on program callers start (start + at) (start + k) d e own (further_target program (start + at) (start + k) insn functions here leads) (all k e is)
-            (chain_target program (length callers) (start + at) (start + k) insn here leads own.chain)
-        | inr no_target ↦ elim (cases_eq (start + k) (behind (start + at) insn)) [
-          | inr not_behind ↦ are.own k e (sym (checked.others k (λ goes same. not_behind same) no_target) ∙ is)
-          | inl same ↦ elim (cases_Bool (goes_on_behind insn)) [
-            | inl goes ↦ rw same (own_on program callers start (start + at) (behind (start + at) insn) d e own (further_behind program (start + at) insn lawful.0 functions here goes) (all k e is)
-                (chain_behind program (length callers) (start + at) callers insn here stays goes own.chain))
-            | inr ends ↦ are.own k e (sym (checked.others k (λ goes on. let bad : true ≡ false = sym goes ∙ ends in absurd cc) no_target) ∙ is)
+      kept = carries.kept;
+      own = λ k e is. elim (carries.of k e is) [
+        | inl was ↦ are.own k e was
+        | inr now ↦ elim (cases_target (target_in (start + at) insn) (start + k)) [
+          | inl leads ↦ own_on program callers start (start + at) (start + k) d e own (further_target program (start + at) (start + k) insn functions here leads) (frames k e now)
+              (chain_target program (length callers) (start + at) (start + k) insn here leads own.chain)
+          | inr no_target ↦ elim (cases_eq (start + k) (behind (start + at) insn)) [
+            | inr not_behind ↦ are.own k e (taken.known k e (sym (checked.others k (λ goes same. not_behind same) no_target) ∙ now))
+            | inl same ↦ elim (cases_Bool (goes_on_behind insn)) [
+              | inl goes ↦ rw same (own_on program callers start (start + at) (behind (start + at) insn) d e own (further_behind program (start + at) insn lawful.0 functions here goes) (frames k e now)
+                  (chain_behind program (length callers) (start + at) callers insn here stays goes own.chain))
+              | inr ends ↦ are.own k e (taken.known k e (sym (checked.others k (λ goes on. let bad : true ≡ false = sym goes ∙ ends in absurd cc) no_target) ∙ now))
+            ]
           ]
         ]
       ];
       left_frames = are.left_frames;
       done = record {
-        unstuck = λ m known. checked.unstuck m (known_as callers after before at m (sym (kept at (omega arith))) known);
-        follows = λ m m' place known step. inl (checked.follows m m' place (known_as callers after before at m (sym (kept at (omega arith))) known) step);
+        unstuck = λ m known. checked.unstuck m (described_so callers all at d m there (known_as callers (carried at all after) all at m (sym (carries.kept at (omega arith))) known));
+        follows = λ m m' place known step.
+            let holds = described_so callers all at d m there (known_as callers (carried at all after) all at m (sym (carries.kept at (omega arith))) known) in
+            let stands = checked.follows m m' place holds step in
+            inl (record { at = stands.at; place = stands.place; known = carries.knows callers stands.at m' stands.known; calls_are = stands.calls_are });
       };
     }

@@ -13,4 +13,6 @@ pub mod LeftOrChecked
 pub mod Counts
 pub mod Lacking
 pub mod Told
+pub mod Passed
+pub mod Passing
 pub mod Plain

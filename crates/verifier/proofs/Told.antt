@@ -1,7 +1,7 @@
 -- How a pass over the places tells why it failed.
 use Rattle.std.proofs.Common.{◌≡◌, refl, Result, Ok, Err}
 use Rattle.bpf_insn.specs.declared.program.Slot.{Slot}
-use Rattle.std.specs.Prelude.{List, IfErr, OnOk}
+use Rattle.std.specs.Prelude.{List, IfErr, IfOk, IsOkAnd, OnOk}
 use Rattle.call_shape.specs.Shape.{IsLawful}
 use Rattle.or_memory.specs.declared.OrMemory.{OrMemory}
 use Rattle.or_memory.specs.declared.OrMemory.TheVariants.{OutOfMemory, Fault as refused}
@@ -21,6 +21,16 @@ pub fails_never : (A B : Type 0) (error : OrMemory Refusal) → FailsUnless A er
 fails_never A B OutOfMemory fails never = tt
 fails_never A B (refused (Shape fault)) fails never = absurd fails
 fails_never A B (refused (Check cause slot)) fails never = never
+
+-- what goes well where that holds, and then leads to this
+pub if_and : {X E : Type 0} (P Q : Type 0) (result : Result X E) → (P → IsOkAnd result (λ _. Q)) → IfOk result (λ _. P → Q)
+if_and P Q (Ok x) leads = leads
+if_and P Q (Err error) leads = tt
+
+-- does not fail there, but for memory
+pub err_and : {X : Type 0} (P Q : Type 0) (result : Result X (OrMemory Refusal)) → IfErr result (FailsUnless ⊥) → (P → IsOkAnd result (λ _. Q)) → IfErr result (FailsUnless P)
+err_and P Q (Ok x) fails leads = tt
+err_and P Q (Err error) fails leads = fails_never ⊥ P error fails leads
 
 pub told_of_shape : (program : List Slot) (error : OrMemory Refusal) → IsLawful program → LacksMemoryOrMore program error → ToldOfShape program error
 told_of_shape program OutOfMemory lawful fails = lawful

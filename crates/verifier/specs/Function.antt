@@ -1,5 +1,5 @@
 -- What holds while a function is visited, place after place, from what is known where it is called.
-use Rattle.std.specs.Prelude.{◌≡◌, ◌⊎◌, ℕ, ◌+◌, ◌-◌, ◌<◌, ◌≤◌, ◌==◌, true, false, List, length, Option, Some, if◌then◌else◌}
+use Rattle.std.specs.Prelude.{◌≡◌, ◌⊎◌, ℕ, ◌+◌, ◌-◌, ◌<◌, ◌≤◌, ◌==◌, true, false, List, length, Option, Some, None, if◌then◌else◌}
 use Rattle.std.specs.List.{Contains}
 use Rattle.bpf_insn.specs.declared.insn.Insn.{Insn}
 use Rattle.bpf_insn.specs.declared.program.Slot.{Slot}
@@ -13,6 +13,7 @@ use Rattle.call_shape.specs.WrittenOut.{count_at, written_out}
 use Rattle.helpers.specs.declared.limits.HelperLimits.{HelperLimits}
 use Rattle.description.specs.declared.description.Description.{Description}
 use Rattle.description.specs.declared.saved.SavedRegisters.{SavedRegisters}
+use Rattle.description.specs.Description.{Describes, NeverStuck}
 use Rattle.private_insns.specs.Follows.{StepsBy}
 use Rattle.verifier.specs.Checks.{AreOnce, IsBefore}
 use Rattle.verifier.specs.Goes.{IsChecked, IsLeft, StaysWell}
@@ -76,13 +77,23 @@ pub record AreVisited (limits : HelperLimits) (program : List Slot) (callers : L
   pub earlier : (check : Standing) → Contains checks check → IsBefore (start + at) check
   pub done : AreDone limits program callers start table left checks at
 
--- The instruction at an entry, by which control stays in the function, was checked, and led on both ways.
-pub record HasChecked (limits : HelperLimits) (callers : List SavedRegisters) (start : ℕ) (before : Table) (at : ℕ) (insn : Insn) (after : Table) : Type 0 where
+-- The instruction at an entry, by which control stays in the function, was checked where that is known, and led on both ways.
+pub record HasChecked (limits : HelperLimits) (callers : List SavedRegisters) (start : ℕ) (d : Description) (before : Table) (at : ℕ) (insn : Insn) (after : Table) : Type 0 where
   pub others : (k : ℕ) → (goes_on_behind insn ≡ true → start + k ≡ behind (start + at) insn → ⊥) → (target_in (start + at) insn ≡ Some (start + k) → ⊥) → described after k ≡ described before k
   pub grows : Grows before after
-  pub frames : (frames : ℕ) → AllHave frames before → AllHave frames after
-  pub unstuck : (m : MachineState) → IsKnown callers before at m → insn_is_stuck limits m insn ≡ false
-  pub follows : (m m' : MachineState) → m.place ≡ start + at → IsKnown callers before at m → StepsBy m insn m' → Stands callers m.open_calls start after m'
+  pub frames : (frames : ℕ) → length d.stack ≡ frames → AllHave frames before → AllHave frames after
+  pub unstuck : NeverStuck limits callers insn d
+  pub follows : (m m' : MachineState) → m.place ≡ start + at → Describes callers d m → StepsBy m insn m' → Stands callers m.open_calls start after m'
+
+-- The places before this one were visited, from what is known at the function's start. What was known at them is kept no more;
+-- what is known at the others is in the table.
+pub record ArePassed (limits : HelperLimits) (program : List Slot) (callers : List SavedRegisters) (entry : Description) (start : ℕ) (table : Table) (left : Option Description) (at before after : ℕ) : Type 0 where
+  pub all : Table
+  pub whole : length all ≡ length table
+  pub gone : (k : ℕ) → k < at → described table k ≡ None
+  pub ahead : (k : ℕ) → at ≤ k → described all k ≡ described table k
+  pub entered : (m : MachineState) → Describes callers entry m → IsKnown callers all 0 m
+  pub visited : AreVisited limits program callers start all left at before after
 
 -- how many checks a place of a function may take, with its calls followed so many deep
 abbrev pub checks_at : ℕ → List Slot → ℕ → ℕ → ℕ

@@ -5,12 +5,11 @@ use Rattle.bpf_insn.specs.declared.insn.Insn.{Insn}
 use Rattle.bpf_insn.specs.declared.insn.Insn.TheVariants.{Exit}
 use Rattle.bpf_semantics.specs.MachineState.{MachineState}
 use Rattle.bpf_semantics.specs.Step.{does}
-use Rattle.bpf_semantics.specs.Stuck.{insn_is_stuck}
 use Rattle.helpers.specs.declared.limits.HelperLimits.{HelperLimits}
 use Rattle.description.specs.declared.description.Description.{Description}
 use Rattle.private_insns.specs.declared.way.Way.{Way}
 use Rattle.description.specs.declared.saved.SavedRegisters.{SavedRegisters}
-use Rattle.description.specs.Description.{Covers, Describes}
+use Rattle.description.specs.Description.{Covers, Describes, NeverStuck}
 use Rattle.reg_domain.specs.Ways.{HasWay}
 use Rattle.private_insns.specs.Follows.{GoesBy, StepsBy}
 
@@ -54,20 +53,13 @@ pub record HasJoined (before : Table) (to : ℕ) (d : Description) (after : Tabl
   pub here : (callers : List SavedRegisters) (m : MachineState) → Describes callers d m → IsKnown callers after to m
   pub frames : (frames : ℕ) → length d.stack ≡ frames → AllHave frames before → AllHave frames after
 
--- Machines at an entry, of which none is stuck there, were let on one way, to another entry or out of the table.
-pub record HasLed (limits : HelperLimits) (callers : List SavedRegisters) (before : Table) (at : ℕ) (insn : Insn) (way : Way) (to : ℕ) (after : Table) : Type 0 where
+-- Machines of which that is known, of which none is stuck, were let on one way, to an entry or out of the table.
+pub record HasLed (limits : HelperLimits) (callers : List SavedRegisters) (d : Description) (before : Table) (insn : Insn) (way : Way) (to : ℕ) (after : Table) : Type 0 where
   pub others : (other : ℕ) → (HasWay insn way → other ≡ to → ⊥) → described after other ≡ described before other
   pub grows : Grows before after
-  pub frames : (frames : ℕ) → AllHave frames before → AllHave frames after
-  pub unstuck : (m : MachineState) → IsKnown callers before at m → insn_is_stuck limits m insn ≡ false
-  pub follows : (m m' : MachineState) → to < length before → IsKnown callers before at m → GoesBy m insn way → StepsBy m insn m' → IsKnown callers after to m'
-
--- What comes back from a function that was called, if anything does, was joined into a table.
-pub record HasComeBack (before : Table) (to : ℕ) (back : Option Description) (after : Table) : Type 0 where
-  pub others : (at : ℕ) → (at ≡ to → ⊥) → described after at ≡ described before at
-  pub grows : Grows before after
-  pub here : (d : Description) → back ≡ Some d → (callers : List SavedRegisters) (m : MachineState) → Describes callers d m → IsKnown callers after to m
-  pub frames : (frames : ℕ) → ((d : Description) → back ≡ Some d → length d.stack ≡ frames) → AllHave frames before → AllHave frames after
+  pub frames : (frames : ℕ) → length d.stack ≡ frames → AllHave frames before → AllHave frames after
+  pub unstuck : NeverStuck limits callers insn d
+  pub follows : (m m' : MachineState) → to < length before → Describes callers d m → GoesBy m insn way → StepsBy m insn m' → IsKnown callers after to m'
 
 -- A function is left where that is known, and what is known behind its call is widened by that.
 pub record HasLeft (saved : SavedRegisters) (d : Description) (before after : Option Description) : Type 0 where

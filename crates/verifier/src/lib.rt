@@ -6,6 +6,7 @@
 // and on `accepted` for the answer.
 #![tactic(auto)]
 
+mod known;
 mod pass;
 mod refusal;
 mod table;

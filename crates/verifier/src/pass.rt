@@ -1,6 +1,6 @@
 // The pass over a program: each function under each chain of calls that are open, its places from the first to the last. What
-// is known at a place is joined from all that leads there; a function that is called is visited where its call is, from
-// what is known there. It relies on `table` for what a check does, and on the shape for that jumps lead forward and that
+// is known at a place is joined from all that leads there, and led on from there; a function that is called is visited where its
+// call is, from what is known there. It relies on `table` for what a check does, and on the shape for that jumps lead forward and that
 // no chain of calls is too long.
 
 ghost use Rattle.std.specs.Prelude.{◌≡◌, ◌<◌, ◌≤◌, ◌+◌, ◌-◌, ◌++◌, ◌∷◌, [], List, ℕ, ℤ, length, Some, IfOk, IfErr, OnOk, IsOkAnd};
@@ -16,18 +16,19 @@ ghost use Rattle.description.specs.declared.description.Description.{Description
 ghost use Rattle.reg_domain.specs.Enough.{IsEntryKnown};
 ghost use Rattle.description.specs.Description.{NeverStuck};
 ghost use Rattle.reg_domain.specs.Ways.{Stays};
-ghost use Rattle.verifier.specs.Arrives.{AllArrive, FailsUnless, IsNeverLacking, LacksMemoryOrMore, NeverLacks};
-ghost use Rattle.verifier.specs.Function.{AreVisited, HasChecked, IsEnd, IsLawfulProgram, IsOwn, checks_at, deep_under};
+ghost use Rattle.verifier.specs.Arrives.{AllArrive, Arrives, FailsUnless, IsNeverLacking, LacksMemoryOrMore, NeverLacks};
+ghost use Rattle.verifier.specs.Function.{ArePassed, HasChecked, IsEnd, IsLawfulProgram, IsOwn, checks_at, deep_under};
 ghost use Rattle.verifier.specs.Goes.{IsCallVisited, IsVisited};
-ghost use Rattle.verifier.specs.Table.{Grows, described};
+ghost use Rattle.verifier.specs.Table.{described};
 ghost use Rattle.verifier.specs.Verdict.{IsNumberOfChecks};
 
+use crate::known::{Known, Spare};
 use crate::refusal::VerifyError;
-use crate::table::{Check, come_back, first_table, lead, leave};
+use crate::table::{Check, arrive, first_table, lead, leave};
 use crate::ways::{callee_of, end_of, returning, target_of};
 use bpf_insn::Program;
 use call_shape::Shape;
-use description::{Description, SavedRegisters};
+use description::SavedRegisters;
 use helpers::HelperLimits;
 use local_calls::enter;
 use private_insns::Way;
@@ -35,8 +36,8 @@ use reg_domain::entry;
 use std::alloc::Global;
 
 /// Describes each place of a program of lawful shape, and checks each instruction that something leads to, under these
-/// limits. The answer is how many checks were made. It takes memory for one description a slot of each function that is open
-/// at a time.
+/// limits. The answer is how many checks were made. It takes memory for as many descriptions as ways are open at a time, and for
+/// a small table of each function that is open.
 pub fn pass(alloc: Global, limits: &HelperLimits, shape: &Shape<'_>) -> Result<u32, VerifyError>
     ensures safe { IfOk result (λ _. Safe shape.now limits.now) }
     ensures visits { IfOk result (IsNumberOfChecks shape.now) }
@@ -44,17 +45,18 @@ pub fn pass(alloc: Global, limits: &HelperLimits, shape: &Shape<'_>) -> Result<u
     ensures fails { IfErr result (LacksMemoryOrMore shape.now) }
 {
     let program = shape.program();
-    let entry = entry();
+    let mut spare = Spare::new(alloc)?;
+    let entry = spare.copy_of(&entry())?;
     let mut callers = Vec::new(alloc);
     let mut visits = 0;
     visit_function(
-        alloc,
         limits,
         program,
         0,
         0,
-        &entry,
+        entry,
         &mut callers,
+        &mut spare,
         &mut visits,
     )?;
     Ok(visits)
@@ -64,32 +66,30 @@ pub fn pass(alloc: Global, limits: &HelperLimits, shape: &Shape<'_>) -> Result<u
 // is the answer, if it is anywhere, for the place behind its call.
 #[cycle(functions)]
 fn visit_function(
-    alloc: Global,
     limits: &HelperLimits,
     program: &Program,
     start: usize,
     behind_call: usize,
-    entry: &Description,
+    entry: Known,
     callers: &mut Vec<SavedRegisters>,
+    spare: &mut Spare,
     visits: &mut u32,
-) -> Result<Option<Description>, VerifyError>
+) -> Result<Option<Known>, VerifyError>
     requires lawful { IsLawfulProgram program.now }
-    requires own { IsOwn program.now callers.old.items start start entry.now }
+    requires own { IsOwn program.now callers.old.items start start entry }
     requires few { visits.old + written_out (8 - length callers.old.items) program.now start ≤ MAX_WRITTEN_OUT }
-    ensures sound { IfOk result (λ left. IsVisited limits.now program.now callers.old.items entry.now start left visits.old visits.new) }
+    ensures sound { IfOk result (λ left. IsVisited limits.now program.now callers.old.items entry start left visits.old visits.new) }
     ensures frames { IfOk result (λ left. (d : Description) → left ≡ Some d → length d.stack ≡ length callers.old.items) }
     ensures callers { OnOk result (callers.new.items ≡ callers.old.items) }
     ensures visits { OnOk result (visits.new ≤ visits.old + written_out (8 - length callers.old.items) program.now start) }
     ensures counted { OnOk result (visits.old < visits.new) }
-    ensures fails { IfErr result (FailsUnless (IsNeverLacking program.now callers.old.items start × IsEntryKnown entry.now)) }
+    ensures fails { IfErr result (FailsUnless (IsNeverLacking program.now callers.old.items start × IsEntryKnown entry)) }
 {
     let len = end_of(program, start) - start;
-    let mut table = first_table(alloc, len, entry)?;
+    let mut table = first_table(spare, len, entry)?;
     let mut left = None;
-    let mut back = None;
     for at in 0..len {
         visit(
-            alloc,
             limits,
             program,
             start,
@@ -97,37 +97,35 @@ fn visit_function(
             behind_call,
             &mut table,
             &mut left,
-            &mut back,
             callers,
+            spare,
             visits,
         )?;
     }
+    spare.keep_table(table);
     Ok(left)
 }
 
-// Visits one place: where something leads to it, its instruction is checked, and leads on. What comes back from a function is kept in
-// a place of the caller's, so that a visit has no description of its own.
+// Visits one place: where something leads to it, its instruction is checked, and what is known there is led on.
 #[cycle(functions)]
 fn visit(
-    alloc: Global,
     limits: &HelperLimits,
     program: &Program,
     start: usize,
     at: usize,
     behind_call: usize,
-    table: &mut [Option<Description>],
-    left: &mut Option<Description>,
-    back: &mut Option<Description>,
+    table: &mut [Option<Known>],
+    left: &mut Option<Known>,
     callers: &mut Vec<SavedRegisters>,
+    spare: &mut Spare,
     visits: &mut u32,
 ) -> Result<(), VerifyError>
     requires lawful { IsLawfulProgram program.now }
     requires at { at < length table.old }
-    requires before { (first : ℕ) × AreVisited limits.now program.now callers.old.items start table.old left.old at first visits.old }
+    requires before { (entry : Description) × (first : ℕ) × ArePassed limits.now program.now callers.old.items entry start table.old left.old at first visits.old }
     requires few { visits.old + checks_at (deep_under callers.old.items) program.now start (start + at) ≤ MAX_WRITTEN_OUT }
     ensures whole { length table.new ≡ length table.old }
-    ensures done { IfOk result (λ _. (first : ℕ) → AreVisited limits.now program.now callers.old.items start table.old left.old at first visits.old → AreVisited limits.now program.now callers.old.items start table.new left.new (at + 1) first visits.new) }
-    ensures grows { IfOk result (λ _. Grows table.old table.new) }
+    ensures done { IfOk result (λ _. (entry : Description) (first : ℕ) → ArePassed limits.now program.now callers.old.items entry start table.old left.old at first visits.old → ArePassed limits.now program.now callers.old.items entry start table.new left.new (at + 1) first visits.new) }
     ensures callers { OnOk result (callers.new.items ≡ callers.old.items) }
     ensures visits { OnOk result (visits.new ≤ visits.old + checks_at (deep_under callers.old.items) program.now start (start + at)) }
     ensures more { OnOk result (visits.old ≤ visits.new) }
@@ -140,85 +138,80 @@ fn visit(
     let Some(insn) = program.fetch(place) else {
         return Ok(());
     };
-    let Some(description) = &table[at] else {
+    let Some(known) = table[at].take() else {
         return Ok(());
     };
     let check = Check::make(place, insn, visits);
     if let Some(target) = callee_of(place, insn) {
-        call(
-            alloc,
-            limits,
-            program,
-            place,
-            target,
-            description,
-            back,
-            callers,
-            visits,
+        let back = call(
+            limits, program, place, target, known, callers, spare, visits,
         )?;
-        return come_back(table, at + 1, back, place + 1);
+        return match back {
+            Some(back) => arrive(table, at + 1, back, spare, place + 1),
+            None => Ok(()),
+        };
     }
     if let Some(saved) = returning(insn, callers) {
-        return leave(description, &saved, left, behind_call);
+        return leave(known, &saved, left, spare, behind_call);
     }
-    check_ways(limits, program, callers, table, start, at, check)
+    check_ways(
+        limits, program, callers, table, start, at, check, known, spare,
+    )
 }
 
-// Visits the function that the instruction at a place calls where that is known, and puts what is known behind the call into
-// `back`, if any machine comes back. It is apart, since it has descriptions of its own.
+// Visits the function that the instruction at a place calls where that is known. What is known behind the call is the answer, if
+// any machine comes back.
 #[cycle(functions)]
-#[inline(never)]
 fn call(
-    alloc: Global,
     limits: &HelperLimits,
     program: &Program,
     place: usize,
     callee: usize,
-    description: &Description,
-    back: &mut Option<Description>,
+    mut known: Known,
     callers: &mut Vec<SavedRegisters>,
+    spare: &mut Spare,
     visits: &mut u32,
-) -> Result<(), VerifyError>
+) -> Result<Option<Known>, VerifyError>
     requires lawful { IsLawfulProgram program.now }
-    requires own { IsOwn program.now callers.old.items (function_of program.now place) place description.now }
+    requires own { IsOwn program.now callers.old.items (function_of program.now place) place known }
     requires calls { callee_at program.now place ≡ Some callee }
     requires few { visits.old + written_out (deep_under callers.old.items) program.now callee ≤ MAX_WRITTEN_OUT }
-    ensures unstuck { (limits : HelperLimits) (distance : ℤ) → NeverStuck limits callers.old.items (Call (Local distance)) description.now }
-    ensures sound { IfOk result (λ _. IsCallVisited limits.now program.now callers.old.items description.now place callee back.new visits.old visits.new) }
-    ensures frames { IfOk result (λ _. (d : Description) → back.new ≡ Some d → length d.stack ≡ length callers.old.items + 1) }
+    ensures unstuck { (limits : HelperLimits) (distance : ℤ) → NeverStuck limits callers.old.items (Call (Local distance)) known }
+    ensures sound { IfOk result (λ back. IsCallVisited limits.now program.now callers.old.items known place callee back visits.old visits.new) }
+    ensures frames { IfOk result (λ back. (d : Description) → back ≡ Some d → length d.stack ≡ length callers.old.items + 1) }
     ensures callers { OnOk result (callers.new.items ≡ callers.old.items) }
     ensures visits { OnOk result (visits.new ≤ visits.old + written_out (deep_under callers.old.items) program.now callee) }
     ensures counted { OnOk result (visits.old < visits.new) }
     ensures fails { IfErr result (FailsUnless ⊥) }
 {
-    let mut entry = *description;
-    let saved = enter(&mut entry);
+    let saved = enter(&mut known.description);
     callers.reserve(1)?;
     callers.push_reserved(saved);
     let left = visit_function(
-        alloc,
         limits,
         program,
         callee,
         place + 1,
-        &entry,
+        known,
         callers,
+        spare,
         visits,
     )?;
     callers.pop();
-    *back = left;
-    Ok(())
+    Ok(left)
 }
 
-// Checks the instruction at a place by which control stays in its function, and lets it lead on both ways.
+// Checks the instruction at a place, where that is known, by which control stays in its function, and lets it lead on both ways.
 fn check_ways(
     limits: &HelperLimits,
     program: &Program,
     callers: &[SavedRegisters],
-    table: &mut [Option<Description>],
+    table: &mut [Option<Known>],
     start: usize,
     at: usize,
     check: Check,
+    known: Known,
+    spare: &mut Spare,
 ) -> Result<(), VerifyError>
     requires lawful { IsLawfulProgram program.now }
     requires at { at < length table.old }
@@ -226,22 +219,29 @@ fn check_ways(
     requires here { insn_at program.now (start + at) ≡ Some check.insn }
     requires stays { Stays callers.now check.insn }
     ensures whole { length table.new ≡ length table.old }
-    ensures checked { IfOk result (λ _. HasChecked limits.now callers.now start table.old at check.insn table.new) }
-    ensures passes { start ≡ 0 → NeverLacks program.now → AllArrive program.now table.old → IsOkAnd result (λ _. AllArrive program.now table.new) }
-    ensures fails { IfErr result (FailsUnless ⊥) }
+    ensures checked { IfOk result (λ _. HasChecked limits.now callers.now start known table.old at check.insn table.new) }
+    ensures arrives { IfOk result (λ _. start ≡ 0 → NeverLacks program.now → AllArrive program.now table.old → Arrives program.now at known → AllArrive program.now table.new) }
+    ensures fails { IfErr result (FailsUnless ((start ≡ 0) × NeverLacks program.now × AllArrive program.now table.old × Arrives program.now at known)) }
 {
     let behind = at + check.insn.slots();
-    lead(limits, callers, table, at, check, Way::FallThrough, behind)?;
     match target_of(start + at, check.insn) {
-        Some(target) => lead(
-            limits,
-            callers,
-            table,
-            at,
-            check,
-            Way::Taken,
-            target - start,
-        ),
-        None => Ok(()),
+        Some(target) => {
+            let also = spare.copy_of(&known.description)?;
+            let ahead = Way::FallThrough;
+            lead(
+                limits, callers, table, check, also, ahead, start, behind, spare,
+            )?;
+            let to = target - start;
+            let taken = Way::Taken;
+            lead(
+                limits, callers, table, check, known, taken, start, to, spare,
+            )
+        }
+        None => {
+            let ahead = Way::FallThrough;
+            lead(
+                limits, callers, table, check, known, ahead, start, behind, spare,
+            )
+        }
     }
 }

@@ -1,7 +1,7 @@
-// A table of what is known at each slot of a function, and what a check of an instruction does to it. It relies on
-// `description` for what is known, on `reg_domain` for what an instruction makes of it, and on `local_calls` for a return.
+// A table of what is known at each slot of a function that is not visited yet, and what a check of an instruction does to it. It
+// relies on `known` for places, on `reg_domain` for what an instruction makes of what is known, and on `local_calls` for a return.
 
-ghost use Rattle.std.specs.Prelude.{◌≡◌, ◌<◌, ◌≤◌, ◌+◌, ◌++◌, ◌∷◌, [], List, ℕ, length, Some, None, IfOk, IfErr, IfSome, IsOkAnd, IsSome, IsTrue};
+ghost use Rattle.std.specs.Prelude.{◌≡◌, ◌<◌, ◌≤◌, ◌+◌, ◌++◌, ◌∷◌, [], List, ℕ, length, Some, IfOk, IfErr, IfSome, IsOkAnd, IsSome};
 ghost use Rattle.bpf_insn.specs.declared.insn.Insn.TheVariants.{Exit};
 ghost use Rattle.bpf_insn.specs.declared.program.Slot.{Slot};
 ghost use Rattle.bpf_insn.specs.Program.{insn_at};
@@ -12,17 +12,18 @@ ghost use Rattle.description.specs.declared.saved.SavedRegisters.{SavedRegisters
 ghost use Rattle.description.specs.Description.{NeverStuck};
 ghost use Rattle.reg_domain.specs.Ways.{Stays};
 ghost use Rattle.verifier.specs.Arrives.{AllArrive, Arrives, FailsUnless, NeverLacks, goes_to};
-ghost use Rattle.verifier.specs.Table.{HasComeBack, HasJoined, HasLed, HasLeft, IsFirstTable, IsMerged, described};
+ghost use Rattle.verifier.specs.Table.{HasJoined, HasLed, HasLeft, IsFirstTable, IsMerged};
 
+use crate::known::{Known, Spare};
 use crate::refusal::{Refusal, VerifyError};
 use bpf_insn::Insn;
-use description::{Description, SavedRegisters};
+use description::SavedRegisters;
 use helpers::HelperLimits;
 use or_memory::OrMemory;
 use private_insns::Way;
 use reg_domain::{follow, join};
 use register_kinds::Cause;
-use std::alloc::{AllocError, Global};
+use std::alloc::AllocError;
 
 /// One check of an instruction.
 #[derive(Clone, Copy, Debug)]
@@ -48,91 +49,57 @@ impl Check {
             number,
         }
     }
-
-    // The place of another entry of the table, which stands behind that of the check.
-    fn place_of(self, at: usize, to: usize) -> usize {
-        self.place.saturating_add(to.saturating_sub(at))
-    }
 }
 
 /// The table of so many slots at the start: the first alone is described.
 pub fn first_table(
-    alloc: Global,
+    spare: &mut Spare,
     len: usize,
-    entry: &Description,
-) -> Result<Vec<Option<Description>>, AllocError>
+    entry: Known,
+) -> Result<Vec<Option<Known>>, AllocError>
     requires some { 1 ≤ len }
-    ensures { IfOk result (λ table. IsFirstTable len entry.now table.items) }
+    ensures { IfOk result (λ table. IsFirstTable len entry table.items) }
 {
-    let mut table = Vec::with_capacity(alloc, len)?;
-    table.push_reserved(Some(*entry));
+    let mut table = spare.table(len)?;
+    table.push_reserved(Some(entry));
     for _ in 1..len {
         table.push_reserved(None);
     }
     Ok(table)
 }
 
-/// Where something leads to an entry, checks its instruction, and joins what is known behind it one way into the table.
-/// Nothing is behind the last exit.
+/// Checks an instruction where that is known, and lets it lead on one way: what is known then is joined into the table, of a function
+/// that starts at that slot. Nothing is behind the last exit.
 pub fn lead(
     limits: &HelperLimits,
     callers: &[SavedRegisters],
-    table: &mut [Option<Description>],
-    at: usize,
+    table: &mut [Option<Known>],
     check: Check,
+    mut known: Known,
     way: Way,
+    start: usize,
     to: usize,
+    spare: &mut Spare,
 ) -> Result<(), VerifyError>
-    requires at { at < length table.old }
     requires stays { Stays callers.now check.insn }
     ensures whole { length table.new ≡ length table.old }
-    ensures led { IfOk result (λ _. HasLed limits.now callers.now table.old at check.insn way to table.new) }
-    ensures passes { (program : List Slot) → NeverLacks program → AllArrive program table.old → length table.old ≤ length program → insn_at program at ≡ Some check.insn → goes_to at check.insn way ≡ Some to → IsOkAnd result (λ _. AllArrive program table.new) }
+    ensures led { IfOk result (λ _. HasLed limits.now callers.now known table.old check.insn way to table.new) }
+    ensures passes { (program : List Slot) (place : ℕ) → NeverLacks program → AllArrive program table.old → length table.old ≤ length program → insn_at program place ≡ Some check.insn → Arrives program place known → goes_to place check.insn way ≡ Some to → IsOkAnd result (λ _. AllArrive program table.new) }
     ensures fails { IfErr result (FailsUnless ⊥) }
 {
-    if table[at].is_some() && is_blank(table, to) {
-        lead_first(limits, callers, table, at, check, way, to)
-    } else {
-        lead_more(limits, callers, table, at, check, way, to)
-    }
-}
-
-// Whether there is such an entry and nothing has led to it.
-fn is_blank(table: &[Option<Description>], to: usize) -> bool
-    ensures { IsTrue result → (to < length table.now) × (described table.now to ≡ None) }
-{
-    match table.get(to) {
-        Some(known) => known.is_none(),
-        None => false,
-    }
-}
-
-// The same where something has led to the other entry, or there is none.
-fn lead_more(
-    limits: &HelperLimits,
-    callers: &[SavedRegisters],
-    table: &mut [Option<Description>],
-    at: usize,
-    check: Check,
-    way: Way,
-    to: usize,
-) -> Result<(), VerifyError>
-    requires at { at < length table.old }
-    requires stays { Stays callers.now check.insn }
-    ensures whole { length table.new ≡ length table.old }
-    ensures led { IfOk result (λ _. HasLed limits.now callers.now table.old at check.insn way to table.new) }
-    ensures passes { (program : List Slot) → NeverLacks program → AllArrive program table.old → length table.old ≤ length program → insn_at program at ≡ Some check.insn → goes_to at check.insn way ≡ Some to → IsOkAnd result (λ _. AllArrive program table.new) }
-    ensures fails { IfErr result (FailsUnless ⊥) }
-{
-    let Some(description) = &table[at] else {
-        return Ok(());
-    };
-    let mut there = *description;
-    match follow(&mut there, limits, callers, check.insn, check.number, way) {
+    match follow(
+        &mut known.description,
+        limits,
+        callers,
+        check.insn,
+        check.number,
+        way,
+    ) {
         Ok(is_open) => {
             if is_open && to < table.len() {
-                join_into(table, to, &there, check.place_of(at, to))
+                arrive(table, to, known, spare, start.saturating_add(to))
             } else {
+                spare.keep(known);
                 Ok(())
             }
         }
@@ -140,74 +107,43 @@ fn lead_more(
     }
 }
 
-// The same where nothing has led to the other entry yet: what is known there is made in its place.
-fn lead_first(
-    limits: &HelperLimits,
-    callers: &[SavedRegisters],
-    table: &mut [Option<Description>],
-    at: usize,
-    check: Check,
-    way: Way,
-    to: usize,
-) -> Result<(), VerifyError>
-    requires at { at < length table.old }
-    requires here { IsSome (described table.old at) }
-    requires to { to < length table.old }
-    requires none { described table.old to ≡ None }
-    requires stays { Stays callers.now check.insn }
-    ensures whole { length table.new ≡ length table.old }
-    ensures led { IfOk result (λ _. HasLed limits.now callers.now table.old at check.insn way to table.new) }
-    ensures passes { (program : List Slot) → NeverLacks program → AllArrive program table.old → length table.old ≤ length program → insn_at program at ≡ Some check.insn → goes_to at check.insn way ≡ Some to → IsOkAnd result (λ _. AllArrive program table.new) }
-    ensures fails { IfErr result (FailsUnless ⊥) }
-{
-    table[to] = table[at];
-    let Some(there) = &mut table[to] else {
-        return Ok(());
-    };
-    match follow(there, limits, callers, check.insn, check.number, way) {
-        Ok(true) => Ok(()),
-        Ok(false) => {
-            table[to] = None;
-            Ok(())
-        }
-        Err(cause) => Err(OrMemory::Fault(Refusal::Check(cause, check.place))),
-    }
-}
-
 /// Something more leads to an entry, of which that is the place.
-pub fn join_into(
-    table: &mut [Option<Description>],
+pub fn arrive(
+    table: &mut [Option<Known>],
     to: usize,
-    new: &Description,
+    new: Known,
+    spare: &mut Spare,
     place: usize,
 ) -> Result<(), VerifyError>
     requires to { to < length table.old }
     ensures whole { length table.new ≡ length table.old }
-    ensures joined { IfOk result (λ _. HasJoined table.old to new.now table.new) }
-    ensures passes { (program : List Slot) → NeverLacks program → AllArrive program table.old → to < length program → Arrives program to new.now → IsOkAnd result (λ _. AllArrive program table.new) }
+    ensures joined { IfOk result (λ _. HasJoined table.old to new table.new) }
+    ensures passes { (program : List Slot) → NeverLacks program → AllArrive program table.old → to < length program → Arrives program to new → IsOkAnd result (λ _. AllArrive program table.new) }
     ensures fails { IfErr result (FailsUnless ⊥) }
 {
-    merge(&mut table[to], new, place)
+    merge(&mut table[to], new, spare, place)
 }
 
 // Something more is known at a place, to which it leads.
 fn merge(
-    known: &mut Option<Description>,
-    new: &Description,
+    known: &mut Option<Known>,
+    new: Known,
+    spare: &mut Spare,
     place: usize,
 ) -> Result<(), VerifyError>
-    ensures merged { IfOk result (λ _. IfSome known.new (IsMerged known.old new.now)) }
+    ensures merged { IfOk result (λ _. IfSome known.new (IsMerged known.old new)) }
     ensures some { IfOk result (λ _. IsSome known.new) }
-    ensures passes { (program : List Slot) (to : ℕ) → NeverLacks program → to < length program → Arrives program to new.now → ((old : Description) → known.old ≡ Some old → Arrives program to old) → IsOkAnd result (λ _. IfSome known.new (Arrives program to)) }
+    ensures passes { (program : List Slot) (to : ℕ) → NeverLacks program → to < length program → Arrives program to new → ((old : Description) → known.old ≡ Some old → Arrives program to old) → IsOkAnd result (λ _. IfSome known.new (Arrives program to)) }
     ensures fails { IfErr result (FailsUnless ⊥) }
 {
     match known {
         None => {
-            *known = Some(*new);
+            *known = Some(new);
             Ok(())
         }
         Some(old) => {
-            if join(old, new) {
+            if join(&mut old.description, &new.description) {
+                spare.keep(new);
                 Ok(())
             } else {
                 Err(OrMemory::Fault(Refusal::Check(Cause::PathsDisagree, place)))
@@ -216,37 +152,19 @@ fn merge(
     }
 }
 
-/// What comes back from a function that was called, if anything does, leads to an entry, of which that is the place.
-pub fn come_back(
-    table: &mut [Option<Description>],
-    to: usize,
-    back: &Option<Description>,
-    place: usize,
-) -> Result<(), VerifyError>
-    requires to { to < length table.old }
-    ensures whole { length table.new ≡ length table.old }
-    ensures back { IfOk result (λ _. HasComeBack table.old to back.now table.new) }
-    ensures fails { IfErr result (FailsUnless ⊥) }
-{
-    match back {
-        None => Ok(()),
-        Some(there) => join_into(table, to, there, place),
-    }
-}
-
 /// A function is left where that is known, for the place behind its call.
 pub fn leave(
-    description: &Description,
+    mut known: Known,
     saved: &SavedRegisters,
-    left: &mut Option<Description>,
+    left: &mut Option<Known>,
+    spare: &mut Spare,
     place: usize,
 ) -> Result<(), VerifyError>
-    requires called { 1 < length description.now.stack }
-    ensures unstuck { (limits : HelperLimits) (outer : List SavedRegisters) → NeverStuck limits (outer ++ saved.now ∷ []) Exit description.now }
-    ensures left { IfOk result (λ _. HasLeft saved.now description.now left.old left.new) }
+    requires called { 1 < length known.stack }
+    ensures unstuck { (limits : HelperLimits) (outer : List SavedRegisters) → NeverStuck limits (outer ++ saved.now ∷ []) Exit known }
+    ensures left { IfOk result (λ _. HasLeft saved.now known left.old left.new) }
     ensures fails { IfErr result (FailsUnless ⊥) }
 {
-    let mut there = *description;
-    local_calls::leave(&mut there, saved);
-    merge(left, &there, place)
+    local_calls::leave(&mut known.description, saved);
+    merge(left, known, spare, place)
 }

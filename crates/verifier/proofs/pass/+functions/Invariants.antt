@@ -1,11 +1,9 @@
 use Rattle.std.proofs.Common.{◌≡◌, ◌≤◌, ◌<◌, ◌+◌, ◌-◌, ◌*◌, length, Some}
-use Rattle.bpf_semantics.specs.MachineState.{MachineState}
 use Rattle.call_shape.specs.WrittenOut.{total}
-use Rattle.description.specs.Description.{Describes}
 use Rattle.reg_domain.specs.Enough.{IsEntryKnown}
 use Rattle.verifier.specs.Arrives.{AllArrive, IsNeverLacking}
-use Rattle.verifier.specs.Function.{AreVisited, checks_at, deep_under}
-use Rattle.verifier.specs.Table.{described, IsKnown}
+use Rattle.verifier.specs.Function.{ArePassed, checks_at, deep_under}
+use Rattle.verifier.specs.Table.{described}
 use Rattle.verifier.proofs.pass.+functions.Given as goal
 
 -- each call has one function more that waits
@@ -22,12 +20,11 @@ decreases-visit_function l = 3 * (8 - length l.callers.now.items) + 2
 abbrev pub invariant-visit_function-loop-at : goal.invariant-visit_function-loop-at
 invariant-visit_function-loop-at l = record {
   whole : length l.table.items ≡ l.len;
-  done : AreVisited l.limits l.program l.fn.callers.items l.start l.table.items l.left l.at l.fn.visits l.visits;
-  entry : (m : MachineState) → Describes l.fn.callers.items l.entry m → IsKnown l.fn.callers.items l.table.items 0 m;
+  done : ArePassed l.limits l.program l.fn.callers.items l.fn.entry l.start l.table.items l.left l.at l.fn.visits l.visits;
   callers : l.callers.items ≡ l.fn.callers.items;
   visits : l.visits ≤ l.fn.visits + total (checks_at (deep_under l.fn.callers.items) l.program l.start) (l.start + l.at);
   more : l.fn.visits ≤ l.visits;
-  first : l.at ≡ 0 → described l.table.items 0 ≡ Some l.entry;
+  first : l.at ≡ 0 → described l.table.items 0 ≡ Some l.fn.entry;
   counted : 0 < l.at → l.fn.visits < l.visits;
-  arrives : IsNeverLacking l.program l.fn.callers.items l.start → IsEntryKnown l.entry → AllArrive l.program l.table.items;
+  arrives : IsNeverLacking l.program l.fn.callers.items l.start → IsEntryKnown l.fn.entry → AllArrive l.program l.table.items;
 }

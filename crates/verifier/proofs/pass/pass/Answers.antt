@@ -1,4 +1,4 @@
-use Rattle.std.proofs.Common.{◌≡◌, ℕ, ◌-◌, List, [], Option, length, refl, ap, sym, subst, arith}
+use Rattle.std.proofs.Common.{◌≡◌, ℕ, ◌-◌, List, [], Option, length, refl, ap, sym, subst, ◌∙◌, arith}
 use Rattle.bpf_insn.specs.declared.program.Slot.{Slot}
 use Rattle.bpf_insn.specs.Program.{IsProgram}
 use Rattle.bpf_semantics.specs.Reached.{Safe}
@@ -8,6 +8,7 @@ use Rattle.call_shape.proofs.Places.{begins_first}
 use Rattle.call_shape.proofs.WrittenFew.{within_count}
 use Rattle.helpers.specs.declared.limits.HelperLimits.{HelperLimits}
 use Rattle.description.specs.declared.description.Description.{Description}
+use Rattle.description.specs.Description.{DescribesEntries}
 use Rattle.description.specs.declared.saved.SavedRegisters.{SavedRegisters}
 use Rattle.verifier.specs.Checks.{AreChecks}
 use Rattle.verifier.specs.Function.{IsOwn}
@@ -23,13 +24,13 @@ pub visit_function-requires-clause-own : goal.visit_function-requires-clause-own
 visit_function-requires-clause-own c =
     let program = c.program-program.result.now in
     let is : IsProgram program = subst IsProgram (sym c.program-program.ensures.value) c.program-program.ensures.program in
-    let own : IsOwn program [] 0 0 c.entry-entry.result = record {
+    let own : IsOwn program [] 0 0 c.in_ok-entry.entry = record {
       begun = begins_first program is;
       within = refl;
-      frames = c.entry-entry.ensures.known.depth;
+      frames = ap (λ (d : Description). length d.stack) c.in_ok-entry.ensures ∙ c.entry.ensures.known.depth;
       chain = chain_first program;
     } in
-    subst (λ (cs : List SavedRegisters). IsOwn program cs 0 0 c.entry-entry.result) (sym c.new-callers.ensures.items) own
+    subst (λ (cs : List SavedRegisters). IsOwn program cs 0 0 c.in_ok-entry.entry) (sym c.new-callers.ensures.items) own
 
 pub visit_function-requires-clause-few : goal.visit_function-requires-clause-few
 visit_function-requires-clause-few c =
@@ -43,15 +44,15 @@ returns-clause-safe c =
     let program = c.program-program.result.now in
     let limits = c.args.limits.now in
     let left = c.in_ok-visit_function.field-0 in
-    let visited = visited_outermost limits program c.entry-entry.result left 0 c.visit_function.new.visits c.new-callers.result.items c.new-callers.ensures.items c.in_ok-visit_function.ensures.sound in
-    subst (λ (p : List Slot). Safe p limits) c.program-program.ensures.value (outermost_safe limits program c.entry-entry.result left visited.checks c.entry-entry.ensures.entries visited.sound)
+    let visited = visited_outermost limits program c.in_ok-entry.entry left 0 c.visit_function.new.visits c.new-callers.result.items c.new-callers.ensures.items c.in_ok-visit_function.ensures.sound in
+    subst (λ (p : List Slot). Safe p limits) c.program-program.ensures.value (outermost_safe limits program c.in_ok-entry.entry left visited.checks (subst DescribesEntries (sym c.in_ok-entry.ensures) c.entry.ensures.entries) visited.sound)
 
 pub returns-clause-visits : goal.returns-clause-visits
 returns-clause-visits c =
     let program = c.program-program.result.now in
     let limits = c.args.limits.now in
     let left = c.in_ok-visit_function.field-0 in
-    let visited = visited_outermost limits program c.entry-entry.result left 0 c.visit_function.new.visits c.new-callers.result.items c.new-callers.ensures.items c.in_ok-visit_function.ensures.sound in
+    let visited = visited_outermost limits program c.in_ok-entry.entry left 0 c.visit_function.new.visits c.new-callers.result.items c.new-callers.ensures.items c.in_ok-visit_function.ensures.sound in
     let deep = ap (λ (cs : List SavedRegisters). written_out (8 - length cs) program 0) c.new-callers.ensures.items in
     let same = ap (λ (p : List Slot). written_out 8 p 0) c.program-program.ensures.value in
     record {
@@ -59,7 +60,7 @@ returns-clause-visits c =
       are = subst (λ (p : List Slot). AreChecks p c.visit_function.new.visits visited.checks) c.program-program.ensures.value (record {
         once = visited.once;
         number = omega (arith, visited.made);
-        reached = outermost_checked limits program c.entry-entry.result left visited.checks c.entry-entry.ensures.entries visited.sound;
+        reached = outermost_checked limits program c.in_ok-entry.entry left visited.checks (subst DescribesEntries (sym c.in_ok-entry.ensures) c.entry.ensures.entries) visited.sound;
       });
       some = omega (arith, c.in_ok-visit_function.ensures.counted);
       few = λ count is. omega (arith, deep, same, c.in_ok-visit_function.ensures.visits, within_count 8 c.args.shape.now 0 count is);

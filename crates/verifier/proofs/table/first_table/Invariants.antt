@@ -5,4 +5,4 @@ use Rattle.verifier.proofs.table.first_table.Given as goal
 
 -- the entry, and as many places that nothing leads to yet
 abbrev pub invariant-loop : goal.invariant-loop
-invariant-loop l = IsFirstTable l.counter l.entry l.table.items × (l.len ≤ vec_capacity l.table) × (l.counter ≤ l.len)
+invariant-loop l = IsFirstTable l.counter l.fn.entry l.table.items × (l.len ≤ vec_capacity l.table) × (l.counter ≤ l.len)

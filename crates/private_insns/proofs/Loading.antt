@@ -12,7 +12,7 @@ use Rattle.scalar_domain.specs.Scalar.{Has}
 use Rattle.register_kinds.specs.declared.kind.Kind.TheVariants.{Number}
 use Rattle.register_kinds.specs.Freezes.{FreezeNumbers}
 use Rattle.private_insns.specs.Memory.{AreThere, IsLoaded}
-use Rattle.private_insns.proofs.ByteNumbers.{number_below}
+use Rattle.description.proofs.ByteNumbers.{number_below}
 
 -- what is read is the word of its bytes
 pub is_loaded : (numbers : FreezeNumbers) (m : MachineState) (form : LoadForm) (src : Reg) (offset : ℤ) (start : ℕ) (scalar : Scalar) → register m src ≡ Some start

@@ -22,7 +22,7 @@ use Rattle.description.specs.Memory.{AreKnown, LeavesMarked, Writes}
 use Rattle.private_insns.specs.Enough.{LeavesStored, LiesInFrame}
 use Rattle.register_kinds.specs.Freezes.{FreezeNumbers}
 use Rattle.private_insns.specs.Memory.{Stores}
-use Rattle.private_insns.proofs.ByteNumbers.{bytes_below, length-low_bytes}
+use Rattle.description.proofs.ByteNumbers.{bytes_below, length-low_bytes}
 use Rattle.description.proofs.FramePlaces.{frame_is}
 
 -- where the bytes of an access begin

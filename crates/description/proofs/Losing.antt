@@ -1,5 +1,5 @@
 -- Where spills are lost one after another: what is left of them, and of the bytes that are known to be written.
-use Rattle.std.proofs.Common.{◌≡◌, ℕ, ◌+◌, ◌*◌, ◌<◌, ◌≤◌, Bool, true, false, List, Option, length, refl, sym, subst, ◌∙◌, arith, ◌⊎◌, inl, inr}
+use Rattle.std.proofs.Common.{◌≡◌, ℕ, ◌+◌, ◌*◌, ◌/◌, ◌<◌, ◌≤◌, Bool, true, false, List, Option, length, refl, sym, subst, ◌∙◌, arith, ◌⊎◌, inl, inr}
 use Rattle.std.proofs.lemmas.Bool.{cases_eq}
 use Rattle.stack_domain.specs.Stack.{Covers, Knows}
 use Rattle.description.specs.declared.spill.Spill.{Spill}
@@ -18,7 +18,7 @@ pub record HaveLost (IsLost Stays : ℕ → Type 0) (upto : ℕ) (before after :
   pub kept : (place : ℕ) → ((upto ≤ place) ⊎ (IsLost place → ⊥)) → at_place after place ≡ at_place before place
   pub depth : length left ≡ length stack
   pub covers : (frames : List (List (Option ℕ))) → Covers stack frames → Covers left frames
-  pub knows : (frame word offset : ℕ) → word < 64 → 8 * word ≤ offset → offset < 8 * word + 8 → (IsLost (64 * frame + word) → ⊥) → Knows stack frame offset → Knows left frame offset
+  pub knows : (frame offset : ℕ) → (IsLost (64 * frame + offset / 8) → ⊥) → Knows stack frame offset → Knows left frame offset
 
 module _ (IsLost Stays : ℕ → Type 0) (before : List Spill) (stack : List (List Bool)) where
   pub lost_none : HaveLost IsLost Stays 0 before before stack stack
@@ -30,7 +30,7 @@ module _ (IsLost Stays : ℕ → Type 0) (before : List Spill) (stack : List (Li
     kept = λ place apart. refl;
     depth = refl;
     covers = λ frames covers. covers;
-    knows = λ frame word offset few from to is knows. knows;
+    knows = λ frame offset is knows. knows;
   }
 
   module _ (upto : ℕ) (places : List Spill) (left : List (List Bool)) (have : HaveLost IsLost Stays upto before places stack left) where
@@ -56,7 +56,7 @@ module _ (IsLost Stays : ℕ → Type 0) (before : List Spill) (stack : List (Li
     -- this one is lost
     pub lost_too : (after : List Spill) (fewer : List (List Bool)) → IsLost upto → at_place after upto ≡ Nothing → ((other : ℕ) → (other ≡ upto → ⊥) → at_place after other ≡ at_place places other) → length after ≡ length places
         → length fewer ≡ length left → ((frames : List (List (Option ℕ))) → Covers left frames → Covers fewer frames)
-        → ((frame word offset : ℕ) → word < 64 → 8 * word ≤ offset → offset < 8 * word + 8 → (64 * frame + word ≡ upto → ⊥) → Knows left frame offset → Knows fewer frame offset)
+        → ((frame offset : ℕ) → (64 * frame + offset / 8 ≡ upto → ⊥) → Knows left frame offset → Knows fewer frame offset)
         → HaveLost IsLost Stays (upto + 1) before after stack fewer
     lost_too after fewer is nothing others len depth covers knows = record {
       len = len ∙ have.len;
@@ -78,5 +78,5 @@ module _ (IsLost Stays : ℕ → Type 0) (before : List Spill) (stack : List (Li
       ];
       depth = depth ∙ have.depth;
       covers = λ frames covered. covers frames (have.covers frames covered);
-      knows = λ frame word offset few from to stays known. knows frame word offset few from to (λ same. stays (subst IsLost (sym same) is)) (have.knows frame word offset few from to stays known);
+      knows = λ frame offset stays known. knows frame offset (λ same. stays (subst IsLost (sym same) is)) (have.knows frame offset stays known);
     }

@@ -1,7 +1,7 @@
 // What stands in the words of all frames as a list of places. It relies on `spill` for each of them, and on `stack_domain`
 // for what is known to be written.
 
-ghost use Rattle.std.specs.Prelude.{◌≡◌, ◌↔◌, ◌+◌, ◌*◌, ◌<◌, ◌≤◌, ◌⊎◌, ℕ, List, Option, length, IsTrue};
+ghost use Rattle.std.specs.Prelude.{◌≡◌, ◌↔◌, ◌+◌, ◌*◌, ◌/◌, ◌<◌, ◌≤◌, ◌⊎◌, ℕ, List, Option, length, IsTrue};
 ghost use Rattle.stack_domain.specs.Stack.{Covers, Knows};
 ghost use Rattle.description.specs.Spills.{IsFewer, IsGone, at_place, spill_at, spill_without};
 
@@ -73,7 +73,7 @@ fn lose(places: &mut [Spill], place: usize, stack: &mut Stack)
     ensures len { length places.new ≡ length places.old }
     ensures depth { length stack.new ≡ length stack.old }
     ensures covers { (frames : List (List (Option ℕ))) → Covers stack.old frames → Covers stack.new frames }
-    ensures knows { (frame word offset : ℕ) → word < 64 → 8 * word ≤ offset → offset < 8 * word + 8 → (64 * frame + word ≡ place → ⊥) → Knows stack.old frame offset → Knows stack.new frame offset }
+    ensures knows { (frame offset : ℕ) → (64 * frame + offset / 8 ≡ place → ⊥) → Knows stack.old frame offset → Knows stack.new frame offset }
 {
     empty(places, place);
     let frame = place / WORDS;
@@ -89,7 +89,7 @@ pub(crate) fn outlive(places: &mut [Spill], live: usize, stack: &mut Stack)
     ensures len { length places.new ≡ length places.old }
     ensures depth { length stack.new ≡ length stack.old }
     ensures covers { (frames : List (List (Option ℕ))) → Covers stack.old frames → Covers stack.new frames }
-    ensures knows { (frame word offset : ℕ) → word < 64 → 8 * word ≤ offset → offset < 8 * word + 8 → (IsGone live (spill_at places.old frame word) → ⊥) → Knows stack.old frame offset → Knows stack.new frame offset }
+    ensures knows { (frame offset : ℕ) → (IsGone live (spill_at places.old frame (offset / 8)) → ⊥) → Knows stack.old frame offset → Knows stack.new frame offset }
 {
     for place in 0..places.len() {
         if at(places, place).is_gone(live) {
@@ -105,7 +105,7 @@ pub(crate) fn meet(places: &mut [Spill], others: &[Spill], stack: &mut Stack)
     ensures len { length places.new ≡ length places.old }
     ensures depth { length stack.new ≡ length stack.old }
     ensures covers { (frames : List (List (Option ℕ))) → Covers stack.old frames → Covers stack.new frames }
-    ensures knows { (frame word offset : ℕ) → word < 64 → 8 * word ≤ offset → offset < 8 * word + 8 → spill_at places.old frame word ≡ spill_at others.now frame word → Knows stack.old frame offset → Knows stack.new frame offset }
+    ensures knows { (frame offset : ℕ) → spill_at places.old frame (offset / 8) ≡ spill_at others.now frame (offset / 8) → Knows stack.old frame offset → Knows stack.new frame offset }
 {
     for place in 0..places.len().max(others.len()) {
         if !at(places, place).is_same(at(others, place)) {

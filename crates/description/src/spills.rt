@@ -1,7 +1,7 @@
 // The addresses and freezes that stand on a program's stack, by their places. It relies on `spill` for each of them, and on
 // `stack_domain` for what is known to be written.
 
-ghost use Rattle.std.specs.Prelude.{◌≡◌, ◌↔◌, ◌+◌, ◌*◌, ◌<◌, ◌≤◌, ◌⊎◌, ℕ, List, Option, [], false, length, IfOk, IsOk, IsTrue};
+ghost use Rattle.std.specs.Prelude.{◌≡◌, ◌↔◌, ◌+◌, ◌*◌, ◌/◌, ◌<◌, ◌≤◌, ◌⊎◌, ℕ, List, Option, [], false, length, IfOk, IsOk, IsTrue};
 ghost use Rattle.stack_domain.specs.Stack.{Covers, Knows};
 ghost use Rattle.description.specs.Spills.{AreUnspilled, IsFewer, IsGone, at_place, spill_at, spill_without};
 
@@ -122,7 +122,7 @@ impl Spills {
         ensures none { self.old ≡ [] → self.new ≡ [] }
         ensures depth { length stack.new ≡ length stack.old }
         ensures covers { (frames : List (List (Option ℕ))) → Covers stack.old frames → Covers stack.new frames }
-        ensures knows { (frame word offset : ℕ) → word < 64 → 8 * word ≤ offset → offset < 8 * word + 8 → (IsGone live (spill_at self.old frame word) → ⊥) → Knows stack.old frame offset → Knows stack.new frame offset }
+        ensures knows { (frame offset : ℕ) → (IsGone live (spill_at self.old frame (offset / 8)) → ⊥) → Knows stack.old frame offset → Knows stack.new frame offset }
     {
         self.places.truncate(WORDS * live);
         places::outlive(self.places.as_mut_slice(), live, stack);
@@ -136,7 +136,7 @@ impl Spills {
         ensures none { self.old ≡ [] → self.new ≡ [] }
         ensures depth { length stack.new ≡ length stack.old }
         ensures covers { (frames : List (List (Option ℕ))) → Covers stack.old frames → Covers stack.new frames }
-        ensures knows { (frame word offset : ℕ) → word < 64 → 8 * word ≤ offset → offset < 8 * word + 8 → spill_at self.old frame word ≡ spill_at other.now frame word → Knows stack.old frame offset → Knows stack.new frame offset }
+        ensures knows { (frame offset : ℕ) → spill_at self.old frame (offset / 8) ≡ spill_at other.now frame (offset / 8) → Knows stack.old frame offset → Knows stack.new frame offset }
     {
         places::meet(self.places.as_mut_slice(), other.places.as_slice(), stack);
     }

@@ -1,4 +1,4 @@
-use Rattle.std.proofs.Common.{◌≡◌, ℕ, ◌+◌, ◌*◌, List, take, ap, subst, ◌∙◌, arith, inl, inr}
+use Rattle.std.proofs.Common.{◌≡◌, ℕ, ◌+◌, ◌*◌, ◌/◌, List, take, ap, subst, ◌∙◌, arith, inl, inr}
 use Rattle.std.proofs.lemmas.Bool.{cases_lt}
 use Rattle.std.proofs.lemmas.List.{get_or-take, get_or_past, length-take}
 use Rattle.description.specs.declared.spill.Spill.{Spill}
@@ -16,6 +16,6 @@ not_more live n place spills left is stays gone =
     ]
 
 pub returns-clause-knows : goal.returns-clause-knows
-returns-clause-knows c = λ frame word offset few from to stays.
-    c.outlive.ensures.knows frame word offset few from to
-    (not_more c.args.live (64 * c.args.live) (64 * frame + word) c.args.self.now c.as_mut_slice.result.now (c.as_mut_slice.ensures.value ∙ (c.truncate.ensures.items ∙ ap (take (64 * c.args.live)) c.self.view_is)) stays)
+returns-clause-knows c = λ frame offset stays.
+    c.outlive.ensures.knows frame offset
+    (not_more c.args.live (64 * c.args.live) (64 * frame + offset / 8) c.args.self.now c.as_mut_slice.result.now (c.as_mut_slice.ensures.value ∙ (c.truncate.ensures.items ∙ ap (take (64 * c.args.live)) c.self.view_is)) stays)

@@ -11,19 +11,23 @@ use Rattle.register_kinds.specs.declared.kind.Kind.{Kind}
 use Rattle.description.specs.declared.saved.SavedRegisters.{SavedRegisters}
 use Rattle.description.specs.Changes.{EachBecomes}
 use Rattle.description.specs.Description.{DescribesWith}
+use Rattle.description.specs.Spills.{at_place, spill_without}
+use Rattle.description.specs.declared.spill.Spill.{Spill}
 use Rattle.register_kinds.specs.Freezes.{FreezeNumbers, renumbered, without}
 use Rattle.register_kinds.specs.Kinds.{GivesUpKind}
 use Rattle.register_kinds.proofs.Freezes.{held_given_up}
 use Rattle.description.proofs.OpenCalls.{open_given_up}
 use Rattle.description.proofs.RegisterPlaces.{number_below}
+use Rattle.description.proofs.Spilled.{given_spilled}
 
-pub given_up_described : (numbers : FreezeNumbers) (callers : List SavedRegisters) (d : Description) (registers : List Kind) (m : MachineState) (name : FreezeName) (number : ℕ) (copies : Scalar) → DescribesWith numbers callers d m → numbers name ≡ Some number → Has copies number
-    → EachBecomes (GivesUpKind name copies) d.registers registers
-    → DescribesWith (renumbered numbers name None) callers (record d { registers = registers; held = without d.held name }) (record m { held = held_without m.held number })
-given_up_described numbers callers d registers m name number copies is its has each = record {
+pub given_up_described : (numbers : FreezeNumbers) (callers : List SavedRegisters) (d : Description) (registers : List Kind) (spills : List Spill) (m : MachineState) (name : FreezeName) (number : ℕ) (copies : Scalar) → DescribesWith numbers callers d m → numbers name ≡ Some number → Has copies number
+    → EachBecomes (GivesUpKind name copies) d.registers registers → ((place : ℕ) → at_place spills place ≡ spill_without name (at_place d.spills place))
+    → DescribesWith (renumbered numbers name None) callers (record d { registers = registers; spills = spills; held = without d.held name }) (record m { held = held_without m.held number })
+given_up_described numbers callers d registers spills m name number copies is its has each spilled = record {
   registers = λ reg. (each (number_of reg) (number_below reg)).kept numbers number _ its has (is.registers reg);
   count = is.count;
   frames = is.frames;
+  spills = given_spilled numbers name d.spills spills m.frames spilled is.spills;
   bytes = is.bytes;
   context = is.context;
   held = held_given_up numbers d.held m.held name number is.held its;

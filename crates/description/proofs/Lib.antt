@@ -1,7 +1,12 @@
-pub mod NoBytes
-pub mod Reading
+pub mod ByteNumbers
 pub mod FramePlaces
 pub mod Giving
+pub mod Losing
+pub mod NoBytes
 pub mod OpenCalls
+pub mod Reading
 pub mod RegisterPlaces
+pub mod Respilled
+pub mod Spilled
+pub mod Words
 pub mod Writing

@@ -16,6 +16,8 @@ use Rattle.description.specs.declared.saved.SavedRegisters.{SavedRegisters}
 use Rattle.description.specs.Description.{DescribesWith}
 use Rattle.register_kinds.specs.Freezes.{FreezeNumbers}
 use Rattle.description.specs.Memory.{AreWritten}
+use Rattle.description.specs.Spills.{AreSpilled}
+use Rattle.description.specs.declared.spill.Spill.{Spill}
 use Rattle.description.proofs.FramePlaces.{frame_stored}
 
 -- what is in a stack byte is one
@@ -33,7 +35,7 @@ module _ (frame : List (Option ℕ)) (offset : ℕ) (bytes : List ℕ) (inside :
   middle = omega (arith, length-append (take offset frame) (map Some bytes), front, length-map bytes Some)
 
   -- a byte that was stored
-  stored_byte : (at : ℕ) → offset ≤ at → at < offset + length bytes → slice_index_or (written_at offset bytes frame) at None ≡ Some (slice_index_or bytes (at - offset) 0)
+  pub stored_byte : (at : ℕ) → offset ≤ at → at < offset + length bytes → slice_index_or (written_at offset bytes frame) at None ≡ Some (slice_index_or bytes (at - offset) 0)
   unfolding written_at
   stored_byte at from to =
       get_or_append_left (take offset frame ++ map Some bytes) (drop (offset + length bytes) frame) None at (omega (arith, middle, to))
@@ -61,16 +63,17 @@ bytes_kept frames k offset bytes live inside each was j = elim (cases_eq j k) [
 ]
 
 -- bytes are written in a live frame, and the stack is known to be as it is then
-pub are_written : (numbers : FreezeNumbers) (callers : List SavedRegisters) (d : Description) (m : MachineState) (stack : List (List Bool)) (frame offset address : ℕ) (bytes : List ℕ) → DescribesWith numbers callers d m → frame < length m.frames
-    → address ≡ frame_start frame + offset → offset + length bytes ≤ 512 → All (λ byte. byte < 256) bytes → CoversFrames stack (stored m.frames frame offset bytes)
-    → AreWritten numbers callers m address bytes (record d { stack = stack })
-are_written numbers callers d m stack frame offset address bytes is live at fits each covers = record {
+pub are_written : (numbers : FreezeNumbers) (callers : List SavedRegisters) (d : Description) (m : MachineState) (stack : List (List Bool)) (spills : List Spill) (frame offset address : ℕ) (bytes : List ℕ) → DescribesWith numbers callers d m → frame < length m.frames
+    → address ≡ frame_start frame + offset → offset + length bytes ≤ 512 → All (λ byte. byte < 256) bytes → CoversFrames stack (stored m.frames frame offset bytes) → AreSpilled numbers spills (stored m.frames frame offset bytes)
+    → AreWritten numbers callers m address bytes (record d { stack = stack; spills = spills })
+are_written numbers callers d m stack spills frame offset address bytes is live at fits each covers spilled = record {
   with_bytes = record m { frames = stored m.frames frame offset bytes };
   does = ap (option_map (λ frames. record m { frames = frames })) (frame_stored 0 m.frames frame address offset bytes live (omega (arith, at)) fits);
   describes = record {
     registers = is.registers;
     count = is.count;
     frames = covers;
+    spills = spilled;
     bytes = bytes_kept m.frames frame offset bytes live (omega (arith, is.frames.whole frame live, fits)) each is.bytes;
     context = is.context;
     held = is.held;

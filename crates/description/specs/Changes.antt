@@ -1,5 +1,5 @@
 -- What becomes of all registers at once, and where a freeze is held no more.
-use Rattle.std.specs.Prelude.{ℕ, ◌<◌, List, slice_index_or, ◌≡◌}
+use Rattle.std.specs.Prelude.{ℕ, ◌<◌, List, [], slice_index_or, ◌≡◌}
 use Rattle.register_kinds.specs.declared.kind.Kind.{Kind}
 use Rattle.register_kinds.specs.declared.kind.Kind.TheVariants.{Unwritten, Freeze}
 use Rattle.bpf_insn.specs.declared.reg.Reg.{Reg}
@@ -23,5 +23,6 @@ pub record LeavesGivenUp (name : FreezeName) (copy : Kind) (d there : Descriptio
   pub copies : (reg : Reg) → kind_at d reg ≡ Freeze name → kind_at there reg ≡ copy
   pub others : (reg : Reg) → (kind_at d reg ≡ Freeze name → ⊥) → kind_at there reg ≡ kind_at d reg
   pub stack : there.stack ≡ d.stack
+  pub unspilled : d.spills ≡ [] → there.spills ≡ []
   pub held : there.held ≡ without d.held name
   pub disposal : there.disposed ≡ d.disposed

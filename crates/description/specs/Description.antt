@@ -14,6 +14,7 @@ use Rattle.description.specs.declared.saved.SavedRegisters.{SavedRegisters}
 use Rattle.register_kinds.specs.Freezes.{AreHeld, FreezeNumbers}
 use Rattle.register_kinds.specs.Kinds.{HoldsKind}
 use Rattle.description.specs.OpenCalls.{AreOpen}
+use Rattle.description.specs.Spills.{AreSpilled}
 use Rattle.bpf_insn.specs.declared.insn.Insn.{Insn}
 use Rattle.helpers.specs.declared.limits.HelperLimits.{HelperLimits}
 use Rattle.bpf_semantics.specs.Stuck.{insn_is_stuck}
@@ -27,6 +28,8 @@ pub record DescribesWith (numbers : FreezeNumbers) (callers : List SavedRegister
   pub registers : (reg : Reg) → HoldsKind numbers (kind_at d reg) (register m reg)
   pub count : length m.registers ≡ 11
   pub frames : CoversFrames d.stack m.frames
+  -- addresses and freezes stand on the stack
+  pub spills : AreSpilled numbers d.spills m.frames
   -- what is in a stack byte is one
   pub bytes : (k offset byte : ℕ) → slice_index_or (slice_index_or m.frames k []) offset None ≡ Some byte → byte < 256
   pub context : (length m.context ≡ 96) × All (λ byte. byte < 256) m.context

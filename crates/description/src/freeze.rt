@@ -1,5 +1,5 @@
 // What becomes of what is known where a freeze is held no more. It relies on `register_kinds` for what is held, and on
-// `registers` for copies of a freeze.
+// `registers` and `spills` for copies of a freeze.
 
 ghost use Rattle.std.specs.Prelude.{◌≡◌, ℕ, List, length, None, Some};
 ghost use Rattle.bpf_semantics.specs.MachineState.{MachineState};
@@ -16,13 +16,15 @@ use register_kinds::{FreezeName, Kind};
 use scalar_domain::Scalar;
 
 impl Description {
-    /// The freeze of that name, which was one of these numbers, is held no more.
+    /// The freeze of that name, which was one of these numbers, is held no more. A spilled copy is a number, of which
+    /// nothing is known.
     pub fn give_up(&mut self, name: FreezeName, copies: Scalar)
         ensures kept { (numbers : FreezeNumbers) (callers : List SavedRegisters) (number : ℕ) (m : MachineState) → DescribesWith numbers callers self.old m → numbers name ≡ Some number → Has copies number → DescribesWith (renumbered numbers name None) callers self.new (record m { held = held_without m.held number }) }
         ensures leaves { LeavesGivenUp name (Kind.Number copies) self.old self.new }
         ensures depth { length self.new.stack ≡ length self.old.stack }
     {
         give_up_copies(&mut self.registers, name, copies);
+        self.spills.give_up(name);
         self.held = self.held.without(name);
     }
 }

@@ -6,8 +6,13 @@
 mod description;
 mod freeze;
 mod memory;
+mod places;
 mod registers;
 mod saved;
+mod spill;
+mod spills;
 
 pub use description::Description;
 pub use saved::{SavedRegister, SavedRegisters};
+pub use spill::Spill;
+pub use spills::Spills;

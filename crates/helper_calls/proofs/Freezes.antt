@@ -11,6 +11,7 @@ use Rattle.register_kinds.specs.declared.kind.Kind.TheVariants.{Unwritten, Numbe
 use Rattle.description.specs.declared.saved.SavedRegisters.{SavedRegisters}
 use Rattle.helper_calls.specs.Arguments.{IsSureFreeze}
 use Rattle.description.specs.Description.{DescribesWith, kind_at}
+use Rattle.description.specs.Spills.{kind_of, spill_at}
 use Rattle.register_kinds.specs.Freezes.{FreezeNumbers, certainty_of, open_freeze, renumbered}
 use Rattle.register_kinds.specs.Kinds.{HoldsKind}
 use Rattle.helper_calls.specs.Fresh.{IsFresh}
@@ -31,6 +32,7 @@ taken_described numbers callers d m name number is fresh unsaved new = record {
   registers = λ reg. still (kind_at d reg) _ (is.registers reg);
   count = is.count;
   frames = is.frames;
+  spills = λ frame word few. still (kind_of (spill_at d.spills frame word)) _ (is.spills frame word few);
   bytes = is.bytes;
   context = is.context;
   held = held_taken numbers d.held m.held name number is.held fresh new;
@@ -39,7 +41,7 @@ taken_described numbers callers d m name number is fresh unsaved new = record {
   depth = is.depth;
 }
   where
-    -- no register is a copy of a freeze that is not held
+    -- no register is a copy of a freeze that is not held, and none is spilled
     still : (kind : Kind) (o : Option ℕ) → HoldsKind numbers kind o → HoldsKind (renumbered numbers name (Some number)) kind o
     still kind o holds = other_holds numbers name (Some number) o kind (λ e. no_copy (subst (λ (k : Kind). HoldsKind numbers k o) e holds)) holds
       where

@@ -1,5 +1,5 @@
 -- What is known behind a helper call, and what is found where its check passes.
-use Rattle.std.proofs.Common.{◌≡◌, ℕ, ℤ, Bool, List, Option, Some, Result, Ok, Err, IfOk, length, refl, ap, sym, subst, ◌∙◌, arith}
+use Rattle.std.proofs.Common.{◌≡◌, ℕ, ℤ, Bool, List, [], Option, Some, Result, Ok, Err, IfOk, length, refl, ap, sym, subst, ◌∙◌, arith}
 use Rattle.std.specs.Prelude.{◌≤◌, IsOk, slice_index_or}
 use Rattle.std.proofs.lemmas.List.{get_or-drop}
 use Rattle.bpf_insn.specs.declared.reg.Reg.{Reg}
@@ -48,6 +48,7 @@ answer_left d registers kind are = record {
   r0 = ap (λ (kinds : List Kind). slice_index_or kinds 0 Unwritten) are;
   registers = λ reg late. ap (λ (kinds : List Kind). slice_index_or kinds (number_of reg) Unwritten) are ∙ kept_behind d.registers kind reg late;
   stack = refl;
+  spills = refl;
   held = refl;
   disposal = refl;
 }
@@ -58,28 +59,32 @@ pub record KeepsOver (d there : Description) : Type 0 where
   pub registers : (reg : Reg) → (IsFreeze (kind_at d reg) → ⊥) → kind_at there reg ≡ kind_at d reg
   pub depth : length there.stack ≡ length d.stack
   pub known : (frame at : ℕ) → Knows d.stack frame at → Knows there.stack frame at
+  pub unspilled : d.spills ≡ [] → there.spills ≡ []
 
-keeps_both : (d there : Description) → there.registers ≡ d.registers → there.stack ≡ d.stack → KeepsOver d there
-keeps_both d there registers stack = record {
+keeps_both : (d there : Description) → there.registers ≡ d.registers → there.stack ≡ d.stack → there.spills ≡ d.spills → KeepsOver d there
+keeps_both d there registers stack spills = record {
+  unspilled = λ none. spills ∙ none;
   registers = λ reg apart. ap (λ (kinds : List Kind). slice_index_or kinds (number_of reg) Unwritten) registers;
   depth = ap length stack;
   known = λ frame at was. subst (λ (s : List (List Bool)). Knows s frame at) (sym stack) was;
 }
 
 change_keeps : (name : FreezeName) (change : Change) (d there : Description) → MayChange name change d → LeavesChanged name change d there → KeepsOver d there
-change_keeps name changes.Nothing d there may same = keeps_both d there (ap (λ (x : Description). x.registers) same) (ap (λ (x : Description). x.stack) same)
-change_keeps name changes.Holds d there may same = keeps_both d there (ap (λ (x : Description). x.registers) same) (ap (λ (x : Description). x.stack) same)
+change_keeps name changes.Nothing d there may same = keeps_both d there (ap (λ (x : Description). x.registers) same) (ap (λ (x : Description). x.stack) same) (ap (λ (x : Description). x.spills) same)
+change_keeps name changes.Holds d there may same = keeps_both d there (ap (λ (x : Description). x.registers) same) (ap (λ (x : Description). x.stack) same) (ap (λ (x : Description). x.spills) same)
 change_keeps name changes.GivesUp d there (freeze, is, sure) left =
     let given_up = (left freeze is).2 in
     record {
       registers = λ reg apart. given_up.others reg (λ e. apart (freeze, e));
       depth = ap length given_up.stack;
+      unspilled = given_up.unspilled;
       known = λ frame at was. subst (λ (s : List (List Bool)). Knows s frame at) (sym given_up.stack) was;
     }
-change_keeps name changes.Disposes d there may same = keeps_both d there (ap (λ (x : Description). x.registers) same) (ap (λ (x : Description). x.stack) same)
+change_keeps name changes.Disposes d there may same = keeps_both d there (ap (λ (x : Description). x.registers) same) (ap (λ (x : Description). x.stack) same) (ap (λ (x : Description). x.spills) same)
 change_keeps name (changes.Writes bytes) d there may left = record {
   registers = λ reg apart. ap (λ (kinds : List Kind). slice_index_or kinds (number_of reg) Unwritten) left.0.registers;
   depth = left.0.depth;
+  unspilled = left.0.unspilled;
   known = left.0.known;
 }
 
@@ -90,6 +95,7 @@ left name number helper d there named may leaves =
     record {
       registers = λ reg late apart. leaves.answer.registers reg late ∙ keeps.registers reg apart;
       depth = ap length leaves.answer.stack ∙ keeps.depth;
+      unspilled = λ none. leaves.answer.spills ∙ keeps.unspilled none;
       known = λ frame at was. subst (λ (s : List (List Bool)). Knows s frame at) (sym leaves.answer.stack) (keeps.known frame at was);
       by = λ other is. subst (λ (h : Helper). LeavesOver name h d there) (some_same helper other (sym named ∙ is)) leaves;
     }

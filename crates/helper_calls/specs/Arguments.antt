@@ -24,6 +24,7 @@ use Rattle.register_kinds.specs.declared.kind.Kind.TheVariants.{Unwritten, Numbe
 use Rattle.register_kinds.specs.declared.region.Region.TheVariants.{Context, Frame}
 use Rattle.description.specs.declared.saved.SavedRegisters.{SavedRegisters}
 use Rattle.description.specs.Description.{DescribesWith, kind_at}
+use Rattle.description.specs.Spills.{AreUnspilled}
 use Rattle.helper_calls.specs.Fresh.{IsFresh}
 use Rattle.register_kinds.specs.Freezes.{FreezeNumbers, certainty_of}
 use Rattle.register_kinds.specs.Kinds.{HoldsKind, IsBelow, IsBetween, IsKnown, IsNumber, IsWritten}
@@ -40,13 +41,13 @@ IsPlace d bytes (Address Context offsets) = ⊥
 IsPlace d bytes (Address (Frame frame) offsets) = (frame < length d.stack) × (offsets.least ≤ offsets.most) × (offsets.most + bytes ≤ 512)
 IsPlace d bytes (Freeze name) = ⊥
 
--- the address of bytes of one live frame that are known to be written, at most so many
+-- the address of bytes of one live frame that are known to be written, at most so many, and of which none is spilled
 abbrev pub IsWrittenPlace : Description → ℕ → Kind → Type 0
 IsWrittenPlace d bytes Unwritten = ⊥
 IsWrittenPlace d bytes (Number scalar) = ⊥
 IsWrittenPlace d bytes (Address Context offsets) = ⊥
 IsWrittenPlace d bytes (Address (Frame frame) offsets) =
-    IsPlace d bytes (Address (Frame frame) offsets) × ((at : ℕ) → offsets.least ≤ at → at < offsets.most + bytes → Knows d.stack frame at)
+    IsPlace d bytes (Address (Frame frame) offsets) × ((at : ℕ) → offsets.least ≤ at → at < offsets.most + bytes → Knows d.stack frame at) × AreUnspilled d.spills frame offsets.least (offsets.most + bytes)
 IsWrittenPlace d bytes (Freeze name) = ⊥
 
 -- and as many as a number says

@@ -60,6 +60,7 @@ pub record LeavesAnswer (kind : Kind) (d there : Description) : Type 0 where
   pub r0 : kind_at there R0 ≡ kind
   pub registers : (reg : Reg) → 6 ≤ number_of reg → kind_at there reg ≡ kind_at d reg
   pub stack : there.stack ≡ d.stack
+  pub spills : there.spills ≡ d.spills
   pub held : there.held ≡ d.held
   pub disposal : there.disposed ≡ d.disposed
 
@@ -76,4 +77,5 @@ pub record LeavesCalled (name : FreezeName) (d : Description) (number : ℤ) (th
   pub registers : (reg : Reg) → 6 ≤ number_of reg → (IsFreeze (kind_at d reg) → ⊥) → kind_at there reg ≡ kind_at d reg
   pub depth : length there.stack ≡ length d.stack
   pub known : (frame at : ℕ) → Knows d.stack frame at → Knows there.stack frame at
+  pub unspilled : d.spills ≡ [] → there.spills ≡ []
   pub by : (helper : Helper) → helper_of number ≡ Some helper → LeavesOver name helper d there

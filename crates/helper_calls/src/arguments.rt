@@ -58,7 +58,8 @@ fn argument(description: &Description, asked: Option<Asked>, reg: Reg) -> Kind
 ///
 /// # Errors
 /// `UnwrittenRegister`; `ArgumentAgainstRule`, or `UnwrittenByte` where only bytes that are read are unwritten, or
-/// `AddressStored` where only the word that is to be stored in a table is no number.
+/// `AddressStored` where only the word that is to be stored in a table is no number, or bytes that are read may be of an
+/// address or a freeze.
 pub(crate) fn check_arguments(
     description: &Description,
     limits: &HelperLimits,
@@ -221,7 +222,7 @@ fn check_region(
     }
 }
 
-// Whether so many bytes of a frame are written.
+// Whether so many bytes of a frame are written, and are no address and no freeze.
 fn check_written(
     description: &Description,
     frame: u8,
@@ -237,13 +238,16 @@ fn check_written(
     }
     let least = usize::from(offsets.least);
     let most = usize::from(offsets.most);
-    if description
+    if !description
         .stack
         .is_written(usize::from(frame), least, most, bytes as usize)
     {
-        Ok(())
+        return Err(Cause::UnwrittenByte);
+    }
+    if description.may_be_spilled(frame, offsets, bytes as u16) {
+        Err(Cause::AddressStored)
     } else {
-        Err(Cause::UnwrittenByte)
+        Ok(())
     }
 }
 

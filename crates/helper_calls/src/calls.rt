@@ -31,7 +31,7 @@ use scalar_domain::Scalar;
 ///
 /// # Errors
 /// `UnknownHelper`; `UnwrittenRegister` for an argument, and `ArgumentAgainstRule` for one that may not be as the
-/// helper asks, or `UnwrittenByte`; `DisposedTwice`, and `TooManyFreezes`.
+/// helper asks, `UnwrittenByte`, or `AddressStored`; `DisposedTwice`, and `TooManyFreezes`.
 pub fn call(
     description: &mut Description,
     limits: &HelperLimits,

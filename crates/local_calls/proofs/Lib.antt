@@ -1,1 +1,2 @@
 pub mod LocalCalls
+pub mod Spills

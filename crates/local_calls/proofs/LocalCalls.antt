@@ -1,5 +1,5 @@
 -- What a local call makes of a described machine, and its return: the registers, the frames, and the functions that wait.
-use Rattle.std.proofs.Common.{◌≡◌, ℕ, Option, Some, refl, sym, ◌∙◌, ℤ, zero, suc, ◌+◌, ◌-◌, ◌<◌, ◌≤◌, true, false, not, Bool, List, [], ◌∷◌, ◌++◌, None, length, take, drop, get_or, ap, subst, arith, inl, inr, length-append, length-drop}
+use Rattle.std.proofs.Common.{◌≡◌, ℕ, Option, Some, refl, sym, ◌∙◌, ℤ, zero, suc, ◌+◌, ◌*◌, ◌/◌, ◌-◌, ◌<◌, ◌≤◌, true, false, not, Bool, List, [], ◌∷◌, ◌++◌, None, length, take, drop, get_or, ap, subst, arith, inl, inr, length-append, length-drop}
 use Rattle.scalar_domain.specs.declared.scalars.Scalar.{Scalar}
 use Rattle.scalar_domain.specs.Scalar.{Has}
 use Rattle.register_kinds.specs.declared.freeze_name.FreezeName.{FreezeName}
@@ -31,6 +31,10 @@ use Rattle.description.specs.declared.saved.SavedRegisters.{SavedRegisters}
 use Rattle.description.specs.Changes.{at}
 use Rattle.local_calls.specs.Entering.{entered_kinds, left_kinds, IsSureCopy, LeavesEntered, LeavesReturned, kind_back, outlived_kind, HoldBack, words_saved}
 use Rattle.description.specs.Description.{Describes, DescribesWith, kind_at, NeverStuck}
+use Rattle.description.specs.declared.spill.Spill.{Spill}
+use Rattle.description.specs.declared.spill.Spill.TheVariants.{Nothing}
+use Rattle.description.specs.Spills.{IsFewer, IsGone, at_place, spill_at}
+use Rattle.local_calls.proofs.Spills.{closed_spilled, opened_spilled}
 use Rattle.description.proofs.NoBytes.{no_byte}
 
 -- what is known of a register at a call, where its copies may be that
@@ -178,6 +182,7 @@ entered_described d registers stack pointer saved few are is_pointer covers save
         registers = subst (λ (kinds : List Kind). (reg : Reg) → HoldsKind numbers (at kinds (number_of reg)) (register (entered m distance) reg)) (sym are) (entered_holds numbers d.registers pointer m distance is.count is.registers here);
         count = entered_count m distance is.count;
         frames = covers m.frames unwritten_frame (is.frames, length-replicate {A = Option ℕ} 512 None);
+        spills = opened_spilled numbers d.spills m.frames unwritten_frame is.spills;
         bytes = opened_bytes m.frames is.bytes;
         context = is.context;
         held = is.held;
@@ -298,13 +303,14 @@ closed_bytes frames n within was k offset byte is = elim (cases_lt k n) [
       absurd (let bad : None ≡ Some byte = sym (ap (λ (f : List (Option ℕ)). get_or f offset None) (get_or_past (take n frames) k [] (omega (arith, from, length-take-le n frames within)))) ∙ is in cc)
 ]
 
-pub left_described : (d : Description) (registers : List Kind) (stack : List (List Bool)) (r0 pointer : Kind) (kept : List Kind) (saved : SavedRegisters) (frame : ℕ) → registers ≡ left_kinds r0 kept pointer
+pub left_described : (d : Description) (registers : List Kind) (stack : List (List Bool)) (spills : List Spill) (r0 pointer : Kind) (kept : List Kind) (saved : SavedRegisters) (frame : ℕ) → registers ≡ left_kinds r0 kept pointer
     → pointer ≡ Address (Frame frame) (record { least = 512; most = 512 }) → frame + 2 ≡ length d.stack
     → ((frames : List (List (Option ℕ))) (last : List (Option ℕ)) → CoversFrames d.stack (frames ++ last ∷ []) → CoversFrames stack frames)
+    → IsFewer d.spills spills → ((place : ℕ) → 64 * (frame + 1) ≤ place → at_place spills place ≡ Nothing)
     → ((numbers : FreezeNumbers) (o : Option ℕ) → HoldsKind numbers (kind_at d R0) o → HoldsKind numbers r0 o)
     → ((numbers : FreezeNumbers) (run : List ℕ) (os : List (Option ℕ)) → AreHeld numbers d.held run → AreSaved numbers saved.registers os → HoldBack numbers kept os)
-    → (callers : List SavedRegisters) (m m' : MachineState) → Describes (callers ++ saved ∷ []) d m → does m Exit ≡ Some m' → Describes callers (record d { registers = registers; stack = stack }) m'
-left_described d registers stack r0 pointer kept saved frame are is_pointer live covers result back callers m m' (numbers, is) step =
+    → (callers : List SavedRegisters) (m m' : MachineState) → Describes (callers ++ saved ∷ []) d m → does m Exit ≡ Some m' → Describes callers (record d { registers = registers; stack = stack; spills = spills }) m'
+left_described d registers stack spills r0 pointer kept saved frame are is_pointer live covers fewer outside result back callers m m' (numbers, is) step =
     let inner = innermost numbers callers saved m.open_calls is.calls in
     let call = inner.call in
     let count : length m.frames ≡ length inner.rest + 2 = omega (arith, is.depth, ap length inner.are) in
@@ -317,7 +323,7 @@ left_described d registers stack r0 pointer kept saved frame are is_pointer live
     let here : HoldsKind numbers pointer (Some (frame_pointer (length inner.rest))) =
     subst (λ (kind : Kind). HoldsKind numbers kind (Some (frame_pointer (length inner.rest)))) (sym is_pointer)
     (frame_pointer (length inner.rest), refl, (512, ap (λ (k : ℕ). frame_start k + 512) (sym where_is), omega arith, omega arith, omega arith)) in
-    subst (Describes callers (record d { registers = registers; stack = stack })) there (
+    subst (Describes callers (record d { registers = registers; stack = stack; spills = spills })) there (
       numbers,
       record {
         registers =
@@ -325,6 +331,7 @@ left_described d registers stack r0 pointer kept saved frame are is_pointer live
             (left_holds m.registers call.saved (frame_pointer (length inner.rest)) is.count inner.saves.0 numbers r0 pointer kept (result numbers (get_or m.registers 0 None) (is.registers R0)) (back numbers m.held call.saved is.held inner.saves.1) here);
         count = left_count m.registers call.saved (frame_pointer (length inner.rest)) is.count inner.saves.0;
         frames = covers frames last.last (subst (CoversFrames d.stack) (sym last.split) is.frames);
+        spills = closed_spilled numbers d.spills spills m.frames (length m.frames - 1) (omega arith) fewer (λ place past. outside place (omega (arith, past, live, is.frames.depth))) is.spills;
         bytes = closed_bytes m.frames (length m.frames - 1) (omega arith) is.bytes;
         context = is.context;
         held = is.held;
@@ -351,6 +358,7 @@ entered_known d registers stack pointer saved are is_pointer deeper covers kinds
       let last = has_last frames (omega (arith, now.depth, deeper)) in
       let parts = covers (take (length frames - 1) frames) last.last (subst (CoversFrames stack) (sym last.split) now) in
       written_before frames (length frames - 1) k offset (omega arith) (knows (take (length frames - 1) frames) parts.0);
+  spills = refl;
   held = refl;
   disposal = refl;
 }
@@ -375,16 +383,19 @@ entered_known d registers stack pointer saved are is_pointer deeper covers kinds
           absurd (let bad : false ≡ true = sym (ap (λ (f : List (Option ℕ)). is_some (get_or f offset None)) (get_or_past (take n frames) k [] (omega (arith, from, length-take-le n frames within)))) ∙ written in cc)
     ]
 
-pub left_known : (d : Description) (registers : List Kind) (stack : List (List Bool)) (r0 pointer : Kind) (kept : List Kind) (saved : SavedRegisters) (frame : ℕ) → registers ≡ left_kinds r0 kept pointer
+pub left_known : (d : Description) (registers : List Kind) (stack : List (List Bool)) (spills : List Spill) (r0 pointer : Kind) (kept : List Kind) (saved : SavedRegisters) (frame : ℕ) → registers ≡ left_kinds r0 kept pointer
     → pointer ≡ Address (Frame frame) (record { least = 512; most = 512 }) → frame + 1 ≡ length stack → r0 ≡ outlived_kind (length stack) (kind_at d R0)
     → ((k : ℕ) (default : SavedRegister) → k < 4 → at kept k ≡ kind_back d.held (get_or saved.registers k default))
-    → ((k offset : ℕ) → k < length stack → Knows d.stack k offset → Knows stack k offset)
-    → LeavesReturned saved d (record d { registers = registers; stack = stack })
-left_known d registers stack r0 pointer kept saved frame are is_pointer live result back knows = record {
+    → ((k offset : ℕ) → k < length stack → (IsGone (length stack) (spill_at d.spills k (offset / 8)) → ⊥) → Knows d.stack k offset → Knows stack k offset)
+    → ((place : ℕ) → IsGone (length stack) (at_place spills place) → ⊥) → (d.spills ≡ [] → spills ≡ [])
+    → LeavesReturned saved d (record d { registers = registers; stack = stack; spills = spills })
+left_known d registers stack spills r0 pointer kept saved frame are is_pointer live result back knows outlives unspilled = record {
   result = ap (λ (l : List Kind). at l 0) are ∙ result;
   kept = kept_known;
   pointer = λ other is. let same : other ≡ frame = omega (arith, is, live) in ap (λ (l : List Kind). at l 10) are ∙ (is_pointer ∙ ap (λ (n : ℕ). Address (Frame n) (record { least = 512; most = 512 })) (sym same));
   known = knows;
+  outlives = outlives;
+  unspilled = unspilled;
   held = refl;
   disposal = refl;
 }

@@ -1,6 +1,6 @@
 -- What is known at the start of a local function, and of its caller once that returned. But for what is held of the registers
 -- that a call saved, it says nothing of machines.
-use Rattle.std.specs.Prelude.{ℕ, ◌<◌, List, take, drop, Option, None, slice_index_or, [], ◌∷◌, ◌≡◌, ◌+◌, ◌≤◌, nat_lt, length, Some, if◌then◌else◌}
+use Rattle.std.specs.Prelude.{ℕ, ◌<◌, List, take, drop, Option, None, slice_index_or, [], ◌∷◌, ◌≡◌, ◌+◌, ◌/◌, ◌≤◌, nat_lt, length, Some, if◌then◌else◌}
 use Rattle.register_kinds.specs.declared.kind.Kind.{Kind}
 use Rattle.register_kinds.specs.declared.kind.Kind.TheVariants.{Unwritten, Number, Address, Freeze}
 use Rattle.register_kinds.specs.Freezes.{FreezeNumbers, certainty_of}
@@ -21,6 +21,7 @@ use Rattle.register_kinds.specs.declared.region.Region.TheVariants.{Context, Fra
 use Rattle.description.specs.declared.saved.SavedRegister.{SavedRegister}
 use Rattle.description.specs.declared.saved.SavedRegisters.{SavedRegisters}
 use Rattle.description.specs.Description.{kind_at}
+use Rattle.description.specs.Spills.{IsGone, at_place, spill_at}
 
 -- R6 to R9
 abbrev pub words_saved : List (Option ℕ) → List (Option ℕ)
@@ -75,14 +76,18 @@ pub record LeavesEntered (saved : SavedRegisters) (d there : Description) : Type
   pub saves : (k : ℕ) (default : SavedRegister) → k < 4 → (slice_index_or saved.registers k default).kind ≡ at d.registers (6 + k)
   pub copies : (k : ℕ) (default : SavedRegister) → k < 4 → IsSureCopy d (slice_index_or saved.registers k default)
   pub known : (k offset : ℕ) → Knows d.stack k offset → Knows there.stack k offset
+  pub spills : there.spills ≡ d.spills
   pub held : there.held ≡ d.held
   pub disposal : there.disposed ≡ d.disposed
 
--- back in its caller
+-- back in its caller: no address of a frame that is gone is spilled any more, and bytes in which one was are not known to be
+-- written
 pub record LeavesReturned (saved : SavedRegisters) (d there : Description) : Type 0 where
   pub result : kind_at there R0 ≡ outlived_kind (length there.stack) (kind_at d R0)
   pub kept : (k : ℕ) (default : SavedRegister) → k < 4 → at there.registers (6 + k) ≡ kind_back d.held (slice_index_or saved.registers k default)
   pub pointer : (frame : ℕ) → frame + 1 ≡ length there.stack → IsAt (Frame frame) 512 (kind_at there R10)
-  pub known : (k offset : ℕ) → k < length there.stack → Knows d.stack k offset → Knows there.stack k offset
+  pub known : (k offset : ℕ) → k < length there.stack → (IsGone (length there.stack) (spill_at d.spills k (offset / 8)) → ⊥) → Knows d.stack k offset → Knows there.stack k offset
+  pub outlives : (place : ℕ) → IsGone (length there.stack) (at_place there.spills place) → ⊥
+  pub unspilled : d.spills ≡ [] → there.spills ≡ []
   pub held : there.held ≡ d.held
   pub disposal : there.disposed ≡ d.disposed

@@ -54,7 +54,8 @@ fn saved(description: &Description) -> SavedRegisters
 }
 
 /// Back in the caller, of whose R6 to R9 that is known: a saved copy of a freeze that is held no more is a number. R0
-/// is as it is, but that an address of the frame that is gone is unwritten then; R1 to R5 are unwritten.
+/// is as it is, but that an address of the frame that is gone is unwritten then, and so is each that was spilled; R1 to R5
+/// are unwritten.
 pub fn leave(description: &mut Description, saved: &SavedRegisters)
     requires called { 1 < length description.old.stack }
     ensures unstuck { (limits : HelperLimits) (callers : List SavedRegisters) → NeverStuck limits (callers ++ saved.now ∷ []) Exit description.old }
@@ -62,8 +63,9 @@ pub fn leave(description: &mut Description, saved: &SavedRegisters)
     ensures known { LeavesReturned saved.now description.old description.new }
     ensures depth { length description.new.stack + 1 ≡ length description.old.stack }
 {
-    let stack = description.stack.closed();
+    let mut stack = description.stack.closed();
     let live = stack.depth();
+    description.spills.close(live, &mut stack);
     let r0 = outlived(description.kind(Reg::R0), live);
     let kept = given_back(saved, &description.held);
     description.registers = left_registers(r0, kept, pointer_to(live - 1));

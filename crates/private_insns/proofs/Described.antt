@@ -13,6 +13,7 @@ use Rattle.register_kinds.specs.declared.kind.Kind.{Kind}
 use Rattle.register_kinds.specs.declared.kind.Kind.TheVariants.{Unwritten}
 use Rattle.description.specs.declared.saved.SavedRegisters.{SavedRegisters}
 use Rattle.description.specs.Description.{DescribesWith, kind_at}
+use Rattle.description.specs.Spills.{AreSpilled}
 use Rattle.private_insns.specs.Enough.{ChangesOnly}
 use Rattle.register_kinds.specs.Freezes.{AreHeld, FreezeNumbers}
 use Rattle.register_kinds.specs.Kinds.{HoldsKind}
@@ -27,6 +28,7 @@ moved_described numbers callers d m place is = record {
   registers = is.registers;
   count = is.count;
   frames = is.frames;
+  spills = is.spills;
   bytes = is.bytes;
   context = is.context;
   held = is.held;
@@ -41,6 +43,7 @@ set_described numbers callers d there m dst word place only holds is = record {
   registers = go;
   count = length-set m.registers (number_of dst) (Some word) ∙ is.count;
   frames = subst (λ stack. CoversFrames stack m.frames) (sym only.stack) is.frames;
+  spills = subst (λ spills. AreSpilled numbers spills m.frames) (sym only.spills) is.spills;
   bytes = is.bytes;
   context = is.context;
   held = subst (λ (held : List HeldFreeze). AreHeld numbers held m.held) (sym only.held) is.held;
@@ -61,6 +64,7 @@ narrowed_described numbers callers d there m dst only holds is = record {
   registers = go;
   count = is.count;
   frames = subst (λ stack. CoversFrames stack m.frames) (sym only.stack) is.frames;
+  spills = subst (λ spills. AreSpilled numbers spills m.frames) (sym only.spills) is.spills;
   bytes = is.bytes;
   context = is.context;
   held = subst (λ (held : List HeldFreeze). AreHeld numbers held m.held) (sym only.held) is.held;

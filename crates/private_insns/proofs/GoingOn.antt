@@ -17,7 +17,6 @@ use Rattle.bpf_semantics.specs.Memory.{address_of, load_width, loaded, store_wid
 use Rattle.bpf_semantics.specs.Step.{compute, compute_one, does, load, operand, request_in, store}
 use Rattle.bpf_semantics.specs.Stuck.{load_is_stuck, store_is_stuck}
 use Rattle.bpf_words.specs.Words.{in_place, sign_extended}
-use Rattle.register_kinds.specs.declared.cause.Cause.{Cause}
 use Rattle.description.specs.declared.description.Description.{Description}
 use Rattle.private_insns.specs.declared.way.Way.{Way}
 use Rattle.private_insns.specs.declared.way.Way.TheVariants.{FallThrough}
@@ -89,7 +88,7 @@ load_goes d there form dst src offset kind loads is_set only = record {
       (_, ap (load m form dst) word.lies ∙ ap (option_map (λ n. moved_to (with_register m dst (loaded form n)) (m.place + 1))) word.is, set_described numbers callers d there m dst _ _ only (rw is_set word.holds) is));
 }
 
-pub store_goes : {X : Type 0} (r : Result X Cause) (d there : Description) (size : StoreSize) (dst : Reg) (src : Operand) (offset : ℤ) (kind : Kind) → ((numbers : FreezeNumbers) (callers : List SavedRegisters) (m : MachineState) → DescribesWith numbers callers d m → HoldsKind numbers kind (operand m src)) → IfOk r (λ _. Stores d size dst offset kind there) → IfOk r (λ _. GoesOn (Store size dst src offset) d there)
+pub store_goes : {X E : Type 0} (r : Result X E) (d there : Description) (size : StoreSize) (dst : Reg) (src : Operand) (offset : ℤ) (kind : Kind) → ((numbers : FreezeNumbers) (callers : List SavedRegisters) (m : MachineState) → DescribesWith numbers callers d m → HoldsKind numbers kind (operand m src)) → IfOk r (λ _. Stores d size dst offset kind there) → IfOk r (λ _. GoesOn (Store size dst src offset) d there)
 store_goes (Err cause) d there size dst src offset kind holds stores = stores
 store_goes (Ok done) d there size dst src offset kind holds stores =
     let has = λ (numbers : FreezeNumbers) (callers : List SavedRegisters) (m : MachineState) (is : DescribesWith numbers callers d m). stores numbers callers m (operand m src) is (holds numbers callers m is) in record {

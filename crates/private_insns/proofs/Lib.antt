@@ -1,5 +1,4 @@
 pub mod Accessible
-pub mod ByteNumbers
 pub mod Described
 pub mod Reading
 pub mod Tested

@@ -41,6 +41,7 @@ number_known d there dst before after only = record {
     | inr other ↦ same_stays (kind_at d reg) (kind_at there reg) (only.others reg (ne_eqb _ _ other))
   ];
   stack = only.stack;
+  spills = only.spills;
   disposal = only.disposal;
 }
 
@@ -48,5 +49,6 @@ pub known_twice : (d between there : Description) → LeavesKnown d between → 
 known_twice d between there first second = record {
   registers = λ reg. stays_twice (kind_at d reg) (kind_at between reg) (kind_at there reg) (first.registers reg) (second.registers reg);
   stack = second.stack ∙ first.stack;
+  spills = second.spills ∙ first.spills;
   disposal = second.disposal ∙ first.disposal;
 }

@@ -15,6 +15,7 @@ sure_described numbers callers d m name number is its some = record {
   registers = is.registers;
   count = is.count;
   frames = is.frames;
+  spills = is.spills;
   bytes = is.bytes;
   context = is.context;
   held = held_sure numbers d.held m.held name number is.held its some;

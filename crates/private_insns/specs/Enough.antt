@@ -1,6 +1,6 @@
 -- What is enough for the check of an instruction to pass that is no call and no exit, and what is known behind it then. It says
 -- nothing of machines: it is what a program may rely on that is to be accepted.
-use Rattle.std.specs.Prelude.{◌≡◌, ℕ, ℤ, pos, ◌+◌, ◌<◌, ◌≤◌, ◌==◌, true, false, length, Some, ◌⊎◌}
+use Rattle.std.specs.Prelude.{◌≡◌, ℕ, ℤ, pos, ◌+◌, ◌<◌, ◌≤◌, ◌==◌, true, false, [], length, Some, ◌⊎◌}
 use Rattle.std.specs.Int.{w64, cast_unsigned}
 use Rattle.bpf_insn.specs.declared.insn.AluOp.{AluOp}
 use Rattle.bpf_insn.specs.declared.insn.AluOp.TheVariants.{Mov}
@@ -28,6 +28,7 @@ use Rattle.register_kinds.specs.Freezes.{certainty_of, with_sure}
 use Rattle.register_kinds.specs.Kinds.{IsAt, IsKnown, IsNumber}
 use Rattle.description.specs.Changes.{IsFreeze, LeavesGivenUp}
 use Rattle.description.specs.Memory.{AreKnown}
+use Rattle.description.specs.Spills.{AreUnspilled}
 
 abbrev pub IsNumberOperand : Description → Operand → Type 0
 IsNumberOperand d (Immediate value) = Unit {0}
@@ -47,10 +48,11 @@ pub record LiesInFrame (d : Description) (reg : Reg) (offset : ℤ) (bytes : ℕ
   pub live : frame < length d.stack
   pub inside : address_at at offset + bytes ≤ 512
 
--- the bytes of a load
+-- the bytes of a load, in which nothing is spilled
 pub record LiesWritten (d : Description) (reg : Reg) (offset : ℤ) (bytes : ℕ) : Type 0 where
   pub there : LiesInFrame d reg offset bytes
   pub known : AreKnown d there.frame (address_at there.at offset) bytes
+  pub unspilled : AreUnspilled d.spills there.frame (address_at there.at offset) (address_at there.at offset + bytes)
 
 -- a freeze that is tested for 0
 pub record TestsFreeze (d : Description) (width : Width) (condition : Condition) (dst : Reg) (src : Operand) : Type 0 where
@@ -75,6 +77,7 @@ EnoughToCompute d width op dst src =
 pub record ChangesOnly (dst : Reg) (d there : Description) : Type 0 where
   pub others : (reg : Reg) → (number_of reg == number_of dst) ≡ false → kind_at there reg ≡ kind_at d reg
   pub stack : there.stack ≡ d.stack
+  pub spills : there.spills ≡ d.spills
   pub held : there.held ≡ d.held
   pub disposal : there.disposed ≡ d.disposed
 
@@ -95,6 +98,7 @@ pub record LeavesNumber (dst : Reg) (d there : Description) : Type 0 where
 -- behind a store the bytes that it wrote are known, and so is what was
 pub record LeavesStored (d : Description) (dst : Reg) (offset : ℤ) (bytes : ℕ) (there : Description) : Type 0 where
   pub registers : there.registers ≡ d.registers
+  pub unspilled : d.spills ≡ [] → there.spills ≡ []
   pub depth : length there.stack ≡ length d.stack
   pub written : (frame at : ℕ) → IsAt (Frame frame) at (kind_at d dst) → AreKnown there frame (address_at at offset) bytes
   pub known : (frame at : ℕ) → Knows d.stack frame at → Knows there.stack frame at
@@ -112,12 +116,14 @@ StaysKnown (Freeze name) after = after ≡ Freeze name
 pub record LeavesKnown (d there : Description) : Type 0 where
   pub registers : (reg : Reg) → StaysKnown (kind_at d reg) (kind_at there reg)
   pub stack : there.stack ≡ d.stack
+  pub spills : there.spills ≡ d.spills
   pub disposal : there.disposed ≡ d.disposed
 
 -- behind a test that found a freeze not to be 0
 pub record LeavesSure (name : FreezeName) (d there : Description) : Type 0 where
   pub registers : there.registers ≡ d.registers
   pub stack : there.stack ≡ d.stack
+  pub spills : there.spills ≡ d.spills
   pub held : there.held ≡ with_sure d.held name
   pub disposal : there.disposed ≡ d.disposed
 

@@ -1,18 +1,20 @@
 // Loads and stores where a machine is described. It relies on `register_kinds` for where they lie, on `description` for
-// bytes that are written, and on `stack_domain` for which stack bytes are.
+// bytes that are written and for what is spilled, and on `stack_domain` for which stack bytes are written.
 
 ghost use Rattle.std.specs.Prelude.{◌≡◌, ◌<◌, ◌≤◌, ◌+◌, ◌^◌, ℕ, length, IfOk, IsOk, IsOkAnd};
 ghost use Rattle.std.specs.Int.{byte_len};
 ghost use Rattle.bpf_semantics.specs.Memory.{load_width, loaded, store_width};
 ghost use Rattle.scalar_domain.specs.Scalar.{Has};
 ghost use Rattle.register_kinds.specs.declared.region.Region.TheVariants.{Context, Frame};
-ghost use Rattle.description.specs.Memory.{AreKnown, LeavesMarked, Writes};
+ghost use Rattle.description.specs.Memory.{AreKnown, LeavesMarked};
+ghost use Rattle.description.specs.Spills.{AreUnspilled};
 ghost use Rattle.private_insns.specs.Enough.{LeavesStored, LiesInContext, LiesInFrame, LiesWritten};
 ghost use Rattle.register_kinds.specs.Kinds.{IsNumber, size_of};
-ghost use Rattle.private_insns.specs.Memory.{Loads, Reads, ReadsFrame, Stores};
+ghost use Rattle.private_insns.specs.Memory.{Gives, Loads, Puts, Reads, ReadsFrame, Stores};
 
 use bpf_insn::{LoadForm, Reg, SignExtension, StoreSize};
 use description::Description;
+use or_memory::OrMemory;
 use register_kinds::{Access, Cause, Kind, Offsets, Region, accessed};
 use scalar_domain::{Scalar, extend};
 
@@ -20,7 +22,8 @@ use scalar_domain::{Scalar, extend};
 ///
 /// # Errors
 /// `UnwrittenRegister` for the address, `AccessOutside` where it is none or a byte may lie outside the context and
-/// the live frames, and `UnwrittenByte`.
+/// the live frames, `UnwrittenByte`, and `AddressStored` where a byte may be of an address or a freeze that was spilled, and
+/// the load is not of just that.
 pub(crate) fn loaded(
     description: &Description,
     form: LoadForm,
@@ -34,13 +37,71 @@ pub(crate) fn loaded(
     let bytes = load_bytes(form);
     let access = accessed(description.kind(src), offset, bytes)?;
     check_read(description, access, bytes)?;
-    Ok(Kind::Number(loaded_words(form)))
+    given(description, form, access, bytes)
+}
+
+// What a load gives of bytes that are there.
+fn given(
+    description: &Description,
+    form: LoadForm,
+    access: Access,
+    bytes: u16,
+) -> Result<Kind, Cause>
+    requires inside { access.offsets.most + bytes ≤ size_of access.region }
+    requires live { (frame : ℕ) → access.region ≡ Frame frame → frame < length description.now.stack }
+    requires all { bytes ≡ byte_len (load_width form) }
+    ensures gives { IfOk result (Gives description.now form access.region access.offsets) }
+    ensures context { access.region ≡ Context → IsOkAnd result IsNumber }
+    ensures frame { (frame from : ℕ) → access.region ≡ Frame frame → access.offsets ≡ record { least = from; most = from } → AreUnspilled description.now.spills frame from (from + bytes) → IsOkAnd result IsNumber }
+{
+    match access.region {
+        Region::Context => Ok(Kind::Number(loaded_words(form))),
+        Region::Frame(frame) => given_in(description, form, frame, access.offsets, bytes),
+    }
+}
+
+// What a load gives of bytes of a frame: a number, or an address or a freeze that was spilled just there.
+fn given_in(
+    description: &Description,
+    form: LoadForm,
+    frame: u8,
+    offsets: Offsets,
+    bytes: u16,
+) -> Result<Kind, Cause>
+    requires inside { offsets.most + bytes ≤ 512 }
+    requires live { frame < length description.now.stack }
+    requires all { bytes ≡ byte_len (load_width form) }
+    ensures gives { IfOk result (Gives description.now form (Frame frame) offsets) }
+    ensures unspilled { AreUnspilled description.now.spills frame offsets.least (offsets.most + bytes) → IsOkAnd result IsNumber }
+{
+    if !description.may_be_spilled(frame, offsets, bytes) {
+        return Ok(Kind::Number(loaded_words(form)));
+    }
+    match form {
+        LoadForm::DoubleWord => reloaded(description, frame, offsets),
+        _ => Err(Cause::AddressStored),
+    }
+}
+
+// What was spilled in eight bytes of a frame.
+fn reloaded(description: &Description, frame: u8, offsets: Offsets) -> Result<Kind, Cause>
+    requires inside { offsets.most + 8 ≤ 512 }
+    requires live { frame < length description.now.stack }
+    ensures { IfOk result (Gives description.now LoadForm.DoubleWord (Frame frame) offsets) }
+{
+    let kind = description.spilled(frame, offsets);
+    if kind.is_written() {
+        Ok(kind)
+    } else {
+        Err(Cause::AddressStored)
+    }
 }
 
 // Whether the bytes of a load are written.
 fn check_read(description: &Description, access: Access, bytes: u16) -> Result<(), Cause>
     requires inside { access.offsets.most + bytes ≤ size_of access.region }
     ensures reads { IfOk result (λ _. Reads description.now access bytes) }
+    ensures live { IfOk result (λ _. (frame : ℕ) → access.region ≡ Frame frame → frame < length description.now.stack) }
     ensures context { access.region ≡ Context → IsOk result }
     ensures frame { (frame from : ℕ) → access.region ≡ Frame frame → access.offsets ≡ record { least = from; most = from } → frame < length description.now.stack → AreKnown description.now frame from bytes → IsOk result }
 {
@@ -59,6 +120,7 @@ fn check_frame(
 ) -> Result<(), Cause>
     requires inside { offsets.most + bytes ≤ 512 }
     ensures reads { IfOk result (λ _. ReadsFrame description.now frame offsets bytes) }
+    ensures live { IfOk result (λ _. frame < length description.now.stack) }
     ensures known { (from : ℕ) → offsets ≡ record { least = from; most = from } → frame < length description.now.stack → AreKnown description.now frame from bytes → IsOk result }
 {
     let frame = usize::from(frame);
@@ -81,25 +143,44 @@ fn check_frame(
 ///
 /// # Errors
 /// `UnwrittenRegister` for the address and the word, `AccessOutside` where the former is none or a byte may lie outside
-/// the live frames, `StoreToContext`, and `AddressStored` for a word that is no number.
+/// the live frames, `StoreToContext`, and `AddressStored` for a word that is no number and is not stored whole at one
+/// place, a multiple of 8. `OutOfMemory` only for such a word.
 pub(crate) fn store(
     description: &mut Description,
     size: StoreSize,
     dst: Reg,
     offset: i16,
     word: Kind,
-) -> Result<(), Cause>
+) -> Result<(), OrMemory<Cause>>
     ensures stores { IfOk result (λ _. Stores description.old size dst offset word description.new) }
     ensures leaves { IsNumber word → LiesInFrame description.old dst offset (byte_len (store_width size)) → IsOkAnd result (λ _. LeavesStored description.old dst offset (byte_len (store_width size)) description.new) }
     ensures depth { IfOk result (λ _. length description.new.stack ≡ length description.old.stack) }
 {
     let bytes = store_bytes(size);
-    if word == Kind::Unwritten {
-        return Err(Cause::UnwrittenRegister);
+    if !word.is_written() {
+        return Err(OrMemory::Fault(Cause::UnwrittenRegister));
     }
-    let access = accessed(description.kind(dst), offset, bytes)?;
+    match accessed(description.kind(dst), offset, bytes) {
+        Ok(access) => store_at(description, access, bytes, word),
+        Err(cause) => Err(OrMemory::Fault(cause)),
+    }
+}
+
+// Stores a word of that kind where that is.
+fn store_at(
+    description: &mut Description,
+    access: Access,
+    bytes: u16,
+    word: Kind,
+) -> Result<(), OrMemory<Cause>>
+    requires inside { access.offsets.most + bytes ≤ size_of access.region }
+    requires few { bytes ≤ 8 }
+    ensures puts { IfOk result (λ _. (frame : ℕ) × (access.region ≡ Frame frame) × Puts description.old frame access.offsets bytes word description.new) }
+    ensures leaves { (frame from : ℕ) → access.region ≡ Frame frame → IsNumber word → access.offsets ≡ record { least = from; most = from } → frame < length description.old.stack → IsOkAnd result (λ _. LeavesMarked description.old frame from bytes description.new) }
+    ensures depth { IfOk result (λ _. length description.new.stack ≡ length description.old.stack) }
+{
     match access.region {
-        Region::Context => Err(Cause::StoreToContext),
+        Region::Context => Err(OrMemory::Fault(Cause::StoreToContext)),
         Region::Frame(frame) => store_in(description, frame, access.offsets, bytes, word),
     }
 }
@@ -111,22 +192,42 @@ fn store_in(
     offsets: Offsets,
     bytes: u16,
     word: Kind,
-) -> Result<(), Cause>
+) -> Result<(), OrMemory<Cause>>
     requires inside { offsets.most + bytes ≤ 512 }
     requires few { bytes ≤ 8 }
-    ensures writes { IfOk result (λ _. Writes description.old frame offsets bytes description.new) }
-    ensures number { IfOk result (λ _. IsNumber word) }
+    ensures puts { IfOk result (λ _. Puts description.old frame offsets bytes word description.new) }
     ensures leaves { (from : ℕ) → IsNumber word → offsets ≡ record { least = from; most = from } → frame < length description.old.stack → IsOkAnd result (λ _. LeavesMarked description.old frame from bytes description.new) }
     ensures depth { IfOk result (λ _. length description.new.stack ≡ length description.old.stack) }
 {
     if usize::from(frame) >= description.stack.depth() {
-        return Err(Cause::AccessOutside);
+        return Err(OrMemory::Fault(Cause::AccessOutside));
     }
-    if !word.is_number() {
-        return Err(Cause::AddressStored);
+    if word.is_number() {
+        description.write_in(frame, offsets, bytes);
+        return Ok(());
     }
-    description.write_in(frame, offsets, bytes);
-    Ok(())
+    spill(description, frame, offsets, bytes, word)
+}
+
+// Stores an address or a freeze in a live frame, whole and at one place, which is a multiple of 8.
+fn spill(
+    description: &mut Description,
+    frame: u8,
+    offsets: Offsets,
+    bytes: u16,
+    word: Kind,
+) -> Result<(), OrMemory<Cause>>
+    requires live { frame < length description.old.stack }
+    requires inside { offsets.most + bytes ≤ 512 }
+    ensures puts { IfOk result (λ _. Puts description.old frame offsets bytes word description.new) }
+    ensures depth { IfOk result (λ _. length description.new.stack ≡ length description.old.stack) }
+{
+    if bytes == 8 && offsets.least == offsets.most && offsets.least.is_multiple_of(8) {
+        description.spill_in(frame, offsets.least / 8, word)?;
+        Ok(())
+    } else {
+        Err(OrMemory::Fault(Cause::AddressStored))
+    }
 }
 
 // How many bytes a load reads.

@@ -15,6 +15,7 @@ use crate::memory::{loaded, store};
 use crate::operands::{operand, set};
 use bpf_insn::{AluOp, InPlaceOp, LoadForm, Operand, Reg, SignExtension, StoreSize, Width};
 use description::Description;
+use or_memory::OrMemory;
 use register_kinds::{Cause, Kind, changed, computed, extended};
 
 /// Arithmetic on a register and an operand.
@@ -98,7 +99,7 @@ pub fn store_operand(
     dst: Reg,
     src: Operand,
     offset: i16,
-) -> Result<(), Cause>
+) -> Result<(), OrMemory<Cause>>
     ensures goes { IfOk result (λ _. GoesOn (Store size dst src offset) description.old description.new) }
     ensures leaves { (IsNumberOperand description.old src × LiesInFrame description.old dst offset (byte_len (store_width size))) → IsOkAnd result (λ _. LeavesStored description.old dst offset (byte_len (store_width size)) description.new) }
     ensures depth { IfOk result (λ _. length description.new.stack ≡ length description.old.stack) }

@@ -14,6 +14,7 @@ use Rattle.register_kinds.specs.declared.kind.Kind.TheVariants.{Unwritten, Addre
 use Rattle.register_kinds.specs.declared.region.Region.TheVariants.{Context, Frame}
 use Rattle.reg_domain.specs.AllRegisters.{HoldAtEntry}
 use Rattle.description.specs.Description.{Describes}
+use Rattle.description.specs.Spills.{AreSpilled}
 use Rattle.register_kinds.specs.Freezes.{AreHeld, numbers_at_start, open_freeze}
 use Rattle.register_kinds.proofs.Freezes.{held_at_start}
 use Rattle.description.proofs.NoBytes.{no_byte}
@@ -34,13 +35,14 @@ hold_at_entry context freeze R8 = tt
 hold_at_entry context freeze R9 = tt
 hold_at_entry context freeze R10 = (frame_pointer 0, refl, (512, refl, omega arith, omega arith, omega arith))
 
-pub describes_entry : (d : Description) → HoldAtEntry d.registers → ((frame : List (Option ℕ)) → length frame ≡ 512 → CoversFrames d.stack (frame ∷ [])) → d.held ≡ open_freeze names.Start ∷ [] → d.disposed ≡ false → (m : MachineState) → IsEntry m → Describes [] d m
-describes_entry d hold covers held disposed m is = subst (Describes [] d) (sym is.is) (
+pub describes_entry : (d : Description) → HoldAtEntry d.registers → ((frame : List (Option ℕ)) → length frame ≡ 512 → CoversFrames d.stack (frame ∷ [])) → d.spills ≡ [] → d.held ≡ open_freeze names.Start ∷ [] → d.disposed ≡ false → (m : MachineState) → IsEntry m → Describes [] d m
+describes_entry d hold covers spilled held disposed m is = subst (Describes [] d) (sym is.is) (
   numbers_at_start is.freeze,
   record {
     registers = hold is.context is.freeze;
     count = refl;
     frames = covers unwritten_frame (length-replicate {A = Option ℕ} 512 None);
+    spills = subst (λ spills. AreSpilled (numbers_at_start is.freeze) spills (unwritten_frame ∷ [])) (sym spilled) (λ frame word few. tt);
     bytes = no_byte;
     context = is.bytes;
     held = subst (λ (l : List HeldFreeze). AreHeld (numbers_at_start is.freeze) l (entry is.context is.freeze).held) (sym held) (held_at_start is.freeze is.number);

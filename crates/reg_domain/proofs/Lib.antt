@@ -1,2 +1,3 @@
 pub mod AtEntry
+pub mod Meeting
 pub mod Ways

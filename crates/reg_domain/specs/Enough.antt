@@ -1,6 +1,6 @@
 -- What is enough for the check of an instruction to pass, and what is known behind it then, at the entry, and where paths
 -- meet. It says nothing of machines: it is what a program may rely on that is to be accepted.
-use Rattle.std.specs.Prelude.{◌≡◌, ℕ, true, false, [], ◌∷◌, length, ◌⊎◌}
+use Rattle.std.specs.Prelude.{◌≡◌, ℕ, ◌/◌, true, false, [], ◌∷◌, length, ◌⊎◌}
 use Rattle.std.specs.Int.{byte_len}
 use Rattle.bpf_insn.specs.declared.insn.Callee.TheVariants.{Helper as helper_call, Local}
 use Rattle.bpf_insn.specs.declared.insn.Insn.{Insn}
@@ -16,6 +16,7 @@ use Rattle.register_kinds.specs.declared.freeze_name.FreezeName.TheVariants as n
 use Rattle.register_kinds.specs.declared.kind.Kind.TheVariants.{Freeze}
 use Rattle.register_kinds.specs.declared.region.Region.TheVariants.{Context, Frame}
 use Rattle.description.specs.Description.{kind_at}
+use Rattle.description.specs.Spills.{spill_at}
 use Rattle.register_kinds.specs.Freezes.{open_freeze}
 use Rattle.register_kinds.specs.Kinds.{IsAt, IsAtMost, IsNumber}
 use Rattle.private_insns.specs.Enough.{IsNumberOperand, LiesInContext, LiesInFrame, LiesWritten, TestsFreeze, ComparesNumbers, EnoughToCompute, LeavesComputed, LeavesNumber, LeavesStored, LeavesCompared}
@@ -55,6 +56,7 @@ pub record IsEntryKnown (d : Description) : Type 0 where
   pub freeze : kind_at d R2 ≡ Freeze names.Start
   pub frame : IsAt (Frame 0) 512 (kind_at d R10)
   pub depth : length d.stack ≡ 1
+  pub unspilled : d.spills ≡ []
   pub held : d.held ≡ open_freeze names.Start ∷ []
   pub waits : d.disposed ≡ false
 
@@ -69,7 +71,8 @@ pub record JoinsTo (a b joined : Description) : Type 0 where
   pub equal : (reg : Reg) → kind_at a reg ≡ kind_at b reg → kind_at joined reg ≡ kind_at a reg
   pub numbers : (reg : Reg) → IsNumber (kind_at a reg) → IsNumber (kind_at b reg) → IsNumber (kind_at joined reg)
   pub bounds : (reg : Reg) (most : ℕ) → IsAtMost most (kind_at a reg) → IsAtMost most (kind_at b reg) → IsAtMost most (kind_at joined reg)
-  pub known : (frame at : ℕ) → Knows a.stack frame at → Knows b.stack frame at → Knows joined.stack frame at
+  pub known : (frame at : ℕ) → spill_at a.spills frame (at / 8) ≡ spill_at b.spills frame (at / 8) → Knows a.stack frame at → Knows b.stack frame at → Knows joined.stack frame at
+  pub unspilled : a.spills ≡ [] → joined.spills ≡ []
   pub depth : length joined.stack ≡ length a.stack
   pub held : joined.held ≡ a.held
   pub disposal : joined.disposed ≡ a.disposed

@@ -21,6 +21,19 @@ Stays callers (Call (Helper number)) = Unit {0}
 Stays callers (Call (Local distance)) = ⊥
 Stays callers Exit = callers ≡ []
 
+-- it stores to memory
+abbrev pub IsStore : Insn → Type 0
+IsStore (Alu width op dst src) = ⊥
+IsStore (InPlace op dst) = ⊥
+IsStore (SignExtend extension dst src) = ⊥
+IsStore (JumpIf width condition dst src offset) = ⊥
+IsStore (Jump distance) = ⊥
+IsStore (LoadImmediate dst value) = ⊥
+IsStore (Load form dst src offset) = ⊥
+IsStore (Store size dst src offset) = Unit {0}
+IsStore (Call callee) = ⊥
+IsStore Exit = ⊥
+
 -- whether it leads to the next instruction
 abbrev pub falls_through : Insn → Bool
 falls_through (Alu width op dst src) = true

@@ -12,13 +12,14 @@ ghost use Rattle.description.specs.Description.{kind_at, NeverStuck};
 ghost use Rattle.helper_calls.specs.Called.{CanCall, LeavesCalled};
 ghost use Rattle.reg_domain.specs.Enough.{Enough, Leaves};
 ghost use Rattle.private_insns.specs.Follows.{Follows};
-ghost use Rattle.reg_domain.specs.Ways.{Stays, HasWay};
+ghost use Rattle.reg_domain.specs.Ways.{HasWay, IsStore, Stays};
 ghost use Rattle.register_kinds.specs.Kinds.{IsNumber};
 
 use bpf_insn::{Callee, Insn, Reg};
 use description::{Description, SavedRegisters};
 use helper_calls::call;
 use helpers::HelperLimits;
+use or_memory::OrMemory;
 use private_insns::{Way, change, compute, extend, jump_if, load, load_immediate, store_operand};
 use register_kinds::Cause;
 
@@ -28,8 +29,43 @@ use register_kinds::Cause;
 /// instruction under this chain of calls, so that no two checks name a freeze alike.
 ///
 /// # Errors
-/// Why a machine may be stuck there. What is known then is not said.
+/// Why a machine may be stuck there; or that there is no memory, which only a store of an address or a freeze takes. What is
+/// known then is not said.
 pub fn follow(
+    description: &mut Description,
+    limits: &HelperLimits,
+    callers: &[SavedRegisters],
+    insn: Insn,
+    place: u32,
+    way: Way,
+) -> Result<bool, OrMemory<Cause>>
+    requires stays { Stays callers.now insn }
+    ensures unstuck { IfOk result (λ is_open. NeverStuck limits.now callers.now insn description.old) }
+    ensures follows { IfOk result (λ is_open. Follows callers.now insn way description.old is_open description.new) }
+    ensures depth { IfOk result (λ is_open. length description.new.stack ≡ length description.old.stack) }
+    ensures ways { IfOk result (λ is_open. IsTrue is_open → HasWay insn way) }
+    ensures passes { Enough insn description.old → IsOkAnd result (λ is_open. IsTrue is_open → Leaves insn way description.old description.new) }
+    ensures calls { (number : ℤ) → insn ≡ Call (helper_call number) → CanCall limits.now callers.now description.old (names.Call place) number → IsOkAnd result (λ is_open. IsTrue is_open → LeavesCalled (names.Call place) description.old number description.new) }
+{
+    match insn {
+        Insn::Store {
+            size,
+            dst,
+            src,
+            offset,
+        } => {
+            store_operand(description, size, dst, src, offset)?;
+            Ok(!way.is_taken())
+        }
+        _ => match follow_other(description, limits, callers, insn, place, way) {
+            Ok(is_open) => Ok(is_open),
+            Err(cause) => Err(OrMemory::Fault(cause)),
+        },
+    }
+}
+
+// The same for an instruction that is no store.
+fn follow_other(
     description: &mut Description,
     limits: &HelperLimits,
     callers: &[SavedRegisters],
@@ -38,6 +74,7 @@ pub fn follow(
     way: Way,
 ) -> Result<bool, Cause>
     requires stays { Stays callers.now insn }
+    requires other { IsStore insn → ⊥ }
     ensures unstuck { IfOk result (λ is_open. NeverStuck limits.now callers.now insn description.old) }
     ensures follows { IfOk result (λ is_open. Follows callers.now insn way description.old is_open description.new) }
     ensures depth { IfOk result (λ is_open. length description.new.stack ≡ length description.old.stack) }
@@ -65,12 +102,7 @@ pub fn follow(
             src,
             offset,
         } => load(description, form, dst, src, offset)?,
-        Insn::Store {
-            size,
-            dst,
-            src,
-            offset,
-        } => store_operand(description, size, dst, src, offset)?,
+        Insn::Store { .. } => unreachable!(),
         Insn::Call(callee) => call_function(description, limits, callers, callee, place)?,
         Insn::JumpIf {
             width,

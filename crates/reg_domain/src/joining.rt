@@ -1,4 +1,5 @@
-// What is known where two paths meet. It relies on `register_kinds` for each register, and on `stack_domain` for the stack.
+// What is known where two paths meet. It relies on `register_kinds` for each register, on `stack_domain` for the stack, and on
+// `description` for what is spilled.
 
 ghost use Rattle.std.specs.Prelude.{◌≡◌, ◌↔◌, length, IsTrue};
 ghost use Rattle.description.specs.Description.{Covers};
@@ -42,6 +43,9 @@ fn join_agreed(description: &mut Description, other: &Description)
 {
     join_registers(&mut description.registers, &other.registers);
     description.stack.join(&other.stack);
+    description
+        .spills
+        .join(&other.spills, &mut description.stack);
 }
 
 // What holds of each register where it holds on this path or on the other.

@@ -9,18 +9,20 @@ ghost use Rattle.reg_domain.specs.AllRegisters.{HoldAtEntry};
 ghost use Rattle.description.specs.Changes.{at};
 ghost use Rattle.register_kinds.specs.Kinds.{IsAt};
 
-use description::Description;
+use description::{Description, Spills};
 use register_kinds::{FreezeName, Held, Kind, Offsets, Region};
 use stack_domain::Stack;
+use std::alloc::Global;
 
 /// At the entry of a program.
-pub fn entry() -> Description
+pub fn entry(alloc: Global) -> Description
     ensures entries { DescribesEntries result }
     ensures known { IsEntryKnown result }
 {
     Description {
         registers: entry_registers(),
         stack: Stack::outermost(),
+        spills: Spills::none(alloc),
         held: Held::at_start(),
         disposed: false,
     }

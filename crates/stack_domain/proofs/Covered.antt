@@ -15,7 +15,7 @@ marked_live stack k offset marked = elim (cases_lt k (length stack)) [
   | inr past ↦ (let none : false ≡ true = ap (λ (bytes : List Bool). slice_index_or bytes offset false) (sym (get_or_past stack k [] past)) ∙ marked in absurd (cc))
 ]
 
-has_inside : (bytes : List Bool) (offset : ℕ) → Has bytes offset → offset < length bytes
+pub has_inside : (bytes : List Bool) (offset : ℕ) → Has bytes offset → offset < length bytes
 has_inside bytes offset has = elim (cases_lt offset (length bytes)) [
   | inl inside ↦ inside
   | inr past ↦ (let none : false ≡ true = sym (get_or_past bytes offset false past) ∙ has in absurd (cc))

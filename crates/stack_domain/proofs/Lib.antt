@@ -1,5 +1,7 @@
 pub mod Covered
+pub mod Forgetting
 pub mod Loads
+pub mod Others
 pub mod Places
 pub mod Stores
 pub mod Worked

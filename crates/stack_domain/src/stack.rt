@@ -2,7 +2,8 @@
 // it. Clauses speak of the frames that a description covers. It relies on `stack_frame` for sets of bytes, and on
 // `padded_list` for how they are kept.
 
-ghost use Rattle.std.specs.Prelude.{◌≡◌, ◌<◌, ◌≤◌, ◌+◌, ◌-◌, ◌↔◌, ◌&&◌, false, ℕ, List, [], ◌∷◌, ◌++◌, Option, IsTrue, length, slice_index_or};
+ghost use Rattle.std.specs.Prelude.{◌≡◌, ◌<◌, ◌≤◌, ◌+◌, ◌-◌, ◌*◌, ◌↔◌, ◌⊎◌, ◌&&◌, false, ℕ, List, [], ◌∷◌, ◌++◌, Option, IsTrue, length, slice_index_or};
+ghost use Rattle.stack_frame.specs.ByteSet.{Has};
 ghost use Rattle.stack_frame.specs.declared.byte_set.TheConstants.{MOST_BYTES};
 ghost use Rattle.stack_domain.specs.Stack.{Covers, Knows, AreWritten};
 ghost use Rattle.stack_domain.specs.Stores.{stored};
@@ -100,6 +101,20 @@ impl Stack {
             .contains_all(least, most + count - least)
     }
 
+    /// Eight bytes of a frame, from a multiple of 8 on, are known to be written no more.
+    pub fn forget_word(&mut self, frame: usize, word: usize)
+        requires live { frame < length self.old }
+        requires inside { word < 64 }
+        ensures depth { length self.new ≡ length self.old }
+        ensures covers { (frames : List (List (Option ℕ))) → Covers self.old frames → Covers self.new frames }
+        ensures knows { (k offset : ℕ) → (k ≡ frame → (offset < 8 * word) ⊎ (8 * word + 8 ≤ offset)) → Knows self.old k offset → Knows self.new k offset }
+        ensures forgets { (offset : ℕ) → 8 * word ≤ offset → offset < 8 * word + 8 → Knows self.new frame offset → ⊥ }
+    {
+        let others = all_but(word);
+        let left = self.sets.at(frame).intersection(&others);
+        self.sets.set(frame, left);
+    }
+
     /// What both know, as where two paths meet.
     pub fn join(&mut self, other: &Self)
         requires { length self.old ≡ length other.now }
@@ -110,6 +125,20 @@ impl Stack {
     {
         intersect(&mut self.sets, &other.sets);
     }
+}
+
+// All bytes of a frame but eight, which begin at a multiple of 8.
+fn all_but(word: usize) -> ByteSet
+    ensures others { (k : ℕ) → k < 512 → ((k < 8 * word) ⊎ (8 * word + 8 ≤ k)) → Has result k }
+    ensures none { (k : ℕ) → 8 * word ≤ k → k < 8 * word + 8 → slice_index_or result k false ≡ false }
+{
+    let mut others = ByteSet::empty();
+    for other in 0..64 {
+        if other != word {
+            others.insert_all(8 * other, 8);
+        }
+    }
+    others
 }
 
 // Leaves of each set what is in the other list's set at its place too.

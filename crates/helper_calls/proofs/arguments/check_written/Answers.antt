@@ -6,13 +6,13 @@ use Rattle.description.proofs.Reading.{in_frame}
 use Rattle.helper_calls.proofs.Tracing.{some_same}
 use Rattle.helper_calls.proofs.arguments.check_written.Goals as goal
 
-pub returns-then-is_written-clause-bytes : goal.returns-then-is_written-clause-bytes
-returns-then-is_written-clause-bytes c = λ numbers callers m address bytes is holds counts.
+pub returns-else-may_be_spilled-clause-bytes : goal.returns-else-may_be_spilled-clause-bytes
+returns-else-may_be_spilled-clause-bytes c = λ numbers callers m address bytes is holds counts.
     let inside = c.if-not-lies_in.ensures.inside refl in
     let here = some_same address holds.0 holds.1 in
     let count = some_same bytes counts.0 counts.1 in
     let few = c.most-bytes.ensures.bound counts.0 counts.2 in
-    let are = c.is_written.ensures.0 c.if-is_written.true in
+    let are = c.is_written.ensures.0 c.if-not-is_written.false in
     let fits : c.args.offsets.most + bytes ≤ 512 = omega (arith, inside, count, few) in
     let found = in_frame numbers callers c.args.description.now m c.args.frame c.args.offsets holds.0 bytes is (c.if-not-lies_in.ensures.live refl) holds.2 fits
     (λ frames covers at from to.

@@ -1,0 +1,20 @@
+use Rattle.std.proofs.Common.{◌≡◌, ◌<◌, ◌+◌, ◌*◌, ◌/◌, ◌%◌, ℕ, length, arith, ap, sym, subst, ◌∙◌}
+use Rattle.register_kinds.specs.declared.kind.Kind.{Kind}
+use Rattle.register_kinds.specs.Kinds.{HoldsKind}
+use Rattle.bpf_semantics.specs.Frames.{frame_start}
+use Rattle.description.specs.Memory.{word_there}
+use Rattle.description.specs.Spills.{kind_of, spill_at}
+use Rattle.description.proofs.Words.{word_found}
+use Rattle.description.proofs.description.Description.spilled.Goals as goal
+
+pub returns-then-is_multiple_of : goal.returns-then-is_multiple_of
+returns-then-is_multiple_of c = λ numbers callers m address is lies live.
+    let frame = c.args.frame in
+    let word : ℕ = c.args.offsets.least / 8 in
+    let whole : c.args.offsets.least % 8 ≡ 0 = c.is_multiple_of.ensures.0 c.if-is_multiple_of.true in
+    let there : frame < length m.frames = omega (arith, live, is.frames.depth) in
+    let few : word < 64 = omega (arith, c.requires.inside, c.if-offsets.true) in
+    let at : address ≡ frame_start frame + 8 * word = omega (arith, whole, c.if-offsets.true, lies.1, lies.2, lies.3) in
+    let kind : c.kind.result ≡ kind_of (spill_at c.args.self.now.spills frame word) = c.kind.ensures ∙ ap kind_of c.at.ensures in
+    subst (λ (k : Kind). HoldsKind numbers k (word_there m address)) (sym kind)
+    (subst (HoldsKind numbers (kind_of (spill_at c.args.self.now.spills frame word))) (sym (word_found m frame word address there at few)) (is.spills frame word few))

@@ -1,0 +1,33 @@
+-- What holds of a machine on one of two paths holds where they meet.
+use Rattle.std.proofs.Common.{◌≡◌, ℕ, ◌<◌, List, Option, sym, subst, ◌∙◌}
+use Rattle.bpf_insn.specs.Reg.{number_of}
+use Rattle.bpf_semantics.specs.MachineState.{MachineState}
+use Rattle.stack_domain.specs.Stack.{Covers as CoversFrames}
+use Rattle.register_kinds.specs.declared.held.HeldFreeze.{HeldFreeze}
+use Rattle.register_kinds.specs.Freezes.{AreHeld, FreezeNumbers}
+use Rattle.register_kinds.specs.Kinds.{HoldsKind}
+use Rattle.description.specs.declared.description.Description.{Description}
+use Rattle.description.specs.declared.saved.SavedRegisters.{SavedRegisters}
+use Rattle.description.specs.Changes.{at}
+use Rattle.description.specs.Description.{Covers, DescribesWith}
+use Rattle.description.specs.Spills.{IsFewer}
+use Rattle.description.proofs.RegisterPlaces.{number_below}
+use Rattle.description.proofs.Spilled.{fewer_spilled}
+
+pub wider : (d there : Description) → ((i : ℕ) → i < 11 → (numbers : FreezeNumbers) (o : Option ℕ) → HoldsKind numbers (at d.registers i) o → HoldsKind numbers (at there.registers i) o)
+    → ((frames : List (List (Option ℕ))) → CoversFrames d.stack frames → CoversFrames there.stack frames) → IsFewer d.spills there.spills → there.held ≡ d.held → there.disposed ≡ d.disposed → Covers d there
+wider d there registers covers fewer held disposal callers m (numbers, is) = (
+  numbers,
+  record {
+    registers = λ reg. registers (number_of reg) (number_below reg) numbers _ (is.registers reg);
+    count = is.count;
+    frames = covers m.frames is.frames;
+    spills = fewer_spilled numbers d.spills there.spills m.frames fewer is.spills;
+    bytes = is.bytes;
+    context = is.context;
+    held = subst (λ (h : List HeldFreeze). AreHeld numbers h m.held) (sym held) is.held;
+    disposal = is.disposal ∙ sym disposal;
+    calls = is.calls;
+    depth = is.depth;
+  },
+)

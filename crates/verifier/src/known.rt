@@ -49,11 +49,11 @@ impl Spare {
     {
         match self.places.pop() {
             Some(mut known) => {
-                *known.description = *description;
+                *known.description = description.try_copy()?;
                 Ok(known)
             }
             None => Ok(Known {
-                description: Box::new(*self.places.allocator(), *description)?,
+                description: Box::new(*self.places.allocator(), description.try_copy()?)?,
             }),
         }
     }

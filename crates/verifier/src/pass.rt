@@ -46,7 +46,7 @@ pub fn pass(alloc: Global, limits: &HelperLimits, shape: &Shape<'_>) -> Result<u
 {
     let program = shape.program();
     let mut spare = Spare::new(alloc)?;
-    let entry = spare.copy_of(&entry())?;
+    let entry = spare.copy_of(&entry(alloc))?;
     let mut callers = Vec::new(alloc);
     let mut visits = 0;
     visit_function(

@@ -15,7 +15,7 @@ ghost use Rattle.verifier.specs.Arrives.{AllArrive, Arrives, FailsUnless, NeverL
 ghost use Rattle.verifier.specs.Table.{HasJoined, HasLed, HasLeft, IsFirstTable, IsMerged};
 
 use crate::known::{Known, Spare};
-use crate::refusal::{Refusal, VerifyError};
+use crate::refusal::{Refusal, VerifyError, refused};
 use bpf_insn::Insn;
 use description::SavedRegisters;
 use helpers::HelperLimits;
@@ -103,7 +103,7 @@ pub fn lead(
                 Ok(())
             }
         }
-        Err(cause) => Err(OrMemory::Fault(Refusal::Check(cause, check.place))),
+        Err(error) => Err(refused(error, check.place)),
     }
 }
 

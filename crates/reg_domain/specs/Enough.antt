@@ -36,7 +36,7 @@ Enough (Call (Local distance)) d = ⊥
 Enough (Call (helper_call number)) d = EnoughToCall number d
 Enough Exit d = (d.held ≡ []) × (d.disposed ≡ true) × IsNumber (kind_at d R0)
 
--- what is known behind an instruction of which enough was known, where the way is open
+-- what is known behind an instruction of which enough was known, where the way is open: none is behind an exit
 abbrev pub Leaves : Insn → Way → Description → Description → Type 0
 Leaves (Alu width op dst src) way d there = LeavesComputed d width op dst src there
 Leaves (InPlace op dst) way d there = LeavesNumber dst d there
@@ -48,7 +48,7 @@ Leaves (Load form dst src offset) way d there = LeavesNumber dst d there
 Leaves (Store size dst src offset) way d there = LeavesStored d dst offset (byte_len (store_width size)) there
 Leaves (Call (Local distance)) way d there = Unit {0}
 Leaves (Call (helper_call number)) way d there = (name : FreezeName) × LeavesCalled name d number there
-Leaves Exit way d there = Unit {0}
+Leaves Exit way d there = ⊥
 
 -- what is known at the entry
 pub record IsEntryKnown (d : Description) : Type 0 where

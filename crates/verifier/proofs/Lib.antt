@@ -14,3 +14,4 @@ pub mod Counts
 pub mod Lacking
 pub mod Told
 pub mod Plain
+pub mod Unspilled

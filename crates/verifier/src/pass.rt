@@ -44,7 +44,7 @@ pub fn pass(alloc: Global, limits: &HelperLimits, shape: &Shape<'_>) -> Result<u
     ensures fails { IfErr result (LacksMemoryOrMore shape.now) }
 {
     let program = shape.program();
-    let entry = entry();
+    let entry = entry(alloc);
     let mut callers = Vec::new(alloc);
     let mut visits = 0;
     visit_function(
@@ -191,7 +191,7 @@ fn call(
     ensures counted { OnOk result (visits.old < visits.new) }
     ensures fails { IfErr result (FailsUnless ⊥) }
 {
-    let mut entry = *description;
+    let mut entry = description.try_copy()?;
     let saved = enter(&mut entry);
     callers.reserve(1)?;
     callers.push_reserved(saved);

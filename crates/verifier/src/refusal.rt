@@ -1,5 +1,8 @@
 // Why a program is not accepted.
 
+ghost use Rattle.std.specs.Prelude.{◌≡◌};
+ghost use Rattle.verifier.specs.Arrives.{FailsUnless};
+
 use call_shape::ShapeFault;
 use or_memory::OrMemory;
 use register_kinds::Cause;
@@ -29,3 +32,13 @@ impl fmt::Display for Refusal {
 
 /// Why a program was not accepted: memory was refused, or the program is.
 pub type VerifyError = OrMemory<Refusal>;
+
+// Why a check of the instruction at that slot was not made to the end.
+pub(crate) fn refused(error: OrMemory<Cause>, slot: usize) -> VerifyError
+    ensures { FailsUnless ⊥ result }
+{
+    match error {
+        OrMemory::OutOfMemory => OrMemory::OutOfMemory,
+        OrMemory::Fault(cause) => OrMemory::Fault(Refusal::Check(cause, slot)),
+    }
+}

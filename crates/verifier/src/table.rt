@@ -14,7 +14,7 @@ ghost use Rattle.reg_domain.specs.Ways.{Stays};
 ghost use Rattle.verifier.specs.Arrives.{AllArrive, Arrives, FailsUnless, NeverLacks, goes_to};
 ghost use Rattle.verifier.specs.Table.{HasComeBack, HasJoined, HasLed, HasLeft, IsFirstTable, IsMerged, described};
 
-use crate::refusal::{Refusal, VerifyError};
+use crate::refusal::{Refusal, VerifyError, refused};
 use bpf_insn::Insn;
 use description::{Description, SavedRegisters};
 use helpers::HelperLimits;
@@ -65,7 +65,7 @@ pub fn first_table(
     ensures { IfOk result (λ table. IsFirstTable len entry.now table.items) }
 {
     let mut table = Vec::with_capacity(alloc, len)?;
-    table.push_reserved(Some(*entry));
+    table.push_reserved(Some(entry.try_copy()?));
     for _ in 1..len {
         table.push_reserved(None);
     }
@@ -127,16 +127,38 @@ fn lead_more(
     let Some(description) = &table[at] else {
         return Ok(());
     };
-    let mut there = *description;
-    match follow(&mut there, limits, callers, check.insn, check.number, way) {
+    let mut there = description.try_copy()?;
+    lead_copy(limits, callers, table, at, check, way, to, &mut there)
+}
+
+// The same of a copy of the entry.
+fn lead_copy(
+    limits: &HelperLimits,
+    callers: &[SavedRegisters],
+    table: &mut [Option<Description>],
+    at: usize,
+    check: Check,
+    way: Way,
+    to: usize,
+    there: &mut Description,
+) -> Result<(), VerifyError>
+    requires at { at < length table.old }
+    requires here { described table.old at ≡ Some there.old }
+    requires stays { Stays callers.now check.insn }
+    ensures whole { length table.new ≡ length table.old }
+    ensures led { IfOk result (λ _. HasLed limits.now callers.now table.old at check.insn way to table.new) }
+    ensures passes { (program : List Slot) → NeverLacks program → AllArrive program table.old → length table.old ≤ length program → insn_at program at ≡ Some check.insn → goes_to at check.insn way ≡ Some to → IsOkAnd result (λ _. AllArrive program table.new) }
+    ensures fails { IfErr result (FailsUnless ⊥) }
+{
+    match follow(there, limits, callers, check.insn, check.number, way) {
         Ok(is_open) => {
             if is_open && to < table.len() {
-                join_into(table, to, &there, check.place_of(at, to))
+                join_into(table, to, there, check.place_of(at, to))
             } else {
                 Ok(())
             }
         }
-        Err(cause) => Err(OrMemory::Fault(Refusal::Check(cause, check.place))),
+        Err(error) => Err(refused(error, check.place)),
     }
 }
 
@@ -160,7 +182,10 @@ fn lead_first(
     ensures passes { (program : List Slot) → NeverLacks program → AllArrive program table.old → length table.old ≤ length program → insn_at program at ≡ Some check.insn → goes_to at check.insn way ≡ Some to → IsOkAnd result (λ _. AllArrive program table.new) }
     ensures fails { IfErr result (FailsUnless ⊥) }
 {
-    table[to] = table[at];
+    let Some(known) = &table[at] else {
+        return Ok(());
+    };
+    table[to] = Some(known.try_copy()?);
     let Some(there) = &mut table[to] else {
         return Ok(());
     };
@@ -170,7 +195,7 @@ fn lead_first(
             table[to] = None;
             Ok(())
         }
-        Err(cause) => Err(OrMemory::Fault(Refusal::Check(cause, check.place))),
+        Err(error) => Err(refused(error, check.place)),
     }
 }
 
@@ -203,7 +228,7 @@ fn merge(
 {
     match known {
         None => {
-            *known = Some(*new);
+            *known = Some(new.try_copy()?);
             Ok(())
         }
         Some(old) => {
@@ -246,7 +271,7 @@ pub fn leave(
     ensures left { IfOk result (λ _. HasLeft saved.now description.now left.old left.new) }
     ensures fails { IfErr result (FailsUnless ⊥) }
 {
-    let mut there = *description;
+    let mut there = description.try_copy()?;
     local_calls::leave(&mut there, saved);
     merge(left, &there, place)
 }

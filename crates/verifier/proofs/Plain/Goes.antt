@@ -321,6 +321,7 @@ entry_fits program is d known = load_fits program (length is.loads) (length is.l
       frame = known.frame;
       depth = known.depth;
       waits = known.waits;
+      unspilled = known.unspilled;
       registers = λ reg free. inr (0, refl);
       bytes = λ at. inr (0, refl);
     };

@@ -1,6 +1,6 @@
 -- What is known along a plain program up to the end of its list: of each register of the list, and of each byte of the
 -- frame, it is known, or some path comes without writing it.
-use Rattle.std.proofs.Common.{◌≡◌, ℕ, ℤ, suc, ◌+◌, ◌<◌, ◌≤◌, Bool, true, false, eqb, List, length, Some, refl, ap, sym, subst, ◌∙◌, arith, ◌⊎◌, inl, inr}
+use Rattle.std.proofs.Common.{◌≡◌, ℕ, ℤ, suc, ◌+◌, ◌/◌, ◌<◌, ◌≤◌, Bool, true, false, eqb, List, [], length, Some, refl, ap, sym, subst, ◌∙◌, arith, ◌⊎◌, inl, inr}
 use Rattle.std.specs.Prelude.{slice_index_or}
 use Rattle.std.proofs.lemmas.Bool.{cases_eq, cases_lt, cases_Bool, ne_eqb}
 use Rattle.bpf_insn.specs.declared.insn.Insn.{Insn}
@@ -24,6 +24,8 @@ use Rattle.description.specs.Memory.{AreKnown}
 use Rattle.private_insns.specs.Enough.{StaysKnown, ChangesOnly, LeavesKnown, LeavesStored, LeavesSure}
 use Rattle.description.specs.Changes.{IsFreeze, LeavesGivenUp}
 use Rattle.helper_calls.specs.Called.{LeavesCalled}
+use Rattle.description.specs.declared.spill.Spill.{Spill}
+use Rattle.description.specs.Spills.{spill_at}
 use Rattle.reg_domain.specs.Enough.{JoinsTo}
 use Rattle.verifier.specs.Plain.{ComesUnwritten, is_free, byte_of, writes_register, writes_byte}
 
@@ -39,6 +41,7 @@ pub record IsCommon (program : List Slot) (place : ℕ) (d : Description) : Type
   pub frame : IsAt (Frame 0) 512 (kind_at d R10)
   pub depth : length d.stack ≡ 1
   pub waits : d.disposed ≡ false
+  pub unspilled : d.spills ≡ []
   pub registers : (reg : Reg) → is_free reg ≡ true → IsNumber (kind_at d reg) ⊎ Comes (writes_register reg) program place
   pub bytes : (at : ℕ) → KnowsByte d at ⊎ Comes (writes_byte at) program place
 
@@ -110,6 +113,7 @@ computed_on program place to insn dst d there step writes spares apart only numb
   frame = only.others R10 apart ∙ is.frame;
   depth = ap length only.stack ∙ is.depth;
   waits = only.disposal ∙ is.waits;
+  unspilled = only.spills ∙ is.unspilled;
   registers = λ reg free. elim (cases_eq (number_of dst) (number_of reg)) [
     | inl same ↦ inl (numbers reg free same)
     | inr other ↦
@@ -138,6 +142,7 @@ pub record KeepsCommon (d there : Description) : Type 0 where
   pub frame : IsAt (Frame 0) 512 (kind_at d R10) → IsAt (Frame 0) 512 (kind_at there R10)
   pub numbers : (reg : Reg) → IsNumber (kind_at d reg) → IsNumber (kind_at there reg)
   pub stack : there.stack ≡ d.stack
+  pub unspilled : d.spills ≡ [] → there.spills ≡ []
   pub disposal : there.disposed ≡ d.disposed
 
 pub compared_keeps : (d there : Description) → LeavesKnown d there → KeepsCommon d there
@@ -145,6 +150,7 @@ compared_keeps d there leaves = record {
   frame = stays_address (Frame 0) 512 (kind_at d R10) (kind_at there R10) (leaves.registers R10);
   numbers = λ reg. stays_number (kind_at d reg) (kind_at there reg) (leaves.registers reg);
   stack = leaves.stack;
+  unspilled = λ none. leaves.spills ∙ none;
   disposal = leaves.disposal;
 }
 
@@ -153,6 +159,7 @@ sure_keeps name d there leaves = record {
   frame = λ is. same R10 ∙ is;
   numbers = λ reg is. subst IsNumber (sym (same reg)) is;
   stack = leaves.stack;
+  unspilled = λ none. leaves.spills ∙ none;
   disposal = leaves.disposal;
 }
   where
@@ -164,6 +171,7 @@ given_up_keeps name copy d there leaves = record {
   frame = λ is. leaves.others R10 (λ same. address_is_none (kind_at d R10) is (name, same)) ∙ is;
   numbers = λ reg is. subst IsNumber (sym (leaves.others reg (λ same. number_is_none (kind_at d reg) is (name, same)))) is;
   stack = leaves.stack;
+  unspilled = leaves.unspilled;
   disposal = leaves.disposal;
 }
 
@@ -173,6 +181,7 @@ known_on program place to insn d there step writes spares leaves is = record {
   frame = leaves.frame is.frame;
   depth = ap length leaves.stack ∙ is.depth;
   waits = leaves.disposal ∙ is.waits;
+  unspilled = leaves.unspilled is.unspilled;
   registers = λ reg free. elim (is.registers reg free) [
     | inl number ↦ inl (leaves.numbers reg number)
     | inr way ↦ inr (comes_on (writes_register reg) program place to insn step (writes reg) way)
@@ -190,6 +199,7 @@ called_on program place to number name d there step leaves same low is = record 
   frame = leaves.registers R10 (omega arith) (address_is_none (kind_at d R10) is.frame) ∙ is.frame;
   depth = leaves.depth ∙ is.depth;
   waits = same ∙ is.waits;
+  unspilled = leaves.unspilled is.unspilled;
   registers = λ reg free. elim (cases_lt (number_of reg) 6) [
     | inl lt ↦ inr (comes_on (writes_register reg) program place to (Call (Helper number)) step refl (low reg free lt))
     | inr ge ↦ elim (is.registers reg free) [
@@ -212,6 +222,7 @@ stored_on program place to insn d there offset bytes step writes stores leaves i
       frame = same R10 ∙ is.frame;
       depth = leaves.depth ∙ is.depth;
       waits = leaves.disposal ∙ is.waits;
+      unspilled = leaves.unspilled is.unspilled;
       registers = λ reg free. elim (is.registers reg free) [
         | inl number ↦ inl (subst IsNumber (sym (same reg)) number)
         | inr way ↦ inr (comes_on (writes_register reg) program place to insn step (writes reg) way)
@@ -231,6 +242,7 @@ common_joined program place a b joined is_a is_b joins = record {
   frame = joins.equal R10 (is_a.frame ∙ sym is_b.frame) ∙ is_a.frame;
   depth = joins.depth ∙ is_a.depth;
   waits = joins.disposal ∙ is_a.waits;
+  unspilled = joins.unspilled is_a.unspilled;
   registers = λ reg free. elim (is_a.registers reg free) [
     | inl first ↦ elim (is_b.registers reg free) [
       | inl second ↦ inl (joins.numbers reg first second)
@@ -240,7 +252,7 @@ common_joined program place a b joined is_a is_b joins = record {
   ];
   bytes = λ at. elim (is_a.bytes at) [
     | inl first ↦ elim (is_b.bytes at) [
-      | inl second ↦ inl (λ k from to. joins.known 0 k (first k from to) (second k from to))
+      | inl second ↦ inl (λ k from to. joins.known 0 k (ap (λ (s : List Spill). spill_at s 0 (k / 8)) (is_a.unspilled ∙ sym is_b.unspilled)) (first k from to) (second k from to))
       | inr way ↦ inr way
     ]
     | inr way ↦ inr way

@@ -19,6 +19,8 @@ use Rattle.register_kinds.specs.declared.region.Region.TheVariants.{Frame}
 use Rattle.description.specs.Description.{kind_at}
 use Rattle.register_kinds.specs.Kinds.{IsNumber, IsAt}
 use Rattle.reg_domain.specs.Enough.{Enough, Leaves}
+use Rattle.description.specs.declared.spill.Spill.{Spill}
+use Rattle.description.specs.Spills.{spill_at}
 use Rattle.private_insns.specs.Enough.{IsNumberOperand, ComparesNumbers, LiesInFrame, LeavesStored}
 use Rattle.verifier.specs.Arrives.{goes_to}
 use Rattle.verifier.specs.Plain.{IsListed, IsFreeOperand, ReadsRegister, ReadsByte, ComesUnwritten, is_free, byte_of, writes_register, writes_byte}
@@ -77,6 +79,7 @@ list_enough program place end (Load form dst src offset) d listed written is =
         | inl known ↦ known at (omega arith) (omega arith)
         | inr way ↦ absurd (written.bytes at (from, to) way.0 way.1)
       ];
+      unspilled = λ word few from to. ap (λ (s : List Spill). spill_at s 0 word) is.common.unspilled;
     })
 list_enough program place end (Store size dst src offset) d listed written is =
     let insn = Store size dst src offset in (

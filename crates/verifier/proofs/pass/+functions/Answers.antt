@@ -31,15 +31,25 @@ use Rattle.verifier.proofs.OnItsWay.{chain_short, local_call}
 use Rattle.verifier.proofs.Sound.{function_sound}
 use Rattle.verifier.proofs.Told.{fails_so, if_err, on_ok}
 use Rattle.verifier.proofs.Visited.{entry_known, none_by, opening, skipped, visited_more, written_back}
+use Rattle.description.specs.declared.description.Description.{Description}
+use Rattle.description.specs.Description.{Describes}
+use Rattle.local_calls.proofs.LocalCalls.{enter_unstuck}
 use Rattle.verifier.proofs.pass.+functions.Goals as goal
 
 pub call-enter-saved-requires : goal.call-enter-saved-requires
 call-enter-saved-requires t c =
     let room = room_to_enter c.args.program.now c.args.callers.now.items c.args.place c.args.callee c.args.description.now c.requires.lawful c.requires.own c.requires.calls in
-    omega (arith, room, c.requires.own.frames)
+    omega (arith, room, c.requires.own.frames, ap (λ (d : Description). length d.stack) c.in_ok-entry.ensures.copy)
+
+pub call-returns-in_err-entry-clause-unstuck : goal.call-returns-in_err-entry-clause-unstuck
+call-returns-in_err-entry-clause-unstuck t c = λ limits distance.
+    let room = room_to_enter c.args.program.now c.args.callers.now.items c.args.place c.args.callee c.args.description.now c.requires.lawful c.requires.own c.requires.calls in
+    enter_unstuck c.args.description.now (omega (arith, room, c.requires.own.frames)) limits c.args.callers.now.items distance
 
 pub call-returns-in_err-reserve-clause-unstuck : goal.call-returns-in_err-reserve-clause-unstuck
-call-returns-in_err-reserve-clause-unstuck t c = λ limits distance. c.enter-saved.ensures.unstuck limits c.args.callers.now.items distance
+call-returns-in_err-reserve-clause-unstuck t c = λ limits distance.
+    let room = room_to_enter c.args.program.now c.args.callers.now.items c.args.place c.args.callee c.args.description.now c.requires.lawful c.requires.own c.requires.calls in
+    enter_unstuck c.args.description.now (omega (arith, room, c.requires.own.frames)) limits c.args.callers.now.items distance
 
 pub call-visit_function-requires : goal.call-visit_function-requires
 call-visit_function-requires t c =
@@ -48,7 +58,7 @@ call-visit_function-requires t c =
     let pushed : c.push_reserved.new.self.items ≡ callers ++ saved ∷ [] = search rules in
     let count : length c.push_reserved.new.self.items ≡ length callers + 1 = ap length pushed ∙ more_callers callers saved in
     let room = room_to_enter c.args.program.now callers c.args.place c.args.callee c.args.description.now c.requires.lawful c.requires.own c.requires.calls in
-    let own = entry_own c.args.program.now callers saved c.args.place c.args.callee c.args.description.now c.enter-saved.new.description c.requires.lawful c.requires.own c.requires.calls c.enter-saved.ensures.depth in
+    let own = entry_own c.args.program.now callers saved c.args.place c.args.callee c.args.description.now c.enter-saved.new.description c.requires.lawful c.requires.own c.requires.calls (c.enter-saved.ensures.depth ∙ ap (λ (d : Description). length d.stack + 1) c.in_ok-entry.ensures.copy) in
     let few = callee_count callers c.push_reserved.new.self.items c.args.program.now c.args.callee count in (
       omega (arith, c.decreases, count, room),
       (
@@ -61,10 +71,14 @@ call-visit_function-requires t c =
     )
 
 pub call-returns-in_err-left-clause-unstuck : goal.call-returns-in_err-left-clause-unstuck
-call-returns-in_err-left-clause-unstuck t c = λ limits distance. c.enter-saved.ensures.unstuck limits c.args.callers.now.items distance
+call-returns-in_err-left-clause-unstuck t c = λ limits distance.
+    let room = room_to_enter c.args.program.now c.args.callers.now.items c.args.place c.args.callee c.args.description.now c.requires.lawful c.requires.own c.requires.calls in
+    enter_unstuck c.args.description.now (omega (arith, room, c.requires.own.frames)) limits c.args.callers.now.items distance
 
 pub call-returns-clause-unstuck : goal.call-returns-clause-unstuck
-call-returns-clause-unstuck t c = λ limits distance. c.enter-saved.ensures.unstuck limits c.args.callers.now.items distance
+call-returns-clause-unstuck t c = λ limits distance.
+    let room = room_to_enter c.args.program.now c.args.callers.now.items c.args.place c.args.callee c.args.description.now c.requires.lawful c.requires.own c.requires.calls in
+    enter_unstuck c.args.description.now (omega (arith, room, c.requires.own.frames)) limits c.args.callers.now.items distance
 
 pub call-returns-clause-sound : goal.call-returns-clause-sound
 call-returns-clause-sound t c =
@@ -73,7 +87,8 @@ call-returns-clause-sound t c =
     let pushed : c.push_reserved.new.self.items ≡ callers ++ saved ∷ [] = search rules in
     let visited : IsVisited c.args.limits.now c.args.program.now (callers ++ saved ∷ []) c.enter-saved.new.description c.args.callee c.in_ok-left.left c.args.visits.now c.visit_function.new.visits =
     subst (λ (cs : List SavedRegisters). IsVisited c.args.limits.now c.args.program.now cs c.enter-saved.new.description c.args.callee c.in_ok-left.left c.args.visits.now c.visit_function.new.visits) pushed c.in_ok-left.ensures.sound in
-    call_visited c.args.limits.now c.args.program.now callers saved c.args.description.now c.enter-saved.new.description c.args.place c.args.callee c.in_ok-left.left c.args.visits.now c.visit_function.new.visits c.enter-saved.ensures.enters visited
+    call_visited c.args.limits.now c.args.program.now callers saved c.args.description.now c.enter-saved.new.description c.args.place c.args.callee c.in_ok-left.left c.args.visits.now c.visit_function.new.visits
+    (λ cs distance m m' is step. c.enter-saved.ensures.enters cs distance m m' (subst (λ (d : Description). Describes cs d m) (sym c.in_ok-entry.ensures.copy) is) step) visited
 
 pub visit-returns-in_default-clause-done : goal.visit-returns-in_default-clause-done
 visit-returns-in_default-clause-done t c =

@@ -4,3 +4,4 @@ pub mod FileLines
 pub mod FoundPlan
 pub mod Files
 pub mod UsageFault
+pub mod Watching

@@ -2,6 +2,7 @@
 
 ghost use Rattle.std.specs.Prelude.{◌≡◌, ◌<◌, [], Some, None, MatchOption, length, slice_index_or};
 ghost use Rattle.command_line.specs.Files.{input_paths, output_path};
+ghost use Rattle.command_line.specs.Watching.{watch_of};
 
 /// The least number of workers that serve completions, and the greatest.
 pub const MIN_WORKERS: u8 = 1;
@@ -72,8 +73,11 @@ impl Plan {
             Plan::Dis(_) | Plan::Check(_) | Plan::Run(..) | Plan::Replay(..) => None,
         }
     }
+
     /// When sums are told.
-    pub fn watch(&self) -> Watch {
+    pub fn watch(&self) -> Watch
+        ensures { result ≡ watch_of self.now }
+    {
         match self {
             Plan::Run(_, watch, _, _) => *watch,
             Plan::Asm(..) | Plan::Dis(_) | Plan::Check(_) | Plan::Replay(..) => Watch::Never,

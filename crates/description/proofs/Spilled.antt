@@ -9,7 +9,7 @@ use Rattle.register_kinds.specs.declared.held.HeldFreeze.{HeldFreeze}
 use Rattle.register_kinds.specs.declared.region.Region.{Region}
 use Rattle.register_kinds.specs.declared.region.Offsets.{Offsets}
 use Rattle.register_kinds.specs.Freezes.{AreHeld, FreezeNumbers, IsNumbered, certainty_of, is_name, renumbered}
-use Rattle.register_kinds.specs.Kinds.{HoldsKind, LiesAt}
+use Rattle.register_kinds.specs.Kinds.{HoldsKind, IsNumber, LiesAt}
 use Rattle.register_kinds.proofs.Freezes.{renumbered_other}
 use Rattle.description.specs.declared.spill.Spill.{Spill}
 use Rattle.description.specs.declared.spill.Spill.TheVariants.{Nothing, Address, Freeze}
@@ -22,6 +22,12 @@ nothing_holds numbers spill o none = subst (λ (s : Spill). HoldsKind numbers (k
 
 same_holds : (numbers : FreezeNumbers) (before after : Spill) (o p : Option ℕ) → after ≡ before → p ≡ o → HoldsKind numbers (kind_of before) o → HoldsKind numbers (kind_of after) p
 same_holds numbers before after o p same word holds = subst (λ (s : Spill). HoldsKind numbers (kind_of s) p) (sym same) (subst (HoldsKind numbers (kind_of before)) (sym word) holds)
+
+-- what is spilled is no number
+pub no_number : (spill : Spill) → IsNumber (kind_of spill) → ⊥
+no_number Nothing number = number
+no_number (Address region offsets) number = number
+no_number (Freeze name) number = number
 
 -- some of it ended
 pub fewer_spilled : (numbers : FreezeNumbers) (before after : List Spill) (frames : List (List (Option ℕ))) → IsFewer before after → AreSpilled numbers before frames → AreSpilled numbers after frames

@@ -9,7 +9,7 @@ ghost use Rattle.description.specs.Memory.{ChangesStack, LeavesMarked, Writes, W
 ghost use Rattle.description.specs.Spills.{AreUnspilled};
 ghost use Rattle.register_kinds.specs.declared.region.Region.TheVariants.{Frame};
 ghost use Rattle.register_kinds.specs.Freezes.{FreezeNumbers};
-ghost use Rattle.register_kinds.specs.Kinds.{HoldsKind, LiesAt};
+ghost use Rattle.register_kinds.specs.Kinds.{HoldsKind, IsNumber, LiesAt};
 
 use crate::description::Description;
 use crate::spill::Spill;
@@ -63,7 +63,8 @@ impl Description {
     /// spilled there, and else nothing.
     pub fn spilled(&self, frame: u8, offsets: Offsets) -> Kind
         requires inside { offsets.most + 8 ≤ 512 }
-        ensures { (numbers : FreezeNumbers) (callers : List SavedRegisters) (m : MachineState) (address : ℕ) → DescribesWith numbers callers self.now m → LiesAt (Frame frame) offsets address → frame < length self.now.stack → HoldsKind numbers result (word_there m address) }
+        ensures holds { (numbers : FreezeNumbers) (callers : List SavedRegisters) (m : MachineState) (address : ℕ) → DescribesWith numbers callers self.now m → LiesAt (Frame frame) offsets address → frame < length self.now.stack → HoldsKind numbers result (word_there m address) }
+        ensures no_number { IsNumber result → ⊥ }
     {
         if offsets.least == offsets.most && offsets.least.is_multiple_of(SPILL_BYTES) {
             self.spills.at(frame, offsets.least / SPILL_BYTES).kind()

@@ -7,6 +7,7 @@ ghost use Rattle.bpf_semantics.specs.Calls.{argument};
 ghost use Rattle.bpf_semantics.specs.MachineState.{MachineState};
 ghost use Rattle.helper_calls.specs.Arguments.{AllFit, AllSuit, AreKnownOf, AreToldBytes, Fits, FitsAny, HasBytes, HasRoom, HasWords, IsKnownOf, IsPlace, IsSureFreeze, IsWrittenPlace, Shows, ShowsAny, Suits, SuitsAny};
 ghost use Rattle.description.specs.Description.{DescribesWith, kind_at};
+ghost use Rattle.description.specs.Spills.{AreUnspilled};
 ghost use Rattle.register_kinds.specs.declared.region.Region.TheVariants.{Frame};
 ghost use Rattle.description.specs.declared.saved.SavedRegisters.{SavedRegisters};
 ghost use Rattle.register_kinds.specs.Freezes.{FreezeNumbers};
@@ -231,6 +232,7 @@ fn check_written(
 ) -> Result<(), Cause>
     ensures bytes { IfOk result (λ _. HasBytes description.now (Kind.Address (Frame frame) offsets) (Kind.Number length)) }
     ensures told { IsWrittenPlace description.now length.unsigned.most (Kind.Address (Frame frame) offsets) → IsOk result }
+    ensures unspilled { IfOk result (λ _. AreUnspilled description.now.spills frame offsets.least (offsets.most + length.unsigned.most)) }
 {
     let bytes = length.most();
     if !lies_in(description, frame, offsets, bytes) {

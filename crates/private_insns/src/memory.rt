@@ -73,6 +73,7 @@ fn given_in(
     requires all { bytes ≡ byte_len (load_width form) }
     ensures gives { IfOk result (Gives description.now form (Frame frame) offsets) }
     ensures unspilled { AreUnspilled description.now.spills frame offsets.least (offsets.most + bytes) → IsOkAnd result IsNumber }
+    ensures spilled { (AreUnspilled description.now.spills frame offsets.least (offsets.most + bytes) → ⊥) → IfOk result (λ kind. IsNumber kind → ⊥) }
 {
     if !description.may_be_spilled(frame, offsets, bytes) {
         return Ok(Kind::Number(loaded_words(form)));
@@ -87,7 +88,8 @@ fn given_in(
 fn reloaded(description: &Description, frame: u8, offsets: Offsets) -> Result<Kind, Cause>
     requires inside { offsets.most + 8 ≤ 512 }
     requires live { frame < length description.now.stack }
-    ensures { IfOk result (Gives description.now LoadForm.DoubleWord (Frame frame) offsets) }
+    ensures gives { IfOk result (Gives description.now LoadForm.DoubleWord (Frame frame) offsets) }
+    ensures no_number { IfOk result (λ kind. IsNumber kind → ⊥) }
 {
     let kind = description.spilled(frame, offsets);
     if kind.is_written() {

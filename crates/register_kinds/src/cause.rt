@@ -31,7 +31,7 @@ pub enum Cause {
     PathsDisagree,
     /// V12: a freeze is taken where as many as a run holds are held, or may be.
     TooManyFreezes,
-    /// V13: an address or a freeze is stored.
+    /// V13: an address or a freeze is stored where it cannot be loaded again, or is read otherwise.
     AddressStored,
     /// V14: R0 at the exit is no number.
     NoResult,

@@ -1,14 +1,15 @@
 use Rattle.std.proofs.Common.{◌≡◌, ◌<◌, ◌+◌, ◌*◌, ◌/◌, ◌%◌, ℕ, length, arith, ap, sym, subst, ◌∙◌}
 use Rattle.register_kinds.specs.declared.kind.Kind.{Kind}
-use Rattle.register_kinds.specs.Kinds.{HoldsKind}
+use Rattle.register_kinds.specs.Kinds.{HoldsKind, IsNumber}
 use Rattle.bpf_semantics.specs.Frames.{frame_start}
 use Rattle.description.specs.Memory.{word_there}
 use Rattle.description.specs.Spills.{kind_of, spill_at}
+use Rattle.description.proofs.Spilled.{no_number}
 use Rattle.description.proofs.Words.{word_found}
 use Rattle.description.proofs.description.Description.spilled.Goals as goal
 
-pub returns-then-is_multiple_of : goal.returns-then-is_multiple_of
-returns-then-is_multiple_of c = λ numbers callers m address is lies live.
+pub returns-then-is_multiple_of-clause-holds : goal.returns-then-is_multiple_of-clause-holds
+returns-then-is_multiple_of-clause-holds c = λ numbers callers m address is lies live.
     let frame = c.args.frame in
     let word : ℕ = c.args.offsets.least / 8 in
     let whole : c.args.offsets.least % 8 ≡ 0 = c.is_multiple_of.ensures.0 c.if-is_multiple_of.true in
@@ -18,3 +19,6 @@ returns-then-is_multiple_of c = λ numbers callers m address is lies live.
     let kind : c.kind.result ≡ kind_of (spill_at c.args.self.now.spills frame word) = c.kind.ensures ∙ ap kind_of c.at.ensures in
     subst (λ (k : Kind). HoldsKind numbers k (word_there m address)) (sym kind)
     (subst (HoldsKind numbers (kind_of (spill_at c.args.self.now.spills frame word))) (sym (word_found m frame word address there at few)) (is.spills frame word few))
+
+pub returns-then-is_multiple_of-clause-no_number : goal.returns-then-is_multiple_of-clause-no_number
+returns-then-is_multiple_of-clause-no_number c = λ number. no_number c.at.result (subst IsNumber c.kind.ensures number)

@@ -2,7 +2,6 @@
 
 mod engines;
 mod passes;
-mod recoveries;
 mod services;
 mod serving;
 mod sharing;

@@ -1,5 +1,5 @@
 -- Nothing is spilled where that arrives by what promises say: a program that relies on these alone stores numbers.
-use Rattle.std.proofs.Common.{◌≡◌, ℕ, List, [], ap, ◌∙◌, ◌⊎◌, inl, inr}
+use Rattle.std.proofs.Common.{◌≡◌, ℕ, List, [], ap, ◌∙◌, inl, inr}
 use Rattle.bpf_insn.specs.declared.insn.Callee.TheVariants.{Helper as helper_call, Local}
 use Rattle.bpf_insn.specs.declared.insn.Insn.{Insn}
 use Rattle.bpf_insn.specs.declared.insn.Insn.TheVariants.{Alu, InPlace, SignExtend, JumpIf, Jump, LoadImmediate, Load, Store, Call, Exit}

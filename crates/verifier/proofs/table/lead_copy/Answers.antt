@@ -1,4 +1,4 @@
-use Rattle.std.proofs.Common.{◌≡◌, ◌≤◌, ◌⊎◌, ◌∙◌, length, true, false, Bool, Some, None, subst, arith, inl, inr}
+use Rattle.std.proofs.Common.{◌≡◌, ◌≤◌, ◌⊎◌, length, true, false, Bool, Some, subst, arith, inl, inr}
 use Rattle.reg_domain.specs.Enough.{Leaves}
 use Rattle.private_insns.specs.Follows.{Follows}
 use Rattle.verifier.specs.Table.{described}

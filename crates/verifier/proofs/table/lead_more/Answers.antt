@@ -1,6 +1,5 @@
 use Rattle.std.proofs.Common.{◌≡◌, ◌∙◌, true, false, Some, None}
 use Rattle.std.proofs.lemmas.List.{get_or_default}
-use Rattle.description.specs.declared.description.Description.{Description}
 use Rattle.verifier.specs.Table.{described}
 use Rattle.verifier.proofs.Unspilled.{arrives_unspilled}
 use Rattle.verifier.proofs.table.lead_more.Goals as goal

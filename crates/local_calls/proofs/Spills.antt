@@ -1,6 +1,5 @@
 -- What is spilled where a frame more is live, and where the innermost one is gone.
-use Rattle.std.proofs.Common.{◌≡◌, ℕ, ◌+◌, ◌*◌, ◌<◌, ◌≤◌, List, [], ◌∷◌, ◌++◌, Option, Some, None, length, take, refl, ap, sym, subst, ◌∙◌, arith, ◌⊎◌, inl, inr, length-append}
-use Rattle.std.specs.Prelude.{slice_index_or}
+use Rattle.std.proofs.Common.{◌≡◌, ℕ, ◌+◌, ◌*◌, ◌<◌, ◌≤◌, List, [], ◌∷◌, ◌++◌, Option, Some, None, length, take, refl, ap, sym, ◌∙◌, arith, ◌⊎◌, inl, inr, length-append}
 use Rattle.std.proofs.lemmas.Bool.{cases_lt}
 use Rattle.std.proofs.lemmas.List.{get_or_append_left, get_or-take, length-take-le}
 use Rattle.register_kinds.specs.Freezes.{FreezeNumbers}
@@ -23,9 +22,9 @@ opened_spilled numbers spills frames frame are = elsewhere_spilled numbers spill
     each : (k word : ℕ) → word < 64 → (spill_at spills k word ≡ Nothing) ⊎ (word_at (frames ++ frame ∷ []) k word ≡ word_at frames k word)
     each k word few = elim (cases_lt k (length frames)) [
       | inl below ↦ inr (
-        word_live (frames ++ frame ∷ []) k word (omega (arith, below, length-append frames (frame ∷ [])))
-        ∙ (ap (word_in word) (get_or_append_left frames (frame ∷ []) [] k below) ∙ sym (word_live frames k word below))
-      )
+          word_live (frames ++ frame ∷ []) k word (omega (arith, below, length-append frames (frame ∷ [])))
+          ∙ (ap (word_in word) (get_or_append_left frames (frame ∷ []) [] k below) ∙ sym (word_live frames k word below))
+          )
       | inr past ↦ inl (held_nowhere numbers (spill_at spills k word) (word_at frames k word) (word_gone frames k word past) (are k word few))
     ]
 
@@ -36,8 +35,8 @@ closed_spilled numbers before after frames live within fewer outside are = elsew
     each : (k word : ℕ) → word < 64 → (spill_at after k word ≡ Nothing) ⊎ (word_at (take live frames) k word ≡ word_at frames k word)
     each k word few = elim (cases_lt k live) [
       | inl below ↦ inr (
-        word_live (take live frames) k word (omega (arith, below, within, length-take-le live frames within))
-        ∙ (ap (word_in word) (get_or-take live frames k [] below) ∙ sym (word_live frames k word (omega (arith, below, within))))
-      )
+          word_live (take live frames) k word (omega (arith, below, within, length-take-le live frames within))
+          ∙ (ap (word_in word) (get_or-take live frames k [] below) ∙ sym (word_live frames k word (omega (arith, below, within))))
+          )
       | inr past ↦ inl (outside (64 * k + word) (omega (arith, past)))
     ]

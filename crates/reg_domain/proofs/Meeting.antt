@@ -1,15 +1,13 @@
 -- What holds of a machine on one of two paths holds where they meet.
 use Rattle.std.proofs.Common.{◌≡◌, ℕ, ◌<◌, List, Option, sym, subst, ◌∙◌}
 use Rattle.bpf_insn.specs.Reg.{number_of}
-use Rattle.bpf_semantics.specs.MachineState.{MachineState}
 use Rattle.stack_domain.specs.Stack.{Covers as CoversFrames}
 use Rattle.register_kinds.specs.declared.held.HeldFreeze.{HeldFreeze}
 use Rattle.register_kinds.specs.Freezes.{AreHeld, FreezeNumbers}
 use Rattle.register_kinds.specs.Kinds.{HoldsKind}
 use Rattle.description.specs.declared.description.Description.{Description}
-use Rattle.description.specs.declared.saved.SavedRegisters.{SavedRegisters}
 use Rattle.description.specs.Changes.{at}
-use Rattle.description.specs.Description.{Covers, DescribesWith}
+use Rattle.description.specs.Description.{Covers}
 use Rattle.description.specs.Spills.{IsFewer}
 use Rattle.description.proofs.RegisterPlaces.{number_below}
 use Rattle.description.proofs.Spilled.{fewer_spilled}

@@ -3,6 +3,7 @@
 
 ghost use Rattle.std.specs.Prelude.{◌≡◌, ◌≤◌, true, Contains, Some, IfOk, IfErr, IsErrAnd, IsUtf8, MatchResult, length, slice_get};
 ghost use Rattle.command_line.specs.Files.{input_paths, reads_text};
+ghost use Rattle.trace.specs.HasText.{AllHaveText};
 ghost use Rattle.workers.specs.declared.serving.TheConstants.{MAX_WORKERS};
 ghost use Rattle.commands.specs.Faults.{status_of};
 ghost use Rattle.commands.specs.Told.{IsText, IsProgram, IsManifest, IsFaultyText, IsFaultyProgram, IsFaultyManifest, IsAsAsked, IsAccepted, IsAcceptedTrace, IsFaulty};
@@ -138,6 +139,7 @@ fn print_run<N: Notices + Sync, R: Threads + Wait + Sync, W: Write, E: Write>(
 }
 
 // The trace of a manifest and a scenario, each a path and its bytes, run by so many workers.
+#[tactic(auto, using(history_texts::proofs::Each::each_record_has_text))]
 fn run<'a, N: Notices + Sync, R: Threads + Wait + Sync>(
     rt: &R,
     alloc: Global,
@@ -150,6 +152,7 @@ fn run<'a, N: Notices + Sync, R: Threads + Wait + Sync>(
     ensures manifest { ¬ (IsUtf8 manifest.entry.1.now) → IsErrAnd result (λ e. status_of e ≡ 2) }
     ensures scenario { ¬ (IsUtf8 scenario.entry.1.now) → IsErrAnd result (λ e. status_of e ≡ 2) }
     ensures done { IfOk result (λ _. IsManifest manifest.entry.1.now) }
+    ensures spelled { IfOk result (λ trace. AllHaveText trace.records.items) }
 {
     let manifest = text(manifest)?;
     let scenario = text(scenario)?;

@@ -1,5 +1,5 @@
 -- What a manifest means, and which fault is answered of a text that is none.
-use Rattle.std.specs.Prelude.{◌≡◌, ◌⊎◌, ℕ, Bool, true, false, List, [], ◌∷◌, Option, Some, None, string_bytes, length, map, find, option_map, bytes_eq}
+use Rattle.std.specs.Prelude.{◌≡◌, ◌≤◌, ◌⊎◌, ℕ, All, Bool, true, false, List, [], ◌∷◌, Option, Some, None, string_bytes, length, map, find, option_map, bytes_eq}
 use Rattle.std.specs.List.{AllByRecursion, AllZip}
 use Rattle.toml.specs.Data.{Data, table, Members}
 use Rattle.toml.specs.Parse.{parse_document}
@@ -13,6 +13,7 @@ use Rattle.helpers.specs.declared.limits.HelperLimits.{HelperLimits}
 use Rattle.helpers.specs.Table.{of_queues}
 use Rattle.or_memory.specs.declared.OrMemory.TheVariants.{Fault}
 use Rattle.accepted.specs.Verdict.{Verdict}
+use Rattle.call_shape.specs.declared.lawful_shape.TheConstants.{MAX_WRITTEN_OUT}
 use Rattle.verifier.specs.Verdict.{IsVerdictOn, ToldOfShape}
 use Rattle.verifier.specs.Plain.{IsPlain}
 use Rattle.verifier.specs.declared.refusal.Refusal.{Refusal}
@@ -122,6 +123,10 @@ pub record IsSetUp (plan : Plan) (setup : Setup) (programs : List Named) : Type 
 -- The text means this setup and these programs.
 abbrev pub Means : List ℕ → Setup → List Named → Type 0
 Means text setup programs = (plan : Plan) × Writes text plan × IsSetUp plan setup programs
+
+-- no budget is greater than the most instructions that a program may have, with its local calls written out
+abbrev pub AreShort : List QueueSetup → Type 0
+AreShort queues = All (λ queue. queue.budget ≤ MAX_WRITTEN_OUT) queues
 
 -- a fault of the programs of a plan, and of one that the text writes
 abbrev pub HasProgramFault : Plan → ManifestFault → Type 0

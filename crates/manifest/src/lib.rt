@@ -6,7 +6,7 @@ ghost use Rattle.std.specs.Prelude.{◌≡◌, ◌≤◌, Some, None, map, lengt
 ghost use Rattle.toml.specs.Parse.{parse_document};
 ghost use Rattle.toml.specs.View.{view, table_view};
 ghost use Rattle.manifest_form.specs.Entries.{plan_of};
-ghost use Rattle.manifest.specs.Meaning.{Means, HasFault, HasProgramFault, IsSetUp, lowest_fault};
+ghost use Rattle.manifest.specs.Meaning.{AreShort, Means, HasFault, HasProgramFault, IsSetUp, lowest_fault};
 ghost use Rattle.manifest.specs.declared.ManifestFault.TheVariants as ManifestFault;
 ghost use Rattle.manifest_form.specs.Seen.{plan_seen, queue_seen, IfFault};
 ghost use Rattle.manifest.specs.Seen.{named_seen, named, IsLawfulPlan};
@@ -75,6 +75,8 @@ pub type ManifestError = OrMemory<ManifestFault>;
 pub fn read(alloc: Global, text: &str) -> Result<Manifest, ManifestError>
     // What is read is what the text means.
     ensures found { IfOk result (λ manifest. Means text.now manifest.config (map named_seen manifest.programs.items)) }
+    // No run of its programs executes more instructions than a program may have, written out.
+    ensures short { IfOk result (λ manifest. AreShort manifest.config.queues) }
     // Which fault it is.
     ensures fault { IfErr result (IfFault (HasFault text.now)) }
 {

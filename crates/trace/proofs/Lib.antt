@@ -1,4 +1,5 @@
 pub mod Printing
+pub mod Spelled
 pub mod Spelling
 pub mod Cuts
 pub mod Entries

@@ -1,6 +1,6 @@
 -- A trace is printed record by record, and what is printed goes on to a sink.
 use Rattle.std.proofs.Common.{◌≡◌, ℕ, ◌+◌, ◌-◌, ◌<◌, ◌≤◌, Option, Some, None, Result, Ok, Err, OnOk, List, [], ◌∷◌, ◌++◌, length, take, drop, get_or, refl, sym, ap, ◌∙◌, append_assoc, append-nil, subst, arith, add-one, length-append}
-use Rattle.std.proofs.lemmas.List.{take-append-drop, length-take-le, length-drop, take_all, get_or_default}
+use Rattle.std.proofs.lemmas.List.{take-append-drop, length-take-le, length-drop, take_all}
 use Rattle.std.specs.Fmt.{option_append}
 use Rattle.std.specs.Io.KnownBytes.{Appends}
 use Rattle.std.proofs.KnownBytes.{Appends-trans, Appends-nil}
@@ -10,12 +10,11 @@ use Rattle.call_lines.specs.Written.{IsPut}
 use Rattle.call_lines.proofs.Tests.{same_text, parts_of}
 use Rattle.calls.specs.declared.trace.Trace.{Trace}
 use Rattle.trace.specs.declared.fault.PrintFault.{PrintFault}
-use Rattle.trace.specs.declared.fault.PrintFault.TheVariants.{Device, NoText}
 use Rattle.trace.specs.declared.page.Page.{Page}
 use Rattle.trace.specs.Pages.{Passed, IsCut, Flushes}
-use Rattle.trace.specs.Printed.{IsOut, IsBegun, StopsAt, Prints, PrintsRecords}
+use Rattle.trace.specs.Printed.{IsOut, IsBegun, Prints}
 use Rattle.trace.specs.Sinks.{HasFailed}
-use Rattle.trace.specs.TraceText.{header, record_text, records_text, lines_text, totals_text}
+use Rattle.trace.specs.TraceText.{header, record_text, records_text, lines_text, totals_text, trace_text}
 
 -- ---- what is taken of a text
 
@@ -58,9 +57,6 @@ unfolding records_text
 no_records = refl
 
 -- ---- pages
-
-abbrev pub stopped_by : PrintFault → Result (Unit {0}) PrintFault
-stopped_by fault = Err fault
 
 -- nothing is printed
 pub passed_none : (page : Page) (old : Option (List ℕ)) (failed : ℕ) → Passed (Some []) page old failed page old failed
@@ -204,17 +200,16 @@ record_passed records place entry before first mid page old one two failed same 
     (ap (λ (t : Option (List ℕ)). option_append t (record_text entry)) (append_nothing text) ∙ sym (one_more records place entry within is)) whole
 
 -- a write failed before the record at this place was put
-pub records_cut : (records : List Record) (place : ℕ) (fault : PrintFault) (before mid page : Page) (old between new : Option (List ℕ)) (failed same fails : ℕ)
+pub records_cut : (records : List Record) (place : ℕ) (fault : PrintFault) (before mid : Page) (old between new : Option (List ℕ)) (failed same fails : ℕ)
     → Passed (records_text (take place records)) before old failed mid between same
-    → Flushes mid between same (stopped_by fault) page new fails
-    → PrintsRecords records before old failed (stopped_by fault) page new fails
-records_cut records place (Device written) before mid page old between new failed same fails so_far cut =
+    → IsCut (Some []) mid between same fault.written new fails
+    → IsCut (records_text records) before old failed fault.written new fails
+records_cut records place fault before mid old between new failed same fails so_far cut =
     let text = records_text (take place records) in
-    let here = cut_behind text (Some []) before mid old between new failed same fails written so_far cut in
-    let all = cut_before (option_append text (Some [])) (records_text (drop place records)) before old new failed fails written here in
-    subst (λ (t : Option (List ℕ)). IsCut t before old failed written new fails)
+    let here = cut_behind text (Some []) before mid old between new failed same fails fault.written so_far cut in
+    let all = cut_before (option_append text (Some [])) (records_text (drop place records)) before old new failed fails fault.written here in
+    subst (λ (t : Option (List ℕ)). IsCut t before old failed fault.written new fails)
     (ap (λ (t : Option (List ℕ)). option_append t (records_text (drop place records))) (append_nothing text) ∙ sym (first_of_all records place)) all
-records_cut records place (NoText number) before mid page old between new failed same fails so_far cut = absurd cut
 
 -- ---- the whole trace, behind its first line
 
@@ -246,33 +241,22 @@ all_out text before page old new failed fails first empty passed = record {
 }
 
 -- the records were not all printed
-pub records_stopped : (trace : Trace) (fault : PrintFault) (before page : Page) (old new : Option (List ℕ)) (failed fails : ℕ) → before.text ≡ header → before.written ≡ 0
-    → PrintsRecords trace.records.items before old failed (stopped_by fault) page new fails → Prints trace old failed (stopped_by fault) new fails
-records_stopped trace (Device written) before page old new failed fails first none cut =
-    begun (lines_text trace.records.items trace.totals) before old new failed fails written first none
-    (cut_before (records_text trace.records.items) (totals_text trace.totals) before old new failed fails written cut)
-records_stopped trace (NoText number) before page old new failed fails first none stop = record {
-  without = stop.without;
-  front = header ++ stop.so_far.more;
-  is = rw stop.so_far.is refl;
-  handed = stop.so_far.handed;
-  rest = stop.page.text;
-  whole = ap (λ (t : List ℕ). t ++ stop.so_far.more) (sym first) ∙ stop.so_far.whole;
-  told = stop.so_far.told;
-  none = stop.so_far.none;
-}
+pub records_stopped : (trace : Trace) (fault : PrintFault) (before : Page) (old new : Option (List ℕ)) (failed fails : ℕ) → before.text ≡ header → before.written ≡ 0
+    → IsCut (records_text trace.records.items) before old failed fault.written new fails → IsBegun (trace_text trace) old failed fault.written new fails
+records_stopped trace fault before old new failed fails first none cut =
+    begun (lines_text trace.records.items trace.totals) before old new failed fails fault.written first none
+    (cut_before (records_text trace.records.items) (totals_text trace.totals) before old new failed fails fault.written cut)
 
 -- they were, and there was no room for the last line, nor could it be made
-pub room_stopped : (trace : Trace) (fault : PrintFault) (before mid page : Page) (old between new : Option (List ℕ)) (failed same fails : ℕ) → before.text ≡ header → before.written ≡ 0
+pub room_stopped : (trace : Trace) (fault : PrintFault) (before mid : Page) (old between new : Option (List ℕ)) (failed same fails : ℕ) → before.text ≡ header → before.written ≡ 0
     → Passed (records_text trace.records.items) before old failed mid between same
-    → Flushes mid between same (stopped_by fault) page new fails → Prints trace old failed (stopped_by fault) new fails
-room_stopped trace (Device written) before mid page old between new failed same fails first none passed cut =
+    → IsCut (Some []) mid between same fault.written new fails → IsBegun (trace_text trace) old failed fault.written new fails
+room_stopped trace fault before mid old between new failed same fails first none passed cut =
     let text = records_text trace.records.items in
-    let here = cut_behind text (Some []) before mid old between new failed same fails written passed cut in
-    begun (lines_text trace.records.items trace.totals) before old new failed fails written first none
-    (cut_before text (totals_text trace.totals) before old new failed fails written
-    (subst (λ (t : Option (List ℕ)). IsCut t before old failed written new fails) (append_nothing text) here))
-room_stopped trace (NoText number) before mid page old between new failed same fails first none passed cut = absurd cut
+    let here = cut_behind text (Some []) before mid old between new failed same fails fault.written passed cut in
+    begun (lines_text trace.records.items trace.totals) before old new failed fails fault.written first none
+    (cut_before text (totals_text trace.totals) before old new failed fails fault.written
+    (subst (λ (t : Option (List ℕ)). IsCut t before old failed fault.written new fails) (append_nothing text) here))
 
 -- all lines were printed, and what was left of them went out, or a write failed
 pub ended : (trace : Trace) (r : Result (Unit {0}) PrintFault) (before mid page : Page) (old between new : Option (List ℕ)) (failed same fails : ℕ) → before.text ≡ header → before.written ≡ 0
@@ -283,12 +267,11 @@ ended trace (Ok done) before mid page old between new failed same fails first no
     all_out text before page old new failed fails first empty
     (subst (λ (t : Option (List ℕ)). Passed t before old failed page new fails) (append_nothing text)
     (passed_both text (Some []) before mid page old between new failed same fails passed flushed))
-ended trace (Err (Device written)) before mid page old between new failed same fails first none passed cut empty =
+ended trace (Err fault) before mid page old between new failed same fails first none passed cut empty =
     let text = lines_text trace.records.items trace.totals in
-    begun text before old new failed fails written first none
-    (subst (λ (t : Option (List ℕ)). IsCut t before old failed written new fails) (append_nothing text)
-    (cut_behind text (Some []) before mid old between new failed same fails written passed cut))
-ended trace (Err (NoText number)) before mid page old between new failed same fails first none passed cut empty = absurd cut
+    begun text before old new failed fails fault.written first none
+    (subst (λ (t : Option (List ℕ)). IsCut t before old failed fault.written new fails) (append_nothing text)
+    (cut_behind text (Some []) before mid old between new failed same fails fault.written passed cut))
 
 -- the last line is put behind the records'
 pub last_put : (trace : Trace) (before first mid page : Page) (old one two : Option (List ℕ)) (failed same also : ℕ)
@@ -301,17 +284,3 @@ last_put trace before first mid page old one two failed same also so_far flushed
     let whole = passed_both (option_append text (Some [])) (totals_text trace.totals) before mid page old two two failed also also to_here (passed_put (totals_text trace.totals) mid page two also put still) in
     subst (λ (t : Option (List ℕ)). Passed t before old failed page two also)
     (ap (λ (t : Option (List ℕ)). option_append t (totals_text trace.totals)) (append_nothing text)) whole
-
--- the record at this place has no text, and those before it were printed
-pub stops_at : (records : List Record) (place : ℕ) (entry : Record) (before first mid : Page) (old one two : Option (List ℕ)) (failed same also : ℕ)
-    → place < length records → entry ≡ get_or records place entry → record_text entry ≡ None
-    → Passed (records_text (take place records)) before old failed first one same → Passed (Some []) first one same mid two also
-    → StopsAt records before old failed place two also
-stops_at records place entry before first mid old one two failed same also within is without so_far flushed =
-    let text = records_text (take place records) in
-    record {
-      without = (within, λ d. subst (λ (o : Record). record_text o ≡ None) (is ∙ get_or_default records place entry d within) without);
-      page = mid;
-      so_far = subst (λ (t : Option (List ℕ)). Passed t before old failed mid two also) (append_nothing text)
-          (passed_both text (Some []) before first mid old one two failed same also so_far flushed);
-    }

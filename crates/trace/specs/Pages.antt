@@ -2,7 +2,6 @@
 use Rattle.std.specs.Prelude.{◌≡◌, ℕ, ◌+◌, Option, Some, List, [], ◌++◌, Result, Ok, Err, length}
 use Rattle.std.specs.Io.KnownBytes.{Appends}
 use Rattle.trace.specs.declared.fault.PrintFault.{PrintFault}
-use Rattle.trace.specs.declared.fault.PrintFault.TheVariants.{Device, NoText}
 use Rattle.trace.specs.declared.page.Page.{Page}
 use Rattle.trace.specs.Sinks.{HasFailed}
 
@@ -32,5 +31,4 @@ pub record IsCut (text : Option (List ℕ)) (before : Page) (old : Option (List 
 -- nothing more was printed
 abbrev pub Flushes : {T : Type 0} → Page → Option (List ℕ) → ℕ → Result T PrintFault → Page → Option (List ℕ) → ℕ → Type 0
 Flushes before old failed (Ok done) page new fails = Passed (Some []) before old failed page new fails
-Flushes before old failed (Err (Device written)) page new fails = IsCut (Some []) before old failed written new fails
-Flushes before old failed (Err (NoText number)) page new fails = ⊥
+Flushes before old failed (Err fault) page new fails = IsCut (Some []) before old failed fault.written new fails

@@ -33,12 +33,8 @@ impl fmt::Display for TraceFault {
 
 impl Error for TraceFault {}
 
-/// Why a trace was not printed.
+/// Why a trace was not printed: a write failed, and so many bytes of the text are out, from its beginning.
 #[derive(Clone, Copy, Debug, PartialEq, Eq)]
-pub enum PrintFault {
-    /// A write failed: so many bytes of the text are out, from its beginning.
-    Device { written: u128 },
-    /// The record at this place has no text, the first being at 0: a reply of another call's form, or a number, a status or bytes that
-    /// no line has.
-    NoText { record: usize },
+pub struct PrintFault {
+    pub written: u128,
 }

@@ -4,6 +4,7 @@
 
 mod entry;
 mod fault;
+mod fitting;
 pub mod laws;
 mod page;
 mod printer;

@@ -30,7 +30,7 @@ pub(crate) fn flush<S: Sink>(page: &mut Page, out: &mut S) -> Result<(), PrintFa
             page.text.clear();
             Ok(())
         }
-        Err(taken) => Err(PrintFault::Device {
+        Err(taken) => Err(PrintFault {
             written: page.written + taken as u128,
         }),
     }

@@ -3,11 +3,13 @@
 
 ghost use Rattle.std.specs.Prelude.{◌≡◌, ◌+◌, ◌*◌, ◌^◌, ◌≤◌, length, None, IfOk, OnErr};
 ghost use Rattle.call_lines.specs.Texts.{stop_text};
-ghost use Rattle.call_lines.specs.Written.{Puts};
+ghost use Rattle.call_lines.specs.Written.{IsPut, Puts};
+ghost use Rattle.trace.specs.HasText.{AllHaveText, HasText};
 ghost use Rattle.trace.specs.Printed.{Prints, PrintsRecords};
 ghost use Rattle.trace.specs.TraceText.{entry_text, record_text, stop_of};
 
 use crate::fault::PrintFault;
+use crate::fitting::fits;
 use crate::page::{Page, RECORD, flush, make_room};
 use crate::sink::Sink;
 use crate::sums::print_totals;
@@ -21,9 +23,10 @@ use short_bytes::ShortBytes;
 /// How long a line may be without its line feed.
 const ENTRY: usize = 696;
 
-/// Hands the whole text of a trace on to a sink. Where a write fails it answers how many bytes of the text are out. A record may have no
-/// text: it holds a reply of another call's form, or a number, a status or bytes that no such line has. It takes no memory.
+/// Hands the whole text of a trace on to a sink, where each of its records has one, as those of an engine have. Where a write fails it
+/// answers how many bytes of the text are out. It takes no memory.
 pub fn print<S: Sink>(trace: &Trace, out: &mut S) -> Result<(), PrintFault>
+    requires { AllHaveText trace.now.records.items }
     ensures { Prints trace.now (S.bytes out.old) (S.failures out.old) result (S.bytes out.new) (S.failures out.new) }
 {
     let mut page = Page {
@@ -42,27 +45,29 @@ fn print_records<S: Sink>(
     page: &mut Page,
     out: &mut S,
 ) -> Result<(), PrintFault>
-    requires { page.old.written ≡ 0 }
+    requires spelled { AllHaveText records.now.items }
+    requires first { page.old.written ≡ 0 }
     ensures text { PrintsRecords records.now.items page.old (S.bytes out.old) (S.failures out.old) result page.new (S.bytes out.new) (S.failures out.new) }
     ensures most { page.new.written ≤ 2 ^ 80 }
 {
     for number in 0..records.len() {
         make_room(page, out)?;
-        if let Err(NoText) = print_record(&records[number], &mut page.text) {
-            return Err(PrintFault::NoText { record: number });
-        }
+        print_record(&records[number], &mut page.text);
     }
     Ok(())
 }
 
-fn print_record(entry: &Record, text: &mut Text) -> Result<(), NoText>
+fn print_record(entry: &Record, text: &mut Text)
     requires room { length text.old + RECORD ≤ ROOM }
-    ensures text { Puts (record_text entry.now) text.old result text.new }
+    requires spelled { HasText entry.now }
+    ensures text { IsPut (record_text entry.now) text.old text.new }
     ensures few { length text.new ≤ length text.old + RECORD }
 {
-    print_entry(entry, text)?;
-    text.push(b'\n');
-    Ok(())
+    fits(entry);
+    match print_entry(entry, text) {
+        Ok(()) => text.push(b'\n'),
+        Err(NoText) => unreachable!(),
+    }
 }
 
 // A record's line without its line feed.

@@ -1,6 +1,8 @@
 // Reads a trace: its first line, a record a line, and the sums. It relies on `entry` and `sums` for lines, and on `chunked_list` for
 // the records.
 
+ghost use Rattle.std.specs.Prelude.{IfOk};
+ghost use Rattle.trace.specs.HasText.{AllHaveText};
 ghost use Rattle.trace.specs.Reading.{AreReadAgain, IsReadAgain, Says, SaysLines};
 
 use crate::entry::read_record;
@@ -17,6 +19,8 @@ pub fn read(alloc: Global, text: &str) -> Result<Trace, TraceError>
     ensures said { Says text.now result }
     // What is printed so is read again.
     ensures back { IsReadAgain text.now result }
+    // What was read can be printed.
+    ensures spelled { IfOk result (λ trace. AllHaveText trace.records.items) }
 {
     match text.strip_prefix("camr-trace 1\n") {
         Some(lines) => read_lines(alloc, lines),

@@ -3,11 +3,12 @@ use Rattle.toml.specs.View.{view, table_view}
 use Rattle.toml.specs.declared.value.Value.{Table as TableCase}
 use Rattle.toml.proofs.Views.{view-Table}
 use Rattle.manifest.specs.declared.Manifest.{Manifest}
-use Rattle.manifest.specs.Meaning.{Means, HasFault, HasProgramFault, IsSetUp, Writes}
+use Rattle.manifest.specs.Meaning.{AreShort, Means, HasFault, HasProgramFault, IsSetUp, Writes}
 use Rattle.manifest_form.specs.Seen.{plan_seen, IfFault}
 use Rattle.manifest.specs.Seen.{named_seen}
 use Rattle.manifest.proofs.OneByOne.{if_ok, if_err, if_fault}
 use Rattle.manifest.proofs.Configured.{writes_by}
+use Rattle.manifest.proofs.Short.{set_up_short}
 use Rattle.manifest.proofs.read.Goals as goal
 
 pub returns-clause-found : goal.returns-clause-found
@@ -29,3 +30,9 @@ returns-clause-fault c =
 
 pub set_up-requires : goal.set_up-requires
 set_up-requires c = record { document = view (TableCase c.in_ok-parse.field-0); says = c.in_ok-plan.ensures.says; lawful = c.in_ok-plan.ensures.lawful }
+
+pub returns-clause-short : goal.returns-clause-short
+returns-clause-short c =
+    let plan = plan_seen c.in_ok-plan.plan in
+    if_ok (λ (manifest : Manifest). IsSetUp plan manifest.config (map named_seen manifest.programs.items)) (λ (manifest : Manifest). AreShort manifest.config.queues)
+    (λ manifest h. set_up_short plan manifest.config (map named_seen manifest.programs.items) h) c.set_up.result c.set_up.ensures.found

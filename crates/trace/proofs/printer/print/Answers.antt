@@ -8,13 +8,13 @@ pub returns-in_err-print_records : goal.returns-in_err-print_records
 returns-in_err-print_records g c =
     let first : c.put.new.self ≡ header = c.put.ensures ∙ ap (λ t. t ++ header) c.none.ensures in
     let p = err_from_is_err_and c.from_residual.result c.from_residual.ensures.1 in
-    rw (p.1, p.2) (records_stopped c.args.trace.now _ _ _ _ _ _ _ first refl c.in_err-print_records.ensures.text)
+    rw (p.1, p.2) (records_stopped c.args.trace.now _ _ _ _ _ _ first refl c.in_err-print_records.ensures.text)
 
 pub returns-in_err-make_room : goal.returns-in_err-make_room
 returns-in_err-make_room g c =
     let first : c.put.new.self ≡ header = c.put.ensures ∙ ap (λ t. t ++ header) c.none.ensures in
     let p = err_from_is_err_and c.from_residual-in_err-make_room.result c.from_residual-in_err-make_room.ensures.1 in
-    rw (p.1, p.2) (room_stopped c.args.trace.now _ _ _ _ _ _ _ _ _ _ first refl c.in_ok-print_records.ensures.text c.in_err-make_room.ensures.text)
+    rw (p.1, p.2) (room_stopped c.args.trace.now _ _ _ _ _ _ _ _ _ first refl c.in_ok-print_records.ensures.text c.in_err-make_room.ensures.text)
 
 pub returns : goal.returns
 returns g c =

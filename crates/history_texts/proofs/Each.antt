@@ -1,0 +1,29 @@
+-- Each record of a history has a text.
+use Rattle.std.proofs.Common.{List, [], ◌∷◌, subst}
+use Rattle.std.proofs.lemmas.List.Concat.{flat_map-cons}
+use Rattle.calls.specs.declared.record.Record.{Record}
+use Rattle.calls.specs.declared.record.Record.TheVariants.{Called, Advance}
+use Rattle.trace.specs.HasText.{AllHaveText, HasText}
+use Rattle.world.specs.World.{Setup, World, opening}
+use Rattle.world.specs.Lawful.{IsLawful}
+use Rattle.world.specs.Event.{Event, Reply}
+use Rattle.world.specs.Flat.{events_of, flat}
+use Rattle.world.specs.WorldRun.{Leads}
+use Rattle.world_laws.proofs.Leads.{leads_split}
+use Rattle.world_laws.proofs.Sound.{IsSound, leads_sound, opening_sound}
+use Rattle.history_texts.specs.EachHasText.{EachRecordHasText, FewInstructions}
+use Rattle.history_texts.proofs.Advances.{advance_has}
+use Rattle.history_texts.proofs.Calls.{call_has}
+
+record_has : (setup : Setup) (before : World) (entry : Record) (after : World) → IsLawful setup → FewInstructions setup → IsSound setup before → Leads setup before (events_of entry) after → HasText entry
+record_has setup before (Called answer call) after lawful few sound leads = call_has setup before call answer leads.0 leads.1
+record_has setup before (Advance run instructions stop r0) after lawful few sound leads = advance_has setup before run instructions stop r0 after lawful few sound leads
+
+each : (setup : Setup) (before : World) (records : List Record) (after : World) → IsLawful setup → FewInstructions setup → IsSound setup before → Leads setup before (flat records) after → AllHaveText records
+each setup before [] after lawful few sound leads = tt
+each setup before (entry ∷ records) after lawful few sound leads =
+    let parts = leads_split setup before (events_of entry) (flat records) after (subst (λ (xs : List (Event × Reply)). Leads setup before xs after) (flat_map-cons events_of entry records) leads) in
+    (record_has setup before entry parts.0 lawful few sound parts.1, each setup parts.0 records after lawful few (leads_sound setup before (events_of entry) parts.0 lawful parts.1 sound) parts.2)
+
+pub each_record_has_text : EachRecordHasText
+each_record_has_text setup lawful few records world run = each setup (opening setup) records world lawful few (opening_sound setup lawful) run

@@ -1,0 +1,6 @@
+pub mod Somes
+pub mod Calls
+pub mod Frames
+pub mod Stops
+pub mod Advances
+pub mod Each

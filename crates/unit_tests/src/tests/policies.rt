@@ -1,6 +1,6 @@
 // Programs as lists of instructions, and the limits under which they are verified.
 
-use bpf_insn::{AluOp, Callee, Condition, Insn, Operand, Reg, StoreSize, Width};
+use bpf_insn::{AluOp, Callee, Condition, Insn, LoadForm, Operand, Reg, StoreSize, Width};
 use helpers::{HelperLimits, HelperSet, TableLengths};
 use std::alloc::Global;
 
@@ -80,6 +80,43 @@ pub const fn freezing_policy() -> [Insn; 14] {
         Insn::Call(Callee::Helper(2)),
         mov(Reg::R1, Operand::Immediate(1)),
         Insn::Call(Callee::Helper(4)),
+        mov(Reg::R0, Operand::Immediate(0)),
+        Insn::Exit,
+    ]
+}
+
+const fn spill(src: Reg, offset: i16) -> Insn {
+    Insn::Store {
+        size: StoreSize::DoubleWord,
+        dst: Reg::R10,
+        src: Operand::Register(src),
+        offset,
+    }
+}
+
+/// The freeze and the context's address are spilled, a function is called and the clock read; on the way that a reading of 0 does
+/// not take a number is set. Then the freeze is read back and given back, and the CCB waits again.
+pub const fn spilling_policy() -> [Insn; 16] {
+    [
+        spill(Reg::R2, -8),
+        spill(Reg::R1, -16),
+        Insn::Call(Callee::Local(11)),
+        Insn::Call(Callee::Helper(11)),
+        jeq(Reg::R0, Operand::Immediate(0), 1),
+        mov(Reg::R3, Operand::Immediate(1)),
+        Insn::Load {
+            form: LoadForm::DoubleWord,
+            dst: Reg::R2,
+            src: Reg::R10,
+            offset: -8,
+        },
+        jeq(Reg::R2, Operand::Immediate(0), 2),
+        mov(Reg::R1, Operand::Register(Reg::R2)),
+        Insn::Call(Callee::Helper(2)),
+        mov(Reg::R1, Operand::Immediate(1)),
+        Insn::Call(Callee::Helper(4)),
+        mov(Reg::R0, Operand::Immediate(0)),
+        Insn::Exit,
         mov(Reg::R0, Operand::Immediate(0)),
         Insn::Exit,
     ]

@@ -1,6 +1,6 @@
 // What no command shows: want of memory, that the same call answers later, and how many checks a verdict takes.
 
-use super::policies::{jeq, limits, mov, policy};
+use super::policies::{jeq, limits, mov, policy, spilling_policy};
 use bpf_insn::{Callee, Insn, Operand, Program, Reg};
 use or_memory::OrMemory;
 use std::alloc::{AllocError, Global};
@@ -78,5 +78,13 @@ fn pairs_of_jumps(rt: HostRuntime) -> Result<(), Fail> {
         insns.push(*insn)?;
     }
     assert_eq!(rt; verdict(rt.alloc(), &insns)?, Some(Ok((2608, 2608))));
+    Ok(())
+}
+
+// Freeze and context's address stand on the stack over a local call, a helper's, and where two ways meet.
+#[test]
+fn spilled_and_memory_refused_once(rt: HostRuntime) -> Result<(), Fail> {
+    let insns = spilling_policy();
+    assert_eq!(rt; verdict(rt.alloc(), &insns)?, Some(Ok((16, 16))));
     Ok(())
 }

@@ -39,7 +39,7 @@ try_program() {
 # Succeeds where a word behind the command is a path: it is no option, nor the value of one.
 is_path() {
     case $command in
-    check | dis | run) ;;
+    check | dis | replay | run) ;;
     *) return 1 ;;
     esac
     [ "$place" -gt 1 ] && [ "$before" != --workers ] && [ "$1" != -- ] || return 1

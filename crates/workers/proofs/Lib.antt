@@ -1,1 +1,2 @@
+pub mod Parking
 pub mod Turns

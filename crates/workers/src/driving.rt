@@ -136,8 +136,8 @@ pub fn drive<B: Object, G: Gate, R: Wait>(
     Err(stopped.back())
 }
 
-// The run that came back.
-fn run_of(back: Back) -> Run
+/// The run that came back.
+pub(crate) fn run_of(back: Back) -> Run
     requires { IsRunBack back }
     ensures { back ≡ its.Run result }
 {

@@ -6,9 +6,11 @@ mod driving;
 mod gate;
 mod seat;
 mod serving;
+mod settling;
 mod worker;
 
 pub use driving::drive;
 pub use gate::{Gate, Open};
 pub use seat::Seat;
 pub use serving::{MAX_WORKERS, Served, serve};
+pub use settling::{Settled, settle};

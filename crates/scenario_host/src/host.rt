@@ -3,7 +3,7 @@
 // `workers` for serving.
 
 ghost use Rattle.std.specs.Prelude.{◌≡◌, ◌+◌, ◌≤◌, [], All, length, vec_capacity};
-ghost use Rattle.inbox.specs.Views.{IsOf};
+ghost use Rattle.inbox.specs.Views.{InboxView, IsOf};
 ghost use Rattle.workers.specs.declared.serving.TheConstants.{MAX_WORKERS};
 ghost use Rattle.scenario_host.specs.declared.host.RunFault.TheVariants.{OutOfMemory};
 
@@ -21,7 +21,7 @@ use std::alloc::AllocError;
 use std::mem;
 use std::sync::{Mutex, Wait};
 use std::thread::Threads;
-use workers::{Seat, serve};
+use workers::{Seat, Served, serve, settle};
 
 /// Why a run stopped.
 #[derive(Clone, Copy, Debug, PartialEq, Eq)]
@@ -139,7 +139,7 @@ impl<'a, B: Object + Send + Sync, N: Notices + Sync> Host<'a, B, N> {
     }
 
     // Serves until the inbox is empty. What a worker keeps it keeps for want of memory, and where there is none for serving the
-    // inbox is left as it was.
+    // inbox is left as it was. The runs that are kept are parked.
     fn drain<R: Threads + Wait + Sync>(&mut self, rt: &R) -> Result<(), RunFault> {
         let none = Vec::new(*self.seats.allocator());
         let seats = mem::replace(&mut self.seats, none);
@@ -150,12 +150,24 @@ impl<'a, B: Object + Send + Sync, N: Notices + Sync> Host<'a, B, N> {
         };
         let served = serve(rt, seats, &self.shared, &self.inbox, &gate);
         let kept = served.completions.len() + served.runs.len();
-        let back = served.into_seats();
+        let back = seats_behind(rt, served, &self.shared);
         mem::replace(&mut self.seats, back).destroy_empty();
         if kept == 0 && self.inbox.take(rt, &mut self.take).is_none() {
             Ok(())
         } else {
             Err(RunFault::OutOfMemory)
         }
+    }
+}
+
+// The seats of a service, when the runs that it kept are parked. The completions that are kept are let go.
+fn seats_behind<B: Object, R: Wait>(rt: &R, served: Served<B>, shared: &Shared<B>) -> Vec<Seat<B>>
+    ensures all { length result.items ≡ length served.seats }
+    ensures passes { (inbox : InboxView) → All (λ seat. IsOf inbox seat.pass) served.seats → All (λ seat. IsOf inbox seat.pass) result.items }
+{
+    match settle(rt, served, shared) {
+        Ok(settled) => settled.into_seats(),
+        // a run that the engine does not have out, which no worker keeps
+        Err(unsettled) => unsettled.into_seats(),
     }
 }

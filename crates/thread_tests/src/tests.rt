@@ -4,5 +4,6 @@ mod engines;
 mod passes;
 mod services;
 mod serving;
+mod settling;
 mod sharing;
 mod watching;

@@ -3,6 +3,10 @@
 #![tactic(auto)]
 
 #[cfg(test)]
+mod noticing;
+#[cfg(test)]
+mod printing;
+#[cfg(test)]
 mod tests;
 #[cfg(test)]
 mod traces;

@@ -13,7 +13,7 @@ use std::thread::Threads;
 
 // The two paths have 5 and 7 instructions: jeq r2, 0, +2; mov64 r1, r2; call 2; mov64 r1, 1; call 4;
 // mov64 r0, 0; exit.
-const MANIFEST: &str = "version = 1\n[[queue]]\nopenings = 2\nprogram = \"p1\"\n\
+pub(crate) const MANIFEST: &str = "version = 1\n[[queue]]\nopenings = 2\nprogram = \"p1\"\n\
     [[program]]\nname = \"p1\"\ncode = \"\"\"\n\
     15 02 02 00 00 00 00 00\n\
     bf 21 00 00 00 00 00 00\n\
@@ -24,9 +24,10 @@ const MANIFEST: &str = "version = 1\n[[queue]]\nopenings = 2\nprogram = \"p1\"\n
     95 00 00 00 00 00 00 00\n\
     \"\"\"\n";
 
-const SCENARIO: &str = "submit 0 10 3\ndispatch 0\ngfreeze 0 7\ngrelease 1\ncomplete 1 0b 00 -\n";
+pub(crate) const SCENARIO: &str =
+    "submit 0 10 3\ndispatch 0\ngfreeze 0 7\ngrelease 1\ncomplete 1 0b 00 -\n";
 
-const TRACE: &str = "camr-trace 1\nsubmit 0 10 3 = ccb 1\ndispatch 0 = ccb 1\n\
+pub(crate) const TRACE: &str = "camr-trace 1\nsubmit 0 10 3 = ccb 1\ndispatch 0 = ccb 1\n\
     gfreeze 0 7 = freeze 1\ngrelease 1 = 0\ncomplete 1 0b 00 - = run 1 freeze 2\n\
     advance 1 3 helper 2 = 0\nadvance 1 2 helper 4 = 0\nadvance 1 2 exit = 0\nend 8 0 0 0\n";
 

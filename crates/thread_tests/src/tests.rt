@@ -2,6 +2,7 @@
 
 mod engines;
 mod passes;
+mod recoveries;
 mod services;
 mod serving;
 mod settling;

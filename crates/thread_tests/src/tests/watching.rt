@@ -26,7 +26,7 @@ use workers::{Gate, serve};
 const TURNS: u32 = 1_000_000;
 
 // Waits until the flag is up. Whether it came up before so many turns.
-fn comes(flag: &AtomicBool) -> bool {
+pub fn comes(flag: &AtomicBool) -> bool {
     for _ in 0..TURNS {
         if flag.load(Ordering::SeqCst) {
             return true;

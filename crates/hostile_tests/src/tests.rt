@@ -1,0 +1,4 @@
+// A module for what is changed or refused.
+mod check_condition;
+mod policies;
+mod texts;

@@ -153,11 +153,11 @@ fn judge(rt: &impl Abort, alloc: Global, bytes: &[u8], seen: &mut Seen) -> Resul
 
 // Each other value of that byte.
 fn judge_all_at(rt: &impl Abort, alloc: Global, at: usize, seen: &mut Seen) -> Result<(), Fail> {
-    for value in 0..=255u8 {
+    for value in 0..256u32 {
         let mut bytes = POLICY;
         if let Some(byte) = bytes.get_mut(at) {
-            if *byte != value {
-                *byte = value;
+            if u32::from(*byte) != value {
+                *byte = value as u8;
                 judge(rt, alloc, &bytes, seen)?;
             }
         }

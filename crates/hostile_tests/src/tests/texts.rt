@@ -82,11 +82,19 @@ fn manifest_of(alloc: Global, text: &str) -> Result<Option<Manifest>, Fail> {
     }
 }
 
+// So many bytes of a text in ASCII.
+fn front(text: &'static str, count: usize) -> Result<&'static str, Fail> {
+    match text.as_bytes().get(..count).map(str::from_utf8) {
+        Some(Ok(front)) => Ok(front),
+        _ => Err(Fail::new("no text")),
+    }
+}
+
 #[test]
 fn fronts_of_a_manifest(rt: HostRuntime) -> Result<(), Fail> {
     let mut seen = nothing();
     for end in 0..=TWO_PROGRAMS.len() {
-        match manifest_of(rt.alloc(), &TWO_PROGRAMS[..end])? {
+        match manifest_of(rt.alloc(), front(TWO_PROGRAMS, end)?)? {
             Some(_) => seen.read = seen.read.saturating_add(1),
             None => seen.refused = seen.refused.saturating_add(1),
         }
@@ -134,11 +142,22 @@ fn fronts_of_a_trace(rt: HostRuntime) -> Result<(), Fail> {
     let manifest = manifest_of(rt.alloc(), MANIFEST)?.ok_or("no manifest")?;
     let mut seen = nothing();
     for end in 0..=TEXT.len() {
-        judge(&rt, rt.alloc(), &manifest, &TEXT[..end], &mut seen)?;
+        judge(&rt, rt.alloc(), &manifest, front(TEXT, end)?, &mut seen)?;
     }
     // The whole one alone: each line ends with a line feed, the last too.
     assert_eq!(rt; (seen.read, seen.accepted), (1, 1), "{seen:?}");
     Ok(())
+}
+
+// The trace with another byte there, if that is another.
+fn changed(alloc: Global, at: usize, other: u8) -> Result<Option<Vec<u8>>, AllocError> {
+    let mut text = Vec::new(alloc);
+    text.extend_from_slice(TEXT.as_bytes())?;
+    match text.get_mut(at) {
+        Some(byte) if *byte != other => *byte = other,
+        _ => return Ok(None),
+    }
+    Ok(Some(text))
 }
 
 // That byte by each of the others.
@@ -149,18 +168,14 @@ fn judge_all_at(
     at: usize,
     seen: &mut Seen,
 ) -> Result<(), Fail> {
-    let mut text = Vec::new(alloc);
-    text.extend_from_slice(TEXT.as_bytes())?;
     for other in OTHERS {
-        if text[at] != *other {
-            let before = text[at];
-            text[at] = *other;
-            let Ok(changed) = str::from_utf8(&text) else {
-                return Err(Fail::new("no text"));
-            };
-            judge(rt, alloc, manifest, changed, seen)?;
-            text[at] = before;
-        }
+        let Some(text) = changed(alloc, at, *other)? else {
+            continue;
+        };
+        let Ok(text) = str::from_utf8(&text) else {
+            return Err(Fail::new("no text"));
+        };
+        judge(rt, alloc, manifest, text, seen)?;
     }
     Ok(())
 }

@@ -63,6 +63,7 @@ impl Parts {
 
     /// Carries an event out that fits, or refuses it: the reply, and the one record that it makes. Where memory is refused
     /// nothing changes, and what the event owned comes back.
+    #[inline(always)]
     pub(crate) fn perform(
         &mut self,
         alloc: Global,

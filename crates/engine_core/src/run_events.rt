@@ -26,6 +26,7 @@ use std::sync::Arc;
 use transport::Transport;
 
 /// What the run at this place executed is taken over. Where memory is refused nothing changes, and the run comes back.
+#[inline(always)]
 pub(crate) fn advance(
     alloc: Global,
     transport: &mut Transport,

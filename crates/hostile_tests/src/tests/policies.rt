@@ -175,7 +175,10 @@ fn one_byte_changed(rt: HostRuntime) -> Result<(), Fail> {
     for at in 0..POLICY.len() {
         judge_all_at(&rt, rt.alloc(), at, &mut seen)?;
     }
-    let all = u64::from(seen.refused) + u64::from(seen.unaccepted) + u64::from(seen.ended);
+    let all = seen
+        .refused
+        .saturating_add(seen.unaccepted)
+        .saturating_add(seen.ended);
     assert_eq!(rt; all, 14_280, "{seen:?}");
     assert!(rt;
         seen.refused > 0 && seen.unaccepted > 0 && seen.ended > 0,

@@ -1,9 +1,10 @@
 // Reads a scenario: a command a line, by the rows of the calls' lines, and `drain`. It relies on `call_lines` for these rows and on
 // `ccb` for what a completion may say.
 
-ghost use Rattle.std.specs.Prelude.{◌≡◌, ◌≤◌, length};
+ghost use Rattle.std.specs.Prelude.{◌≡◌, ◌≤◌, length, IfErr, IfOk};
 ghost use Rattle.call_lines.specs.Written.{Reads};
 ghost use Rattle.scenario.specs.Commands.{clock_read, command_made, command_text, completed_by, dispatched, device_named, frozen, released, reported, submitted};
+ghost use Rattle.scenario.specs.Said.{IfFault, IsFaultyLine, Keeps, Say, is_skipped, lines_of};
 
 use crate::steps::{Command, Step};
 use call_lines::{
@@ -25,26 +26,48 @@ pub struct FaultyLine(pub usize);
 /// Why a scenario was not read: memory was refused, or a line is faulty.
 pub type ScenarioError = OrMemory<FaultyLine>;
 
-/// Reads the whole scenario. Empty lines and those that begin with `#` are skipped.
-pub fn read(alloc: Global, text: &str) -> Result<Vec<Step>, ScenarioError> {
+/// Reads the whole scenario: a step a line, in their order. Empty lines and those that begin with `#` are skipped. N1 tells the first
+/// line that is not of the form.
+pub fn read(alloc: Global, text: &str) -> Result<Vec<Step>, ScenarioError>
+    ensures said { IfOk result (λ steps. Say (lines_of text.now) steps.items) }
+    ensures faulty { IfErr result (IfFault (IsFaultyLine text.now)) }
+{
     let mut steps = Vec::new(alloc);
-    let mut number = 0usize;
-    for line in text.split('\n') {
-        number = number.saturating_add(1);
-        if line.is_empty() || line.starts_with('#') {
-            continue;
-        }
-        match command_of(line) {
-            Some(command) => steps
-                .push(Step {
-                    line: number,
-                    command,
-                })
-                .map_err(AllocError::from)?,
-            None => return Err(OrMemory::Fault(FaultyLine(number))),
-        }
+    let (mut rest, mut number) = (text, 1usize);
+    while let Some((line, behind)) = rest.split_once('\n') {
+        keep(&mut steps, number, line)?;
+        rest = behind;
+        number += 1;
     }
+    keep(&mut steps, number, rest)?;
     Ok(steps)
+}
+
+// Keeps what the line of that number says, if it says anything.
+fn keep(steps: &mut Vec<Step>, number: usize, line: &str) -> Result<(), ScenarioError>
+    ensures { Keeps number line.now steps.old.items result steps.new.items }
+{
+    if is_skipped(line) {
+        return Ok(());
+    }
+    match command_of(line) {
+        Some(command) => {
+            let step = Step {
+                line: number,
+                command,
+            };
+            steps.push(step).map_err(AllocError::from)?;
+            Ok(())
+        }
+        None => Err(OrMemory::Fault(FaultyLine(number))),
+    }
+}
+
+// Whether the line says nothing.
+fn is_skipped(line: &str) -> bool
+    ensures { result ≡ is_skipped line.now }
+{
+    line.is_empty() || line.starts_with('#')
 }
 
 // A line is `drain`, or the line of a call.

@@ -1,0 +1,58 @@
+-- What a scenario's text says: for each line that is not skipped the step with its number and its command, in their order.
+use Rattle.std.specs.Prelude.{◌≡◌, ◌≢◌, ◌+◌, ◌==◌, ℕ, Bool, true, false, Option, Some, List, [], ◌∷◌, ◌++◌, length, map, Result, Ok, Err, if◌then◌else◌}
+use Rattle.std.specs.List.{slice_split}
+use Rattle.or_memory.specs.declared.OrMemory.{OrMemory}
+use Rattle.or_memory.specs.declared.OrMemory.TheVariants.{OutOfMemory, Fault}
+use Rattle.scenario.specs.Commands.{command_text}
+use Rattle.scenario.specs.declared.reading.FaultyLine.{FaultyLine}
+use Rattle.scenario.specs.declared.steps.Command.{Command}
+use Rattle.scenario.specs.declared.steps.Step.{Step}
+
+-- the lines of a text, which line feeds (10) part
+abbrev pub lines_of : List ℕ → List (List ℕ)
+lines_of text = slice_split (λ byte. byte == 10) text
+
+-- a line that is empty, or begins with `#` (35)
+abbrev pub is_skipped : List ℕ → Bool
+is_skipped [] = true
+is_skipped (byte ∷ bytes) = byte == 35
+
+-- the lines that are not skipped, each with its number, where the first of all has that number
+abbrev pub numbered : ℕ → List (List ℕ) → List (ℕ × Option (List ℕ))
+numbered number [] = []
+numbered number (line ∷ lines) = if is_skipped line then numbered (number + 1) lines else (number, Some line) ∷ numbered (number + 1) lines
+
+-- the number of a step's line, and the line that its command is spelled by
+abbrev pub line_of_step : Step → ℕ × Option (List ℕ)
+line_of_step step = (step.line, command_text step.command)
+
+-- these steps are what the lines say, the first of which is line 1
+abbrev pub Say : List (List ℕ) → List Step → Type 0
+Say lines steps = map line_of_step steps ≡ numbered 1 lines
+
+-- a line that is not skipped, and spells no command
+abbrev pub IsFaulty : List ℕ → Type 0
+IsFaulty line = (is_skipped line ≡ false) × ((command : Command) → command_text command ≢ Some line)
+
+-- The line of that number is the first that is not of the form: those before it say some steps.
+pub record IsFaultyLine (text : List ℕ) (number : ℕ) : Type 0 where
+  pub front : List (List ℕ)
+  pub line : List ℕ
+  pub behind : List (List ℕ)
+  pub lines : lines_of text ≡ front ++ line ∷ behind
+  pub place : number ≡ length front + 1
+  pub steps : List Step
+  pub before : Say front steps
+  pub faulty : IsFaulty line
+
+-- P of the faulty line's number, unless memory was refused
+abbrev pub IfFault : (ℕ → Type 0) → OrMemory FaultyLine → Type 0
+IfFault P OutOfMemory = Unit {0}
+IfFault P (Fault fault) = P fault.0
+
+-- ---- one line
+
+-- what the line of that number says is put behind the steps
+abbrev pub Keeps : {T : Type 0} → ℕ → List ℕ → List Step → Result T (OrMemory FaultyLine) → List Step → Type 0
+Keeps number line old (Ok done) new = map line_of_step new ≡ map line_of_step old ++ numbered number (line ∷ [])
+Keeps number line old (Err fault) new = IfFault (λ told. (told ≡ number) × IsFaulty line) fault

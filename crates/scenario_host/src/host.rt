@@ -3,7 +3,7 @@
 // `workers` for serving.
 
 ghost use Rattle.std.specs.Prelude.{◌≡◌, ◌+◌, ◌≤◌, [], All, length, vec_capacity};
-ghost use Rattle.inbox.specs.Views.{InboxView, IsOf};
+ghost use Rattle.inbox.specs.Views.{IsOf};
 ghost use Rattle.workers.specs.declared.serving.TheConstants.{MAX_WORKERS};
 ghost use Rattle.scenario_host.specs.declared.host.RunFault.TheVariants.{OutOfMemory};
 
@@ -150,7 +150,7 @@ impl<'a, B: Object + Send + Sync, N: Notices + Sync> Host<'a, B, N> {
         };
         let served = serve(rt, seats, &self.shared, &self.inbox, &gate);
         let kept = served.completions.len() + served.runs.len();
-        let back = seats_behind(rt, served, &self.shared);
+        let back = seats_behind(rt, served, &self.shared, &self.inbox);
         mem::replace(&mut self.seats, back).destroy_empty();
         if kept == 0 && self.inbox.take(rt, &mut self.take).is_none() {
             Ok(())
@@ -161,9 +161,15 @@ impl<'a, B: Object + Send + Sync, N: Notices + Sync> Host<'a, B, N> {
 }
 
 // The seats of a service, when the runs that it kept are parked. The completions that are kept are let go.
-fn seats_behind<B: Object, R: Wait>(rt: &R, served: Served<B>, shared: &Shared<B>) -> Vec<Seat<B>>
+fn seats_behind<B: Object, R: Wait>(
+    rt: &R,
+    served: Served<B>,
+    shared: &Shared<B>,
+    inbox: &Inbox,
+) -> Vec<Seat<B>>
+    requires { All (λ seat. IsOf inbox.now seat.pass) served.seats }
     ensures all { length result.items ≡ length served.seats }
-    ensures passes { (inbox : InboxView) → All (λ seat. IsOf inbox seat.pass) served.seats → All (λ seat. IsOf inbox seat.pass) result.items }
+    ensures passes { All (λ seat. IsOf inbox.now seat.pass) result.items }
 {
     match settle(rt, served, shared) {
         Ok(settled) => settled.into_seats(),

@@ -12,6 +12,7 @@ use runs::Runs;
 use transport::Transport;
 
 /// Does what the call of a helper asks: its answer. What a call records is told by the record of the advance.
+#[inline(always)]
 pub(crate) fn carry_out(
     transport: &mut Transport,
     runs: &mut Runs,

@@ -21,6 +21,7 @@ use std::alloc::{AllocError, Global};
 use transport::Transport;
 
 /// A CCB waits, or C1, or C2.
+#[inline(always)]
 pub(crate) fn submit(
     transport: &mut Transport,
     queue: QueueId,
@@ -41,6 +42,7 @@ pub(crate) fn submit(
 }
 
 /// The least CCB that waits is active, or C1, or Q2 to Q4.
+#[inline(always)]
 pub(crate) fn dispatch(transport: &mut Transport, queue: QueueId) -> (Reply, Record)
     ensures { (setup : Setup) (runs : RunsState) → Performs setup (Dispatch queue) transport.old runs transport.new runs result.0 result.1 }
 {
@@ -49,6 +51,7 @@ pub(crate) fn dispatch(transport: &mut Transport, queue: QueueId) -> (Reply, Rec
 }
 
 /// The CCB is finished, or a run of its queue's program starts, or C1 to C3. Where memory is refused nothing changes.
+#[inline(always)]
 pub(crate) fn complete(
     alloc: Global,
     config: &Config,

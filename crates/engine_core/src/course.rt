@@ -44,6 +44,7 @@ fn has_succeeded(completion: &Completion) -> bool
 
 /// C1 where the CCB is not live; C2 where the status asks for a run and a further one meets a limit; C3 where the
 /// CCB is not active; else it is finished, or recovered by a run.
+#[inline(always)]
 pub(crate) fn decide(transport: &Transport, runs: &Runs, completion: &Completion) -> Course
     ensures step { (setup : Setup) (world : World) →
         step_call setup (record world { transport = transport.now; runs = runs.now.runs }) (Complete completion.now)
@@ -70,6 +71,7 @@ pub(crate) fn decide(transport: &Transport, runs: &Runs, completion: &Completion
 
 /// Starts a run of the queue's program for an active CCB, which stands at this place and whose completion failed: the run,
 /// and the number of its freeze, or 0 where that met a limit. Where memory is refused nothing changes.
+#[inline(always)]
 pub(crate) fn recover(
     config: &Config,
     transport: &mut Transport,

@@ -155,6 +155,7 @@ impl Stopped {
 
     /// The run behind the helper call at which it stands, with an answer that the call may get: so it goes on, and so it is
     /// recorded, at its place among the live runs.
+    #[inline(always)]
     pub(crate) fn go_on(
         self,
         runs: &mut Runs,

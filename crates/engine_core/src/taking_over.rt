@@ -22,6 +22,7 @@ use std::alloc::{AllocError, Global};
 use transport::Transport;
 
 /// What is recorded of a stop. Only bytes that a call tells take memory.
+#[inline(always)]
 pub(crate) fn recorded(alloc: Global, stop: &Stop) -> Result<StoppedAt, AllocError>
     requires { StopsByCode stop.now }
     ensures { IfOk result (λ kept. kept ≡ stopped_at stop.now) }
@@ -32,6 +33,7 @@ pub(crate) fn recorded(alloc: Global, stop: &Stop) -> Result<StoppedAt, AllocErr
     }
 }
 
+#[inline(always)]
 fn recorded_call(alloc: Global, request: &Request) -> Result<StoppedAt, AllocError>
     requires { NamesCode request.now }
     ensures { IfOk result (λ kept. kept ≡ stopped_at (Helper request.now)) }
@@ -46,6 +48,7 @@ fn recorded_call(alloc: Global, request: &Request) -> Result<StoppedAt, AllocErr
 
 /// Takes over what the run at this place executed up to that stop: what becomes of it, and what R0 is then. The run goes on in
 /// its next machine, or exited and is gone.
+#[inline(always)]
 pub(crate) fn take_over(
     transport: &mut Transport,
     runs: &mut Runs,
@@ -77,6 +80,7 @@ pub(crate) fn take_over(
 }
 
 // Does what the call of a helper asks, and lets the run go on with the answer: the run, and what R0 is then.
+#[inline(always)]
 fn answer(
     transport: &mut Transport,
     runs: &mut Runs,

@@ -20,9 +20,6 @@ use std::sync::Wait;
 use std::thread::Threads;
 use std::{env, fs, io};
 
-/// How many bytes a program has at most: 4096 slots of 8.
-const LONGEST: usize = 32_768;
-
 fn main(rt: HostRuntime) -> ExitCode {
     let mut err = rt.stderr();
     ExitCode::from(match BufWriter::new(rt.alloc(), io::writer(&rt)) {
@@ -72,10 +69,7 @@ fn carry_out<N: Notices + Sync, R: Files + AllocGlobal + Threads + Wait + Sync, 
     let Some(path) = plan.output() else {
         return carry(rt, rt.alloc(), plan, inputs, notices, out, err);
     };
-    // With room for the longest program no write is refused memory, of which `carry` would say nothing.
-    let Ok(mut bytes) = Vec::with_capacity(rt.alloc(), LONGEST) else {
-        return Fault::OutOfMemory.report(err);
-    };
+    let mut bytes = Vec::new(rt.alloc());
     let status = carry(rt, rt.alloc(), plan, inputs, notices, &mut bytes, err);
     if status != 0 {
         return status;

@@ -19,6 +19,7 @@ use manifest::Manifest;
 use notices::Notices;
 use replay::replay;
 use std::alloc::Global;
+use std::io;
 use std::io::Write;
 use std::sync::Wait;
 use std::thread::Threads;
@@ -26,8 +27,8 @@ use workers::MAX_WORKERS;
 
 /// Carries a plan out over the bytes of its input files, in the order of the line, and answers the status:
 /// 0 done; 1 refused; 2 for a file that is to be text and is not UTF-8, for want of memory, or where a writer fails. What is to
-/// go out is written on `out`, and one line for a fault on `err`; where there is a fault, nothing goes out. How far a run or a replay
-/// is, is told where that is wanted.
+/// go out is written on `out`, and one line for a fault on `err`; where there is a fault, nothing goes out. Where `out` fails for want
+/// of memory that line is written too; some may be out then. How far a run or a replay is, is told where that is wanted.
 pub fn carry<N: Notices + Sync, R: Threads + Wait + Sync, W: Write, E: Write>(
     rt: &R,
     alloc: Global,
@@ -49,17 +50,17 @@ pub fn carry<N: Notices + Sync, R: Threads + Wait + Sync, W: Write, E: Write>(
 {
     match plan {
         Plan::Asm(text, _) => match assembled(alloc, (text.as_str(), inputs[0].as_slice())) {
-            Ok(bytes) => status(out.write_all(&bytes)),
+            Ok(bytes) => status(out.write_all(&bytes), err),
             Err(fault) => fault.report(err),
         },
         Plan::Dis(_) => match disassembled(alloc, inputs[0].as_slice()) {
-            Ok(text) => status(out.write_all(text.as_bytes())),
+            Ok(text) => status(out.write_all(text.as_bytes()), err),
             Err(fault) => fault.report(err),
         },
         Plan::Check(manifest) => {
             let manifest = (manifest.as_str(), inputs[0].as_slice());
             match check(alloc, manifest) {
-                Ok(manifest) => status(verdicts::print(&manifest.programs, out)),
+                Ok(manifest) => status(verdicts::print(&manifest.programs, out), err),
                 Err(fault) => fault.report(err),
             }
         }
@@ -77,13 +78,24 @@ pub fn carry<N: Notices + Sync, R: Threads + Wait + Sync, W: Write, E: Write>(
     }
 }
 
-// What is to go out went out, or a writer failed.
-fn status<E: Drop>(written: Result<(), E>) -> u8
+// What is to go out went out, or a writer failed. That it failed for want of memory is told.
+fn status<E: Write>(written: io::Result<()>, err: &mut E) -> u8
     ensures { MatchResult written (λ _. result ≡ 0) (λ _. result ≡ 2) }
 {
     match written {
         Ok(()) => 0,
-        Err(_) => 2,
+        Err(error) => unwritten(error, err),
+    }
+}
+
+// The writer failed so.
+fn unwritten<E: Write>(error: io::Error, err: &mut E) -> u8
+    ensures { result ≡ 2 }
+{
+    if error.kind() == io::ErrorKind::OutOfMemory {
+        Fault::OutOfMemory.report(err)
+    } else {
+        2
     }
 }
 
@@ -133,8 +145,19 @@ fn print_run<N: Notices + Sync, R: Threads + Wait + Sync, W: Write, E: Write>(
     ensures done { result ≡ 0 → IsManifest manifest.entry.1.now }
 {
     match run(rt, alloc, workers, manifest, scenario, notices) {
-        Ok(trace) => status(trace::print(&trace, &mut Handing::new(out))),
+        Ok(trace) => status(print_trace(&trace, out), err),
         Err(fault) => fault.report(err),
+    }
+}
+
+// The whole trace goes out, or why not.
+fn print_trace<W: Write>(trace: &Trace, out: &mut W) -> io::Result<()>
+    requires { AllHaveText trace.now.records.items }
+{
+    let mut handing = Handing::new(out);
+    match trace::print(trace, &mut handing) {
+        Ok(()) => Ok(()),
+        Err(_) => Err(handing.last_failure()),
     }
 }
 
@@ -176,7 +199,7 @@ fn print_replay<N: Notices, W: Write, E: Write>(
     ensures done { result ≡ 0 → IsAcceptedTrace manifest.entry.1.now trace.entry.1.now }
 {
     match replayed(alloc, manifest, trace, notices) {
-        Ok(()) => status(out.write_all(b"accepted\n")),
+        Ok(()) => status(out.write_all(b"accepted\n"), err),
         Err(fault) => fault.report(err),
     }
 }

@@ -6,7 +6,8 @@ use commands::carry;
 use notices::Silent;
 use std::alloc::{AllocError, Global};
 use std::io;
-use std::io::Write;
+use std::io::{ErrorKind, Write};
+use std::process::Abort;
 use std::sync::Wait;
 use std::test::Fail;
 use std::thread::Threads;
@@ -31,18 +32,27 @@ pub(crate) const TRACE: &str = "camr-trace 1\nsubmit 0 10 3 = ccb 1\ndispatch 0 
     gfreeze 0 7 = freeze 1\ngrelease 1 = 0\ncomplete 1 0b 00 - = run 1 freeze 2\n\
     advance 1 3 helper 2 = 0\nadvance 1 2 helper 4 = 0\nadvance 1 2 exit = 0\nend 8 0 0 0\n";
 
-// Takes so many bytes, and then fails.
+// A program, and its bytes.
+const PROGRAM_TEXT: &str = "mov64 r0, 1\nexit\n";
+
+const PROGRAM: [u8; 16] = [0xb7, 0, 0, 0, 1, 0, 0, 0, 0x95, 0, 0, 0, 0, 0, 0, 0];
+
+// What is told where memory is refused.
+const WANT: &str = "camr: out of memory\n";
+
+// Takes so many bytes, and then fails so.
 #[derive(Drop)]
 struct Failing {
     taken: Vec<u8>,
     room: usize,
+    kind: ErrorKind,
 }
 
 impl Write for Failing {
     fn write(&mut self, buf: &[u8]) -> io::Result<usize> {
         let count = buf.len().min(self.room.saturating_sub(self.taken.len()));
         if count == 0 {
-            return Err(io::Error::from(io::ErrorKind::BrokenPipe));
+            return Err(io::Error::from(self.kind));
         }
         self.taken.extend_from_slice(&buf[..count])?;
         Ok(count)
@@ -53,10 +63,11 @@ impl Write for Failing {
     }
 }
 
-fn with_room(alloc: Global, room: usize) -> Failing {
+fn with_room(alloc: Global, room: usize, kind: ErrorKind) -> Failing {
     Failing {
         taken: Vec::new(alloc),
         room,
+        kind,
     }
 }
 
@@ -117,7 +128,7 @@ fn carried<R: Threads + Wait + Sync, W: Write, E: Write>(
 fn writers_that_fail(rt: HostRuntime) -> Result<(), Fail> {
     let alloc = rt.alloc();
     for room in 0..TRACE.len() {
-        let mut out = with_room(alloc, room);
+        let mut out = with_room(alloc, room, ErrorKind::BrokenPipe);
         let mut err = Vec::new(alloc);
         let status = run(&rt, alloc, SCENARIO, &mut out, &mut err)?;
         assert_eq!(rt; status, 2, "{room} bytes");
@@ -128,67 +139,126 @@ fn writers_that_fail(rt: HostRuntime) -> Result<(), Fail> {
     Ok(())
 }
 
+// A run whose writer has no memory for any byte of the trace says so, and what went out is a beginning of the trace.
+#[test]
+fn run_with_a_writer_without_memory(rt: HostRuntime) -> Result<(), Fail> {
+    let alloc = rt.alloc();
+    for room in 0..TRACE.len() {
+        let mut out = with_room(alloc, room, ErrorKind::OutOfMemory);
+        let mut err = Vec::new(alloc);
+        let status = run(&rt, alloc, SCENARIO, &mut out, &mut err)?;
+        assert_eq!(rt; status, 2, "{room} bytes");
+        assert!(rt; TRACE.as_bytes().starts_with(&out.taken), "{room} bytes");
+        assert_eq!(rt; err.as_slice(), WANT.as_bytes(), "{room} bytes");
+    }
+    Ok(())
+}
+
+// The status of an assembly of the program's text.
+fn assemble<R: Threads + Wait + Sync, W: Write, E: Write>(
+    rt: &R,
+    alloc: Global,
+    out: &mut W,
+    err: &mut E,
+) -> Result<u8, AllocError> {
+    let plan = Plan::Asm(
+        String::from_str(alloc, "p.txt")?,
+        String::from_str(alloc, "p.bin")?,
+    );
+    let inputs = vec![in alloc; PROGRAM_TEXT.as_bytes().to_vec(alloc)?]?;
+    Ok(if inputs.len() == plan.input_count() {
+        carry(rt, alloc, &plan, &inputs, &Silent, out, err)
+    } else {
+        2
+    })
+}
+
+// The same of an assembly, and of the program's bytes.
+#[test]
+fn assembly_with_a_writer_without_memory(rt: HostRuntime) -> Result<(), Fail> {
+    let alloc = rt.alloc();
+    for room in 0..PROGRAM.len() {
+        let mut out = with_room(alloc, room, ErrorKind::OutOfMemory);
+        let mut err = Vec::new(alloc);
+        let status = assemble(&rt, alloc, &mut out, &mut err)?;
+        assert_eq!(rt; status, 2, "{room} bytes");
+        assert!(rt; PROGRAM.starts_with(&out.taken), "{room} bytes");
+        assert_eq!(rt; err.as_slice(), WANT.as_bytes(), "{room} bytes");
+    }
+    Ok(())
+}
+
 // A refusal whose line cannot be written is status 2.
 #[test]
 fn line_that_cannot_be_written(rt: HostRuntime) -> Result<(), Fail> {
     let alloc = rt.alloc();
     let mut out = Vec::new(alloc);
-    let mut err = with_room(alloc, 6);
+    let mut err = with_room(alloc, 6, ErrorKind::BrokenPipe);
     let status = run(&rt, alloc, "thaw 1\n", &mut out, &mut err)?;
     assert_eq!(rt; status, 2);
     assert_eq!(rt; out.len(), 0);
     Ok(())
 }
 
-// Where the run is refused memory it says so and nothing goes out; where the writer is, what went out is a
-// beginning of the trace. In both the status is 2, and the same run again succeeds. Which allocation is refused
-// is set from outside, by `rt try --test --fail-alloc N`.
-#[test]
-fn memory_refused_once(rt: HostRuntime) -> Result<(), Fail> {
-    let alloc = rt.alloc();
-    let mut out = Vec::new(alloc);
-    let mut err = Vec::new(alloc);
-    if let Ok(status) = run(&rt, alloc, SCENARIO, &mut out, &mut err)
-        && status != 0
-    {
-        assert_eq!(rt; status, 2);
-        if err.is_empty() {
-            assert!(rt; TRACE.as_bytes().starts_with(&out));
-        } else {
-            assert_eq!(rt; err.as_slice(), "camr: out of memory\n".as_bytes());
-            assert_eq!(rt; out.len(), 0);
+// Whether all went out. Where memory was refused that is told in its line, and what went out is a beginning of the whole.
+fn is_done(
+    rt: &impl Abort,
+    status: Result<u8, AllocError>,
+    out: &[u8],
+    err: &[u8],
+    whole: &[u8],
+) -> bool {
+    match status {
+        Ok(0) => {
+            assert!(rt; out == whole && err.is_empty());
+            true
         }
+        Ok(status) => {
+            assert!(rt; status == 2 && err == WANT.as_bytes() && whole.starts_with(out));
+            false
+        }
+        // for the plan, or for its files
+        Err(AllocError) => false,
     }
-    let mut again = Vec::new(alloc);
-    let mut none = Vec::new(alloc);
-    let status = run(&rt, alloc, SCENARIO, &mut again, &mut none)?;
-    assert_eq!(rt; status, 0);
-    assert_eq!(rt; again.as_slice(), TRACE.as_bytes());
-    assert_eq!(rt; none.len(), 0);
-    Ok(())
 }
 
-// Where a replay is refused memory it says so and nothing goes out, and the same again is accepted. Which allocation is refused is
-// set from outside, as above.
-#[test]
-fn replay_refused_memory_once(rt: HostRuntime) -> Result<(), Fail> {
-    let alloc = rt.alloc();
+fn is_run<R: Abort + Threads + Wait + Sync>(rt: &R, alloc: Global) -> bool {
     let mut out = Vec::new(alloc);
     let mut err = Vec::new(alloc);
-    if let Ok(status) = replay(&rt, alloc, &mut out, &mut err)
-        && status != 0
-    {
-        assert_eq!(rt; status, 2);
-        assert_eq!(rt; out.len(), 0);
-        if !err.is_empty() {
-            assert_eq!(rt; err.as_slice(), "camr: out of memory\n".as_bytes());
-        }
-    }
-    let mut again = Vec::new(alloc);
-    let mut none = Vec::new(alloc);
-    let status = replay(&rt, alloc, &mut again, &mut none)?;
-    assert_eq!(rt; status, 0);
-    assert_eq!(rt; again.as_slice(), "accepted\n".as_bytes());
-    assert_eq!(rt; none.len(), 0);
-    Ok(())
+    let status = run(rt, alloc, SCENARIO, &mut out, &mut err);
+    is_done(rt, status, &out, &err, TRACE.as_bytes())
+}
+
+fn is_replayed<R: Abort + Threads + Wait + Sync>(rt: &R, alloc: Global) -> bool {
+    let mut out = Vec::new(alloc);
+    let mut err = Vec::new(alloc);
+    let status = replay(rt, alloc, &mut out, &mut err);
+    is_done(rt, status, &out, &err, b"accepted\n")
+}
+
+fn is_assembled<R: Abort + Threads + Wait + Sync>(rt: &R, alloc: Global) -> bool {
+    let mut out = Vec::new(alloc);
+    let mut err = Vec::new(alloc);
+    let status = assemble(rt, alloc, &mut out, &mut err);
+    is_done(rt, status, &out, &err, &PROGRAM)
+}
+
+// Where memory is refused, to the run or to the writer, the same again succeeds. Which call for memory is refused is set from
+// outside.
+#[test]
+fn run_and_memory_refused_once(rt: HostRuntime) {
+    let alloc = rt.alloc();
+    assert!(rt; is_run(&rt, alloc) || is_run(&rt, alloc));
+}
+
+#[test]
+fn replayed_and_memory_refused_once(rt: HostRuntime) {
+    let alloc = rt.alloc();
+    assert!(rt; is_replayed(&rt, alloc) || is_replayed(&rt, alloc));
+}
+
+#[test]
+fn assembled_and_memory_refused_once(rt: HostRuntime) {
+    let alloc = rt.alloc();
+    assert!(rt; is_assembled(&rt, alloc) || is_assembled(&rt, alloc));
 }

@@ -3,6 +3,7 @@
 mod engines;
 mod passes;
 mod recoveries;
+mod refusals;
 mod services;
 mod serving;
 mod settling;

@@ -23,20 +23,35 @@ const MANIFEST: &str = "version = 1\n[[queue]]\nopenings = 16\nprogram = \"p1\"\
     exit\n\
     \"\"\"\n";
 
-// The configuration that the manifest says.
-fn config(rt: &impl Abort, alloc: Global) -> Config {
-    match manifest::read(alloc, MANIFEST) {
-        Ok(manifest) => manifest.config,
-        Err(_) => panic!(rt; "the manifest is refused"),
+fn config_once(alloc: Global, manifest: &str) -> Option<Config> {
+    match manifest::read(alloc, manifest) {
+        Ok(manifest) => Some(manifest.config),
+        Err(_) => None,
+    }
+}
+
+// The configuration that the manifest says. Where memory is refused, the same call succeeds the second time.
+fn config(rt: &impl Abort, alloc: Global, manifest: &str) -> Config {
+    match config_once(alloc, manifest) {
+        Some(config) => config,
+        None => config_once(alloc, manifest).expect(rt, "a manifest, the second time"),
+    }
+}
+
+/// An engine of that. Where memory is refused, the configuration comes back, and the same call succeeds the second time.
+pub fn engine_of(rt: &impl Abort, alloc: Global, manifest: &str) -> Engine {
+    match Engine::open(alloc, config(rt, alloc, manifest)) {
+        Ok(engine) => engine,
+        Err((_, config)) => match Engine::open(alloc, config) {
+            Ok(engine) => engine,
+            Err(_) => panic!(rt; "no memory for an engine"),
+        },
     }
 }
 
 /// An engine whose queue has submitted and started so many CCBs, of the numbers from 1 on.
 pub fn engine_with(rt: &impl Abort, alloc: Global, queue: QueueId, active: u32) -> Engine {
-    let mut engine = match Engine::open(alloc, config(rt, alloc)) {
-        Ok(engine) => engine,
-        Err(_) => panic!(rt; "no memory for an engine"),
-    };
+    let mut engine = engine_of(rt, alloc, MANIFEST);
     for _ in 0..active {
         start_one(rt, &mut engine, queue);
     }
@@ -48,11 +63,14 @@ pub fn opened_with(rt: &impl Abort, alloc: Global, queue: QueueId, active: u32) 
     opened(rt, alloc, engine_with(rt, alloc, queue, active))
 }
 
-/// That engine, to be shared.
+/// That engine, to be shared. Where memory is refused it comes back, and the same call succeeds the second time.
 pub fn opened(rt: &impl Abort, alloc: Global, engine: Engine) -> Opened {
     match Opened::new(alloc, engine) {
         Ok(opened) => opened,
-        Err(_) => panic!(rt; "no memory for the programs"),
+        Err((_, engine)) => match Opened::new(alloc, engine) {
+            Ok(opened) => opened,
+            Err(_) => panic!(rt; "no memory for the programs"),
+        },
     }
 }
 
@@ -71,12 +89,15 @@ pub fn totals(engine: &Engine) -> Totals {
     engine.totals()
 }
 
-/// Puts a value behind the others.
+/// Puts a value behind the others. Where memory is refused it comes back, and the same call succeeds the second time.
 pub fn put_in<T>(rt: &impl Abort, values: &mut Vec<T>, value: T)
     ensures { values.new.items ≡ values.old.items ++ value ∷ [] }
 {
     match values.push(value) {
         Ok(()) => {}
-        Err(_) => panic!(rt; "no memory"),
+        Err(failed) => match values.push(failed.value) {
+            Ok(()) => {}
+            Err(_) => panic!(rt; "no memory"),
+        },
     }
 }

@@ -68,7 +68,8 @@ struct Course {
     totals: Totals,
 }
 
-// An inbox with room for 16, with its one pass to put, and so many to take.
+// An inbox with room for 16, with its one pass to put, and so many to take. Where memory is refused, the same call succeeds the second
+// time.
 pub fn open<R: Abort + Wait>(
     rt: &R,
     alloc: Global,
@@ -78,7 +79,10 @@ pub fn open<R: Abort + Wait>(
     ensures puts { (vec_len result.1 ≡ 1) × All (IsOf result.0) result.1.items }
     ensures takes { (vec_len result.2 ≡ seats) × All (IsOf result.0) result.2.items }
 {
-    Inbox::new(alloc, 16, 1, seats).expect(rt, "memory for an inbox")
+    match Inbox::new(alloc, 16, 1, seats) {
+        Ok(made) => made,
+        Err(_) => Inbox::new(alloc, 16, 1, seats).expect(rt, "memory for an inbox"),
+    }
 }
 
 // Puts a completion of the CCB of that number.
@@ -93,6 +97,19 @@ pub fn put<R: Abort + Wait>(
     ensures { (vec_len puts.new ≡ 1) × All (IsOf inbox.now) puts.new.items }
 {
     let completion = Completion::new(CcbId(ccb), status, 0, &[]).expect(rt, "a completion");
+    put_completion(rt, inbox, puts, completion);
+}
+
+// Puts this completion.
+pub fn put_completion<R: Abort + Wait>(
+    rt: &R,
+    inbox: &Inbox,
+    puts: &mut Vec<PutPass>,
+    completion: Completion,
+)
+    requires { (vec_len puts.old ≡ 1) × All (IsOf inbox.now) puts.old.items }
+    ensures { (vec_len puts.new ≡ 1) × All (IsOf inbox.now) puts.new.items }
+{
     assert!(rt;
         inbox.put(rt, &mut puts[0], completion).is_ok(),
         "the inbox is full"

@@ -4,6 +4,7 @@ mod chunks;
 mod decoding;
 mod each_call;
 mod engine;
+mod held_freezes;
 mod instructions;
 mod ledger_calls;
 mod live_runs;

@@ -34,15 +34,16 @@ fn accepted(
     }
 }
 
-// So many queues of 2 openings, each with that program.
+// So many queues of so many openings, each with that program.
 fn queues_of(
     alloc: Global,
     queues: u32,
+    openings: u8,
     program: &Arc<Accepted>,
 ) -> Result<Vec<(u8, Arc<Accepted>)>, AllocError> {
     let mut given = Vec::new(alloc);
     for _ in 0..queues {
-        given.push((2, Arc::try_clone(program)?))?;
+        given.push((openings, Arc::try_clone(program)?))?;
     }
     Ok(given)
 }
@@ -51,19 +52,29 @@ pub fn one_queue(alloc: Global) -> Result<Config, Fail> {
     queues_with(alloc, 1, &policy())
 }
 
-// So many queues, each with the program of these instructions.
+// So many queues of 2 openings, each with the program of these instructions.
 pub fn queues_with(alloc: Global, queues: u32, insns: &[Insn]) -> Result<Config, Fail> {
+    queues_opened(alloc, queues, 2, insns)
+}
+
+// The same of so many openings.
+pub fn queues_opened(
+    alloc: Global,
+    queues: u32,
+    openings: u8,
+    insns: &[Insn],
+) -> Result<Config, Fail> {
     let program = match accepted(alloc, queues, insns) {
         Ok(program) => program,
         Err(AllocError) => accepted(alloc, queues, insns)?,
     };
     let program = program.ok_or("the program is refused")?;
-    let given = match queues_of(alloc, queues, &program) {
+    let given = match queues_of(alloc, queues, openings, &program) {
         Ok(given) => given,
-        Err(AllocError) => queues_of(alloc, queues, &program)?,
+        Err(AllocError) => queues_of(alloc, queues, openings, &program)?,
     };
     let limits = limits_of(alloc, queues);
-    Ok(Config::new(limits, given).ok_or("queues of 2 openings are refused")?)
+    Ok(Config::new(limits, given).ok_or("the queues are refused")?)
 }
 
 // Where memory is refused the configuration comes back, and the same call again succeeds.

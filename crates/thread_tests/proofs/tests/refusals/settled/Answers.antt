@@ -1,4 +1,4 @@
 use Rattle.thread_tests.proofs.tests.refusals.settled.Goals as goal
 
-pub returns-in-Ok-clause-passes : goal.returns-in-Ok-clause-passes
-returns-in-Ok-clause-passes g c = c.in-Ok.ensures.passes c.args.inbox.now c.requires
+pub returns-clause-passes : goal.returns-clause-passes
+returns-clause-passes g c = c.in-Ok.ensures.passes c.args.inbox.now c.requires

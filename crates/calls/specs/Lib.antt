@@ -1,3 +1,4 @@
 pub mod Kept
 pub mod CallRefusalText
 pub mod Answered
+pub mod Versions

@@ -8,7 +8,7 @@ use std::fmt;
 /// Why a call was refused. A refusal changes nothing but the history. The text is the refusal's code.
 #[derive(Clone, Copy, Debug, PartialEq, Eq)]
 pub enum CallRefusal {
-    /// There is no such queue, no such CCB, or no such run that is parked.
+    /// There is no such queue or controller, no such CCB, or no such run that is parked.
     Unknown,
     /// A limit is reached.
     Limit,
@@ -22,6 +22,8 @@ pub enum CallRefusal {
     NoOpening,
     /// No CCB of the queue waits.
     NothingWaits,
+    /// The controller is frozen that the queue is under.
+    ControllerFrozen,
 }
 
 /// A refusal with its code: a letter and a digit.
@@ -33,7 +35,7 @@ pub struct RefusalRow {
 }
 
 /// The refusals, in the order of their names.
-pub const REFUSALS: [RefusalRow; 7] = [
+pub const REFUSALS: [RefusalRow; 8] = [
     RefusalRow {
         refusal: CallRefusal::Unknown,
         letter: b'C',
@@ -68,6 +70,11 @@ pub const REFUSALS: [RefusalRow; 7] = [
         refusal: CallRefusal::NothingWaits,
         letter: b'Q',
         digit: b'4',
+    },
+    RefusalRow {
+        refusal: CallRefusal::ControllerFrozen,
+        letter: b'Q',
+        digit: b'5',
     },
 ];
 

@@ -17,5 +17,5 @@ pub use call_refusal::{CallRefusal, REFUSALS, RefusalRow};
 pub use completion_record::CompletionRecord;
 pub use record::{Record, StoppedAt};
 pub use totals::Totals;
-pub use trace::Trace;
+pub use trace::{Trace, Version};
 pub use traced_bytes::TracedBytes;

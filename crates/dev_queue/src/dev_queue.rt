@@ -81,9 +81,9 @@ impl DevQueue {
     /// Starts the waiting CCB of the lowest priority number, and among these of the lowest CCB number: it
     /// is active, and its number is answered. Refused, which changes nothing, with Q2 exactly where the
     /// queue is frozen, else with Q3 where no fewer CCBs are active than there are openings, else with Q4
-    /// where none waits.
+    /// where none waits, else with Q5 where its controller is frozen.
     pub fn start<F: Frozen>(&mut self, freezes: &F) -> Result<CcbId, QueueFault>
-        ensures fault { result_err result ≡ start_fault (F.frozen_count freezes.now) self.old }
+        ensures fault { result_err result ≡ start_fault (F.frozen_count freezes.now) (F.controller_count freezes.now) self.old }
         ensures least { IfOk result (IsLeastNumber self.old.waiting) }
         ensures started { IfOk result (λ number. self.new ≡ with_started number self.old) }
         ensures refused { OnErr result (self.new ≡ self.old) }
@@ -94,8 +94,14 @@ impl DevQueue {
         if self.active >= u32::from(self.openings) {
             return Err(QueueFault::NoOpening);
         }
-        let Some(pair) = self.waiting.take_least(&mut self.steps) else {
+        if self.waiting.len() == 0 {
             return Err(QueueFault::NothingWaits);
+        }
+        if freezes.controller_frozen() != 0 {
+            return Err(QueueFault::ControllerFrozen);
+        }
+        let Some(pair) = self.waiting.take_least(&mut self.steps) else {
+            unreachable!()
         };
         self.active += 1;
         Ok(pair.number)

@@ -13,6 +13,8 @@ pub enum QueueFault {
     NoOpening,
     /// Q4: no CCB waits.
     NothingWaits,
+    /// Q5: the controller is frozen that the queue is under.
+    ControllerFrozen,
 }
 
 impl fmt::Display for QueueFault {
@@ -27,6 +29,7 @@ impl fmt::Display for QueueFault {
             QueueFault::Frozen => "Q2",
             QueueFault::NoOpening => "Q3",
             QueueFault::NothingWaits => "Q4",
+            QueueFault::ControllerFrozen => "Q5",
         })
     }
 }

@@ -116,7 +116,6 @@ kept_entered old new counts greatest key f k u vacant number known len room capa
       total = rw list (omega (arith, length-append (freezes_in old.slots greatest) (f ∷ []), k.total, len));
       within = omega (arith, len, room);
       room = rw capacity k.room;
-      few = rw n k.few;
     }
 
 pub removed_apart : (old new : List (Option Freeze)) (key : ℕ) → AreApart old → Changes old new key None → AreApart new
@@ -145,7 +144,6 @@ kept_removed old new counts greatest key f k u there len capacity =
       total = rw list (omega (arith, length_without old.slots greatest k.apart k.given key f there, k.total, len));
       within = omega (arith, len, k.within);
       room = rw capacity k.room;
-      few = rw n k.few;
     }
 
 -- another holder has the number that the freeze had
@@ -171,7 +169,6 @@ kept_handed old new counts greatest key due f k u there len capacity =
       total = rw (list, len) (k.total ∙ sym (length_handed old.slots greatest k.apart k.given key due f there));
       within = omega (arith, len, k.within);
       room = rw capacity k.room;
-      few = k.few;
     }
 
 -- a value that is written in the place of another
@@ -189,9 +186,9 @@ same_len s key f later there =
     omega (arith, sum, was)
 
 -- and none keep it
-pub kept_empty : (s : Slab Freeze) (places : ℕ) → s.slots ≡ [] → 1024 ≤ s.capacity → places < 2 ^ 32 → IsKept s (replicate places 0) 0
+pub kept_empty : (s : Slab Freeze) (places : ℕ) → s.slots ≡ [] → 1024 ≤ s.capacity → IsKept s (replicate places 0) 0
 unfolding freezes_in
-kept_empty s places empty room few =
+kept_empty s places empty room =
     let none : (key : ℕ) (f : Freeze) → freeze_at s.slots key ≡ Some f → ⊥ = λ key f e. let no_one : None ≡ Some f = subst (λ (xs : List (Option Freeze)). freeze_at xs key ≡ Some f) empty e in cc no_one in
     let len : slab_len s ≡ 0 = ap (λ (xs : List (Option Freeze)). count_by is_some xs) empty in
     record {
@@ -202,5 +199,4 @@ kept_empty s places empty room few =
       total = len;
       within = omega (arith, len);
       room = room;
-      few = omega (arith, few, length-replicate {A = ℕ} places 0);
     }

@@ -39,7 +39,7 @@ all_of entries = freezes_in entries.slots entries.greatest
 
 -- what a ledger of these entries is
 abbrev pub ledger_of : EntriesState → LedgerState
-ledger_of entries = record { queues = entries.places; greatest = entries.greatest; freezes = all_of entries }
+ledger_of entries = record { places = entries.places; greatest = entries.greatest; freezes = all_of entries }
 
 -- under one key stands this now, and under each other what stood there
 pub record Changes (old new : List (Option Freeze)) (key : ℕ) (slot : Option Freeze) : Type 0 where

@@ -1,5 +1,5 @@
 -- What entries keep: numbers tell them apart, each stored count is the number of the place's entries, and there is room.
-use Rattle.std.specs.Prelude.{◌≡◌, ℕ, ◌<◌, ◌≤◌, ◌^◌, List, length, map, Some, Option, slice_index}
+use Rattle.std.specs.Prelude.{◌≡◌, ℕ, ◌<◌, ◌≤◌, List, length, map, Some, Option, slice_index}
 use Rattle.ccb.specs.Rising.{AreRising}
 use Rattle.slab.specs.Slab.{Slab, slab_len}
 use Rattle.freeze_ledger.specs.declared.freeze.Freeze.{Freeze}
@@ -35,4 +35,3 @@ pub record IsKept (slab : Slab Freeze) (counts : List ℕ) (greatest : ℕ) : Ty
   pub total : slab_len slab ≡ length (freezes_in slab.slots greatest)
   pub within : slab_len slab ≤ MAX_FREEZES
   pub room : MAX_FREEZES ≤ slab.capacity
-  pub few : length counts < 2 ^ 32

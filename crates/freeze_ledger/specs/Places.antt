@@ -1,11 +1,16 @@
 -- What freezes: places, and which of them are the same.
-use Rattle.std.specs.Prelude.{ℕ, ◌==◌, Bool}
+use Rattle.std.specs.Prelude.{ℕ, ◌+◌, ◌*◌, ◌==◌, max, Bool}
 use Rattle.freeze_ledger.specs.declared.place.Place.{Place}
-use Rattle.freeze_ledger.specs.declared.place.Place.TheVariants.{Device}
+use Rattle.freeze_ledger.specs.declared.place.Place.TheVariants.{Controller, Device}
 
--- the number of a place, which no other has: the device queues in the order of their numbers
+-- the number of a place, which no other has: even ones for the device queues, and odd ones for the controllers
 abbrev pub index_of : Place → ℕ
-index_of (Device queue) = queue.0
+index_of (Device queue) = 2 * queue.0
+index_of (Controller controller) = 2 * controller + 1
+
+-- how many such numbers there are for so many queues and controllers
+abbrev pub places_of : (queues controllers : ℕ) → ℕ
+places_of queues controllers = 2 * max queues controllers
 
 -- both are one place
 abbrev pub is_place : Place → Place → Bool

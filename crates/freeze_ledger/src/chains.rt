@@ -29,7 +29,7 @@ pub(crate) struct Chains {
 
 impl Chains {
     /// The chains of so many places over so many keys, all empty.
-    pub(crate) fn with_room(alloc: Global, places: u32, keys: usize) -> Result<Self, AllocError>
+    pub(crate) fn with_room(alloc: Global, places: usize, keys: usize) -> Result<Self, AllocError>
         ensures links { IfOk result (λ chains. chains.links.items ≡ replicate keys no_link) }
         ensures ends { IfOk result (λ chains. chains.ends.items ≡ replicate places no_ends) }
     {
@@ -40,7 +40,7 @@ impl Chains {
         let ends = vec![in alloc; Ends {
             first: None,
             last: None
-        }; places as usize]?;
+        }; places]?;
         Ok(Chains { links, ends })
     }
 

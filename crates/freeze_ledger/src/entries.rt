@@ -42,13 +42,13 @@ impl Model for Entries {
 
 impl Entries {
     /// None, for the places from 0 to `places` - 1, with room for 1024.
-    pub(crate) fn with_room(alloc: Global, places: u32) -> Result<Self, AllocError>
+    pub(crate) fn with_room(alloc: Global, places: usize) -> Result<Self, AllocError>
         ensures places { IfOk result (λ entries. entries.places ≡ places) }
         ensures greatest { IfOk result (λ entries. entries.greatest ≡ 0) }
         ensures empty { IfOk result (λ entries. entries.slots ≡ []) }
     {
         let slots = Slab::with_capacity(alloc, MAX_FREEZES)?;
-        let counts = vec![in alloc; 0u8; places as usize]?;
+        let counts = vec![in alloc; 0u8; places]?;
         Ok(Entries {
             slots,
             counts,
@@ -177,10 +177,10 @@ impl Entries {
     }
 
     /// How many places there are.
-    pub(crate) fn places(&self) -> u32
+    pub(crate) fn places(&self) -> usize
         ensures { result ≡ self.now.places }
     {
-        self.counts.len() as u32
+        self.counts.len()
     }
 
     /// What stands there is told apart by its number, from 1 to the greatest given: a fact that only these fields know.

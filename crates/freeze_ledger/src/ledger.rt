@@ -5,7 +5,7 @@ ghost use Rattle.std.specs.Prelude.{◌≡◌, ◌<◌, ◌≤◌, ◌↔◌, []
 ghost use Rattle.ccb.specs.Rising.{AreRising};
 ghost use Rattle.freeze_ledger.specs.Deadlines.{IsFirstDeadline, some_timer};
 ghost use Rattle.freeze_ledger.specs.Freezes.{frozen, meets_limit, entry_of, without, handed_over, HasTimer, holders_of};
-ghost use Rattle.freeze_ledger.specs.Places.{index_of};
+ghost use Rattle.freeze_ledger.specs.Places.{index_of, places_of};
 ghost use Rattle.freeze_ledger.specs.State.{LedgerState, empty_ledger, next_freeze, with_entry, with_freezes};
 
 use crate::chains::Chains;
@@ -28,7 +28,7 @@ pub const MAX_PLACE_FREEZES: u8 = 255;
 /// The greatest number that a freeze bears.
 pub const MAX_FREEZE_NUMBER: u32 = 4_294_967_295;
 
-/// The freezes of a fixed number of device queues. Contracts see the number of queues, the greatest
+/// The freezes of a fixed number of device queues and controllers. Contracts see the number of places, the greatest
 /// number given so far, and the freezes in the order of their numbers.
 #[derive(Drop)]
 pub struct Ledger {
@@ -51,13 +51,14 @@ impl Model for Ledger {
 }
 
 impl Ledger {
-    /// An empty ledger for the queues from 0 to `queues` - 1, with room for all 1024 entries: no later
-    /// call takes memory.
-    pub fn with_room(alloc: Global, queues: u32) -> Result<Self, AllocError>
-        ensures { IfOk result (λ ledger. ledger ≡ empty_ledger queues) }
+    /// An empty ledger for the queues from 0 to `queues` - 1 and the controllers from 0 to `controllers` - 1, with room for
+    /// all 1024 entries: no later call takes memory.
+    pub fn with_room(alloc: Global, queues: u32, controllers: u32) -> Result<Self, AllocError>
+        ensures { IfOk result (λ ledger. ledger ≡ empty_ledger (places_of queues controllers)) }
     {
-        let entries = Entries::with_room(alloc, queues)?;
-        let chains = Chains::with_room(alloc, queues, entries.keys())?;
+        let places = 2 * queues.max(controllers) as usize;
+        let entries = Entries::with_room(alloc, places)?;
+        let chains = Chains::with_room(alloc, places, entries.keys())?;
         let deadlines = Deadlines::with_room(alloc)?;
         Ok(Ledger {
             entries,
@@ -70,7 +71,7 @@ impl Ledger {
     /// which changes nothing, exactly at a limit: the place has 255 freezes, the ledger 1024, or the
     /// numbers up to 4,294,967,295 are used up.
     pub fn take(&mut self, place: Place, holder: Holder) -> Option<FreezeToken>
-        requires { index_of place < self.old.queues }
+        requires { index_of place < self.old.places }
         ensures limit { IsNone result ↔ IsTrue (meets_limit place self.old.freezes self.old.greatest) }
         ensures token { IfSome result (λ token. token ≡ next_freeze self.old place holder) }
         ensures entered { IfSome result (λ token. self.new ≡ with_entry self.old token) }
@@ -174,7 +175,7 @@ impl Ledger {
 
     /// How many freezes the place has, at most 255. It is a stored number.
     pub fn count(&self, place: Place) -> u32
-        requires { index_of place < self.now.queues }
+        requires { index_of place < self.now.places }
         ensures entries { result ≡ frozen place self.now.freezes }
         ensures bound { result ≤ MAX_PLACE_FREEZES }
     {
@@ -196,9 +197,9 @@ impl Ledger {
         self.entries.len() == 0
     }
 
-    /// How many queues the ledger was made for.
-    pub fn queues(&self) -> u32
-        ensures { result ≡ self.now.queues }
+    /// How many places the ledger was made for: the number of each is below it.
+    pub fn places(&self) -> usize
+        ensures { result ≡ self.now.places }
     {
         self.entries.places()
     }
@@ -212,7 +213,7 @@ impl Ledger {
 
     /// The number and the holder of each freeze of the place, by rising number.
     pub fn holders(&self, place: Place) -> Holders<'_>
-        requires { index_of place < self.now.queues }
+        requires { index_of place < self.now.places }
         ensures entries { result ≡ holders_of place self.now.freezes }
         ensures rising { AreRising 0 (map (λ holder. holder.0) result) self.now.greatest }
     {

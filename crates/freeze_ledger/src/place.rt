@@ -10,15 +10,19 @@ use ccb::QueueId;
 pub enum Place {
     /// A device queue.
     Device(QueueId),
+    /// A controller, by its number from 0: it holds all device queues that are under it.
+    Controller(u32),
 }
 
 impl Place {
-    /// Its number among all places: the device queues in the order of their numbers, from 0.
+    /// Its number among all places, which no other has: the device queues have the even numbers in the order of their own, and
+    /// the controllers the odd ones.
     pub fn index(self) -> usize
         ensures { result ≡ index_of self }
     {
         match self {
-            Place::Device(queue) => queue.0 as usize,
+            Place::Device(queue) => 2 * queue.0 as usize,
+            Place::Controller(controller) => 2 * controller as usize + 1,
         }
     }
 

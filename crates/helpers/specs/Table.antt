@@ -13,10 +13,10 @@ use Rattle.helpers.specs.declared.columns.Change.TheVariants as changes
 use Rattle.helpers.specs.declared.columns.Tells.TheVariants as tells
 use Rattle.helpers.specs.declared.table.Deed.TheVariants as deeds
 use Rattle.helpers.specs.declared.table.Row.{Row}
-use Rattle.helpers.specs.declared.table.TheConstants.{HELPERS, QUEUE_HELPERS}
+use Rattle.helpers.specs.declared.table.TheConstants.{CONTROLLER_HELPERS, HELPERS, QUEUE_HELPERS}
 use Rattle.helpers.specs.declared.limits.HelperLimits.{HelperLimits}
 use Rattle.helpers.specs.declared.limits.HelperSet.{HelperSet}
-use Rattle.helpers.specs.declared.limits.HelperSet.TheVariants.{Queues}
+use Rattle.helpers.specs.declared.limits.HelperSet.TheVariants.{Controllers, Queues}
 use Rattle.helpers.specs.declared.request.Arguments.{Arguments}
 use Rattle.helpers.specs.declared.request.Request.{Request}
 use Rattle.helpers.specs.declared.request.Answer.{Answer}
@@ -56,9 +56,10 @@ arity name = counted (asks name).first + counted (asks name).second + counted (a
 abbrev pub helper_of : ℤ → Option Helper
 helper_of number = option_map (λ row. row.helper) (find (λ row. int_eq (pos (number_of row.helper)) number) HELPERS)
 
--- how many helpers there are, where what freezes is a queue
+-- how many helpers there are, where what freezes is a queue, and where it may be a controller
 abbrev pub helper_count : HelperSet → ℕ
 helper_count Queues = QUEUE_HELPERS
+helper_count Controllers = CONTROLLER_HELPERS
 
 -- the helper is one of those
 abbrev pub is_there : HelperSet → Helper → Bool

@@ -6,7 +6,7 @@ ghost use Rattle.std.specs.Cmp.Lexicographic.{pointwise, lists_per, lists_equiv,
 ghost use Rattle.std.specs.Cmp.{partial_equiv_from_equiv};
 ghost use Rattle.helpers.specs.Table.{helper_count, is_there};
 
-use crate::table::{Helper, QUEUE_HELPERS};
+use crate::table::{CONTROLLER_HELPERS, Helper, QUEUE_HELPERS};
 use std::alloc::AllocError;
 use std::marker::Model;
 
@@ -72,6 +72,8 @@ impl Eq for TableLengths {
 pub enum HelperSet {
     /// What freezes is a queue.
     Queues,
+    /// What freezes is a queue or a controller.
+    Controllers,
 }
 
 impl HelperSet {
@@ -81,6 +83,7 @@ impl HelperSet {
     {
         match self {
             HelperSet::Queues => QUEUE_HELPERS,
+            HelperSet::Controllers => CONTROLLER_HELPERS,
         }
     }
 

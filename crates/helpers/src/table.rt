@@ -21,6 +21,8 @@ pub enum Helper {
     Trace,
     Now,
     SetOpenings,
+    FreezeController,
+    ControllerFrozen,
 }
 
 /// What a call does to queues, CCBs, freezes and tables.
@@ -30,7 +32,7 @@ pub enum Deed {
     Nothing,
     /// The queue that R1 names is frozen by a new freeze of the run, if that meets no limit: its number, or 0.
     Freeze,
-    /// The freeze that R1 names is gone: how many its queue has then.
+    /// The freeze that R1 names is gone: how many its place has then.
     GiveBack,
     /// A timer holds the freeze that R1 names, and is due so many milliseconds from now as R2 says: 0.
     HandOver,
@@ -50,6 +52,10 @@ pub enum Deed {
     TellClock,
     /// The run's queue has so many openings as R1 says: the old number.
     SetOpenings,
+    /// The controller of the run's queue is frozen by a new freeze of the run, if that meets no limit: its number, or 0.
+    FreezeController,
+    /// How many freezes that controller has.
+    TellController,
 }
 
 /// All that there is to know of a helper. Its number is its place in the table, from 1.
@@ -73,8 +79,11 @@ const LAST_READING: u64 = 1 << 62;
 /// How many helpers there are where what freezes is a queue: the greatest of their numbers.
 pub const QUEUE_HELPERS: u8 = 12;
 
+/// How many there are where controllers freeze too.
+pub const CONTROLLER_HELPERS: u8 = 14;
+
 /// The helpers, in the order of their numbers, which begin at 1. The comment of a row has its words for people.
-pub const HELPERS: [Row; 12] = [
+pub const HELPERS: [Row; 14] = [
     // 1 freeze(queue)
     Row {
         helper: Helper::Freeze,
@@ -266,6 +275,37 @@ pub const HELPERS: [Row; 12] = [
         machine: Change::Nothing,
         tells: Tells::Name,
         deed: Deed::SetOpenings,
+    },
+    // 13 freeze_controller()
+    Row {
+        helper: Helper::FreezeController,
+        asks: Asks {
+            first: None,
+            second: None,
+            third: None,
+        },
+        needs: Needs::Room,
+        gives: Gives::NewFreeze,
+        machine: Change::Holds,
+        tells: Tells::Name,
+        deed: Deed::FreezeController,
+    },
+    // 14 controller_frozen()
+    Row {
+        helper: Helper::ControllerFrozen,
+        asks: Asks {
+            first: None,
+            second: None,
+            third: None,
+        },
+        needs: Needs::Nothing,
+        gives: Gives::Number {
+            least: 0,
+            most: 255,
+        },
+        machine: Change::Nothing,
+        tells: Tells::Name,
+        deed: Deed::TellController,
     },
 ];
 

@@ -64,7 +64,7 @@ returns-in_default c =
       chained = rw (c.append.ensures.links, c.append.ensures.ends) chained;
       index = record { true_ones = each.true_ones; each = each.each; many = omega (arith, c.requires.index.many, count, none) };
       freeze = e.freeze;
-      entered = λ i. record { queues = e.places i; greatest = number i; freezes = e.freezes i };
+      entered = λ i. record { places = e.places i; greatest = number i; freezes = e.freezes i };
     }
 
 pub returns-in-Timer-clause-chained : goal.returns-in-Timer-clause-chained

@@ -17,7 +17,7 @@ returns-clause-entries c =
     let links = c.self.inside.chains.links.items in
     let ends = c.self.inside.chains.ends.items in
     let first : c.first.result ≡ (ends_at ends (index_of c.args.place)).first = c.first.ensures ∙ ap (λ (p : ℕ). (ends_at ends p).first) c.index.ensures in
-    let known : index_of c.args.place < e.places = subst (λ (s : LedgerState). index_of c.args.place < s.queues) (sym c.self.view_is) c.requires in
+    let known : index_of c.args.place < e.places = subst (λ (s : LedgerState). index_of c.args.place < s.places) (sym c.self.view_is) c.requires in
     let numbered = c.are_numbered.ensures in
     (λ i. walk (c.count.ensures.entries i) (c.slots.ensures i) (c.links.ensures i) (first i))
     ∙ (walks e links ends c.args.place c.self.invariant.1 numbered.apart numbered.given known
@@ -29,7 +29,7 @@ returns-clause-rising c =
     let links = c.self.inside.chains.links.items in
     let ends = c.self.inside.chains.ends.items in
     let first : c.first.result ≡ (ends_at ends (index_of c.args.place)).first = c.first.ensures ∙ ap (λ (p : ℕ). (ends_at ends p).first) c.index.ensures in
-    let known : index_of c.args.place < e.places = subst (λ (s : LedgerState). index_of c.args.place < s.queues) (sym c.self.view_is) c.requires in
+    let known : index_of c.args.place < e.places = subst (λ (s : LedgerState). index_of c.args.place < s.places) (sym c.self.view_is) c.requires in
     let numbered = c.are_numbered.ensures in
     let there = (λ i. walk (c.count.ensures.entries i) (c.slots.ensures i) (c.links.ensures i) (first i)) ∙ walks e links ends c.args.place c.self.invariant.1 numbered.apart numbered.given known in
     let rise = holders_rise c.args.place 0 (all_of e) e.greatest (list_rises e.slots e.greatest) in

@@ -5,6 +5,9 @@ use Rattle.freeze_ledger.specs.declared.ledger.TheConstants.{MAX_FREEZES, MAX_FR
 abbrev pub most_queues : ℕ
 most_queues = 64
 
+abbrev pub most_controllers : ℕ
+most_controllers = 8
+
 -- of a queue
 abbrev pub most_openings : ℕ
 most_openings = 255

@@ -88,6 +88,7 @@ run_starts setup world ccb freeze =
             number = number;
             ccb = ccb.number.0;
             queue = ccb.queue.0;
+            controller = (queue_setup setup ccb.queue.0).controller;
             program = (queue_setup setup ccb.queue.0).program;
             machine = entry (context_of ccb) freeze;
             out = true;

@@ -6,3 +6,4 @@ pub mod Headline
 pub mod ParkLaws
 pub mod Moved
 pub mod CcbLaws
+pub mod OneController

@@ -1,8 +1,10 @@
 -- The limits that every world keeps.
-use Rattle.std.specs.Prelude.{◌≡◌, ℕ, ◌<◌, ◌≤◌, ◌^◌, false, List, length, map, All}
+use Rattle.std.specs.Prelude.{◌≡◌, ℕ, ◌<◌, ◌≤◌, ◌^◌, true, false, List, length, map, All}
 use Rattle.ccb.specs.Rising.{AreRising}
 use Rattle.freeze_ledger.specs.declared.place.Place.{Place}
 use Rattle.freeze_ledger.specs.Freezes.{frozen}
+use Rattle.helpers.specs.declared.table.Helper.TheVariants.{FreezeController}
+use Rattle.helpers.specs.Table.{is_there}
 use Rattle.world.specs.Capacities.{most_openings, most_ccbs, most_ccbs_of_queue, most_runs, most_freezes, most_freezes_of_place, last_number, last_reading}
 use Rattle.world.specs.World.{Setup, queue_count, queue_setup, World}
 use Rattle.world.specs.Lookups.{live_count}
@@ -11,9 +13,11 @@ use Rattle.world.specs.Refusals.{is_unknown}
 use Rattle.world.specs.Event.{Event, Reply}
 use Rattle.world.specs.WorldRun.{WorldRun}
 
--- the limits of the helper calls name no queue that there is not
-abbrev pub NamesNoOther : Setup → Type 0
-NamesNoOther setup = setup.limits.queues ≤ queue_count setup
+-- the helper calls name no queue that there is not, and no controller: where one may be named, each queue is under one that
+-- there is
+pub record NamesNoOther (setup : Setup) : Type 0 where
+  pub queues : setup.limits.queues ≤ queue_count setup
+  pub controllers : is_there setup.limits.helpers FreezeController ≡ true → All (λ queue. queue.controller < setup.controllers) setup.queues
 
 -- Each freeze is of a place that exists, where calls name no other; no place has too many, nor has the ledger, and
 -- numbers rise.
@@ -32,9 +36,10 @@ pub record CcbLimits (setup : Setup) (world : World) : Type 0 where
   pub rising : AreRising 0 (map (λ live. live.ccb.number.0) world.transport.live) world.transport.greatest_ccb
   pub numbers : world.transport.greatest_ccb ≤ last_number
 
--- Each run is of a queue that exists, and of its program; there are not too many, and numbers rise.
+-- Each run is of a queue that exists, under its controller and of its program; there are not too many, and numbers rise.
 pub record RunLimits (setup : Setup) (world : World) : Type 0 where
   pub queues : All (λ run. run.queue < queue_count setup) world.runs.list
+  pub controllers : All (λ run. run.controller ≡ (queue_setup setup run.queue).controller) world.runs.list
   pub programs : All (λ run. run.program ≡ (queue_setup setup run.queue).program) world.runs.list
   pub all : length world.runs.list ≤ most_runs
   pub rising : AreRising 0 (map (λ run. run.number) world.runs.list) world.runs.greatest

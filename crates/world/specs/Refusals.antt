@@ -2,14 +2,14 @@
 -- a refused call leaves the world as it was.
 use Rattle.std.specs.Prelude.{Bool, false, not, ◌&&◌, nat_lt, nat_le, if◌then◌else◌, List, [], ◌∷◌, Option, Some, None, is_none, slice_index}
 use Rattle.freeze_ledger.specs.declared.place.Place.{Place}
-use Rattle.freeze_ledger.specs.declared.place.Place.TheVariants.{Device}
+use Rattle.freeze_ledger.specs.declared.place.Place.TheVariants.{Controller, Device}
 use Rattle.freeze_ledger.specs.Freezes.{frozen, meets_limit}
 use Rattle.calls.specs.declared.call.Call.{Call}
 use Rattle.calls.specs.declared.call.Call.TheVariants.{Submit, Dispatch, Complete, GuestFreeze, GuestRelease, Clock, Park, Resume}
 use Rattle.calls.specs.declared.call_refusal.CallRefusal.{CallRefusal}
-use Rattle.calls.specs.declared.call_refusal.CallRefusal.TheVariants.{Unknown, Limit, NotActive, GoesBack, Frozen, NoOpening, NothingWaits}
+use Rattle.calls.specs.declared.call_refusal.CallRefusal.TheVariants.{Unknown, Limit, NotActive, GoesBack, Frozen, NoOpening, NothingWaits, ControllerFrozen}
 use Rattle.world.specs.Capacities.{last_reading}
-use Rattle.world.specs.World.{Setup, queue_count, LiveCcb, LiveRun, World}
+use Rattle.world.specs.World.{Setup, queue_count, queue_setup, LiveCcb, LiveRun, World}
 use Rattle.world.specs.Lookups.{is_active, active_count, ccb_of, next_waiting, run_of}
 use Rattle.world.specs.Event.{Reply, refused}
 use Rattle.world.specs.CcbSteps.{ccb_meets_limit, is_success, run_meets_limit}
@@ -17,6 +17,7 @@ use Rattle.world.specs.CcbSteps.{ccb_meets_limit, is_success, run_meets_limit}
 -- there is no such place
 abbrev pub is_unknown : Setup → Place → Bool
 is_unknown setup (Device queue) = nat_le (queue_count setup) queue.0
+is_unknown setup (Controller controller) = nat_le setup.controllers controller
 
 -- the CCB is there, and active
 abbrev pub works : Option LiveCcb → Bool
@@ -34,7 +35,8 @@ refusals_of setup world (Submit queue priority retries) =
 refusals_of setup world (Dispatch queue) =
     (is_unknown setup (Device queue), Unknown) ∷ (nat_lt 0 (frozen (Device queue) world.transport.freezes), Frozen)
     ∷ (nat_le (slice_index world.transport.openings queue.0) (active_count queue.0 world.transport.live), NoOpening)
-    ∷ (is_none (next_waiting queue.0 world.transport.live), NothingWaits) ∷ []
+    ∷ (is_none (next_waiting queue.0 world.transport.live), NothingWaits)
+    ∷ (nat_lt 0 (frozen (Controller (queue_setup setup queue.0).controller) world.transport.freezes), ControllerFrozen) ∷ []
 refusals_of setup world (Complete outcome) =
     (is_none (ccb_of outcome.ccb.0 world.transport.live), Unknown) ∷ (not (is_success outcome.status) && run_meets_limit world, Limit)
     ∷ (not (works (ccb_of outcome.ccb.0 world.transport.live)), NotActive) ∷ []

@@ -5,8 +5,10 @@ use Rattle.ccb.specs.Ccb.{requeued}
 use Rattle.freeze_ledger.specs.declared.freeze.Holder.{Holder}
 use Rattle.freeze_ledger.specs.declared.freeze.Holder.TheVariants.{Run, Timer, Guest}
 use Rattle.freeze_ledger.specs.declared.freeze.Freeze.{Freeze}
+use Rattle.freeze_ledger.specs.declared.place.Place.{Place}
+use Rattle.freeze_ledger.specs.declared.place.Place.TheVariants.{Controller}
 use Rattle.freeze_ledger.specs.Places.{device}
-use Rattle.freeze_ledger.specs.Freezes.{entry_of, meets_limit}
+use Rattle.freeze_ledger.specs.Freezes.{entry_of, frozen, meets_limit}
 use Rattle.helpers.specs.declared.limits.HelperLimits.{HelperLimits}
 use Rattle.helpers.specs.declared.table.Deed.{Deed}
 use Rattle.helpers.specs.declared.table.Deed.TheVariants as deeds
@@ -44,10 +46,9 @@ answers world run request answer = (result answer.r0, goes_on world run (answere
 
 -- The deeds of the helpers. The arguments are those of the request, which is answered in the world that the deed leads to.
 
--- the run freezes a queue, and the answer is the new freeze's number, or 0 where a further freeze meets a limit
-abbrev pub takes : World → LiveRun → Request → Reply × World
-takes world run request =
-    let place = device request.arguments.first in
+-- the run freezes a place, and the answer is the new freeze's number, or 0 where a further freeze meets a limit
+abbrev pub takes : World → LiveRun → Request → Place → Reply × World
+takes world run request place =
     if meets_limit place world.transport.freezes world.transport.greatest_freeze
     then answers world run request (answer_number 0)
     else answers (froze world place (Run run.number)) run request (answer_number (world.transport.greatest_freeze + 1))
@@ -124,7 +125,7 @@ info_answer world run address =
 -- what a call does, by its deed
 abbrev pub by_deed : Deed → World → LiveRun → Request → Option (Reply × World)
 by_deed deeds.Nothing world run request = Some (answers world run request (answer_number 0))
-by_deed deeds.Freeze world run request = Some (takes world run request)
+by_deed deeds.Freeze world run request = Some (takes world run request (device request.arguments.first))
 by_deed deeds.GiveBack world run request = releases world run request (entry_of request.arguments.first world.transport.freezes)
 by_deed deeds.HandOver world run request = hands_over world run request (entry_of request.arguments.first world.transport.freezes)
 by_deed deeds.Requeue world run request = requeues world run request (ccb_of run.ccb world.transport.live)
@@ -135,6 +136,8 @@ by_deed deeds.AddWord world run request = Some (adds world run request)
 by_deed deeds.TellQueue world run request = Some (answers world run request (info_answer world run request.arguments.first))
 by_deed deeds.TellClock world run request = Some (answers world run request (answer_number world.transport.clock))
 by_deed deeds.SetOpenings world run request = Some (opens world run request)
+by_deed deeds.FreezeController world run request = Some (takes world run request (Controller run.controller))
+by_deed deeds.TellController world run request = Some (answers world run request (answer_number (frozen (Controller run.controller) world.transport.freezes)))
 
 abbrev pub step_request : World → LiveRun → Request → Option (Reply × World)
 step_request world run request = by_deed (row_of request.helper).deed world run request

@@ -8,27 +8,36 @@ use Rattle.helpers.specs.declared.limits.HelperLimits.{HelperLimits}
 use Rattle.bpf_insn.specs.declared.program.Slot.{Slot}
 use Rattle.bpf_semantics.specs.MachineState.{MachineState}
 use Rattle.table_store.specs.Tables.{zero_table}
+use Rattle.calls.specs.declared.trace.Version.{Version}
+use Rattle.calls.specs.Versions.{version_in}
 use Rattle.world.specs.declared.ccb_state.CcbState.{CcbState}
 
--- What an engine is opened with for one device queue: its openings, the recovery program that it starts at a failed
--- completion, and how many instructions a run of it executes at most.
+-- What an engine is opened with for one device queue: its openings, the controller that it is under, which is 0 where there
+-- are none, the recovery program that it starts at a failed completion, and how many instructions a run of it executes at
+-- most.
 pub record QueueSetup : Type 0 where
   pub openings : ℕ
+  pub controller : ℕ
   pub program : List Slot
   pub budget : ℕ
 
--- What an engine is opened with: the limits of the helper calls, and the device queues in the order of their numbers
--- from 0.
+-- What an engine is opened with: the limits of the helper calls, how many controllers there are, and the device queues in the
+-- order of their numbers from 0.
 pub record Setup : Type 0 where
   pub limits : HelperLimits
+  pub controllers : ℕ
   pub queues : List QueueSetup
+
+-- the vocabulary of its histories
+abbrev pub version_of : Setup → Version
+version_of setup = version_in setup.limits.helpers
 
 abbrev pub queue_count : Setup → ℕ
 queue_count setup = length setup.queues
 
 -- what stands behind the last queue
 abbrev pub no_queue : QueueSetup
-no_queue = record { openings = 0; program = []; budget = 0 }
+no_queue = record { openings = 0; controller = 0; program = []; budget = 0 }
 
 -- the queue of a number
 abbrev pub queue_setup : Setup → ℕ → QueueSetup
@@ -44,11 +53,13 @@ pub record EndedCcb : Type 0 where
   pub number : ℕ
   pub code : ℕ
 
--- a run that has not exited: for which CCB of which queue, the program and its machine, and whether it is out
+-- a run that has not exited: for which CCB of which queue, under which controller, the program and its machine, and whether it
+-- is out
 pub record LiveRun : Type 0 where
   pub number : ℕ
   pub ccb : ℕ
   pub queue : ℕ
+  pub controller : ℕ
   pub program : List Slot
   pub machine : MachineState
   pub out : Bool

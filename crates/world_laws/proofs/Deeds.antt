@@ -1,13 +1,15 @@
 -- The deeds of the helpers: one entry a deed, with all that the laws want of it. A further deed is one entry here, and what
 -- the other columns of its rows are. What the entries go by is `Entries`.
 use Rattle.std.proofs.Common.{◌≡◌, ℕ, ◌+◌, ◌%◌, ◌^◌, ◌<◌, ◌≤◌, [], ◌∷◌, Bool, true, false, cond, eqb, slice_index, slice_set, Option, Some, None, inl, inr, refl, ap, sym, subst, ◌∙◌, rules, arith}
-use Rattle.std.proofs.lemmas.Bool.{cases_Bool, cond-true, cond-false, ltb-true, and_right, not-true}
+use Rattle.std.proofs.lemmas.Bool.{cases_Bool, cond-true, cond-false, ltb-true, lt-leb, and_right, not-true}
+use Rattle.std.proofs.lemmas.List.Elements.{All-get_or}
 use Rattle.ccb.specs.Ccb.{requeued}
 use Rattle.freeze_ledger.specs.declared.freeze.Holder.TheVariants.{Run}
 use Rattle.freeze_ledger.specs.declared.freeze.Freeze.{Freeze}
 use Rattle.freeze_ledger.specs.Freezes.{frozen, meets_limit, entry_of, without}
 use Rattle.helpers.specs.declared.limits.HelperLimits.{HelperLimits}
 use Rattle.helpers.specs.declared.table.Helper.{Helper}
+use Rattle.helpers.specs.declared.table.Helper.TheVariants as helpers
 use Rattle.helpers.specs.declared.table.Deed.{Deed}
 use Rattle.helpers.specs.declared.table.Deed.TheVariants as deeds
 use Rattle.helpers.specs.declared.table.Row.{Row}
@@ -20,30 +22,32 @@ use Rattle.helpers.specs.declared.columns.Change.TheVariants as changes
 use Rattle.helpers.specs.declared.columns.Tells.{Tells}
 use Rattle.helpers.specs.declared.columns.Tells.TheVariants as tells
 use Rattle.helpers.specs.declared.request.Request.{Request}
-use Rattle.helpers.specs.Table.{row_of, answer_number}
+use Rattle.helpers.specs.Table.{row_of, answer_number, is_there}
 use Rattle.bpf_semantics.specs.MachineState.{MachineState}
 use Rattle.bpf_semantics.specs.Calls.{meets_need, meets_rule}
 use Rattle.table_store.specs.Tables.{HasWord}
 use Rattle.world.specs.declared.ccb_state.CcbState.TheVariants.{Waiting}
 use Rattle.world.specs.Capacities.{most_openings}
 use Rattle.freeze_ledger.specs.declared.place.Place.{Place}
-use Rattle.freeze_ledger.specs.Places.{device}
-use Rattle.world.specs.World.{Setup, LiveCcb, LiveRun, World}
-use Rattle.world.specs.Lookups.{ccb_of, with_ccb}
+use Rattle.freeze_ledger.specs.declared.place.Place.TheVariants.{Controller}
+use Rattle.freeze_ledger.specs.Places.{device, is_place}
+use Rattle.world.specs.World.{Setup, QueueSetup, no_queue, LiveCcb, LiveRun, World}
+use Rattle.world.specs.Lookups.{ccb_of, with_ccb, run_of}
 use Rattle.world.specs.QueueInfo.{queue_info}
 use Rattle.world.specs.Told.{told_by}
 use Rattle.world.specs.Event.{Reply, result}
 use Rattle.world.specs.FreezeSteps.{frozen_with, froze, thawed, timed}
 use Rattle.world.specs.CcbSteps.{ended_with}
-use Rattle.world.specs.RunSteps.{is_run, answers, releases, hands_over, requeues, finishes, its_word, with_its_word, info_answer, by_deed, step_request}
-use Rattle.world.specs.Laws.FreezeLaws.{MovesByDeed}
-use Rattle.world.specs.Limits.{AnswerLimits}
+use Rattle.world.specs.RunSteps.{is_run, answers, takes, releases, hands_over, requeues, finishes, its_word, with_its_word, info_answer, by_deed, step_request}
+use Rattle.world.specs.Refusals.{is_unknown}
+use Rattle.world.specs.Laws.FreezeLaws.{Calls, MovesByDeed}
+use Rattle.world.specs.Limits.{AnswerLimits, NamesNoOther}
 use Rattle.world.proofs.Steps.Answering.{openings_stay, openings_change, tables_stay, word_changes, word_below, openings_within}
 use Rattle.world_laws.proofs.Telling.{info_wrote}
 use Rattle.world_laws.proofs.Alike.{changed, AlikeOr, neither, an_event, one_of, if_so, changes as both_change}
 use Rattle.world_laws.proofs.Steps.Running.{some_is}
 use Rattle.world_laws.proofs.Steps.Rules.{rule_parts, first_as, word_there, first_within}
-use Rattle.world_laws.proofs.Steps.Does.{AnswersFrom, leaves_freezes, takes_one, gives_one_back, hands_one_over, leaves_ccbs, requeues_one, ends_one, Does}
+use Rattle.world_laws.proofs.Steps.Does.{AnswersFrom, IsAmong, leaves_freezes, takes_one, gives_one_back, hands_one_over, leaves_ccbs, requeues_one, ends_one, Does, moves_by}
 use Rattle.world_laws.proofs.Entries.{Columns, OnlyAnswers, HasItsOwn, LeadsOn, Entry, Reads, reads, nothing_set, staying, calm, named_alone, calmly, plain_row}
 
 -- What the other columns of a row with a deed are.
@@ -65,6 +69,19 @@ Suits deeds.AddWord row = NamesWord (Some asked_for.Word) row
 Suits deeds.TellQueue row = Columns (Some (asked_for.Room 16)) None None needs.Nothing (Number 0 0) (changes.Writes 16) tells.Name row
 Suits deeds.TellClock row = OnlyAnswers 0 4611686018427387904 row
 Suits deeds.SetOpenings row = Columns (Some (asked_for.Within 1 255)) None None needs.Nothing (Number 1 255) changes.Nothing tells.Name row
+Suits deeds.FreezeController row = Columns None None None needs.Room NewFreeze changes.Holds tells.Name row × (row.helper ≡ helpers.FreezeController)
+Suits deeds.TellController row = OnlyAnswers 0 255 row
+
+-- the row of a helper names it
+rows_name : (name : Helper) → (row_of name).helper ≡ name
+unfolding row_of
+rows_name name = search rules
+
+-- what a row has whose deed freezes a place
+pub record FreezesByRow (row : Row) : Type 0 where
+  pub machine_is : row.machine ≡ changes.Holds
+  pub gives_is : row.gives ≡ NewFreeze
+  pub tells_is : row.tells ≡ tells.Name
 
 pub suited : (name : Helper) → Suits (row_of name).deed (row_of name)
 unfolding row_of
@@ -90,26 +107,39 @@ nothing = record {
   moves = λ before number reply after same. same;
 }
 
+-- a deed that freezes this place, with what the laws want of it beside what is common
+pub record FreezesPlace (deed : Deed) (place_of : LiveRun → Request → Place) : Type 0 where
+  pub columns : (request : Request) → (row_of request.helper).deed ≡ deed → FreezesByRow (row_of request.helper)
+  pub step : (world : World) (run : LiveRun) (request : Request) → by_deed deed world run request ≡ Some (takes world run request (place_of run request))
+  pub known : (setup : Setup) (run : LiveRun) (request : Request) → (row_of request.helper).deed ≡ deed → meets_rule setup.limits run.machine request ≡ true → NamesNoOther setup → IsAmong setup run → is_unknown setup (place_of run request) ≡ false
+  pub moves :
+      (before : World) (run : LiveRun) (request : Request) → (row_of request.helper).deed ≡ deed → (number freeze : ℕ) (after : World) → Calls before number request → run_of number before.runs.list ≡ Some run →
+      ((other : Place) → frozen other after.transport.freezes ≡ frozen other before.transport.freezes + cond (eqb freeze 0) 0 (cond (is_place (place_of run request) other) 1 0)) →
+      MovesByDeed deed before number (result freeze) after
+  pub moves_none : (before : World) (request : Request) → (row_of request.helper).deed ≡ deed → (number : ℕ) (after : World) → Calls before number request → after.transport.freezes ≡ before.transport.freezes → MovesByDeed deed before number (result 0) after
+
 -- a call for a freeze: it is taken, or the answer is 0
-freeze : Entry deeds.Freeze
-freeze = record {
-  leads = λ limits world run request is own rule. (_, refl);
+takes_place : (deed : Deed) (place_of : LiveRun → Request → Place) → FreezesPlace deed place_of → Entry deed
+takes_place deed place_of its = record {
+  leads = λ limits world run request is own rule. (_, its.step world run request);
   alike = λ r c named w run apart request.
-      an_event r c named w _ _
-      (one_of r c named w (meets_limit (device request.arguments.first) w.transport.freezes w.transport.greatest_freeze) _ _ _ _ (both_change r c named w _ w _ refl apart)
-      (both_change r c named w _ (froze w (device request.arguments.first) (Run run.number)) _ refl apart));
-  does = does;
+      subst (λ (o : Option (Reply × World)). AlikeOr r c named w o (by_deed deed (changed c w) run request)) (sym (its.step w run request))
+      (subst (λ (o : Option (Reply × World)). AlikeOr r c named w (Some (takes w run request (place_of run request))) o) (sym (its.step (changed c w) run request))
+      (an_event r c named w _ _
+      (one_of r c named w (meets_limit (place_of run request) w.transport.freezes w.transport.greatest_freeze) _ _ _ _ (both_change r c named w _ w _ refl apart)
+      (both_change r c named w _ (froze w (place_of run request) (Run run.number)) _ refl apart))));
+  does = λ setup before run request is rule p e. does setup before run request is rule p (sym (its.step before run request) ∙ e);
 }
   where
-    does : (setup : Setup) (before : World) (run : LiveRun) (request : Request) → (row_of request.helper).deed ≡ deeds.Freeze → meets_rule setup.limits run.machine request ≡ true → (p : Reply × World) → by_deed deeds.Freeze before run request ≡ Some p → Does setup before run request p
+    does : (setup : Setup) (before : World) (run : LiveRun) (request : Request) → (row_of request.helper).deed ≡ deed → meets_rule setup.limits run.machine request ≡ true → (p : Reply × World) → Some (takes before run request (place_of run request)) ≡ Some p → Does setup before run request p
     does setup before run request is rule p e =
-        let columns = suits deeds.Freeze request is in
-        let place : Place = device request.arguments.first in
+        let columns = its.columns request is in
+        let place : Place = place_of run request in
         let no_code = named_alone request columns.tells_is in
         elim (cases_Bool (meets_limit place before.transport.freezes before.transport.greatest_freeze)) [
           | inl full ↦
               calmly setup before run request (answer_number 0) before
-              (staying setup before run request (answer_number 0) before deeds.Freeze NewFreeze changes.Holds (record {
+              (staying setup before run request (answer_number 0) before deed NewFreeze changes.Holds (record {
                 deed_is = is;
                 gives_is = columns.gives_is;
                 machine_is = columns.machine_is;
@@ -118,13 +148,7 @@ freeze = record {
                 answer = λ from. inl refl;
                 written = tt;
                 taken = λ other number. ap (λ (b : Bool). cond b (0 ∷ []) []) (and_right (eqb number other) false refl);
-                moves = λ number after calls same. record {
-                  queue = request.arguments.first;
-                  freeze = 0;
-                  asks = record { request = request; calls = calls; deed_is = is; number_is = refl };
-                  reply_is = refl;
-                  more = λ other. omega (arith, ap (frozen other) same);
-                };
+                moves = λ number after calls same. its.moves_none before request is number after calls same;
               }) refl refl)
               (calm before run request (answer_number 0) before changes.Holds columns.machine_is no_code refl refl refl refl refl)
               (nothing_set before before refl refl refl refl refl) p
@@ -134,10 +158,11 @@ freeze = record {
             between = froze before place (Run run.number);
             answer = some_is _ _ e ∙ cond-false (meets_limit place before.transport.freezes before.transport.greatest_freeze) _ _ room;
             freezes = takes_one (record {
-              deed_is = is;
+              place = place;
               machine_is = columns.machine_is;
               gives_is = columns.gives_is;
-              known = ltb-true _ _ (first_as setup.limits run.machine request (Some asked_for.Queue) columns.first_is rule);
+              known = its.known setup run request is rule;
+              moves = λ number freeze after calls found more. moves_by deed request is before number (result freeze) after (its.moves before run request is number freeze after calls found more);
               room = room;
               given_is = refl;
               freezes_is = refl;
@@ -147,6 +172,67 @@ freeze = record {
             rest = nothing_set before _ refl refl refl refl refl;
           }
         ]
+
+freezes_queue : FreezesPlace deeds.Freeze (λ run request. device request.arguments.first)
+freezes_queue = record {
+  columns = λ request is. let columns = suits deeds.Freeze request is in record { machine_is = columns.machine_is; gives_is = columns.gives_is; tells_is = columns.tells_is };
+  step = λ world run request. refl;
+  known = λ setup run request is rule names among.
+      let first : request.arguments.first < setup.limits.queues = ltb-true _ _ (first_as setup.limits run.machine request (Some asked_for.Queue) (suits deeds.Freeze request is).first_is rule) in
+      lt-leb _ _ (omega (arith, first, names.queues));
+  moves = λ before run request is number freeze after calls found more. record {
+    place = device request.arguments.first;
+    freeze = freeze;
+    asks = (request.arguments.first, record { request = request; calls = calls; deed_is = is; number_is = refl }, refl);
+    reply_is = refl;
+    more = more;
+  };
+  moves_none = λ before request is number after calls same. record {
+    place = device request.arguments.first;
+    freeze = 0;
+    asks = (request.arguments.first, record { request = request; calls = calls; deed_is = is; number_is = refl }, refl);
+    reply_is = refl;
+    more = λ other. omega (arith, ap (frozen other) same);
+  };
+}
+
+-- the helper that freezes a controller is there, and so is each queue's controller
+controller_known : (setup : Setup) (run : LiveRun) (request : Request) → (row_of request.helper).deed ≡ deeds.FreezeController → meets_rule setup.limits run.machine request ≡ true → NamesNoOther setup → IsAmong setup run → is_unknown setup (Controller run.controller) ≡ false
+controller_known setup run request is rule names among =
+    let its : request.helper ≡ helpers.FreezeController = sym (rows_name request.helper) ∙ (suits deeds.FreezeController request is).1 in
+    let there : is_there setup.limits.helpers helpers.FreezeController ≡ true = subst (λ (h : Helper). is_there setup.limits.helpers h ≡ true) its (rule_parts setup.limits run.machine request rule).there in
+    let below = All-get_or (λ (queue : QueueSetup). queue.controller < setup.controllers) setup.queues run.queue no_queue among.0 (names.controllers there) in
+    lt-leb _ _ (rw among.1 below)
+
+freezes_controller : FreezesPlace deeds.FreezeController (λ run request. Controller run.controller)
+freezes_controller = record {
+  columns = λ request is. let columns = (suits deeds.FreezeController request is).0 in record { machine_is = columns.machine_is; gives_is = columns.gives_is; tells_is = columns.tells_is };
+  step = λ world run request. refl;
+  known = λ setup run request is rule names among. controller_known setup run request is rule names among;
+  moves = λ before run request is number freeze after calls found more. record {
+    place = Controller run.controller;
+    freeze = freeze;
+    asks = (run, found, refl, (request.arguments.first, record { request = request; calls = calls; deed_is = is; number_is = refl }));
+    reply_is = refl;
+    more = more;
+  };
+  moves_none = λ before request is number after calls same. record {
+    place = Controller calls.0.controller;
+    freeze = 0;
+    asks = (calls.0, calls.1, refl, (request.arguments.first, record { request = request; calls = calls; deed_is = is; number_is = refl }));
+    reply_is = refl;
+    more = λ other. omega (arith, ap (frozen other) same);
+  };
+}
+
+pub tell_controller : Reads deeds.TellController (λ world run request. frozen (Controller run.controller) world.transport.freezes) 0 255
+tell_controller = record {
+  columns = suits deeds.TellController;
+  step = λ world run request. refl;
+  apart = λ c world run request. refl;
+  within = λ setup world run request from. (omega arith, from.kept.freezes.a_place (Controller run.controller));
+  moves = λ before number reply after same. same;
+}
 
 -- the freeze that a call names is held, and there, and the run's own
 its_freeze : (limits : HelperLimits) (world : World) (run : LiveRun) (request : Request) → (row_of request.helper).asks.first ≡ Some asked_for.HeldFreeze → HasItsOwn world run → meets_rule limits run.machine request ≡ true → (freeze : Freeze) × (entry_of request.arguments.first world.transport.freezes ≡ Some freeze) × (is_run run.number freeze.holder ≡ true)
@@ -373,7 +459,7 @@ set_openings = record {
 
 entry_for : (deed : Deed) → Entry deed
 entry_for deeds.Nothing = reads _ _ _ _ nothing
-entry_for deeds.Freeze = freeze
+entry_for deeds.Freeze = takes_place _ _ freezes_queue
 entry_for deeds.GiveBack = give_back
 entry_for deeds.HandOver = hand_over
 entry_for deeds.Requeue = requeue
@@ -384,6 +470,8 @@ entry_for deeds.AddWord = add_word
 entry_for deeds.TellQueue = tell_queue
 entry_for deeds.TellClock = reads _ _ _ _ tell_clock
 entry_for deeds.SetOpenings = set_openings
+entry_for deeds.FreezeController = takes_place _ _ freezes_controller
+entry_for deeds.TellController = reads _ _ _ _ tell_controller
 
 -- What they say of calls.
 

@@ -187,7 +187,7 @@ not_one number another event other its same = let bad : false ≡ true = sym oth
 pub not_its_own : (setup : Setup) (before : World) (event : Event) (reply : Reply) (after : World) (number : ℕ) (run : LiveRun) → is_own_of number event ≡ false → run_of number before.runs.list ≡ Some run → RunMove setup before event reply after → run_of number after.runs.list ≡ Some run
 not_its_own setup before event reply after number run other found (runs_stay e g quiet) = ap (run_of number) e ∙ found
 not_its_own setup before event reply after number run other found (run_enters fresh begins known room g) = ap (run_of number) begins.runs_is ∙ found_push run_key number before.runs.list fresh run found
-not_its_own setup before event reply after number run other found (run_changes old new there queue_is program_is e g quiet its) =
+not_its_own setup before event reply after number run other found (run_changes old new there queue_is controller_is program_is e g quiet its) =
     ap (run_of number) e ∙ (put_other run_key new number before.runs.list (not_one number new.number event other its) ∙ found)
 not_its_own setup before event reply after number run other found (run_leaves another there e g quiet its) =
     ap (run_of number) e ∙ (leave_other run_key another.number number before.runs.list (not_one number another.number event other its) ∙ found)

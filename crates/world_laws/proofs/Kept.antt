@@ -167,35 +167,42 @@ RunsWithin setup runs greatest = RunLimits setup (record (opening setup) { runs 
 
 runs_from : (setup : Setup) (world : World) (runs : List LiveRun) (greatest : ℕ) → world.runs.list ≡ runs → world.runs.greatest ≡ greatest → RunsWithin setup runs greatest → RunLimits setup world
 runs_from setup world runs greatest e g kept =
-    record { queues = rw e kept.queues; programs = rw e kept.programs; all = rw e kept.all; rising = rw (e, g) kept.rising; numbers = rw g kept.numbers }
+    record { queues = rw e kept.queues; controllers = rw e kept.controllers; programs = rw e kept.programs; all = rw e kept.all; rising = rw (e, g) kept.rising; numbers = rw g kept.numbers }
 
 abbrev IsKnown : Setup → LiveRun → Type 0
 IsKnown setup run = run.queue < queue_count setup
+
+abbrev IsUnder : Setup → LiveRun → Type 0
+IsUnder setup run = run.controller ≡ (queue_setup setup run.queue).controller
 
 abbrev IsOfProgram : Setup → LiveRun → Type 0
 IsOfProgram setup run = run.program ≡ (queue_setup setup run.queue).program
 
 pub runs_kept : (setup : Setup) (before : World) (event : Event) (reply : Reply) (after : World) → RunMove setup before event reply after → RunLimits setup before → RunLimits setup after
 runs_kept setup before event reply after (runs_stay e g quiet) kept =
-    runs_from setup after before.runs.list before.runs.greatest e g (record { queues = kept.queues; programs = kept.programs; all = kept.all; rising = kept.rising; numbers = kept.numbers })
+    runs_from setup after before.runs.list before.runs.greatest e g (record { queues = kept.queues; controllers = kept.controllers; programs = kept.programs; all = kept.all; rising = kept.rising; numbers = kept.numbers })
 runs_kept setup before event reply after (run_enters run begins known full g) kept =
     let number : run.number ≡ before.runs.greatest + 1 = ap (λ (r : LiveRun). r.number) begins.run_is in
     let program : IsOfProgram setup run = ap (λ (r : LiveRun). r.program) begins.run_is ∙ sym (ap (λ (r : LiveRun). (queue_setup setup r.queue).program) begins.run_is) in
+    let under : IsUnder setup run = ap (λ (r : LiveRun). r.controller) begins.run_is ∙ sym (ap (λ (r : LiveRun). (queue_setup setup r.queue).controller) begins.run_is) in
     let parts = or_parts _ _ full in
     let most : length before.runs.list < 256 = leb-false _ _ parts.0 in
     let left : before.runs.greatest < 4294967295 = leb-false _ _ parts.1 in
     runs_from setup after (before.runs.list ++ run ∷ []) (before.runs.greatest + 1) begins.runs_is g (record {
       queues = All-push (IsKnown setup) before.runs.list run kept.queues known;
+      controllers = All-push (IsUnder setup) before.runs.list run kept.controllers under;
       programs = All-push (IsOfProgram setup) before.runs.list run kept.programs program;
       all = omega (arith, most, length-append before.runs.list (run ∷ []));
       rising = rising_push run_key 0 before.runs.list before.runs.greatest run kept.rising number;
       numbers = omega (arith, left);
     })
-runs_kept setup before event reply after (run_changes old new found queue_is program_is e g quiet its) kept =
+runs_kept setup before event reply after (run_changes old new found queue_is controller_is program_is e g quiet its) kept =
     let known : IsKnown setup old = all_found run_key (IsKnown setup) new.number before.runs.list old kept.queues found in
+    let under : IsUnder setup old = all_found run_key (IsUnder setup) new.number before.runs.list old kept.controllers found in
     let program : IsOfProgram setup old = all_found run_key (IsOfProgram setup) new.number before.runs.list old kept.programs found in
     runs_from setup after (put run_key new before.runs.list) before.runs.greatest e g (record {
       queues = all_put run_key (IsKnown setup) new before.runs.list (rw queue_is known) kept.queues;
+      controllers = all_put run_key (IsUnder setup) new before.runs.list (rw (queue_is, controller_is) under) kept.controllers;
       programs = all_put run_key (IsOfProgram setup) new before.runs.list (rw (queue_is, program_is) program) kept.programs;
       all = omega (arith, put_length run_key new before.runs.list, kept.all);
       rising = rw (put_keys run_key new before.runs.list) kept.rising;
@@ -204,6 +211,7 @@ runs_kept setup before event reply after (run_changes old new found queue_is pro
 runs_kept setup before event reply after (run_leaves run found e g quiet its) kept =
     runs_from setup after (leave run_key run.number before.runs.list) before.runs.greatest e g (record {
       queues = All-filter (λ (x : LiveRun). not (eqb x.number run.number)) (IsKnown setup) before.runs.list kept.queues;
+      controllers = All-filter (λ (x : LiveRun). not (eqb x.number run.number)) (IsUnder setup) before.runs.list kept.controllers;
       programs = All-filter (λ (x : LiveRun). not (eqb x.number run.number)) (IsOfProgram setup) before.runs.list kept.programs;
       all = omega (arith, kept.all, length-filter (λ (x : LiveRun). not (eqb x.number run.number)) before.runs.list, count_by-le-length (λ (x : LiveRun). not (eqb x.number run.number)) before.runs.list);
       rising = rising_leave run_key 0 before.runs.list before.runs.greatest run.number kept.rising;
@@ -239,7 +247,7 @@ opening_keeps setup =
     record {
       freezes = record { places = λ agreed k d below. absurd (omega arith); a_place = λ q. omega arith; ledger = omega arith; numbered = omega arith; numbers = omega arith };
       ccbs = record { queues = λ k d below. absurd (omega arith); a_queue = λ q. omega arith; all = omega arith; rising = omega arith; numbers = omega arith };
-      runs = record { queues = λ k d below. absurd (omega arith); programs = λ k d below. absurd (omega arith); all = omega arith; rising = omega arith; numbers = omega arith };
+      runs = record { queues = λ k d below. absurd (omega arith); controllers = λ k d below. absurd (omega arith); programs = λ k d below. absurd (omega arith); all = omega arith; rising = omega arith; numbers = omega arith };
     }
 
 pub opening_keeps_limits : (setup : Setup) → IsLawful setup → KeepsLimits setup (opening setup)

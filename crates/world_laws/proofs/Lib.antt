@@ -16,3 +16,4 @@ pub mod Headline
 pub mod Moved
 pub mod Accounts
 pub mod Starting
+pub mod OneController

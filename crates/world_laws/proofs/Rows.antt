@@ -12,3 +12,4 @@ pub mod Disposals
 pub mod Handing
 pub mod Tables
 pub mod Parks
+pub mod Controllers

@@ -129,6 +129,7 @@ pub record Begins (setup : Setup) (before : World) (event : Event) (reply : Repl
     number = before.runs.greatest + 1;
     ccb = live.ccb.number.0;
     queue = live.ccb.queue.0;
+    controller = (queue_setup setup live.ccb.queue.0).controller;
     program = (queue_setup setup live.ccb.queue.0).program;
     machine = entry (context_of (completed live.ccb outcome taken)) freeze;
     out = true;
@@ -149,7 +150,7 @@ tells_start reply = false
 pub data RunMove (setup : Setup) (before : World) (event : Event) (reply : Reply) (after : World) : Type 0 where
   runs_stay : after.runs.list ≡ before.runs.list → after.runs.greatest ≡ before.runs.greatest → tells_start reply ≡ false → RunMove setup before event reply after
   run_enters : (run : LiveRun) → Begins setup before event reply after run → run.queue < queue_count setup → run_meets_limit before ≡ false → after.runs.greatest ≡ before.runs.greatest + 1 → RunMove setup before event reply after
-  run_changes : (old new : LiveRun) → run_of new.number before.runs.list ≡ Some old → new.queue ≡ old.queue → new.program ≡ old.program → after.runs.list ≡ with_run new before.runs.list → after.runs.greatest ≡ before.runs.greatest → tells_start reply ≡ false → is_own_of new.number event ≡ true → RunMove setup before event reply after
+  run_changes : (old new : LiveRun) → run_of new.number before.runs.list ≡ Some old → new.queue ≡ old.queue → new.controller ≡ old.controller → new.program ≡ old.program → after.runs.list ≡ with_run new before.runs.list → after.runs.greatest ≡ before.runs.greatest → tells_start reply ≡ false → is_own_of new.number event ≡ true → RunMove setup before event reply after
   run_leaves : (run : LiveRun) → run_of run.number before.runs.list ≡ Some run → after.runs.list ≡ leave run_key run.number before.runs.list → after.runs.greatest ≡ before.runs.greatest → tells_start reply ≡ false → is_own_of run.number event ≡ true → RunMove setup before event reply after
 
 -- all that a step does: to each list, to what calls are answered from, whom its instruction is of, and that it gives a

@@ -2,7 +2,7 @@
 use Rattle.std.specs.Prelude.{◌≡◌, ℕ, ◌+◌, ◌==◌, true, false, if◌then◌else◌, List, ◌∷◌, ◌++◌, map, filter, length, IsSome, Some}
 use Rattle.freeze_ledger.specs.declared.freeze.Freeze.{Freeze}
 use Rattle.freeze_ledger.specs.declared.place.Place.{Place}
-use Rattle.freeze_ledger.specs.declared.place.Place.TheVariants.{Device}
+use Rattle.freeze_ledger.specs.declared.place.Place.TheVariants.{Controller, Device}
 use Rattle.freeze_ledger.specs.Places.{is_place, device}
 use Rattle.freeze_ledger.specs.Freezes.{names, frozen, entry_of, due_at}
 use Rattle.ccb.specs.Completion.{Outcome}
@@ -92,13 +92,23 @@ AsksFor world run number = CallsTo deeds.GiveBack world run number
 abbrev pub HandsOver : World → ℕ → ℕ → Type 0
 HandsOver world run number = CallsTo deeds.HandOver world run number
 
--- A run's call for a further freeze of a queue, by its reply: one more of the queue, or, where the reply is 0, none.
-pub record MovesByTaking (before : World) (run : ℕ) (reply : Reply) (after : World) : Type 0 where
-  pub queue : ℕ
+-- the queue that the run asks to freeze
+abbrev pub AsksQueue : World → ℕ → Place → Type 0
+AsksQueue world run place = (queue : ℕ) × CallsTo deeds.Freeze world run queue × (place ≡ device queue)
+
+-- the controller that it asks to freeze, which is its own
+abbrev pub AsksController : World → ℕ → Place → Type 0
+AsksController world run place =
+    (it : LiveRun) × (run_of run world.runs.list ≡ Some it) × (place ≡ Controller it.controller)
+    × ((number : ℕ) × CallsTo deeds.FreezeController world run number)
+
+-- A run's call for a further freeze of a place, by its reply: one more of the place, or, where the reply is 0, none.
+pub record MovesByTaking (Asks : Place → Type 0) (before : World) (reply : Reply) (after : World) : Type 0 where
+  pub place : Place
   pub freeze : ℕ
-  pub asks : CallsTo deeds.Freeze before run queue
+  pub asks : Asks place
   pub reply_is : reply ≡ result freeze
-  pub more : (other : Place) → frozen other after.transport.freezes ≡ frozen other before.transport.freezes + (if freeze == 0 then 0 else if is_place (device queue) other then 1 else 0)
+  pub more : (other : Place) → frozen other after.transport.freezes ≡ frozen other before.transport.freezes + (if freeze == 0 then 0 else if is_place place other then 1 else 0)
 
 -- A run's call that gives a freeze back: one fewer of its place, and the reply is how many there are then.
 pub record MovesByGiving (before : World) (run : ℕ) (reply : Reply) (after : World) : Type 0 where
@@ -114,7 +124,8 @@ KeepsCounts before after = (other : Place) → frozen other after.transport.free
 
 -- what a run's call does to each place's frozen count, by its deed
 abbrev pub MovesByDeed : Deed → World → ℕ → Reply → World → Type 0
-MovesByDeed deeds.Freeze before run reply after = MovesByTaking before run reply after
+MovesByDeed deeds.Freeze before run reply after = MovesByTaking (AsksQueue before run) before reply after
+MovesByDeed deeds.FreezeController before run reply after = MovesByTaking (AsksController before run) before reply after
 MovesByDeed deeds.GiveBack before run reply after = MovesByGiving before run reply after
 MovesByDeed deeds.HandOver before run reply after = KeepsCounts before after
 MovesByDeed deed before run reply after = KeepsFreezes before after

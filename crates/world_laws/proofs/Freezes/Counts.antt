@@ -10,6 +10,7 @@ use Rattle.helpers.specs.declared.request.Request.{Request}
 use Rattle.helpers.specs.declared.table.Deed.TheVariants as deeds
 use Rattle.helpers.specs.declared.request.Answer.{Answer}
 use Rattle.world.specs.World.{Setup, LiveRun, World}
+use Rattle.world.specs.Lookups.{run_of}
 use Rattle.world.specs.Told.{told_of}
 use Rattle.world.specs.Event.{call, Event, executes, Reply, replies, result}
 use Rattle.world.specs.Laws.FreezeLaws.{OneFewer, Calls, MovesCounts, CountsAreEntries}
@@ -32,18 +33,13 @@ goes setup before after number freeze kept entry e =
     }
 
 -- what a call of a helper does, by the freeze that it takes, gives back or hands over
-call_moves : (setup : Setup) (before after : World) (number : ℕ) (run : LiveRun) (request : Request) (given : Answer) (between : World) → KeepsLists setup before → Calls before number request → after.transport.freezes ≡ between.transport.freezes → FreezeDeed setup before run request given between → MovesCounts before (executes number (call (told_of request))) (result given.r0) after
-call_moves setup before after number run request given between kept calls same (leaves_freezes deed) = deed.moves number after calls (same ∙ deed.freezes_is)
-call_moves setup before after number run request given between kept calls same (takes_one deed) =
+call_moves : (setup : Setup) (before after : World) (number : ℕ) (run : LiveRun) (request : Request) (given : Answer) (between : World) → KeepsLists setup before → Calls before number request → run_of number before.runs.list ≡ Some run → after.transport.freezes ≡ between.transport.freezes → FreezeDeed setup before run request given between → MovesCounts before (executes number (call (told_of request))) (result given.r0) after
+call_moves setup before after number run request given between kept calls found same (leaves_freezes deed) = deed.moves number after calls (same ∙ deed.freezes_is)
+call_moves setup before after number run request given between kept calls found same (takes_one deed) =
     let above : eqb (before.transport.greatest_freeze + 1) 0 ≡ false = ne_eqb _ _ (λ e. omega (arith, e)) in
-    moves_by deeds.Freeze request deed.deed_is before number (result given.r0) after (rw deed.given_is (record {
-      queue = request.arguments.first;
-      freeze = before.transport.greatest_freeze + 1;
-      asks = record { request = request; calls = calls; deed_is = deed.deed_is; number_is = refl };
-      reply_is = refl;
-      more = rw above (λ other. ap (frozen other) (same ∙ deed.freezes_is) ∙ frozen_push other before.transport.freezes _);
-    }))
-call_moves setup before after number run request given between kept calls same (gives_one_back deed) =
+    rw deed.given_is (deed.moves number (before.transport.greatest_freeze + 1) after calls found
+    (rw above (λ other. ap (frozen other) (same ∙ deed.freezes_is) ∙ frozen_push other before.transport.freezes _)))
+call_moves setup before after number run request given between kept calls found same (gives_one_back deed) =
     moves_by deeds.GiveBack request deed.deed_is before number (result given.r0) after (rw deed.given_is (record {
       number = request.arguments.first;
       count = _;
@@ -51,7 +47,7 @@ call_moves setup before after number run request given between kept calls same (
       reply_is = refl;
       fewer = goes setup before after request.arguments.first deed.freeze kept deed.entry (same ∙ deed.freezes_is);
     }))
-call_moves setup before after number run request given between kept calls same (hands_one_over deed) =
+call_moves setup before after number run request given between kept calls found same (hands_one_over deed) =
     moves_by deeds.HandOver request deed.deed_is before number (result given.r0) after
     (λ other. ap (frozen other) (same ∙ deed.freezes_is) ∙ frozen_handed_over other request.arguments.first (before.transport.clock + request.arguments.second) before.transport.freezes)
 
@@ -85,7 +81,7 @@ case_moves setup before event reply after kept (turns_one it) = rw it.reply_is (
 case_moves setup before event reply after kept (goes_on_one it) = rw it.it.event_is (ap (λ (w : World). w.transport.freezes) it.after_is)
 case_moves setup before event reply after kept (asks_one it) =
     let reply_is : reply ≡ result it.given.r0 = ap (λ (x : Reply × World). x.0) it.answer in
-    rw (it.it.event_is, reply_is) (call_moves setup before after it.it.number it.it.run it.request it.given it.between kept (it.it.run, it.it.found, it.call_is) (ap (λ (x : Reply × World). x.1.transport.freezes) it.answer) it.freezes)
+    rw (it.it.event_is, reply_is) (call_moves setup before after it.it.number it.it.run it.request it.given it.between kept (it.it.run, it.it.found, it.call_is) it.it.found (ap (λ (x : Reply × World). x.1.transport.freezes) it.answer) it.freezes)
 case_moves setup before event reply after kept (exits it) = rw it.it.event_is (ap (λ (w : World). w.transport.freezes) it.after_is)
 
 pub counts_are_entries : CountsAreEntries

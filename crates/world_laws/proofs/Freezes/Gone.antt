@@ -119,10 +119,14 @@ gives_it_up request number machine_is same = ap (λ (c : Change). asked_by c req
 one_deed : (request : Request) (a b : Deed) → (row_of request.helper).deed ≡ a → (row_of request.helper).deed ≡ b → a ≡ b
 one_deed request a b first second = sym first ∙ second
 
+-- a call that takes a freeze gives none up
+takes_none : (request : Request) → (row_of request.helper).machine ≡ changes.Holds → (row_of request.helper).machine ≡ changes.GivesUp → ⊥
+takes_none request holds gives = let bad : changes.Holds ≡ changes.GivesUp = sym holds ∙ gives in cc
+
 given_back_past : (setup : Setup) (before after : World) (number : ℕ) (run : LiveRun) (request : Request) (given : Answer) (between : World) → KeepsLists setup before → (row_of request.helper).deed ≡ deeds.GiveBack → request.arguments.first ≡ number → after.transport.freezes ≡ between.transport.freezes → after.transport.greatest_freeze ≡ between.transport.greatest_freeze → FreezeDeed setup before run request given between → IsPast number after
 given_back_past setup before after number run request given between kept is same e g (leaves_freezes deed) =
     absurd (asked_for_one setup before run request given between number (gives_it_up request number (suits deeds.GiveBack request is).machine_is same) deed)
-given_back_past setup before after number run request given between kept is same e g (takes_one deed) = absurd (let bad : deeds.Freeze ≡ deeds.GiveBack = one_deed request _ _ deed.deed_is is in cc)
+given_back_past setup before after number run request given between kept is same e g (takes_one deed) = absurd (takes_none request deed.machine_is (suits deeds.GiveBack request is).machine_is)
 given_back_past setup before after number run request given between kept is same e g (gives_one_back deed) =
     removed_past setup before after number deed.freeze kept (subst (λ (n : ℕ). entry_of n before.transport.freezes ≡ Some deed.freeze) same deed.entry)
     (e ∙ (deed.freezes_is ∙ ap (λ (n : ℕ). without n before.transport.freezes) same)) (g ∙ deed.greatest_is)
@@ -183,7 +187,7 @@ leads_timed setup before (x ∷ xs) after number kept run timed =
 handed_over_timed : (setup : Setup) (before after : World) (number : ℕ) (run : LiveRun) (request : Request) (given : Answer) (between : World) → KeepsLists setup before → (row_of request.helper).deed ≡ deeds.HandOver → request.arguments.first ≡ number → after.transport.freezes ≡ between.transport.freezes → after.transport.greatest_freeze ≡ between.transport.greatest_freeze → FreezeDeed setup before run request given between → IsTimed number after
 handed_over_timed setup before after number run request given between kept is same e g (leaves_freezes deed) =
     absurd (asked_for_one setup before run request given between number (gives_it_up request number (suits deeds.HandOver request is).machine_is same) deed)
-handed_over_timed setup before after number run request given between kept is same e g (takes_one deed) = absurd (let bad : deeds.Freeze ≡ deeds.HandOver = one_deed request _ _ deed.deed_is is in cc)
+handed_over_timed setup before after number run request given between kept is same e g (takes_one deed) = absurd (takes_none request deed.machine_is (suits deeds.HandOver request is).machine_is)
 handed_over_timed setup before after number run request given between kept is same e g (gives_one_back deed) = absurd (let bad : deeds.GiveBack ≡ deeds.HandOver = one_deed request _ _ deed.deed_is is in cc)
 handed_over_timed setup before after number run request given between kept is same e g (hands_one_over deed) =
     let asked_number : ℕ = request.arguments.first in

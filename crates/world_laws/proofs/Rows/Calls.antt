@@ -35,6 +35,7 @@ run_at helper first second held disposed = record {
   number = 1;
   ccb = 1;
   queue = 0;
+  controller = 0;
   program = First (Call (Helper (pos helper))) ∷ [];
   machine = record {
     place = 0;

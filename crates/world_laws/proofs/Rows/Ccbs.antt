@@ -104,7 +104,7 @@ success_ends l = refl
 
 -- 256 runs are the most
 abbrev many_runs : ℕ → World
-many_runs n = (running (λ r. record r { list = replicate n (record { number = 1; ccb = 7; queue = 0; program = program; machine = entry [] 0; out = true }) }) (with_ccbs (ccb_in 1 5 Active ∷ []) 1))
+many_runs n = (running (λ r. record r { list = replicate n (record { number = 1; ccb = 7; queue = 0; controller = 0; program = program; machine = entry [] 0; out = true }) }) (with_ccbs (ccb_in 1 5 Active ∷ []) 1))
 
 run_limit : (l : HelperLimits) → answer (one_queue l) (many_runs 256) (complete (outcome_of 1 CommandTimeout)) ≡ Some (refused Limit)
 run_limit l = refl

@@ -40,6 +40,7 @@ mov dst value = Alu Bits64 Mov dst (Immediate (pos value))
 abbrev queue : QueueSetup
 queue = record {
   openings = 1;
+  controller = 0;
   program = layout (
       copy R6 R2
       ∷ mov R1 1
@@ -56,7 +57,7 @@ queue = record {
 }
 
 abbrev setup : Setup
-setup = record { limits = of_queues 2 []; queues = queue ∷ queue ∷ [] }
+setup = record { limits = of_queues 2 []; controllers = 0; queues = queue ∷ queue ∷ [] }
 
 -- the records that a transport makes of it
 abbrev records : List Record

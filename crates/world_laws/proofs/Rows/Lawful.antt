@@ -13,6 +13,7 @@ use Rattle.bpf_semantics.specs.MachineState.{MachineState, entry, unwritten_fram
 use Rattle.bpf_semantics.specs.Step.{private_step, request_at, Allowed}
 use Rattle.bpf_semantics.specs.Stuck.{is_stuck}
 use Rattle.bpf_semantics.specs.Reached.{Steps, Reached, Safe, Within}
+use Rattle.world.specs.World.{QueueSetup}
 use Rattle.world.specs.Lawful.{IsLawfulQueue, IsLawful}
 use Rattle.world_laws.proofs.Rows.Worked.{of_helpers, program, queue_of, one_queue}
 
@@ -135,6 +136,7 @@ is_lawful limits one =
     record {
       queue_number = (omega arith, omega arith);
       agreed = one;
+      under = (refl, All-cons (λ (queue : QueueSetup). queue.controller ≡ 0) (queue_of 2) [] refl (All-nil (λ (queue : QueueSetup). queue.controller ≡ 0)));
       queues = All-cons (IsLawfulQueue (of_helpers limits)) (queue_of 2) []
           (record { openings = (omega arith, omega arith); program = record { laid_out = refl; in_range = (omega arith, omega arith); spares = refl }; safe = is_safe limits; within = is_within })
           (All-nil (IsLawfulQueue (of_helpers limits)));

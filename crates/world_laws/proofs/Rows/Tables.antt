@@ -30,6 +30,7 @@ run_at number helper first second third = record {
   number = number;
   ccb = 1;
   queue = 0;
+  controller = 0;
   program = First (Call (Helper (pos helper))) ∷ [];
   machine = record {
     place = 0;

@@ -36,17 +36,17 @@ program =
 
 -- a queue of so many openings, with that program
 abbrev pub queue_of : ℕ → QueueSetup
-queue_of openings = record { openings = openings; program = program; budget = 7 }
+queue_of openings = record { openings = openings; controller = 0; program = program; budget = 7 }
 
 -- these limits, where what freezes is a queue
 abbrev pub of_helpers : HelperLimits → HelperLimits
 of_helpers limits = record limits { helpers = Queues }
 
 abbrev pub one_queue : HelperLimits → Setup
-one_queue limits = record { limits = of_helpers limits; queues = queue_of 2 ∷ [] }
+one_queue limits = record { limits = of_helpers limits; controllers = 0; queues = queue_of 2 ∷ [] }
 
 abbrev pub two_queues : HelperLimits → Setup
-two_queues limits = record { limits = of_helpers limits; queues = queue_of 1 ∷ queue_of 2 ∷ [] }
+two_queues limits = record { limits = of_helpers limits; controllers = 0; queues = queue_of 1 ∷ queue_of 2 ∷ [] }
 
 -- with the tables as they are at the opening
 abbrev pub zero_tables : HelperLimits → World → World

@@ -65,7 +65,7 @@ gone_stands setup before event reply after number none it = split (instruction_o
 pub rises : (setup : Setup) (before : World) (event : Event) (reply : Reply) (after : World) → RunMove setup before event reply after → before.runs.greatest ≤ after.runs.greatest
 rises setup before event reply after (runs_stay e g quiet) = omega (arith, g)
 rises setup before event reply after (run_enters run begins known room g) = omega (arith, g)
-rises setup before event reply after (run_changes old new found queue_is program_is e g quiet its) = omega (arith, g)
+rises setup before event reply after (run_changes old new found queue_is controller_is program_is e g quiet its) = omega (arith, g)
 rises setup before event reply after (run_leaves run found e g quiet its) = omega (arith, g)
 
 -- a run that is over stays over

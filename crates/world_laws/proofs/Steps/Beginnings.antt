@@ -53,7 +53,7 @@ newly_from setup before event reply after number run it none some =
 pub new_run : (setup : Setup) (before : World) (event : Event) (reply : Reply) (after : World) (number : ℕ) (run : LiveRun) → RunMove setup before event reply after → run_of number before.runs.list ≡ None → run_of number after.runs.list ≡ Some run → Newly setup before event reply after number run
 new_run setup before event reply after number run (runs_stay e g quiet) none some = absurd (none_new before after number run e none some)
 new_run setup before event reply after number run (run_enters fresh begins known room g) none some = newly_from setup before event reply after number run (fresh, begins) none some
-new_run setup before event reply after number run (run_changes old new found queue_is program_is e g quiet its) none some = absurd (none_new_changed before after number run old new found e none some)
+new_run setup before event reply after number run (run_changes old new found queue_is controller_is program_is e g quiet its) none some = absurd (none_new_changed before after number run old new found e none some)
 new_run setup before event reply after number run (run_leaves other found e g quiet its) none some =
     let is = ap (run_of number) e in
     absurd (elim (cases_eq other.number number) [
@@ -65,7 +65,7 @@ new_run setup before event reply after number run (run_leaves other found e g qu
 pub started_begins : (setup : Setup) (before : World) (outcome : Outcome) (number freeze : ℕ) (after : World) → RunMove setup before (called (Complete outcome)) (replies (answers.Started number freeze)) after → (run : LiveRun) × Begins setup before (called (Complete outcome)) (replies (answers.Started number freeze)) after run
 started_begins setup before outcome number freeze after (runs_stay e g quiet) = absurd (let bad : true ≡ false = quiet in cc)
 started_begins setup before outcome number freeze after (run_enters fresh begins known room g) = (fresh, begins)
-started_begins setup before outcome number freeze after (run_changes old new found queue_is program_is e g quiet its) = absurd (let bad : true ≡ false = quiet in cc)
+started_begins setup before outcome number freeze after (run_changes old new found queue_is controller_is program_is e g quiet its) = absurd (let bad : true ≡ false = quiet in cc)
 started_begins setup before outcome number freeze after (run_leaves other found e g quiet its) = absurd (let bad : true ≡ false = quiet in cc)
 
 -- what a completion brings

@@ -1,9 +1,9 @@
 -- What the calls of helpers do: each to the freezes, to the CCBs, and to the openings and the tables, in one of a few ways.
-use Rattle.std.proofs.Common.{◌≡◌, ℕ, ◌+◌, ◌<◌, [], true, false, Some, ap, sym, subst, ◌∙◌}
+use Rattle.std.proofs.Common.{◌≡◌, ℕ, ◌+◌, ◌<◌, [], true, false, cond, eqb, Some, ap, sym, subst, ◌∙◌}
 use Rattle.ccb.specs.Ccb.{requeued}
 use Rattle.freeze_ledger.specs.declared.freeze.Holder.TheVariants.{Run}
 use Rattle.freeze_ledger.specs.declared.freeze.Freeze.{Freeze}
-use Rattle.freeze_ledger.specs.Freezes.{meets_limit, entry_of, without, handed_over}
+use Rattle.freeze_ledger.specs.Freezes.{frozen, meets_limit, entry_of, without, handed_over}
 use Rattle.helpers.specs.declared.table.Helper.{Helper}
 use Rattle.helpers.specs.declared.table.Deed.{Deed}
 use Rattle.helpers.specs.declared.table.Deed.TheVariants as deeds
@@ -16,9 +16,11 @@ use Rattle.helpers.specs.declared.request.Answer.{Answer}
 use Rattle.helpers.specs.Table.{row_of, answer_number}
 use Rattle.bpf_semantics.specs.Step.{answered, IsAnswer}
 use Rattle.world.specs.declared.ccb_state.CcbState.TheVariants.{Waiting}
-use Rattle.freeze_ledger.specs.Places.{device}
-use Rattle.world.specs.World.{Setup, queue_count, LiveCcb, LiveRun, World}
-use Rattle.world.specs.Lookups.{ccb_of, with_ccb}
+use Rattle.freeze_ledger.specs.declared.place.Place.{Place}
+use Rattle.freeze_ledger.specs.Places.{is_place}
+use Rattle.world.specs.World.{Setup, queue_count, queue_setup, LiveCcb, LiveRun, World}
+use Rattle.world.specs.Lookups.{ccb_of, with_ccb, run_of}
+use Rattle.world.specs.Refusals.{is_unknown}
 use Rattle.world.specs.Told.{plain, finishes, told_of}
 use Rattle.world.specs.Event.{call, executes, Reply, result}
 use Rattle.world.specs.FreezeSteps.{frozen_with, froze}
@@ -29,7 +31,7 @@ use Rattle.world.specs.Laws.CcbLaws.{finished_by}
 use Rattle.world.specs.Laws.TookGave.{taken_as, taken_by, asked}
 use Rattle.world.specs.Laws.Headline.{disposes, is_disposing}
 use Rattle.world.specs.Lawful.{IsLawful}
-use Rattle.world.specs.Limits.{KeepsLimits}
+use Rattle.world.specs.Limits.{KeepsLimits, NamesNoOther}
 use Rattle.world.proofs.Steps.Answering.{OpeningsMove, TablesMove}
 use Rattle.world_laws.proofs.Telling.{helper_told}
 
@@ -51,15 +53,23 @@ pub record LeavesFreezes (setup : Setup) (before : World) (run : LiveRun) (reque
   pub freezes_is : between.transport.freezes ≡ before.transport.freezes
   pub greatest_is : between.transport.greatest_freeze ≡ before.transport.greatest_freeze
 
--- the run takes a new one
+-- the run is of a queue that there is, and under its controller
+abbrev pub IsAmong : Setup → LiveRun → Type 0
+IsAmong setup run = (run.queue < queue_count setup) × (run.controller ≡ (queue_setup setup run.queue).controller)
+
+-- the run takes a new one, of a place that there is
 pub record TakesOne (setup : Setup) (before : World) (run : LiveRun) (request : Request) (given : Answer) (between : World) : Type 0 where
-  pub deed_is : (row_of request.helper).deed ≡ deeds.Freeze
+  pub place : Place
   pub machine_is : (row_of request.helper).machine ≡ changes.Holds
   pub gives_is : (row_of request.helper).gives ≡ NewFreeze
-  pub known : request.arguments.first < setup.limits.queues
-  pub room : meets_limit (device request.arguments.first) before.transport.freezes before.transport.greatest_freeze ≡ false
+  pub known : NamesNoOther setup → IsAmong setup run → is_unknown setup place ≡ false
+  pub moves :
+      (number freeze : ℕ) (after : World) → Calls before number request → run_of number before.runs.list ≡ Some run →
+      ((other : Place) → frozen other after.transport.freezes ≡ frozen other before.transport.freezes + cond (eqb freeze 0) 0 (cond (is_place place other) 1 0)) →
+      MovesCounts before (executes number (call (told_of request))) (result freeze) after
+  pub room : meets_limit place before.transport.freezes before.transport.greatest_freeze ≡ false
   pub given_is : given ≡ answer_number (before.transport.greatest_freeze + 1)
-  pub freezes_is : between.transport.freezes ≡ (froze before (device request.arguments.first) (Run run.number)).transport.freezes
+  pub freezes_is : between.transport.freezes ≡ (froze before place (Run run.number)).transport.freezes
   pub greatest_is : between.transport.greatest_freeze ≡ before.transport.greatest_freeze + 1
 
 -- one that the run holds goes

@@ -19,7 +19,7 @@ use Rattle.bpf_semantics.specs.Step.{answered}
 use Rattle.calls.specs.declared.call.Call.TheVariants.{Complete}
 use Rattle.world.specs.declared.ccb_state.CcbState.{CcbState}
 use Rattle.world.specs.declared.ccb_state.CcbState.TheVariants.{Waiting, Active, InRecovery}
-use Rattle.world.specs.World.{Setup, queue_count, LiveCcb, EndedCcb, LiveRun, World}
+use Rattle.world.specs.World.{Setup, queue_count, queue_setup, LiveCcb, EndedCcb, LiveRun, World}
 use Rattle.world.specs.Lookups.{is_waiting, is_active, active_count, ccb_of, with_ccb, run_of, with_run}
 use Rattle.world.specs.Told.{Told, plain, finishes, told_of}
 use Rattle.world.specs.Event.{Instruction, call, Event, called, executes, instruction_of, Reply, result}
@@ -36,7 +36,7 @@ use Rattle.world.proofs.Lists.Each.{all_found}
 use Rattle.world.proofs.Lists.Entries.{freeze_key, handed_is_put}
 use Rattle.world.proofs.Steps.Answering.{OpeningsMove, openings_stay, TablesMove, tables_stay, AnswerMove, answers_stay}
 use Rattle.world_laws.proofs.Steps.Running.{Executes, pair_parts}
-use Rattle.world_laws.proofs.Steps.Does.{FreezeDeed, leaves_freezes, takes_one, gives_one_back, hands_one_over, HasItsCcb, CcbDeed, leaves_ccbs, requeues_one, ends_one, takes_by}
+use Rattle.world_laws.proofs.Steps.Does.{IsAmong, FreezeDeed, leaves_freezes, takes_one, gives_one_back, hands_one_over, HasItsCcb, CcbDeed, leaves_ccbs, requeues_one, ends_one, takes_by}
 use Rattle.world_laws.proofs.Steps.Calls.{Asks}
 use Rattle.world_laws.proofs.Steps.Cases.{Recovers, RecoversUnfrozen, Case, refuses, submits, dispatches, finishes_one, recovers_one, recovers_unfrozen, freezes_one, releases_one, reads_clock, Turns, turns_one, goes_on_one, asks_one, exits}
 use Rattle.world.proofs.Steps.Moves.{KeepsLists, ccb_key, run_key, ccb_found, run_found, next_found, MayTouch, CcbMove, ccbs_stay, ccb_enters, ccb_changes, ccb_leaves, Comes, FreezeMove, freezes_stay, freeze_enters, freezes_leave, freeze_changes, Begins, tells_start, runs_stay, run_enters, run_changes, run_leaves, Effect}
@@ -267,7 +267,8 @@ call_freezes setup before event reply after kept it (leaves_freezes deed) =
     freezes_stay (ap (λ (x : Reply × World). x.1.transport.freezes) it.answer ∙ deed.freezes_is) (ap (λ (x : Reply × World). x.1.transport.greatest_freeze) it.answer ∙ deed.greatest_is)
 call_freezes setup before event reply after kept it (takes_one deed) =
     let named : it.it.run.number ≡ it.it.number = found_key run_key it.it.number before.runs.list it.it.run it.it.found in
-    freeze_enters (device it.request.arguments.first) (Run it.it.run.number) (λ agreed. device_known setup it.request.arguments.first (omega (arith, deed.known, agreed))) deed.room
+    let among : IsAmong setup it.it.run = (all_found run_key (λ (r : LiveRun). r.queue < queue_count setup) it.it.number before.runs.list it.it.run kept.runs.queues it.it.found, all_found run_key (λ (r : LiveRun). r.controller ≡ (queue_setup setup r.queue).controller) it.it.number before.runs.list it.it.run kept.runs.controllers it.it.found) in
+    freeze_enters deed.place (Run it.it.run.number) (λ names. deed.known names among) deed.room
     (ap (λ (x : Reply × World). x.1.transport.freezes) it.answer ∙ deed.freezes_is) (ap (λ (x : Reply × World). x.1.transport.greatest_freeze) it.answer ∙ deed.greatest_is)
     (record {
       whose = λ run its. inr (subst (λ (k : ℕ). is_step_of k event ≡ true) (eqb-true _ _ its) (its_own_step before event _ it.it));
@@ -456,7 +457,7 @@ effect_of setup before event reply after kept (turns_one it) =
       ccbs = ccbs_stay (ap (λ (w : World). w.transport.live) it.after_is) (ap (λ (w : World). w.transport.greatest_ccb) it.after_is) none;
       ended = none_ended before after event reply none (ap (λ (w : World). w.ended) it.after_is);
       freezes = freezes_stay (ap (λ (w : World). w.transport.freezes) it.after_is) (ap (λ (w : World). w.transport.greatest_freeze) it.after_is);
-      runs = run_changes it.run (record it.run { out = it.out }) (run_found _ before.runs.list it.run it.found) refl refl (ap (λ (w : World). w.runs.list) it.after_is) (ap (λ (w : World). w.runs.greatest) it.after_is) (ap tells_start it.reply_is) (turn_is_own before event reply after it);
+      runs = run_changes it.run (record it.run { out = it.out }) (run_found _ before.runs.list it.run it.found) refl refl refl (ap (λ (w : World). w.runs.list) it.after_is) (ap (λ (w : World). w.runs.greatest) it.after_is) (ap tells_start it.reply_is) (turn_is_own before event reply after it);
       answers = answers_stay before after (ap (λ (w : World). w.transport.openings) it.after_is) (ap (λ (w : World). w.runs.tables) it.after_is) (ap (λ (w : World). w.transport.clock) it.after_is);
       taken = λ run given idle. ap (taken_by run event) it.reply_is ∙ it.taken run;
       acts = idle_acts before event it.idle;
@@ -467,7 +468,7 @@ effect_of setup before event reply after kept (goes_on_one it) =
       ccbs = ccbs_stay (ap (λ (w : World). w.transport.live) it.after_is) (ap (λ (w : World). w.transport.greatest_ccb) it.after_is) none;
       ended = none_ended before after event reply none (ap (λ (w : World). w.ended) it.after_is);
       freezes = freezes_stay (ap (λ (w : World). w.transport.freezes) it.after_is) (ap (λ (w : World). w.transport.greatest_freeze) it.after_is);
-      runs = run_changes it.it.run (record it.it.run { machine = it.machine }) (run_found _ before.runs.list it.it.run it.it.found) refl refl (ap (λ (w : World). w.runs.list) it.after_is) (ap (λ (w : World). w.runs.greatest) it.after_is) (ap tells_start it.reply_is) (step_is_own event _ (its_own_step before event _ it.it));
+      runs = run_changes it.it.run (record it.it.run { machine = it.machine }) (run_found _ before.runs.list it.it.run it.it.found) refl refl refl (ap (λ (w : World). w.runs.list) it.after_is) (ap (λ (w : World). w.runs.greatest) it.after_is) (ap tells_start it.reply_is) (step_is_own event _ (its_own_step before event _ it.it));
       answers = answers_stay before after (ap (λ (w : World). w.transport.openings) it.after_is) (ap (λ (w : World). w.runs.tables) it.after_is) (ap (λ (w : World). w.transport.clock) it.after_is);
       taken = λ run given idle. λ i. taken_by run (it.it.event_is i) (it.reply_is i);
       acts = executes_acts before event _ it.it;
@@ -479,7 +480,7 @@ effect_of setup before event reply after kept (asks_one it) =
       ccbs = ccbs.0;
       ended = ccbs.1;
       freezes = call_freezes setup before event reply after kept it it.freezes;
-      runs = run_changes it.it.run (record it.it.run { machine = answered it.request it.given it.it.run.machine }) (run_found _ before.runs.list it.it.run it.it.found) refl refl (call_runs setup before event reply after it) (ap (λ (w : World). w.runs.greatest) parts.1 ∙ it.rest.greatest_is) (ap tells_start parts.0) (step_is_own event _ (its_own_step before event _ it.it));
+      runs = run_changes it.it.run (record it.it.run { machine = answered it.request it.given it.it.run.machine }) (run_found _ before.runs.list it.it.run it.it.found) refl refl refl (call_runs setup before event reply after it) (ap (λ (w : World). w.runs.greatest) parts.1 ∙ it.rest.greatest_is) (ap tells_start parts.0) (step_is_own event _ (its_own_step before event _ it.it));
       answers = call_answers setup before event reply after it;
       taken = λ run given idle. call_taken setup before event reply after run idle it it.freezes;
       acts = executes_acts before event _ it.it;

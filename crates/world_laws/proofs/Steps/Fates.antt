@@ -130,7 +130,7 @@ one_turns before event reply after it number run found =
 call_allowed : (setup : Setup) (before : World) (run : LiveRun) (request : Request) (given : Answer) (between : World) → AnswersFrom setup before run → run.machine.held ≡ held_by run.number before.transport.freezes → FreezeDeed setup before run request given between → IsAnswer run.machine request given
 call_allowed setup before run request given between from held (leaves_freezes deed) = deed.allowed from
 call_allowed setup before run request given between from held (takes_one deed) =
-    let room = room_from (device request.arguments.first) before.transport.freezes before.transport.greatest_freeze deed.room in
+    let room = room_from deed.place before.transport.freezes before.transport.greatest_freeze deed.room in
     let fresh : is_held run.machine.held (before.transport.greatest_freeze + 1) ≡ false =
     ap (λ (ns : List ℕ). is_held ns (before.transport.greatest_freeze + 1)) held ∙ none_above run.number (before.transport.greatest_freeze + 1) before.transport.freezes before.transport.greatest_freeze from.kept.freezes.numbered (omega arith) in
     rw (deed.gives_is, deed.machine_is, deed.given_is) (inr (omega arith, omega (arith, room.numbers), fresh), tt)
@@ -175,7 +175,7 @@ call_holding setup before event reply after kept it = by_deed
     by_deed (takes_one deed) =
         let next : ℕ = before.transport.greatest_freeze + 1 in
         let above : eqb next 0 ≡ false = ne_eqb _ _ (λ e. omega (arith, e)) in
-        holds_one_more (record { number = next; place = device number_in_R1; holder = Run run.number }) refl (eq-eqb _ _ named)
+        holds_one_more (record { number = next; place = deed.place; holder = Run run.number }) refl (eq-eqb _ _ named)
         (held_as changes.Holds (answer_number next) deed.machine_is deed.given_is ∙ cond-false (eqb next 0) run.machine.held (run.machine.held ++ next ∷ []) above)
         (freezes_is ∙ deed.freezes_is) (ap (λ (x : Reply × World). x.1.transport.greatest_freeze) it.answer ∙ deed.greatest_is) (given_as changes.Holds deed.machine_is)
         (takes NewFreeze (answer_number next) deed.gives_is deed.given_is

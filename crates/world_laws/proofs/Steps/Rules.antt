@@ -6,7 +6,7 @@ use Rattle.helpers.specs.declared.limits.HelperLimits.{HelperLimits}
 use Rattle.helpers.specs.declared.columns.Asked.{Asked}
 use Rattle.helpers.specs.declared.columns.Asked.TheVariants.{Within, Table, Index}
 use Rattle.helpers.specs.declared.request.Request.{Request}
-use Rattle.helpers.specs.Table.{asks, row_of}
+use Rattle.helpers.specs.Table.{asks, is_there, row_of}
 use Rattle.bpf_semantics.specs.MachineState.{MachineState}
 use Rattle.bpf_semantics.specs.Calls.{meets, meets_need, meets_rule}
 use Rattle.table_store.specs.Tables.{HasWord}
@@ -19,6 +19,7 @@ pub record Obeyed (limits : HelperLimits) (m : MachineState) (request : Request)
   pub first : meets limits m request.arguments (asks request.helper).first request.arguments.first ≡ true
   pub second : meets limits m request.arguments (asks request.helper).second request.arguments.second ≡ true
   pub third : meets limits m request.arguments (asks request.helper).third request.arguments.third ≡ true
+  pub there : is_there limits.helpers request.helper ≡ true
 
 pub rule_parts : (limits : HelperLimits) (m : MachineState) (request : Request) → meets_rule limits m request ≡ true → Obeyed limits m request
 rule_parts limits m request rule =
@@ -26,7 +27,7 @@ rule_parts limits m request rule =
     let those = and_parts (meets limits m request.arguments (asks request.helper).first request.arguments.first) _ all.1 in
     let seconds = and_parts (meets limits m request.arguments (asks request.helper).second request.arguments.second) _ those.1 in
     let thirds = and_parts (meets limits m request.arguments (asks request.helper).third request.arguments.third) _ seconds.1 in
-    record { need = all.0; first = those.0; second = seconds.0; third = thirds.0 }
+    record { need = all.0; first = those.0; second = seconds.0; third = thirds.0; there = thirds.1 }
 
 -- the first argument, and the second, by what is asked of it
 pub first_as : (limits : HelperLimits) (m : MachineState) (request : Request) (o : Option Asked) → (asks request.helper).first ≡ o → meets_rule limits m request ≡ true → meets limits m request.arguments o request.arguments.first ≡ true

@@ -1,16 +1,19 @@
-// What an engine is opened with. It relies on `accepted` for accepted programs and on `helpers` for their limits.
+// What an engine is opened with. It relies on `given` for the queues as they are given, on `accepted` for accepted programs and
+// on `helpers` for their limits.
 
 ghost use Rattle.std.specs.Prelude.{◌≡◌, ◌<◌, ◌≤◌, ◌↔◌, length, map, All, IsSome, IsTrue, IfSome, IfOk};
 ghost use Rattle.std.specs.Arc.{arc_value};
+ghost use Rattle.helpers.specs.declared.limits.HelperSet.TheVariants.{Controllers};
 ghost use Rattle.accepted.specs.Verdict.{IsAccepted};
 ghost use Rattle.world.specs.World.{queue_count, queue_setup};
-ghost use Rattle.world.specs.Capacities.{most_queues};
-ghost use Rattle.world.specs.Lawful.{IsLawful};
-ghost use Rattle.engine_config.specs.Configured.{AreProgramsGiven, AreProgramsOf, IsConfigured, IsGivenUnder, IsKnown, given_of, setup_of};
+ghost use Rattle.world.specs.Capacities.{most_controllers, most_queues};
+ghost use Rattle.world.specs.Lawful.{AreUnder, IsLawful};
+ghost use Rattle.engine_config.specs.Configured.{AreProgramsGiven, AreProgramsOf, IsConfigured, IsGivenUnder, IsKnown, alone_of, controllers_of, queue_of, queue_seen, queues_of, setup_of, under_of};
 
+use crate::given::{GivenQueue, GivenQueues, are_under};
 use accepted::Accepted;
 use ccb::QueueId;
-use helpers::HelperLimits;
+use helpers::{HelperLimits, HelperSet};
 use std::alloc::{AllocError, Global};
 use std::marker::Model;
 use std::sync::Arc;
@@ -24,41 +27,65 @@ pub const MAX_TABLES: usize = 16;
 /// How many words a table may have.
 pub const MAX_WORDS: u16 = 4096;
 
-/// The limits of the helper calls, and for each device queue, in the order of the queues' numbers, its openings
-/// and its program, which was accepted under these limits. Contracts see it as the world's setup.
+/// The limits of the helper calls, how many controllers there are, and for each device queue, in the order of the queues'
+/// numbers, its openings, its controller and its program, which was accepted under these limits. Contracts see it as the
+/// world's setup.
 #[derive(Debug, Drop)]
 pub struct Config {
     limits: HelperLimits,
-    queues: Vec<(u8, Arc<Accepted>)>,
+    queues: GivenQueues,
 }
 
 impl Model for Config {
-    ghost use Rattle.std.specs.Prelude.{map};
     ghost use Rattle.world.specs.World.{Setup};
-    ghost use Rattle.engine_config.specs.Configured.{KeepsConfig, given_of, setup_of};
+    ghost use Rattle.engine_config.specs.Configured.{KeepsConfig, controllers_of, queues_of, setup_of};
 
     ghost Value = { Setup };
 
-    ghost view = { λ c. setup_of c.limits (map given_of c.queues.items) };
+    ghost view = { λ c. setup_of c.limits (controllers_of c.queues) (queues_of c.queues) };
 
-    ghost invariant = { λ c. KeepsConfig c.limits (map given_of c.queues.items) };
+    ghost invariant = { λ c. KeepsConfig c.limits (controllers_of c.queues) (queues_of c.queues) };
 }
 
 impl Config {
-    /// A configuration of 1 to 64 queues, as many as the limits say, each with 1 to 255 openings and a program
-    /// that was accepted under these limits, and of up to 16 tables of 1 to 4096 words; `None` exactly where
-    /// they are not so. It takes no memory.
+    /// A configuration without controllers: of 1 to 64 queues, as many as the limits say, each with 1 to 255 openings and a
+    /// program that was accepted under these limits, of which the helpers are those of queues alone, and of up to 16 tables
+    /// of 1 to 4096 words; `None` exactly where they are not so. It takes no memory.
     pub fn new(limits: HelperLimits, queues: Vec<(u8, Arc<Accepted>)>) -> Option<Self>
-        ensures lawful { IsSome result ↔ IsConfigured limits (map given_of queues.items) }
-        ensures value { IfSome result (λ config. config ≡ setup_of limits (map given_of queues.items)) }
+        ensures lawful { IsSome result ↔ IsConfigured limits 0 (map alone_of queues.items) }
+        ensures value { IfSome result (λ config. config ≡ setup_of limits 0 (map alone_of queues.items)) }
     {
-        if !has_lawful_tables(&limits)
-            || !are_so_many(&limits, queues.len())
-            || !are_given_under(&limits, &queues)
-        {
+        match limits.helpers {
+            HelperSet::Queues => made(limits, GivenQueues::Alone(queues)),
+            HelperSet::Controllers => None,
+        }
+    }
+
+    /// A configuration of 1 to 8 controllers, with the openings, the controller, which is below their number, and the program
+    /// of each queue. The helpers of its limits are those of controllers; all else is as for `new`, and it is `None` exactly
+    /// where they are not so. It takes no memory.
+    pub fn with_controllers(
+        limits: HelperLimits,
+        controllers: u8,
+        queues: Vec<(u8, u8, Arc<Accepted>)>,
+    ) -> Option<Self>
+        ensures lawful { IsSome result ↔ ((limits.helpers ≡ Controllers) × IsConfigured limits controllers (map under_of queues.items)) }
+        ensures value { IfSome result (λ config. config ≡ setup_of limits controllers (map under_of queues.items)) }
+    {
+        if !are_under(controllers, &queues) {
             return None;
         }
-        Some(Config { limits, queues })
+        match limits.helpers {
+            HelperSet::Queues => None,
+            HelperSet::Controllers => made(limits, GivenQueues::Under(controllers, queues)),
+        }
+    }
+
+    /// Which helpers there are.
+    pub fn helpers(&self) -> HelperSet
+        ensures { result ≡ self.now.limits.helpers }
+    {
+        self.limits.helpers
     }
 
     /// How many device queues there are, 1 to 64.
@@ -68,6 +95,14 @@ impl Config {
         ensures lawful { IsLawful self.now }
     {
         self.limits.queues
+    }
+
+    /// How many controllers there are, 1 to 8, or 0 where queues alone freeze.
+    pub fn controllers(&self) -> u32
+        ensures value { result ≡ self.now.controllers }
+        ensures bound { result ≤ most_controllers }
+    {
+        u32::from(self.queues.controllers())
     }
 
     /// How many words each table has, in the order of the tables' numbers.
@@ -83,7 +118,20 @@ impl Config {
         ensures value { result ≡ (queue_setup self.now queue).openings }
         ensures least { 1 ≤ result }
     {
-        self.queues[queue as usize].0
+        self.queues.queue(queue as usize).openings
+    }
+
+    /// The controller that a queue is under, 0 to 7: 0 where there are none, and behind the last queue.
+    pub fn controller(&self, queue: QueueId) -> u32
+        ensures value { result ≡ (queue_setup self.now queue.0).controller }
+        ensures bound { result < most_controllers }
+    {
+        let number = queue.0 as usize;
+        if number < self.queues.count() {
+            u32::from(self.queues.queue(number).controller)
+        } else {
+            0
+        }
     }
 
     /// The program that a failed completion of a queue starts.
@@ -94,7 +142,7 @@ impl Config {
         ensures limits { (arc_value result.now).limits ≡ self.now.limits }
         ensures accepted { IsAccepted (arc_value result.now) }
     {
-        &self.queues[queue.0 as usize].1
+        self.queues.queue(queue.0 as usize).program
     }
 
     /// The programs of all queues, in the order of the queues' numbers: they are shared, and not copied.
@@ -105,16 +153,29 @@ impl Config {
     }
 }
 
-// The programs of these queues, in their order.
-fn shared_programs(
-    alloc: Global,
-    queues: &[(u8, Arc<Accepted>)],
-) -> Result<Vec<Arc<Accepted>>, AllocError>
-    ensures { IfOk result (λ programs. AreProgramsGiven queues.now programs.items) }
+// The configuration of these queues, each under one of the controllers, if there are any.
+fn made(limits: HelperLimits, queues: GivenQueues) -> Option<Config>
+    requires { AreUnder limits.helpers (controllers_of queues) (map queue_of (queues_of queues)) }
+    ensures lawful { IsSome result ↔ IsConfigured limits (controllers_of queues) (queues_of queues) }
+    ensures value { IfSome result (λ config. config ≡ setup_of limits (controllers_of queues) (queues_of queues)) }
 {
-    let mut programs = Vec::with_capacity(alloc, queues.len())?;
-    for queue in queues {
-        let program = Arc::try_clone(&queue.1)?;
+    if !has_lawful_tables(&limits)
+        || !are_so_many(&limits, queues.count())
+        || !are_given_under(&limits, &queues)
+    {
+        return None;
+    }
+    Some(Config { limits, queues })
+}
+
+// The programs of these queues, in their order.
+fn shared_programs(alloc: Global, queues: &GivenQueues) -> Result<Vec<Arc<Accepted>>, AllocError>
+    ensures { IfOk result (λ programs. AreProgramsGiven (queues_of queues.now) programs.items) }
+{
+    let mut programs = Vec::with_capacity(alloc, queues.count())?;
+    for number in 0..queues.count() {
+        let queue = queues.queue(number);
+        let program = Arc::try_clone(queue.program)?;
         programs.push(program)?;
     }
     Ok(programs)
@@ -140,24 +201,25 @@ fn are_so_many(limits: &HelperLimits, queues: usize) -> bool
 }
 
 // Each queue has an opening, and a program that was accepted under these limits.
-fn are_given_under(limits: &HelperLimits, queues: &[(u8, Arc<Accepted>)]) -> bool
-    ensures given { IsTrue result ↔ All (λ queue. IsGivenUnder limits.now (given_of queue)) queues.now }
-    ensures known { IsTrue result → All (λ queue. IsKnown (given_of queue)) queues.now }
+fn are_given_under(limits: &HelperLimits, queues: &GivenQueues) -> bool
+    ensures given { IsTrue result ↔ All (IsGivenUnder limits.now) (queues_of queues.now) }
+    ensures known { IsTrue result → All IsKnown (queues_of queues.now) }
 {
-    for queue in queues {
-        if !is_given_under(limits, queue) {
+    for number in 0..queues.count() {
+        let queue = queues.queue(number);
+        if !is_given_under(limits, &queue) {
             return false;
         }
     }
     true
 }
 
-fn is_given_under(limits: &HelperLimits, queue: &(u8, Arc<Accepted>)) -> bool
-    ensures given { IsTrue result ↔ IsGivenUnder limits.now (given_of queue.now) }
-    ensures known { IsKnown (given_of queue.now) }
+fn is_given_under(limits: &HelperLimits, queue: &GivenQueue<'_>) -> bool
+    ensures given { IsTrue result ↔ IsGivenUnder limits.now (queue_seen queue.now) }
+    ensures known { IsKnown (queue_seen queue.now) }
 {
-    let openings = queue.0;
-    let policy: &Accepted = &queue.1;
+    let openings = queue.openings;
+    let policy: &Accepted = queue.program;
     let agrees = policy.limits() == limits;
     agrees && 0 < openings
 }

@@ -1,7 +1,9 @@
-// What an engine is opened with: the limits of the helper calls, and the device queues with their openings and their
-// accepted programs. It relies on `accepted` for these and on `world` for what a setup is.
+// What an engine is opened with: the limits of the helper calls, the controllers, and the device queues with their openings and
+// their accepted programs. It relies on `accepted` for these and on `world` for what a setup is.
 #![tactic(auto)]
 
 mod config;
+mod given;
 
 pub use config::{Config, MAX_QUEUES, MAX_TABLES, MAX_WORDS};
+pub use given::MAX_CONTROLLERS;

@@ -9,6 +9,7 @@ pub mod Reported
 pub mod Deciding
 pub mod StopEnds
 pub mod Calls
+pub mod Freezing
 pub mod Going
 pub mod Performing
 pub mod Answering

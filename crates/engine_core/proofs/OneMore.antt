@@ -19,7 +19,7 @@ pub once : (setup : Setup) (before world : World) (call : Call) (answer : CallAn
 once setup before world call answer transport runs step is = record { world = world; leads = (world, step, refl); is = is }
 
 -- one that is about the transport alone
-pub by_transport : (setup : Setup) (history : List Record) (transport more : Transport) (runs : RunsState) (call : Call) (answer : CallAnswer) → ((setup : Setup) (world : World) → queue_count setup ≡ length transport.openings → step_call setup (record world { transport = transport }) call ≡ Some (replies answer, record world { transport = more })) → KeepsEngine setup history transport runs → LeadsTo setup (world_of setup history transport runs.runs) (events_of (Called answer call)) more runs.runs
+pub by_transport : (setup : Setup) (history : List Record) (transport more : Transport) (runs : RunsState) (call : Call) (answer : CallAnswer) → ((world : World) → queue_count setup ≡ length transport.openings → step_call setup (record world { transport = transport }) call ≡ Some (replies answer, record world { transport = more })) → KeepsEngine setup history transport runs → LeadsTo setup (world_of setup history transport runs.runs) (events_of (Called answer call)) more runs.runs
 by_transport setup history transport more runs call answer step kept =
     let before : World = world_of setup history transport runs.runs in
-    once setup before (record before { transport = more }) call answer more runs.runs (step setup before (opening_count setup history transport runs kept)) refl
+    once setup before (record before { transport = more }) call answer more runs.runs (step before (opening_count setup history transport runs kept)) refl

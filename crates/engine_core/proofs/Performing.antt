@@ -49,14 +49,18 @@ use Rattle.engine_core.proofs.Parking.{with_out_run, parks_run, resumes_run, res
 use Rattle.engine_core.proofs.Recording.{kept_sound}
 
 -- a call that is about the transport alone, and the tokens with it
+abbrev StepsOf : Setup → Transport → Transport → Call → CallAnswer → Type 0
+StepsOf setup transport more call answer = (world : World) → queue_count setup ≡ length transport.openings → step_call setup (record world { transport = transport }) call ≡ Some (replies answer, record world { transport = more })
+
+-- in each setup
 abbrev Steps : Transport → Transport → Call → CallAnswer → Type 0
-Steps transport more call answer = (setup : Setup) (world : World) → queue_count setup ≡ length transport.openings → step_call setup (record world { transport = transport }) call ≡ Some (replies answer, record world { transport = more })
+Steps transport more call answer = (setup : Setup) → StepsOf setup transport more call answer
 
 pub submits : (queue : QueueId) (priority retries : ℕ) (transport more : Transport) (answer : Result CcbId CallRefusal) → Steps transport more (its.Submit queue priority retries) (ccb_answer answer) → more.freezes ≡ transport.freezes → (setup : Setup) (runs : RunsState) → Performs setup (Submit queue priority retries) transport runs more runs (ccb_reply answer) (Called (ccb_answer answer) (its.Submit queue priority retries))
 submits queue priority retries transport more (Ok ccb) step same setup runs = record {
   is = refl;
   fits = tt;
-  leads = λ history kept. by_transport setup history transport more runs _ _ step kept;
+  leads = λ history kept. by_transport setup history transport more runs _ _ (step setup) kept;
   tokens = λ history kept. same_freezes transport.freezes more.freezes runs kept.tokens same;
   gives = λ before after. tt;
   room = tt;
@@ -64,14 +68,14 @@ submits queue priority retries transport more (Ok ccb) step same setup runs = re
 submits queue priority retries transport more (Err refusal) step same setup runs = record {
   is = refl;
   fits = refl;
-  leads = λ history kept. by_transport setup history transport more runs _ _ step kept;
+  leads = λ history kept. by_transport setup history transport more runs _ _ (step setup) kept;
   tokens = λ history kept. same_freezes transport.freezes more.freezes runs kept.tokens same;
   gives = λ before after. tt;
   room = tt;
 }
 
-pub dispatches : (queue : QueueId) (transport more : Transport) (answer : Result CcbId CallRefusal) → Steps transport more (its.Dispatch queue) (ccb_answer answer) → more.freezes ≡ transport.freezes → (setup : Setup) (runs : RunsState) → Performs setup (Dispatch queue) transport runs more runs (ccb_reply answer) (Called (ccb_answer answer) (its.Dispatch queue))
-dispatches queue transport more (Ok ccb) step same setup runs = record {
+pub dispatches : (setup : Setup) (queue : QueueId) (transport more : Transport) (answer : Result CcbId CallRefusal) → StepsOf setup transport more (its.Dispatch queue) (ccb_answer answer) → more.freezes ≡ transport.freezes → (runs : RunsState) → Performs setup (Dispatch queue) transport runs more runs (ccb_reply answer) (Called (ccb_answer answer) (its.Dispatch queue))
+dispatches setup queue transport more (Ok ccb) step same runs = record {
   is = refl;
   fits = tt;
   leads = λ history kept. by_transport setup history transport more runs _ _ step kept;
@@ -79,7 +83,7 @@ dispatches queue transport more (Ok ccb) step same setup runs = record {
   gives = λ before after. tt;
   room = tt;
 }
-dispatches queue transport more (Err refusal) step same setup runs = record {
+dispatches setup queue transport more (Err refusal) step same runs = record {
   is = refl;
   fits = refl;
   leads = λ history kept. by_transport setup history transport more runs _ _ step kept;
@@ -92,7 +96,7 @@ pub reads : (reading : ℕ) (transport more : Transport) (answer : Result ℕ Ca
 reads reading transport more (Ok count) step removed same setup runs = record {
   is = refl;
   fits = tt;
-  leads = λ history kept. by_transport setup history transport more runs _ _ step kept;
+  leads = λ history kept. by_transport setup history transport more runs _ _ (step setup) kept;
   tokens = λ history kept. timers_released transport.freezes more.freezes transport.greatest_freeze reading runs kept.tokens (kept_sound setup history transport runs kept).kept.freezes.numbered removed;
   gives = λ before after. tt;
   room = tt;
@@ -100,14 +104,14 @@ reads reading transport more (Ok count) step removed same setup runs = record {
 reads reading transport more (Err refusal) step removed same setup runs = record {
   is = refl;
   fits = refl;
-  leads = λ history kept. by_transport setup history transport more runs _ _ step kept;
+  leads = λ history kept. by_transport setup history transport more runs _ _ (step setup) kept;
   tokens = λ history kept. same_freezes transport.freezes more.freezes runs kept.tokens (ap (λ (m : Transport). m.freezes) same);
   gives = λ before after. tt;
   room = tt;
 }
 
-pub freezes : (place : Place) (guest : ℕ) (transport more : Transport) (token : Freeze) (number : ℕ) → number ≡ token.number → (token.place ≡ place) × (token.holder ≡ Guest guest) × (more.freezes ≡ transport.freezes ++ token ∷ []) → Steps transport more (its.GuestFreeze place guest) (answers.Freeze token.number) → (setup : Setup) (runs : RunsState) → Performs setup (GuestFreeze place guest) transport runs more runs (Given (given.Freeze token)) (Called (answers.Freeze number) (its.GuestFreeze place guest))
-freezes place guest transport more token number named is step setup runs =
+pub freezes : (setup : Setup) (place : Place) (guest : ℕ) (transport more : Transport) (token : Freeze) (number : ℕ) → number ≡ token.number → (token.place ≡ place) × (token.holder ≡ Guest guest) × (more.freezes ≡ transport.freezes ++ token ∷ []) → StepsOf setup transport more (its.GuestFreeze place guest) (answers.Freeze token.number) → (runs : RunsState) → Performs setup (GuestFreeze place guest) transport runs more runs (Given (given.Freeze token)) (Called (answers.Freeze number) (its.GuestFreeze place guest))
+freezes setup place guest transport more token number named is step runs =
     let guests : is_guest token.holder ≡ true = ap is_guest is.1 in
     subst (λ (n : ℕ). Performs setup (GuestFreeze place guest) transport runs more runs (Given (given.Freeze token)) (Called (answers.Freeze n) (its.GuestFreeze place guest))) (sym named) (record {
       is = refl;
@@ -118,8 +122,8 @@ freezes place guest transport more token number named is step setup runs =
       room = tt;
     })
 
-pub refuses_freeze : (place : Place) (guest : ℕ) (transport more : Transport) (refusal : CallRefusal) → more ≡ transport → Steps transport more (its.GuestFreeze place guest) (answers.Refused refusal) → (setup : Setup) (runs : RunsState) → Performs setup (GuestFreeze place guest) transport runs more runs (Refused refusal) (Called (answers.Refused refusal) (its.GuestFreeze place guest))
-refuses_freeze place guest transport more refusal same step setup runs = record {
+pub refuses_freeze : (setup : Setup) (place : Place) (guest : ℕ) (transport more : Transport) (refusal : CallRefusal) → more ≡ transport → StepsOf setup transport more (its.GuestFreeze place guest) (answers.Refused refusal) → (runs : RunsState) → Performs setup (GuestFreeze place guest) transport runs more runs (Refused refusal) (Called (answers.Refused refusal) (its.GuestFreeze place guest))
+refuses_freeze setup place guest transport more refusal same step runs = record {
   is = refl;
   fits = refl;
   leads = λ history kept. by_transport setup history transport more runs _ _ step kept;
@@ -133,7 +137,7 @@ releases token transport more number count named there guests fewer step setup r
     subst (λ (n : ℕ). Performs setup (GuestRelease token) transport runs more runs (Given (given.Left count)) (Called (answers.Left count) (its.GuestRelease n))) (sym named) (record {
       is = refl;
       fits = tt;
-      leads = λ history kept. by_transport setup history transport more runs _ _ step kept;
+      leads = λ history kept. by_transport setup history transport more runs _ _ (step setup) kept;
       tokens = λ history kept.
           let numbered = (kept_sound setup history transport runs kept).kept.freezes.numbered in
           guest_released transport.freezes more.freezes transport.greatest_freeze token runs kept.tokens numbered (its_entry transport.freezes transport.greatest_freeze token numbered there) guests fewer;

@@ -1,6 +1,10 @@
 -- What it takes to take a segment over, and what that leaves.
 use Rattle.std.specs.Prelude.{◌≡◌, ℕ, List, Some}
+use Rattle.freeze_ledger.specs.declared.place.Place.{Place}
+use Rattle.freeze_ledger.specs.declared.place.Place.TheVariants.{Controller}
+use Rattle.freeze_ledger.specs.Places.{device}
 use Rattle.helpers.specs.declared.table.Deed.{Deed}
+use Rattle.helpers.specs.declared.table.Deed.TheVariants as deeds
 use Rattle.helpers.specs.Table.{row_of}
 use Rattle.helpers.specs.declared.request.Request.{Request}
 use Rattle.helpers.specs.declared.request.Answer.{Answer}
@@ -90,6 +94,15 @@ AsksOf deed transport runs place request = IsOfDeed deed request × ((segment : 
 -- with some transport
 abbrev pub Asks : Deed → RunsState → ℕ → Request → Type 0
 Asks deed runs place request = IsOfDeed deed request × ((transport : Transport) × (segment : SegmentState) × IsCalled transport runs place segment request)
+
+-- a call that freezes this place: a queue that it names, or the controller that its run's queue is under
+pub data FreezesPlace (place : ℕ) (runs : RunsState) (request : Request) (frozen : Place) : Type 0 where
+  freezes_queue : IsOfDeed deeds.Freeze request → frozen ≡ device request.arguments.first → FreezesPlace place runs request frozen
+  freezes_controller : IsOfDeed deeds.FreezeController request → ((run : LiveRun) → HasRunAt runs.runs.list place run → frozen ≡ Controller run.controller) → FreezesPlace place runs request frozen
+
+abbrev pub AsksToFreeze : Place → Transport → RunsState → ℕ → Request → Type 0
+AsksToFreeze frozen transport runs place request =
+    FreezesPlace place runs request frozen × ((segment : SegmentState) × IsCalled transport runs place segment request)
 
 -- what is done is what such a call does
 pub record AnswersOf (place : ℕ) (request : Request) (given : Answer) (transport : Transport) (runs : RunsState) (more : Transport) (after : RunsState) : Type 0 where

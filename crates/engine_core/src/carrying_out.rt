@@ -3,7 +3,7 @@
 
 ghost use Rattle.helpers.specs.declared.table.Deed.TheVariants as deeds;
 ghost use Rattle.interpreter.specs.Segments.{SegmentState};
-ghost use Rattle.engine_core.specs.TakingOver.{IsCalled, Asks, AsksOf, Answers, AnswersOf};
+ghost use Rattle.engine_core.specs.TakingOver.{IsCalled, Asks, AsksOf, AsksToFreeze, Answers, AnswersOf};
 
 use ccb::QueueId;
 use freeze_ledger::{Holder, Place};
@@ -24,7 +24,7 @@ pub(crate) fn carry_out(
 {
     match request.helper.row().deed {
         Deed::Nothing => tell_history(runs, place, request),
-        Deed::Freeze => take_freeze(transport, runs, place, request),
+        Deed::Freeze => take_queue(transport, runs, place, request),
         Deed::GiveBack => give_back(transport, runs, place, request),
         Deed::HandOver => hand_over(transport, runs, place, request),
         Deed::Requeue => requeue(transport, runs, place, request),
@@ -35,6 +35,8 @@ pub(crate) fn carry_out(
         Deed::TellQueue => tell_queue(transport, runs, place, request),
         Deed::TellClock => tell_clock(transport, runs, place, request),
         Deed::SetOpenings => set_openings(transport, runs, place, request),
+        Deed::FreezeController => take_controller(transport, runs, place, request),
+        Deed::TellController => tell_controller(transport, runs, place, request),
     }
 }
 
@@ -47,24 +49,53 @@ fn tell_history(runs: &Runs, place: usize, request: &Request) -> Answer
 }
 
 // Freezes the queue that R1 names: the new freeze's number, or 0 at a limit.
-fn take_freeze(
+fn take_queue(transport: &mut Transport, runs: &mut Runs, place: usize, request: &Request) -> Answer
+    requires { AsksOf deeds.Freeze transport.old runs.old place request.now }
+    ensures { AnswersOf place request.now result transport.old runs.old transport.new runs.new }
+{
+    let queue = QueueId(request.arguments.first as u32);
+    take_freeze(transport, runs, place, request, Place::Device(queue))
+}
+
+// Freezes the controller that the run's queue is under: the same.
+fn take_controller(
     transport: &mut Transport,
     runs: &mut Runs,
     place: usize,
     request: &Request,
 ) -> Answer
-    requires { AsksOf deeds.Freeze transport.old runs.old place request.now }
+    requires { AsksOf deeds.FreezeController transport.old runs.old place request.now }
     ensures { AnswersOf place request.now result transport.old runs.old transport.new runs.new }
 {
-    let queue = Place::Device(QueueId(request.arguments.first as u32));
+    let controller = runs.controller(place);
+    take_freeze(
+        transport,
+        runs,
+        place,
+        request,
+        Place::Controller(controller),
+    )
+}
+
+// Freezes what the call asks to freeze: the new freeze's number, or 0 at a limit.
+fn take_freeze(
+    transport: &mut Transport,
+    runs: &mut Runs,
+    place: usize,
+    request: &Request,
+    frozen: Place,
+) -> Answer
+    requires { AsksToFreeze frozen transport.old runs.old place request.now }
+    ensures { AnswersOf place request.now result transport.old runs.old transport.new runs.new }
+{
     let holder = Holder::Run(runs.number(place));
-    match transport.take(queue, holder) {
+    match transport.take(frozen, holder) {
         Some(token) => Answer::number(u64::from(runs.hold(place, token))),
         None => Answer::number(0),
     }
 }
 
-// Gives the freeze that R1 names back: how many its queue has then.
+// Gives the freeze that R1 names back: how many its place has then.
 fn give_back(transport: &mut Transport, runs: &mut Runs, place: usize, request: &Request) -> Answer
     requires { AsksOf deeds.GiveBack transport.old runs.old place request.now }
     ensures { AnswersOf place request.now result transport.old runs.old transport.new runs.new }
@@ -169,4 +200,12 @@ fn set_openings(transport: &mut Transport, runs: &Runs, place: usize, request: &
 {
     let old = transport.set_openings(runs.queue(place), request.arguments.first as u8);
     Answer::number(u64::from(old))
+}
+
+// How many freezes the controller has that the run's queue is under.
+fn tell_controller(transport: &Transport, runs: &Runs, place: usize, request: &Request) -> Answer
+    requires { AsksOf deeds.TellController transport.now runs.now place request.now }
+    ensures { AnswersOf place request.now result transport.now runs.now transport.now runs.now }
+{
+    Answer::number(u64::from(transport.controller_frozen(runs.controller(place))))
 }

@@ -41,12 +41,16 @@ pub(crate) fn submit(
     )
 }
 
-/// The least CCB that waits is active, or C1, or Q2 to Q4.
+/// The least CCB that waits is active, or C1, or Q2 to Q5.
 #[inline(always)]
-pub(crate) fn dispatch(transport: &mut Transport, queue: QueueId) -> (Reply, Record)
-    ensures { (setup : Setup) (runs : RunsState) → Performs setup (Dispatch queue) transport.old runs transport.new runs result.0 result.1 }
+pub(crate) fn dispatch(
+    config: &Config,
+    transport: &mut Transport,
+    queue: QueueId,
+) -> (Reply, Record)
+    ensures { (runs : RunsState) → Performs config.now (Dispatch queue) transport.old runs transport.new runs result.0 result.1 }
 {
-    let answer = transport.dispatch(queue);
+    let answer = transport.dispatch(queue, config.controller(queue));
     ccb_told(answer, Call::Dispatch { queue })
 }
 

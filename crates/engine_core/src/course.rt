@@ -100,7 +100,14 @@ pub(crate) fn recover(
     let mut machine = runs.place_for_machine()?;
     let next = runs.place_for_machine()?;
     let (ccb, token) = transport.fail(place, ccb, completion, runs.next_number());
-    let started = runs.start(&ccb, recorded, token, kept, &mut machine);
+    let started = runs.start(
+        &ccb,
+        config.controller(queue),
+        recorded,
+        token,
+        kept,
+        &mut machine,
+    );
     Ok((
         Run::new(started.run, queue, handed, machine, next),
         started.freeze,

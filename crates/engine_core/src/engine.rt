@@ -6,7 +6,7 @@ ghost use Rattle.std.specs.Prelude.{◌≡◌, ◌↔◌, IsTrue, ◌+◌, ◌�
 ghost use Rattle.engine_config.specs.Configured.{AreProgramsOf};
 ghost use Rattle.runs.specs.Admits.{IsOutWith};
 ghost use Rattle.runs.specs.RunsState.{no_runs};
-ghost use Rattle.world.specs.World.{opening};
+ghost use Rattle.world.specs.World.{opening, version_of};
 ghost use Rattle.world.specs.Lawful.{IsLawful};
 ghost use Rattle.world.specs.TotalsOf.{TotalsOf, totals_in};
 ghost use Rattle.engine_core.specs.EngineState.{opened, IsRun};
@@ -19,7 +19,7 @@ use crate::parts::Parts;
 use crate::reply::Reply;
 use crate::run::Run;
 use accepted::Accepted;
-use calls::{Record, Totals, Trace};
+use calls::{Record, Totals, Trace, Version};
 use ccb::QueueId;
 use chunked_list::ChunkedList;
 use engine_config::Config;
@@ -184,16 +184,21 @@ impl Engine {
 
     /// The whole history with its sums. What is still frozen is forfeited, by guests and by runs.
     pub fn shut(self) -> Trace
+        ensures version { result.version ≡ version_of self.setup }
         ensures records { result.records.items ≡ self.history }
         ensures totals { TotalsOf self.setup self.history result.totals }
         ensures run { IsRun self }
     {
         let totals = self.totals();
         let Engine {
-            config: _,
+            config,
             parts: _,
             history: records,
         } = self;
-        Trace { records, totals }
+        Trace {
+            version: Version::of(config.helpers()),
+            records,
+            totals,
+        }
     }
 }

@@ -10,15 +10,21 @@ ghost use Rattle.engine_core.specs.Performing.{Performs};
 use crate::reply::{Given, Reply};
 use crate::told::{refused, removed_told};
 use calls::{Call, CallAnswer, Record};
+use engine_config::Config;
 use freeze_ledger::{FreezeToken, Place};
 use transport::Transport;
 
 /// A guest has a freeze more of the place, or C1, or C2.
-pub(crate) fn guest_freeze(transport: &mut Transport, place: Place, guest: u32) -> (Reply, Record)
-    ensures { (setup : Setup) (runs : RunsState) → Performs setup (GuestFreeze place guest) transport.old runs transport.new runs result.0 result.1 }
+pub(crate) fn guest_freeze(
+    config: &Config,
+    transport: &mut Transport,
+    place: Place,
+    guest: u32,
+) -> (Reply, Record)
+    ensures { (runs : RunsState) → Performs config.now (GuestFreeze place guest) transport.old runs transport.new runs result.0 result.1 }
 {
     let call = Call::GuestFreeze { place, guest };
-    match transport.guest_freeze(place, guest) {
+    match transport.guest_freeze(place, config.controllers(), guest) {
         Ok(token) => {
             let answer = CallAnswer::Freeze(token.number());
             (

@@ -9,12 +9,13 @@ ghost use Rattle.world.specs.Flat.{EmptyAdvanceIsNone};
 ghost use Rattle.world.specs.Laws.Headline.{NeverStuck, MachinesAreReached, WithinBudget, DisposedOnce, ExactFreezes, OthersLeaveIt, GoneRunStaysGone};
 ghost use Rattle.world.specs.Laws.ParkLaws.{ParkedStaysAsItIs};
 ghost use Rattle.world.specs.Laws.Moved.{Moved};
+ghost use Rattle.world.specs.Laws.OneController.{OneController};
 
 /// The headline. For every setup of accepted programs and every interleaving, instruction by instruction, of
 /// submissions, dispatches, completions, timers, guests, parks and runs: no run is ever stuck, and each that is
 /// out has exactly one next step; each executes at most its budget; if it ends it has released or handed over
-/// exactly the freezes that it took, and it disposed of its CCB once; and every queue's frozen count is at every
-/// moment the number of entries that name it. A run's CCB is that of the completion which started it; it is in
+/// exactly the freezes that it took, and it disposed of its CCB once; and every queue's frozen count, and every
+/// controller's, is at every moment the number of entries that name it. A run's CCB is that of the completion which started it; it is in
 /// recovery by this run alone until the run disposes of it, and then it waits again in its queue, with the retries
 /// that the run asked for fewer and its priority and attempts as they were, or it is gone and ended with the run's
 /// code, while all other CCBs stay as they are. And: each live run's machine is one that its program reaches; what
@@ -55,4 +56,11 @@ pub fn headline()
 /// its resumes.
 pub fn moved()
     ensures moves { Moved }
+{}
+
+/// One controller over all queues takes nothing away. Each list of events with its replies that a transport of device queues
+/// alone may have, of which none is about a controller, may happen with the same replies in every transport that has the same
+/// queues, instructions and tables and one controller over all of them, and it leads to the same world.
+pub fn one_controller()
+    ensures { OneController }
 {}

@@ -4,7 +4,7 @@
 ghost use Rattle.std.specs.Prelude.{◌≡◌, IfOk, IfErr, MatchResult};
 ghost use Rattle.freeze_ledger.specs.declared.freeze.Holder.TheVariants.{Guest};
 ghost use Rattle.engine_core.specs.RunState.{before_stop, IsOut, IsOutUnder};
-ghost use Rattle.freeze_ledger.specs.declared.place.Place.TheVariants.{Device};
+ghost use Rattle.freeze_ledger.specs.declared.place.Place.TheVariants.{Controller, Device};
 ghost use Rattle.calls.specs.declared.call.Call.TheVariants.{Submit, Dispatch, Complete, GuestFreeze, GuestRelease, Clock, Park, Resume};
 ghost use Rattle.calls.specs.declared.call_answer.CallAnswer.TheVariants as answers;
 ghost use Rattle.calls.specs.declared.record.Record.TheVariants.{Called, Advance};
@@ -47,7 +47,7 @@ impl Engine {
 
     /// Starts the waiting CCB of the queue that has the lowest priority number, and among these the lowest CCB
     /// number: its number. C1 where there is no such queue; Q2 where it is frozen; Q3 where as many of its CCBs are
-    /// active as it has openings; Q4 where none waits. All are recorded and change nothing else.
+    /// active as it has openings; Q4 where none waits; Q5 where the controller is frozen that the queue is under. All are recorded and change nothing else.
     pub fn dispatch(&mut self, queue: QueueId) -> Result<CcbId, CallFault>
         ensures answered { IfOk result (λ ccb. Records self.old self.new (Called (answers.Ccb ccb) (Dispatch queue))) }
         ensures fault { IfErr result (λ fault. FaultIs fault (self.new ≡ self.old) (λ refusal. Records self.old self.new (Called (answers.Refused refusal) (Dispatch queue)))) }
@@ -89,14 +89,16 @@ impl Engine {
     ///
     /// 1. A queue is frozen once more, and the run holds the freeze: R0 is its number, or 0 exactly where that meets a
     ///    limit, and then nothing is frozen.
-    /// 2. A freeze that the run holds is given back: R0 is how many freezes its queue has then.
+    /// 2. A freeze that the run holds is given back: R0 is how many freezes its place has then.
     /// 3. A timer has a freeze that the run holds from now on, due so many milliseconds after the last clock reading.
     /// 4. The run's CCB waits again with so many retries fewer.
     /// 5. The run's CCB is finished and gone, with the final code that the record tells.
     /// 9. What the run's queue has is written to the run's stack.
     /// 10. The call's bytes are in the record.
+    /// 13. The controller of the run's queue is frozen once more, as a queue by helper 1.
+    /// 14. R0 is how many freezes that controller has.
     ///
-    /// R0 is 0 after helpers 3 to 10. C4, which is not recorded, exactly where no run of that number is out in this engine,
+    /// R0 is 0 after helpers 3 to 5, 9 and 10. C4, which is not recorded, exactly where no run of that number is out in this engine,
     /// or its program or the machine from which it went is not the recorded one; programs are compared by their
     /// instructions. Every fault hands the run back where it was, and changes nothing.
     pub fn go_on(&mut self, run: Stopped) -> Result<AdvanceAnswer, (AdvanceFault, Run)>
@@ -163,7 +165,27 @@ impl Engine {
         }
     }
 
-    /// Gives a guest's freeze back: how many freezes its queue has then. C6, which is not recorded, exactly
+    /// Freezes a controller for a guest, as a queue: the token of the new freeze. C1 where there is no such controller; C2 where
+    /// the controller has 255 freezes, the ledger 1024, or the numbers up to 4,294,967,295 are used up. Both are recorded and
+    /// change nothing else.
+    pub fn guest_freeze_controller(
+        &mut self,
+        controller: u32,
+        guest: u32,
+    ) -> Result<FreezeToken, CallFault>
+        ensures taken { IfOk result (λ token. Records self.old self.new (Called (answers.Freeze token.number) (GuestFreeze (Controller controller) guest))) }
+        ensures token { IfOk result (λ token. GuestHolds self.new.world token × (token.place ≡ Controller controller) × (token.holder ≡ Guest guest)) }
+        ensures fault { IfErr result (λ fault. FaultIs fault (self.new ≡ self.old) (λ refusal. Records self.old self.new (Called (answers.Refused refusal) (GuestFreeze (Controller controller) guest)))) }
+        ensures run { IsRun self.new }
+    {
+        let place = Place::Controller(controller);
+        match self.answer(Event::GuestFreeze { place, guest }) {
+            Reply::Given(given) => Ok(given.token()),
+            fault => Err(fault.fault()),
+        }
+    }
+
+    /// Gives a guest's freeze back: how many freezes its place has then. C6, which is not recorded, exactly
     /// where no guest's freeze is the token's. Every fault hands the token back and changes nothing.
     pub fn guest_release(&mut self, token: FreezeToken) -> Result<u32, (ReleaseFault, FreezeToken)>
         ensures released { IfOk result (λ count. Records self.old self.new (Called (answers.Left count) (GuestRelease token.number))) }

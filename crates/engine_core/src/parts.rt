@@ -82,7 +82,7 @@ impl Parts {
                 priority,
                 retries,
             } => Ok(submit(&mut self.transport, queue, priority, retries)),
-            Event::Dispatch { queue } => Ok(dispatch(&mut self.transport, queue)),
+            Event::Dispatch { queue } => Ok(dispatch(config, &mut self.transport, queue)),
             Event::Complete { completion } => complete(
                 alloc,
                 config,
@@ -95,7 +95,7 @@ impl Parts {
             }
             Event::Clock { reading } => Ok(read_clock(&mut self.transport, reading)),
             Event::GuestFreeze { place, guest } => {
-                Ok(guest_freeze(&mut self.transport, place, guest))
+                Ok(guest_freeze(config, &mut self.transport, place, guest))
             }
             Event::GuestRelease { token } => Ok(guest_release(&mut self.transport, token)),
             Event::Park { run } => Ok(park(&mut self.runs, place, run)),

@@ -128,7 +128,11 @@ impl<'a> Unrecorded<'a> {
         ensures refused { OnErr result (self.new ≡ self.old) }
     {
         self.tokens.reserve(1)?;
-        match self.parts.transport.guest_freeze(place, guest) {
+        match self
+            .parts
+            .transport
+            .guest_freeze(place, self.config.controllers(), guest)
+        {
             Ok(token) => {
                 let number = token.number();
                 self.tokens.push_reserved(GuestToken::new(token));

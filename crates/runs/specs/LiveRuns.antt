@@ -12,6 +12,7 @@ live_of it = record {
   number = it.number;
   ccb = it.ccb.0;
   queue = it.queue.0;
+  controller = it.controller;
   program = (arc_value it.program).program;
   machine = it.machine.value;
   out = it.out;

@@ -41,12 +41,13 @@ told (Some freeze) = freeze.number
 abbrev pub tokens_of : List Freeze → List (Option Freeze)
 tokens_of freezes = map (λ freeze. Some freeze) freezes
 
--- the run of a number for a CCB, which is out
-abbrev pub run_for : ℕ → Ccb → List Slot → MachineState → LiveRun
-run_for number ccb program machine = record {
+-- the run of a number for a CCB under a controller, which is out
+abbrev pub run_for : ℕ → Ccb → ℕ → List Slot → MachineState → LiveRun
+run_for number ccb controller program machine = record {
   number = number;
   ccb = ccb.number.0;
   queue = ccb.queue.0;
+  controller = controller;
   program = program;
   machine = machine;
   out = true;

@@ -7,13 +7,14 @@ use bpf_machine::Machine;
 use ccb::{CcbId, QueueId};
 use std::sync::Arc;
 
-/// A run that has not exited: its number, for which CCB of which queue it is, its program, the machine in which it goes
+/// A run that has not exited: its number, for which CCB of which queue it is, under which controller, its program, the machine in which it goes
 /// on, whether it is out, and the rights to give back the freezes that it holds, in the order of their numbers.
 #[derive(Drop)]
 pub(crate) struct RunRecord {
     pub(crate) number: u32,
     pub(crate) ccb: CcbId,
     pub(crate) queue: QueueId,
+    pub(crate) controller: u32,
     pub(crate) program: Arc<Accepted>,
     // apart, so that a record is moved as a few words
     pub(crate) machine: Box<Machine>,

@@ -186,12 +186,14 @@ impl Runs {
         keep_spare(&mut self.spare, machine);
     }
 
-    /// Starts a run of a program for a CCB in recovery, under the number after the greatest given. It has the right to give
+    /// Starts a run of a program for a CCB in recovery, whose queue is under that controller, under the number after the greatest
+    /// given. It has the right to give
     /// that freeze back, or none, which it is told as number 0, and begins at the program's entry over the CCB's context.
     /// That machine is written to `machine`, and to `place`, where it is recorded. It asks for room.
     pub fn start(
         &mut self,
         ccb: &Ccb,
+        controller: u32,
         program: Arc<Accepted>,
         token: Option<FreezeToken>,
         place: Box<Machine>,
@@ -203,10 +205,10 @@ impl Runs {
         ensures machine { machine.new ≡ entry (context_of ccb.now) (told token) }
         ensures entry { IsEntry machine.new }
         ensures state { self.new ≡ record {
-          runs = record self.old.runs { list = self.old.runs.list ++ run_for result.run ccb.now (arc_value program).program machine.new ∷ []; greatest = result.run };
+          runs = record self.old.runs { list = self.old.runs.list ++ run_for result.run ccb.now controller (arc_value program).program machine.new ∷ []; greatest = result.run };
           tokens = self.old.tokens ++ tokens_of (option_to_list token) ∷ [];
         } }
-        ensures found { run_of result.run self.new.runs.list ≡ Some (run_for result.run ccb.now (arc_value program).program machine.new) }
+        ensures found { run_of result.run self.new.runs.list ≡ Some (run_for result.run ccb.now controller (arc_value program).program machine.new) }
     {
         let number = self.greatest + 1;
         let (freeze, tokens) = taken_at_start(token);
@@ -217,6 +219,7 @@ impl Runs {
             number,
             ccb: ccb.number,
             queue: ccb.queue,
+            controller,
             program,
             machine: recorded,
             out: true,
@@ -305,6 +308,14 @@ impl Runs {
         ensures { (it : LiveRun) → HasRunAt self.now.runs.list place it → result.0 ≡ it.queue }
     {
         self.records[place].queue
+    }
+
+    /// The controller that this queue is under; 0 where there is none.
+    pub fn controller(&self, place: usize) -> u32
+        requires { (it : LiveRun) × HasRunAt self.now.runs.list place it }
+        ensures { (it : LiveRun) → HasRunAt self.now.runs.list place it → result ≡ it.controller }
+    {
+        self.records[place].controller
     }
 
     /// The machine in which the run at this place goes on.

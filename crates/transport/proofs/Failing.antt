@@ -11,9 +11,9 @@ use Rattle.transport.specs.Freezing.{took}
 use Rattle.transport.proofs.Listed.{listed_as}
 
 -- the ledger is for as many places
-pub places_stay : (before after : LedgerState) (t : Option Freeze) → IfSome t (λ f. after ≡ with_entry before f) → IfNone t (after ≡ before) → after.queues ≡ before.queues
-places_stay before after None some none = ap (λ (l : LedgerState). l.queues) none
-places_stay before after (Some f) some none = ap (λ (l : LedgerState). l.queues) some
+pub places_stay : (before after : LedgerState) (t : Option Freeze) → IfSome t (λ f. after ≡ with_entry before f) → IfNone t (after ≡ before) → after.places ≡ before.places
+places_stay before after None some none = ap (λ (l : LedgerState). l.places) none
+places_stay before after (Some f) some none = ap (λ (l : LedgerState). l.places) some
 
 -- what is seen then, with other CCBs
 pub seen_with : (list : ListState) (queues : List QueueState) (before after : LedgerState) (clock : ℕ) (ccbs : List LiveCcb) (t : Option Freeze) → IfSome t (λ f. after ≡ with_entry before f) → IfNone t (after ≡ before) → seen (listed_as list.greatest ccbs) queues after clock ≡ record (took (seen list queues before clock) t) { live = ccbs }

@@ -8,3 +8,4 @@ pub mod Replies
 pub mod Info
 pub mod Opened
 pub mod Failing
+pub mod Placed

@@ -1,11 +1,12 @@
 -- From the least of a queue's pairs to the CCB that the world starts next.
-use Rattle.std.proofs.Common.{◌≡◌, ℕ, List, [], ◌∷◌, length, map, Bool, true, Some, None, inl, inr, refl, ap, sym, subst, ◌∙◌, arith}
+use Rattle.std.proofs.Common.{◌≡◌, ◌⊎◌, ℕ, suc, ◌<◌, List, [], ◌∷◌, leb, length, map, Bool, true, Some, None, inl, inr, refl, ap, sym, subst, ◌∙◌, arith}
 use Rattle.std.specs.List.{find, list_all, All}
-use Rattle.std.proofs.lemmas.Bool.{cases_Bool, cases_eq, and_parts, and_from, or_left, or_right, eqb-true, eq-eqb, lt-ltb, le-leb}
+use Rattle.std.proofs.lemmas.Bool.{cases_Bool, cases_eq, and_parts, and_from, or_left, or_right, eqb-true, eq-eqb, leb-true, leb-false, lt-ltb, le-leb}
+use Rattle.std.proofs.lemmas.List.{length-map}
 use Rattle.std.proofs.lemmas.List.Elements.{All-nil, All-cons, All-head, All-tail, All-weaker, All-contains}
 use Rattle.ccb.specs.declared.CcbId.{CcbId}
 use Rattle.dev_queue.specs.declared.waiting_ccb.WaitingCcb.{WaitingCcb}
-use Rattle.dev_queue.specs.Waiting.{StartsFirst, IsLeastNumber}
+use Rattle.dev_queue.specs.Waiting.{StartsFirst, IsLeast, IsLeastNumber}
 use Rattle.world.specs.declared.ccb_state.CcbState.{CcbState}
 use Rattle.world.specs.declared.ccb_state.CcbState.TheVariants.{Waiting, Active, InRecovery}
 use Rattle.world.specs.World.{LiveCcb}
@@ -91,3 +92,60 @@ least_starts queue ccbs high number rising least =
 nothing : (those : List LiveCcb) → length those ≡ 0 → find (λ (live : LiveCcb). list_all (starts_before live) those) those ≡ None
 nothing [] e = refl
 nothing (y ∷ ys) e = absurd (omega (arith, e))
+
+-- where no pair waits none starts
+pub none_starts : (queue : ℕ) (ccbs : List LiveCcb) → length (pairs_of (waits_on queue) ccbs) ≡ 0 → next_waiting queue ccbs ≡ None
+none_starts queue ccbs e = nothing (waiting_on queue ccbs) (sym (length-map (waiting_on queue ccbs) pair_of) ∙ e)
+
+-- of two pairs one starts first, and what starts before the first starts before the other
+one_first : (a b : WaitingCcb) → StartsFirst a b ⊎ StartsFirst b a
+one_first a b =
+    elim (cases_Bool (leb a.priority b.priority)) [
+      | inr above ↦ let below = leb-false _ _ above in inr (omega (arith, below), λ same. absurd (omega (arith, below, same)))
+      | inl no_more ↦
+          let most = leb-true _ _ no_more in
+          elim (cases_eq a.priority b.priority) [
+            | inr apart ↦ inl (most, λ same. absurd (apart same))
+            | inl same ↦
+                elim (cases_Bool (leb a.number.0 b.number.0)) [
+                  | inl first ↦ inl (most, λ e. leb-true _ _ first)
+                  | inr later ↦ let below = leb-false _ _ later in inr (omega (arith, same), λ e. omega (arith, below))
+                ]
+          ]
+    ]
+
+first_of_all : (a b c : WaitingCcb) → StartsFirst a b → StartsFirst b c → StartsFirst a c
+first_of_all a b c first second =
+    (omega (arith, first.0, second.0), λ same. omega (arith, first.1 (omega (arith, first.0, second.0, same)), second.1 (omega (arith, first.0, second.0, same))))
+
+some_least : (pair : WaitingCcb) (pairs : List WaitingCcb) → (least : WaitingCcb) × IsLeast (pair ∷ pairs) least
+some_least x [] = (x, record { waits = (0, omega arith, refl); first = All-cons (StartsFirst x) x [] (omega arith, λ e. omega arith) (All-nil (StartsFirst x)) })
+some_least x (y ∷ ys) =
+    let later = some_least y ys in
+    elim (one_first x later.0) [
+      | inl first ↦ (
+        x,
+        record {
+          waits = (0, omega arith, refl);
+          first = All-cons (StartsFirst x) x (y ∷ ys) (omega arith, λ e. omega arith) (All-weaker (StartsFirst later.0) (StartsFirst x) (λ (p : WaitingCcb) (h : StartsFirst later.0 p). first_of_all x later.0 p first h) (y ∷ ys) later.1.first);
+        },
+      )
+      | inr other ↦ (
+        later.0,
+        record {
+          waits = (suc later.1.waits.0, omega (arith, later.1.waits.1), later.1.waits.2);
+          first = All-cons (StartsFirst later.0) x (y ∷ ys) other later.1.first;
+        },
+      )
+    ]
+
+has_least : (pairs : List WaitingCcb) → 0 < length pairs → (least : WaitingCcb) × IsLeast pairs least
+has_least [] some = absurd (omega (arith, some))
+has_least (x ∷ xs) some = some_least x xs
+
+-- and where some wait one starts
+pub some_starts : (queue : ℕ) (ccbs : List LiveCcb) (high : ℕ) → AreRising 0 (map ccb_key ccbs) high → 0 < length (pairs_of (waits_on queue) ccbs) → (it : LiveCcb) × (next_waiting queue ccbs ≡ Some it)
+some_starts queue ccbs high rising some =
+    let least = has_least (pairs_of (waits_on queue) ccbs) some in
+    let starts = least_starts queue ccbs high least.0.number rising (least.0.priority, least.1) in
+    (starts.it, starts.next)

@@ -1,12 +1,13 @@
 -- What the world's steps answer, read off what the table knows.
-use Rattle.std.proofs.Common.{◌≡◌, ℕ, ◌+◌, ◌<◌, List, [], ◌∷◌, ◌++◌, length, map, get_or, true, false, cond, eqb, leb, ltb, Option, Some, None, inl, inr, ap, sym, subst, ◌∙◌, arith}
+use Rattle.std.proofs.Common.{◌≡◌, ℕ, ◌+◌, ◌<◌, List, [], ◌∷◌, ◌++◌, length, map, get_or, Bool, true, false, cond, eqb, leb, ltb, Option, Some, None, inl, inr, ap, sym, subst, ◌∙◌, arith}
 use Rattle.std.specs.Prelude.{nat_le, is_none}
 use Rattle.std.specs.Option.{option_map}
-use Rattle.std.proofs.lemmas.Bool.{cases_Bool, cases_eq, cond-true, cond-false, or_left, or_parts, or_from, lt-leb, le-ltb, eq-eqb, ne_eqb, not_from_true, not_from_false}
+use Rattle.std.proofs.lemmas.Bool.{cases_Bool, cases_eq, cond-true, cond-false, or_left, or_parts, or_from, lt-leb, lt-ltb, le-ltb, eq-eqb, ne_eqb, not_from_true, not_from_false}
 use Rattle.std.proofs.lemmas.List.{length-map}
 use Rattle.ccb.specs.declared.CcbId.{CcbId}
 use Rattle.ccb.specs.declared.ccb.Ccb.{Ccb}
 use Rattle.ccb.specs.Ccb.{submitted, started}
+use Rattle.freeze_ledger.specs.declared.place.Place.TheVariants.{Controller}
 use Rattle.freeze_ledger.specs.Places.{device}
 use Rattle.freeze_ledger.specs.Freezes.{frozen}
 use Rattle.dev_queue.specs.State.{QueueState, live}
@@ -17,16 +18,19 @@ use Rattle.freeze_ledger.specs.State.{LedgerState}
 use Rattle.calls.specs.declared.call.Call.TheVariants.{Submit, Dispatch}
 use Rattle.calls.specs.declared.call_answer.CallAnswer.TheVariants as answers
 use Rattle.calls.specs.declared.call_refusal.CallRefusal.{CallRefusal}
-use Rattle.calls.specs.declared.call_refusal.CallRefusal.TheVariants.{Limit, NothingWaits}
+use Rattle.calls.specs.declared.call_refusal.CallRefusal.TheVariants.{Limit, Frozen, NoOpening, NothingWaits, ControllerFrozen}
 use Rattle.world.specs.declared.ccb_state.CcbState.TheVariants.{Waiting}
-use Rattle.world.specs.World.{Setup, World, queue_count, LiveCcb}
+use Rattle.world.specs.World.{Setup, World, queue_count, queue_setup, LiveCcb}
 use Rattle.world.specs.Lookups.{live_count, active_count, with_ccb, next_waiting}
 use Rattle.world.specs.Event.{Reply, replies, refused}
 use Rattle.world.specs.CcbSteps.{ccb_meets_limit, starts}
 use Rattle.world.specs.Step.{step_call}
 use Rattle.world.specs.World.{Transport}
 use Rattle.transport.specs.Listed.{ListState, is_full}
-use Rattle.transport.specs.Queues.{queue_at, queue_state_of}
+use Rattle.ccb.specs.Rising.{AreRising}
+use Rattle.world.proofs.Steps.Moves.{ccb_key}
+use Rattle.transport.proofs.Next.{none_starts, some_starts}
+use Rattle.transport.specs.Queues.{pairs_of, queue_at, queue_state_of, waits_on}
 use Rattle.transport.specs.Refusals.{refusal_of}
 use Rattle.transport.specs.Invariant.{KeepsTable, seen}
 use Rattle.transport.proofs.Listed.{listed_as}
@@ -61,20 +65,98 @@ submit_given setup world queue priority retries known limit =
 abbrev chosen : World → Option LiveCcb → Option (Reply × World)
 chosen world next = cond (is_none next) (Some (refused NothingWaits, world)) (option_map (starts world) next)
 
--- where the queue has no fault, its next CCB starts
-pub dispatch_starts : (setup : Setup) (world : World) (queue openings : ℕ) → queue < queue_count setup → get_or world.transport.openings queue 0 ≡ openings → start_fault (frozen (device queue) world.transport.freezes) (queue_state_of queue openings world.transport.live) ≡ None → step_call setup world (Dispatch (record { 0 = queue })) ≡ chosen world (next_waiting queue world.transport.live)
-dispatch_starts setup world queue openings known openings_are e =
-    elim (cases_eq (frozen (device queue) world.transport.freezes) 0) [
+-- and if its controller is not frozen
+abbrev chosen_under : World → ℕ → Option LiveCcb → Option (Reply × World)
+chosen_under world controller next =
+    cond (is_none next) (Some (refused NothingWaits, world)) (cond (ltb 0 (frozen (Controller controller) world.transport.freezes)) (Some (refused ControllerFrozen, world)) (option_map (starts world) next))
+
+thawed_above : (world : World) (controller : ℕ) (next : Option LiveCcb) → frozen (Controller controller) world.transport.freezes ≡ 0 → chosen_under world controller next ≡ chosen world next
+thawed_above world controller next none =
+    ap (λ (b : Bool). cond (is_none next) (Some (refused NothingWaits, world)) (cond b (Some (refused ControllerFrozen, world)) (option_map (starts world) next))) (le-ltb _ _ (omega (arith, none)))
+
+-- a start without a fault: the queue is thawed, has an opening, and so is its controller
+record HasNoFault (frozen_times controller : ℕ) (state : QueueState) : Type 0 where
+  thawed : frozen_times ≡ 0
+  opening : leb state.openings state.active ≡ false
+  above : controller ≡ 0
+
+no_fault : (frozen_times controller : ℕ) (state : QueueState) → start_fault frozen_times controller state ≡ None → HasNoFault frozen_times controller state
+no_fault frozen_times controller state e =
+    elim (cases_eq frozen_times 0) [
       | inr apart ↦ absurd (let bad : Some fault.Frozen ≡ None = sym (cond-true _ _ _ (not_from_false _ (ne_eqb _ _ apart))) ∙ e in cc)
       | inl none ↦
-          let later : cond (leb openings (active_count queue world.transport.live)) (Some fault.NoOpening) (cond (eqb (length (queue_state_of queue openings world.transport.live).waiting) 0) (Some fault.NothingWaits) None) ≡ None =
-          sym (cond-false _ _ _ (not_from_true _ (eq-eqb _ _ none))) ∙ e in
-          elim (cases_Bool (leb openings (active_count queue world.transport.live))) [
-            | inl full ↦ absurd (let bad : Some fault.NoOpening ≡ None = sym (cond-true _ _ _ full) ∙ later in cc)
+          let second = sym (cond-false _ _ _ (not_from_true _ (eq-eqb _ _ none))) ∙ e in
+          elim (cases_Bool (leb state.openings state.active)) [
+            | inl full ↦ absurd (let bad : Some fault.NoOpening ≡ None = sym (cond-true _ _ _ full) ∙ second in cc)
             | inr room ↦
-                cond-false (leb (queue_count setup) queue) _ _ (lt-leb _ _ known)
-                ∙ (cond-false (ltb 0 (frozen (device queue) world.transport.freezes)) _ _ (le-ltb _ _ (omega (arith, none)))
-                ∙ cond-false (leb (get_or world.transport.openings queue 0) (active_count queue world.transport.live)) _ _ (ap (λ (o : ℕ). leb o (active_count queue world.transport.live)) openings_are ∙ room))
+                let third = sym (cond-false _ _ _ room) ∙ second in
+                elim (cases_Bool (eqb (length state.waiting) 0)) [
+                  | inl nobody ↦ absurd (let bad : Some fault.NothingWaits ≡ None = sym (cond-true _ _ _ nobody) ∙ third in cc)
+                  | inr somebody ↦
+                      let fourth = sym (cond-false _ _ _ somebody) ∙ third in
+                      elim (cases_eq controller 0) [
+                        | inr apart ↦ absurd (let bad : Some fault.ControllerFrozen ≡ None = sym (cond-true _ _ _ (not_from_false _ (ne_eqb _ _ apart))) ∙ fourth in cc)
+                        | inl above ↦ record { thawed = none; opening = room; above = above }
+                      ]
+                ]
+          ]
+    ]
+
+-- where the queue has no fault, its next CCB starts
+pub dispatch_starts : (setup : Setup) (world : World) (queue openings : ℕ) → queue < queue_count setup → get_or world.transport.openings queue 0 ≡ openings → start_fault (frozen (device queue) world.transport.freezes) (frozen (Controller (queue_setup setup queue).controller) world.transport.freezes) (queue_state_of queue openings world.transport.live) ≡ None → step_call setup world (Dispatch (record { 0 = queue })) ≡ chosen world (next_waiting queue world.transport.live)
+dispatch_starts setup world queue openings known openings_are e =
+    let controller = (queue_setup setup queue).controller in
+    let its = no_fault (frozen (device queue) world.transport.freezes) (frozen (Controller controller) world.transport.freezes) (queue_state_of queue openings world.transport.live) e in
+    let next = next_waiting queue world.transport.live in
+    let told : QueueFault → Option (Reply × World) = λ g. Some (refused (refusal_of g), world) in
+    let second : Option (Reply × World) = cond (leb (get_or world.transport.openings queue 0) (active_count queue world.transport.live)) (told fault.NoOpening) (chosen_under world controller next) in
+    let first : step_call setup world (Dispatch (record { 0 = queue })) ≡ cond (ltb 0 (frozen (device queue) world.transport.freezes)) (told fault.Frozen) second = cond-false (leb (queue_count setup) queue) _ _ (lt-leb _ _ known) in
+    first
+    ∙ (cond-false (ltb 0 (frozen (device queue) world.transport.freezes)) (told fault.Frozen) second (le-ltb _ _ (omega (arith, its.thawed)))
+    ∙ (cond-false (leb (get_or world.transport.openings queue 0) (active_count queue world.transport.live)) (told fault.NoOpening) (chosen_under world controller next) (ap (λ (o : ℕ). leb o (active_count queue world.transport.live)) openings_are ∙ its.opening)
+    ∙ thawed_above world controller next its.above))
+
+-- and where it has one, that is the refusal
+pub dispatch_refuses : (setup : Setup) (world : World) (queue openings high : ℕ) (f : QueueFault) → queue < queue_count setup → get_or world.transport.openings queue 0 ≡ openings → AreRising 0 (map ccb_key world.transport.live) high → start_fault (frozen (device queue) world.transport.freezes) (frozen (Controller (queue_setup setup queue).controller) world.transport.freezes) (queue_state_of queue openings world.transport.live) ≡ Some f → step_call setup world (Dispatch (record { 0 = queue })) ≡ Some (refused (refusal_of f), world)
+dispatch_refuses setup world queue openings high f known openings_are rising e =
+    let controller = (queue_setup setup queue).controller in
+    let next = next_waiting queue world.transport.live in
+    let told : QueueFault → Option (Reply × World) = λ g. Some (refused (refusal_of g), world) in
+    let first : step_call setup world (Dispatch (record { 0 = queue })) ≡ cond (ltb 0 (frozen (device queue) world.transport.freezes)) (told fault.Frozen) (cond (leb (get_or world.transport.openings queue 0) (active_count queue world.transport.live)) (told fault.NoOpening) (chosen_under world controller next)) =
+    cond-false (leb (queue_count setup) queue) _ _ (lt-leb _ _ known) in
+    first ∙ elim (cases_eq (frozen (device queue) world.transport.freezes) 0) [
+      | inr apart ↦
+          let both : Some fault.Frozen ≡ Some f = sym (cond-true _ _ _ (not_from_false _ (ne_eqb _ _ apart))) ∙ e in
+          let is : fault.Frozen ≡ f = cc in
+          cond-true (ltb 0 (frozen (device queue) world.transport.freezes)) _ _ (lt-ltb _ _ (omega (arith, apart))) ∙ ap told is
+      | inl none ↦
+          let second = sym (cond-false _ _ _ (not_from_true _ (eq-eqb _ _ none))) ∙ e in
+          cond-false (ltb 0 (frozen (device queue) world.transport.freezes)) _ _ (le-ltb _ _ (omega (arith, none)))
+          ∙ elim (cases_Bool (leb openings (active_count queue world.transport.live))) [
+            | inl full ↦
+                let both : Some fault.NoOpening ≡ Some f = sym (cond-true _ _ _ full) ∙ second in
+                let is : fault.NoOpening ≡ f = cc in
+                cond-true (leb (get_or world.transport.openings queue 0) (active_count queue world.transport.live)) _ _ (ap (λ (o : ℕ). leb o (active_count queue world.transport.live)) openings_are ∙ full) ∙ ap told is
+            | inr room ↦
+                let third = sym (cond-false _ _ _ room) ∙ second in
+                cond-false (leb (get_or world.transport.openings queue 0) (active_count queue world.transport.live)) _ _ (ap (λ (o : ℕ). leb o (active_count queue world.transport.live)) openings_are ∙ room)
+                ∙ elim (cases_eq (length (pairs_of (waits_on queue) world.transport.live)) 0) [
+                  | inl nobody ↦
+                      let both : Some fault.NothingWaits ≡ Some f = sym (cond-true _ _ _ (eq-eqb _ _ nobody)) ∙ third in
+                      let is : fault.NothingWaits ≡ f = cc in
+                      ap (chosen_under world controller) (none_starts queue world.transport.live nobody) ∙ ap told is
+                  | inr somebody ↦
+                      let fourth = sym (cond-false _ _ _ (ne_eqb _ _ somebody)) ∙ third in
+                      let starts = some_starts queue world.transport.live high rising (omega (arith, somebody)) in
+                      elim (cases_eq (frozen (Controller controller) world.transport.freezes) 0) [
+                        | inr apart ↦
+                            let both : Some fault.ControllerFrozen ≡ Some f = sym (cond-true _ _ _ (not_from_false _ (ne_eqb _ _ apart))) ∙ fourth in
+                            let is : fault.ControllerFrozen ≡ f = cc in
+                            ap (chosen_under world controller) starts.1
+                            ∙ (cond-true (ltb 0 (frozen (Controller controller) world.transport.freezes)) _ _ (lt-ltb _ _ (omega (arith, apart))) ∙ ap told is)
+                        | inl above ↦ absurd (let bad : None ≡ Some f = sym (cond-false _ _ _ (not_from_true _ (eq-eqb _ _ above))) ∙ fourth in cc)
+                      ]
+                ]
           ]
     ]
 
@@ -130,12 +212,19 @@ module _ (ledger : LedgerState) (clock : ℕ) where
       submit_given setup (record world { transport = (seen list queues ledger clock) }) queue priority retries (known_to setup queues queue known count) (no_limit list queues queue world h known roomy open_to)
       ∙ (ap (answered world list queues queue priority retries) (sym number_is) ∙ ap (with_number world (record { 0 = number })) (sym seen_is))
 
-  pub dispatch_reply : (setup : Setup) (world : World) (list after : ListState) (queues queues_after : List QueueState) (queue freezes : ℕ) (number : CcbId) (next : LiveCcb) (ccb : Ccb) → KeepsTable list queues → queue < length queues → queue_count setup ≡ length (map (λ (q : QueueState). q.openings) queues) → freezes ≡ frozen (device queue) ledger.freezes → start_fault freezes (queue_at queues queue) ≡ None → Dispatched queue list number next ccb → seen after queues_after ledger clock ≡ seen (listed_as list.greatest (with_ccb (as_active (started next.ccb)) list.live)) queues ledger clock → step_call setup (record world { transport = (seen list queues ledger clock) }) (Dispatch (record { 0 = queue })) ≡ Some (replies (answers.Ccb number), record world { transport = (seen after queues_after ledger clock) })
-  dispatch_reply setup world list after queues queues_after queue freezes number next ccb h known count freezes_are no_fault d seen_is =
-      let fault_is : start_fault (frozen (device queue) ledger.freezes) (queue_state_of queue (queue_at queues queue).openings list.live) ≡ None =
-      subst (λ (f : ℕ). start_fault f (queue_state_of queue (queue_at queues queue).openings list.live) ≡ None) freezes_are
-      (subst (λ (q : QueueState). start_fault freezes q ≡ None) (h.told queue known) no_fault) in
+  pub dispatch_reply : (setup : Setup) (world : World) (list after : ListState) (queues queues_after : List QueueState) (queue freezes above : ℕ) (number : CcbId) (next : LiveCcb) (ccb : Ccb) → KeepsTable list queues → queue < length queues → queue_count setup ≡ length (map (λ (q : QueueState). q.openings) queues) → freezes ≡ frozen (device queue) ledger.freezes → above ≡ frozen (Controller (queue_setup setup queue).controller) ledger.freezes → start_fault freezes above (queue_at queues queue) ≡ None → Dispatched queue list number next ccb → seen after queues_after ledger clock ≡ seen (listed_as list.greatest (with_ccb (as_active (started next.ccb)) list.live)) queues ledger clock → step_call setup (record world { transport = (seen list queues ledger clock) }) (Dispatch (record { 0 = queue })) ≡ Some (replies (answers.Ccb number), record world { transport = (seen after queues_after ledger clock) })
+  dispatch_reply setup world list after queues queues_after queue freezes above number next ccb h known count freezes_are above_are faultless d seen_is =
+      let fault_is : start_fault (frozen (device queue) ledger.freezes) (frozen (Controller (queue_setup setup queue).controller) ledger.freezes) (queue_state_of queue (queue_at queues queue).openings list.live) ≡ None =
+      sym (λ i. start_fault (freezes_are i) (above_are i) (h.told queue known i)) ∙ faultless in
       dispatch_starts setup (record world { transport = (seen list queues ledger clock) }) queue (queue_at queues queue).openings (known_to setup queues queue known count) (openings_at queues queue) fault_is
       ∙ (ap (chosen (record world { transport = (seen list queues ledger clock) })) d.next_is
       ∙ (ap (λ (n : CcbId). with_number world n (seen (listed_as list.greatest (with_ccb (as_active (started next.ccb)) list.live)) queues ledger clock)) d.number_is
       ∙ ap (with_number world number) (sym seen_is)))
+
+  pub refused_reply : (setup : Setup) (world : World) (list : ListState) (queues after : List QueueState) (queue freezes above : ℕ) (f : QueueFault) (refusal : CallRefusal) → KeepsTable list queues → queue < length queues → queue_count setup ≡ length (map (λ (q : QueueState). q.openings) queues) → freezes ≡ frozen (device queue) ledger.freezes → above ≡ frozen (Controller (queue_setup setup queue).controller) ledger.freezes → start_fault freezes above (queue_at queues queue) ≡ Some f → refusal ≡ refusal_of f → after ≡ queues → step_call setup (record world { transport = (seen list queues ledger clock) }) (Dispatch (record { 0 = queue })) ≡ Some (refused refusal, record world { transport = (seen list after ledger clock) })
+  refused_reply setup world list queues after queue freezes above f refusal h known count freezes_are above_are e refusal_is after_is =
+      let fault_is : start_fault (frozen (device queue) ledger.freezes) (frozen (Controller (queue_setup setup queue).controller) ledger.freezes) (queue_state_of queue (queue_at queues queue).openings list.live) ≡ Some f =
+      sym (λ i. start_fault (freezes_are i) (above_are i) (h.told queue known i)) ∙ e in
+      dispatch_refuses setup (record world { transport = (seen list queues ledger clock) }) queue (queue_at queues queue).openings list.greatest f (known_to setup queues queue known count) (openings_at queues queue) h.rising fault_is
+      ∙ (ap (λ (r : CallRefusal). let x : Option (Reply × World) = Some (refused r, record world { transport = (seen list queues ledger clock) }) in x) (sym refusal_is)
+      ∙ ap (λ (qs : List QueueState). let x : Option (Reply × World) = Some (refused refusal, record world { transport = (seen list qs ledger clock) }) in x) (sym after_is))

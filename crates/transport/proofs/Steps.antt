@@ -15,6 +15,7 @@ use Rattle.world.proofs.Steps.Moves.{ccb_key, ccb_found}
 use Rattle.world.specs.World.{Transport}
 use Rattle.transport.specs.Listed.{ListState}
 use Rattle.transport.specs.Queues.{queue_at, with_gone}
+use Rattle.freeze_ledger.specs.Places.{places_of}
 use Rattle.transport.specs.Invariant.{KeepsTable, KeepsTransport, seen}
 use Rattle.transport.proofs.Listed.{listed_as}
 use Rattle.transport.proofs.Told.{entered_is, started_is, recovering_is, requeued_is, finished_is}
@@ -138,6 +139,6 @@ module _ (ledger : LedgerState) (clock : ℕ) where
   kept_on list after queues queues_after state k it same = record {
     table = it.kept;
     places = k.places
-        ∙ (sym (length-map queues (λ (q : QueueState). q.openings))
+        ∙ ap (λ (n : ℕ). places_of n 8) (sym (length-map queues (λ (q : QueueState). q.openings))
         ∙ (ap length (sym same) ∙ (ap (λ (s : Transport). length s.openings) (sym it.seen_is) ∙ length-map queues_after (λ (q : QueueState). q.openings))));
   }

@@ -4,7 +4,8 @@ use Rattle.std.specs.Prelude.{◌≡◌, ℕ, ◌<◌, ◌≤◌, List, length, 
 use Rattle.ccb.specs.Rising.{AreRising}
 use Rattle.dev_queue.specs.State.{QueueState}
 use Rattle.freeze_ledger.specs.State.{LedgerState}
-use Rattle.world.specs.Capacities.{most_queues}
+use Rattle.freeze_ledger.specs.Places.{places_of}
+use Rattle.world.specs.Capacities.{most_controllers, most_queues}
 use Rattle.world.specs.World.{Transport}
 use Rattle.transport.specs.Listed.{ListState}
 use Rattle.transport.specs.Queues.{AreTold}
@@ -27,7 +28,7 @@ pub record KeepsTable (list : ListState) (queues : List QueueState) : Type 0 whe
   pub told : AreTold queues list.live
   pub few : length queues ≤ most_queues
 
--- with the ledger, which is for these queues
+-- with the ledger, which is for these queues and for as many controllers as there may be
 pub record KeepsTransport (list : ListState) (queues : List QueueState) (ledger : LedgerState) : Type 0 where
   pub table : KeepsTable list queues
-  pub places : ledger.queues ≡ length queues
+  pub places : ledger.places ≡ places_of (length queues) most_controllers

@@ -14,15 +14,24 @@ use dev_queue::{DevQueue, Frozen, QueueFault};
 use std::alloc::{AllocError, Global};
 use std::marker::Model;
 
-/// A queue that is frozen so many times.
+/// How often a queue is frozen, and its controller.
 #[derive(Drop)]
-struct FrozenTimes(u32);
+pub(crate) struct FrozenTimes {
+    pub(crate) queue: u32,
+    pub(crate) controller: u32,
+}
 
 impl Frozen for FrozenTimes {
-    ghost frozen_count = { λ f. f.0 };
+    ghost frozen_count = { λ f. f.queue };
+
+    ghost controller_count = { λ f. f.controller };
 
     fn frozen(&self) -> u32 {
-        self.0
+        self.queue
+    }
+
+    fn controller_frozen(&self) -> u32 {
+        self.controller
     }
 }
 
@@ -35,6 +44,7 @@ pub(crate) fn refusal(fault: QueueFault) -> CallRefusal
         QueueFault::Frozen => CallRefusal::Frozen,
         QueueFault::NoOpening => CallRefusal::NoOpening,
         QueueFault::NothingWaits => CallRefusal::NothingWaits,
+        QueueFault::ControllerFrozen => CallRefusal::ControllerFrozen,
     }
 }
 
@@ -105,15 +115,19 @@ impl QueueList {
         self.queues[queue.0 as usize].insert(number, priority)
     }
 
-    /// Starts the waiting CCB of the queue that is least, where the queue is frozen so many times.
-    pub(crate) fn start(&mut self, queue: QueueId, freezes: u32) -> Result<CcbId, QueueFault>
+    /// Starts the waiting CCB of the queue that is least, where the queue and its controller are frozen so many times.
+    pub(crate) fn start(
+        &mut self,
+        queue: QueueId,
+        freezes: &FrozenTimes,
+    ) -> Result<CcbId, QueueFault>
         requires { queue.0 < length self.old }
-        ensures fault { result_err result ≡ start_fault freezes (queue_at self.old queue.0) }
+        ensures fault { result_err result ≡ start_fault freezes.now.queue freezes.now.controller (queue_at self.old queue.0) }
         ensures least { IfOk result (IsLeastNumber (queue_at self.old queue.0).waiting) }
         ensures started { IfOk result (λ number. self.new ≡ slice_set self.old queue.0 (with_started number (queue_at self.old queue.0))) }
         ensures refused { OnErr result (self.new ≡ self.old) }
     {
-        self.queues[queue.0 as usize].start(&FrozenTimes(freezes))
+        self.queues[queue.0 as usize].start(freezes)
     }
 
     /// The queue has so many openings from now on.

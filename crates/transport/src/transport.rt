@@ -7,13 +7,13 @@ ghost use Rattle.std.specs.Option.{is_some};
 ghost use Rattle.ccb.specs.Ccb.{completed, requeued};
 ghost use Rattle.dev_queue.specs.State.{empty_queue};
 ghost use Rattle.freeze_ledger.specs.declared.freeze.Holder.TheVariants.{Guest, Run};
-ghost use Rattle.freeze_ledger.specs.declared.place.Place.TheVariants.{Device};
+ghost use Rattle.freeze_ledger.specs.declared.place.Place.TheVariants.{Controller, Device};
 ghost use Rattle.freeze_ledger.specs.declared.ledger.TheConstants.{MAX_FREEZES};
 ghost use Rattle.freeze_ledger.specs.Freezes.{entry_of, frozen, handed_over, not_due_at, without};
-ghost use Rattle.freeze_ledger.specs.Places.{index_of};
+ghost use Rattle.freeze_ledger.specs.Places.{index_of, places_of};
 ghost use Rattle.world.specs.declared.ccb_state.CcbState.TheVariants.{Waiting, Active as IsActive, InRecovery};
-ghost use Rattle.world.specs.World.{Setup, World, queue_count, LiveCcb as WorldCcb};
-ghost use Rattle.world.specs.Capacities.{most_queues, most_ccbs, last_reading};
+ghost use Rattle.world.specs.World.{Setup, World, queue_count, queue_setup, LiveCcb as WorldCcb};
+ghost use Rattle.world.specs.Capacities.{most_controllers, most_queues, most_ccbs, last_reading};
 ghost use Rattle.world.specs.Lookups.{is_waiting, is_active, ccb_of, with_ccb};
 ghost use Rattle.calls.specs.declared.call.Call.TheVariants.{Submit, Dispatch, GuestFreeze, GuestRelease, Clock};
 ghost use Rattle.calls.specs.declared.call_answer.CallAnswer.TheVariants as answers;
@@ -27,7 +27,7 @@ ghost use Rattle.transport.specs.Listed.{IsPlaceOf};
 
 use crate::ccb_list::CcbList;
 use crate::live_ccb::LiveCcb;
-use crate::queue_list::{QueueList, refusal};
+use crate::queue_list::{FrozenTimes, QueueList, refusal};
 use calls::CallRefusal;
 use ccb::{Ccb, CcbId, Completion, QueueId};
 use freeze_ledger::{FreezeToken, Holder, Ledger, Place};
@@ -35,6 +35,9 @@ use std::alloc::{AllocError, Global};
 use std::marker::Model;
 use timer_events::expire_due;
 use world::{CcbState, QueueInfo};
+
+/// How many controllers there may be.
+pub const MAX_CONTROLLERS: u32 = 8;
 
 /// The last clock reading that there is, in milliseconds: 2^62.
 const LAST_READING: u64 = 4_611_686_018_427_387_904;
@@ -84,7 +87,7 @@ impl Transport {
         Ok(Transport {
             ccbs: CcbList::with_room(alloc)?,
             queues: queues_of(alloc, openings)?,
-            ledger: Ledger::with_room(alloc, openings.len() as u32)?,
+            ledger: Ledger::with_room(alloc, openings.len() as u32, MAX_CONTROLLERS)?,
             clock: 0,
         })
     }
@@ -121,17 +124,22 @@ impl Transport {
 
     /// Starts the waiting CCB of the queue that has the lowest priority number, and among these the lowest CCB number:
     /// it is active. C1 where there is no such queue, Q2 where it is frozen, Q3 where as many of its CCBs are active
-    /// as it has openings, Q4 where none waits. A refusal changes nothing.
-    pub fn dispatch(&mut self, queue: QueueId) -> Result<CcbId, CallRefusal>
-        ensures step { (setup : Setup) (world : World) → queue_count setup ≡ length self.old.openings →
+    /// as it has openings, Q4 where none waits, Q5 where the controller is frozen that the queue is under. A refusal changes
+    /// nothing.
+    pub fn dispatch(&mut self, queue: QueueId, controller: u32) -> Result<CcbId, CallRefusal>
+        requires { controller < most_controllers }
+        ensures step { (setup : Setup) (world : World) → queue_count setup ≡ length self.old.openings → (queue_setup setup queue.0).controller ≡ controller →
             step_call setup (record world { transport = self.old }) (Dispatch queue) ≡ Some (replies (ccb_answer result), record world { transport = self.new }) }
         ensures freezes { self.new.freezes ≡ self.old.freezes }
     {
         if queue.0 as usize >= self.queues.len() {
             return Err(CallRefusal::Unknown);
         }
-        let freezes = self.ledger.count(Place::Device(queue));
-        match self.queues.start(queue, freezes) {
+        let freezes = FrozenTimes {
+            queue: self.ledger.count(Place::Device(queue)),
+            controller: self.ledger.count(Place::Controller(controller)),
+        };
+        match self.queues.start(queue, &freezes) {
             Err(fault) => Err(refusal(fault)),
             Ok(number) => {
                 let Some(place) = self.ccbs.place_of(number) else {
@@ -260,7 +268,7 @@ impl Transport {
     /// nothing, exactly at a limit: the place has 255 freezes, there are 1024 in all, or the numbers up to 4,294,967,295
     /// are used up.
     pub fn take(&mut self, place: Place, holder: Holder) -> Option<FreezeToken>
-        requires { index_of place < length self.old.openings }
+        requires { index_of place < places_of (length self.old.openings) most_controllers }
         ensures taken { IsTaken self.old place holder result }
         ensures state { self.new ≡ took self.old result }
     {
@@ -296,16 +304,35 @@ impl Transport {
         }
     }
 
-    /// Freezes a place once more for a guest, under the number that it chose. C1 where there is no such place; C2 where
+    /// How many freezes a controller has, at most 255. It is a stored number.
+    pub fn controller_frozen(&self, controller: u32) -> u32
+        requires { controller < most_controllers }
+        ensures { result ≡ frozen (Controller controller) self.now.freezes }
+    {
+        self.ledger.count(Place::Controller(controller))
+    }
+
+    /// Freezes a place once more for a guest, under the number that it chose. C1 where there is no such place, so many
+    /// controllers being there; C2 where
     /// the place has 255 freezes, there are 1024 in all, or the numbers up to 4,294,967,295 are used up. A refusal
     /// changes nothing.
-    pub fn guest_freeze(&mut self, place: Place, guest: u32) -> Result<FreezeToken, CallRefusal>
-        ensures step { (setup : Setup) (world : World) → queue_count setup ≡ length self.old.openings →
+    pub fn guest_freeze(
+        &mut self,
+        place: Place,
+        controllers: u32,
+        guest: u32,
+    ) -> Result<FreezeToken, CallRefusal>
+        requires { controllers ≤ most_controllers }
+        ensures step { (setup : Setup) (world : World) → queue_count setup ≡ length self.old.openings → setup.controllers ≡ controllers →
             step_call setup (record world { transport = self.old }) (GuestFreeze place guest) ≡ Some (replies (freeze_answer result), record world { transport = self.new }) }
         ensures token { IfOk result (λ token. (token.place ≡ place) × (token.holder ≡ Guest guest) × (self.new.freezes ≡ self.old.freezes ++ token ∷ [])) }
         ensures refused { OnErr result (self.new ≡ self.old) }
     {
-        if place.index() >= self.queues.len() {
+        let is_known = match place {
+            Place::Device(queue) => (queue.0 as usize) < self.queues.len(),
+            Place::Controller(controller) => controller < controllers,
+        };
+        if !is_known {
             return Err(CallRefusal::Unknown);
         }
         self.take(place, Holder::Guest(guest))

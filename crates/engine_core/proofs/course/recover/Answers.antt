@@ -38,29 +38,29 @@ failed world ccb outcome t =
     record (took world.transport t) { live = with_ccb (record { ccb = completed ccb outcome (is_some t); state = InRecovery }) world.transport.live }
 
 -- the run that starts
-abbrev begun : World → Ccb → Outcome → List Slot → Option Freeze → Runs
-begun world ccb outcome program t =
+abbrev begun : World → Ccb → ℕ → Outcome → List Slot → Option Freeze → Runs
+begun world ccb controller outcome program t =
     let number = world.runs.greatest + 1 in
     record world.runs {
-      list = world.runs.list ++ run_for number ccb program (entry (context_of (completed ccb outcome (is_some t))) (told t)) ∷ [];
+      list = world.runs.list ++ run_for number ccb controller program (entry (context_of (completed ccb outcome (is_some t))) (told t)) ∷ [];
       greatest = number;
     }
 
-abbrev started : World → Ccb → Outcome → List Slot → Option Freeze → Reply × World
-started world ccb outcome program t = (
+abbrev started : World → Ccb → ℕ → Outcome → List Slot → Option Freeze → Reply × World
+started world ccb controller outcome program t = (
   replies (answers.Started (world.runs.greatest + 1) (told t)),
-  record world { transport = failed world ccb outcome t; runs = begun world ccb outcome program t },
+  record world { transport = failed world ccb outcome t; runs = begun world ccb controller outcome program t },
 )
 
 -- what a failed completion leads to, by what was taken
-recovers_so : (setup : Setup) (world : World) (ccb : Ccb) (outcome : Outcome) (program : List Slot) (t : Option Freeze) → IsTaken world.transport (Device ccb.queue) (Run (world.runs.greatest + 1)) t → (queue_setup setup ccb.queue.0).program ≡ program → recovers setup world ccb outcome ≡ started world ccb outcome program t
-recovers_so setup world ccb outcome program None full is =
+recovers_so : (setup : Setup) (world : World) (ccb : Ccb) (controller : ℕ) (outcome : Outcome) (program : List Slot) (t : Option Freeze) → IsTaken world.transport (Device ccb.queue) (Run (world.runs.greatest + 1)) t → (queue_setup setup ccb.queue.0).program ≡ program → (queue_setup setup ccb.queue.0).controller ≡ controller → recovers setup world ccb outcome ≡ started world ccb controller outcome program t
+recovers_so setup world ccb controller outcome program None full is under =
     cond-true (meets_limit (Device ccb.queue) world.transport.freezes world.transport.greatest_freeze) _ _ full
-    ∙ ap (λ (p : List Slot). started world ccb outcome p None) is
-recovers_so setup world ccb outcome program (Some f) taken is =
+    ∙ (λ i. started world ccb (under i) outcome (is i) None)
+recovers_so setup world ccb controller outcome program (Some f) taken is under =
     cond-false (meets_limit (Device ccb.queue) world.transport.freezes world.transport.greatest_freeze) _ _ taken.0
-    ∙ (ap (λ (p : List Slot). started world ccb outcome p (Some (record { number = world.transport.greatest_freeze + 1; place = Device ccb.queue; holder = Run (world.runs.greatest + 1) }))) is
-    ∙ ap (λ (g : Freeze). started world ccb outcome program (Some g)) (sym taken.1))
+    ∙ ((λ i. started world ccb (under i) outcome (is i) (Some (record { number = world.transport.greatest_freeze + 1; place = Device ccb.queue; holder = Run (world.runs.greatest + 1) })))
+    ∙ ap (λ (g : Freeze). started world ccb controller outcome program (Some g)) (sym taken.1))
 
 holder_is : (transport : Transport) (place : Place) (number : ℕ) (t : Option Freeze) → IsTaken transport place (Run number) t → (f : Freeze) → t ≡ Some f → f.holder ≡ Run number
 holder_is transport place number None full f e = absurd (let bad : None ≡ Some f = e in cc)
@@ -104,10 +104,11 @@ returns-clause-step c world =
     let machine_is : c.start-started.new.machine ≡ entry (context_of ccb) (told t) = c.start-started.ensures.machine ∙ ap (λ (b : Ccb). entry (context_of b) (told t)) c.fail-ccb.ensures.ccb in
     let transport_is : c.fail-ccb.new.self ≡ failed at c.args.ccb c.args.completion.now t =
     c.fail-ccb.ensures.state ∙ ap (λ (b : Ccb). record (took c.args.transport.now t) { live = with_ccb (record { ccb = b; state = InRecovery }) c.args.transport.now.live }) c.fail-ccb.ensures.ccb in
-    let begun_by : RunsState → ℕ → Ccb → MachineState → Runs = λ runs number b m. record runs.runs { list = runs.runs.list ++ run_for number b program m ∷ []; greatest = number } in
-    let runs_are : c.start-started.new.self.runs ≡ begun at c.args.ccb c.args.completion.now program t =
+    let under : (queue_setup c.args.config.now c.args.ccb.queue.0).controller ≡ c.controller.result = sym c.controller.ensures.value in
+    let begun_by : RunsState → ℕ → Ccb → MachineState → Runs = λ runs number b m. record runs.runs { list = runs.runs.list ++ run_for number b c.controller.result program m ∷ []; greatest = number } in
+    let runs_are : c.start-started.new.self.runs ≡ begun at c.args.ccb c.controller.result c.args.completion.now program t =
     ap (λ (r : RunsState). r.runs) c.start-started.ensures.state ∙ (λ i. begun_by (same i) (run_is c i) (c.fail-ccb.ensures.ccb i) (machine_is i)) in
-    recovers_so c.args.config.now at c.args.ccb c.args.completion.now program t (taken_is c) program_is
+    recovers_so c.args.config.now at c.args.ccb c.controller.result c.args.completion.now program t (taken_is c) program_is under
     ∙ sym (λ i. (replies (answers.Started ((ap (λ (r : RunState). r.number) c.new.ensures ∙ run_is c) i) (c.start-started.ensures.freeze i)), record world { transport = transport_is i; runs = runs_are i }))
 
 pub returns-clause-out : goal.returns-clause-out
@@ -126,7 +127,7 @@ returns-clause-tokens c =
     let t : Option Freeze = c.fail-ccb.result.1 in
     let same : c.place_for_machine-3.new.self ≡ c.args.runs.now = c.place_for_machine-3.ensures ∙ (c.place_for_machine-2.ensures ∙ c.place_for_machine.ensures) in
     let before : World = world_of c.args.config.now c.requires.kept.0 c.args.transport.now c.args.runs.now.runs in
-    let it : LiveRun = run_for c.start-started.result.run c.fail-ccb.result.0 (arc_value c.in_ok-recorded.recorded).program c.start-started.new.machine in
+    let it : LiveRun = run_for c.start-started.result.run c.fail-ccb.result.0 c.controller.result (arc_value c.in_ok-recorded.recorded).program c.start-started.new.machine in
     subst (λ (fs : List Freeze). HoldEntries fs c.start-started.new.self) (sym (ap (λ (m : Transport). m.freezes) c.fail-ccb.ensures.state))
     (run_started c.args.config.now before c.args.runs.now c.start-started.new.self t it (kept_sound c.args.config.now c.requires.kept.0 c.args.transport.now c.args.runs.now c.requires.kept.1) refl c.requires.kept.1.tokens
     (holder_is c.args.transport.now (Device c.args.ccb.queue) (c.args.runs.now.runs.greatest + 1) t (taken_is c)) (run_is c)

@@ -1,10 +1,11 @@
+use Rattle.std.proofs.Common.{sym}
 use Rattle.engine_core.proofs.Performing.{freezes, refuses_freeze}
 use Rattle.engine_core.proofs.freeze_events.guest_freeze.Goals as goal
 
 pub returns-in-Ok : goal.returns-in-Ok
-returns-in-Ok c setup runs =
-    freezes c.args.place c.args.guest c.args.transport.now c.guest_freeze.new.self c.in-Ok.token c.number.result c.number.ensures c.in-Ok.ensures.token c.in-Ok.ensures.step setup runs
+returns-in-Ok c runs =
+    freezes c.args.config.now c.args.place c.args.guest c.args.transport.now c.guest_freeze.new.self c.in-Ok.token c.number.result c.number.ensures c.in-Ok.ensures.token (λ world count. c.in-Ok.ensures.step c.args.config.now world count (sym c.controllers.ensures.value)) runs
 
 pub returns-in-Err : goal.returns-in-Err
-returns-in-Err c setup runs = rw (c.refused.ensures)
-    (refuses_freeze c.args.place c.args.guest c.args.transport.now c.guest_freeze.new.self c.in-Err.refusal c.in-Err.ensures.refused c.in-Err.ensures.step setup runs)
+returns-in-Err c runs = rw (c.refused.ensures)
+    (refuses_freeze c.args.config.now c.args.place c.args.guest c.args.transport.now c.guest_freeze.new.self c.in-Err.refusal c.in-Err.ensures.refused (λ world count. c.in-Err.ensures.step c.args.config.now world count (sym c.controllers.ensures.value)) runs)

@@ -10,13 +10,13 @@ pub returns-in-Submit-clause-performs : goal.returns-in-Submit-clause-performs
 returns-in-Submit-clause-performs c = rw (c.in-Submit.is) (c.submit.ensures c.args.config.now c.args.self.now.runs)
 
 pub returns-in-Dispatch-clause-performs : goal.returns-in-Dispatch-clause-performs
-returns-in-Dispatch-clause-performs c = rw (c.in-Dispatch.is) (c.dispatch.ensures c.args.config.now c.args.self.now.runs)
+returns-in-Dispatch-clause-performs c = rw (c.in-Dispatch.is) (c.dispatch.ensures c.args.self.now.runs)
 
 pub returns-in-Clock-clause-performs : goal.returns-in-Clock-clause-performs
 returns-in-Clock-clause-performs c = rw (c.in-Clock.is) (c.read_clock.ensures c.args.config.now c.args.self.now.runs)
 
 pub returns-in-GuestFreeze-clause-performs : goal.returns-in-GuestFreeze-clause-performs
-returns-in-GuestFreeze-clause-performs c = rw (c.in-GuestFreeze.is) (c.guest_freeze.ensures c.args.config.now c.args.self.now.runs)
+returns-in-GuestFreeze-clause-performs c = rw (c.in-GuestFreeze.is) (c.guest_freeze.ensures c.args.self.now.runs)
 
 pub returns-in-GuestRelease-clause-performs : goal.returns-in-GuestRelease-clause-performs
 returns-in-GuestRelease-clause-performs c = rw (c.in-GuestRelease.is) (c.guest_release.ensures c.args.config.now c.args.self.now.runs)

@@ -10,7 +10,7 @@ use Rattle.engine_core.proofs.unrecorded.Unrecorded.guest_freeze.Goals as goal
 pub invariant_of-self-in-Ok : goal.invariant_of-self-in-Ok
 invariant_of-self-in-Ok c =
     let transport = c.self.inside.parts.transport in
-    let it = moved _ _ _ _ _ _ _ _ (freezes c.args.place c.args.guest transport c.guest_freeze.new.self c.in-Ok.token c.number-number.result c.number-number.ensures c.in-Ok.ensures.token c.in-Ok.ensures.step c.self.inside.config.now c.self.inside.parts.runs) in
+    let it = moved _ _ _ _ _ _ _ _ (freezes c.self.inside.config.now c.args.place c.args.guest transport c.guest_freeze.new.self c.in-Ok.token c.number-number.result c.number-number.ensures c.in-Ok.ensures.token (λ world count. c.in-Ok.ensures.step c.self.inside.config.now world count (sym c.controllers.ensures.value)) c.self.inside.parts.runs) in
     let guests : is_guest c.in-Ok.token.holder ≡ true = ap is_guest c.in-Ok.ensures.token.1 in
     keeps_on c.self.inside.config.now transport c.self.inside.parts.runs c.guest_freeze.new.self c.self.inside.parts.runs _ c.self.inside.tokens.items c.push_reserved.new.self.items c.self.invariant it
     (c.push_reserved.ensures.items
@@ -21,9 +21,9 @@ invariant_of-self-in-Ok c =
 pub returns-in-Ok-clause-answered : goal.returns-in-Ok-clause-answered
 returns-in-Ok-clause-answered c =
     rw (← c.self.view_is) (follows c.self.inside.config.now c.self.inside.parts.transport c.self.inside.parts.runs c.guest_freeze.new.self c.self.inside.parts.runs _ c.self.inside.tokens.items c.self.invariant
-    (moved _ _ _ _ _ _ _ _ (freezes c.args.place c.args.guest c.self.inside.parts.transport c.guest_freeze.new.self c.in-Ok.token c.number-number.result c.number-number.ensures c.in-Ok.ensures.token c.in-Ok.ensures.step c.self.inside.config.now c.self.inside.parts.runs)))
+    (moved _ _ _ _ _ _ _ _ (freezes c.self.inside.config.now c.args.place c.args.guest c.self.inside.parts.transport c.guest_freeze.new.self c.in-Ok.token c.number-number.result c.number-number.ensures c.in-Ok.ensures.token (λ world count. c.in-Ok.ensures.step c.self.inside.config.now world count (sym c.controllers.ensures.value)) c.self.inside.parts.runs)))
 
 pub returns-in-Err-clause-answered : goal.returns-in-Err-clause-answered
 returns-in-Err-clause-answered c =
     rw (← c.self.view_is) (follows c.self.inside.config.now c.self.inside.parts.transport c.self.inside.parts.runs c.guest_freeze.new.self c.self.inside.parts.runs _ c.self.inside.tokens.items c.self.invariant
-    (moved _ _ _ _ _ _ _ _ (refuses_freeze c.args.place c.args.guest c.self.inside.parts.transport c.guest_freeze.new.self c.in-Err.refusal c.in-Err.ensures.refused c.in-Err.ensures.step c.self.inside.config.now c.self.inside.parts.runs)))
+    (moved _ _ _ _ _ _ _ _ (refuses_freeze c.self.inside.config.now c.args.place c.args.guest c.self.inside.parts.transport c.guest_freeze.new.self c.in-Err.refusal c.in-Err.ensures.refused (λ world count. c.in-Err.ensures.step c.self.inside.config.now world count (sym c.controllers.ensures.value)) c.self.inside.parts.runs)))

@@ -26,6 +26,7 @@ pushed c = record {
   number = c.self.inside.greatest + 1;
   ccb = c.args.ccb.now.number;
   queue = c.args.ccb.now.queue;
+  controller = c.args.controller;
   program = c.args.program;
   machine = record c.args.place { value = c.copy_from.new.self };
   out = true;
@@ -50,7 +51,7 @@ returns-clause-state c =
     (seen_is _ (c.self.inside.greatest + 1) c.self.inside.tables _ _
     (ap (λ (s : NumberedState RunRecord). map live_of s.values) c.push.ensures
     ∙ (map_push live_of c.self.inside.records.values (pushed c)
-    ∙ ap (λ (m : MachineState). map live_of c.self.inside.records.values ++ run_for (c.self.inside.greatest + 1) c.args.ccb.now (arc_value c.args.program).program m ∷ []) c.copy_from.ensures))
+    ∙ ap (λ (m : MachineState). map live_of c.self.inside.records.values ++ run_for (c.self.inside.greatest + 1) c.args.ccb.now c.args.controller (arc_value c.args.program).program m ∷ []) c.copy_from.ensures))
     (ap (λ (s : NumberedState RunRecord). map tokens_in s.values) c.push.ensures
     ∙ (map_push tokens_in c.self.inside.records.values (pushed c)
     ∙ ap (λ ts. map tokens_in c.self.inside.records.values ++ ts ∷ []) c.taken_at_start-freeze.ensures.tokens)))
@@ -58,4 +59,4 @@ returns-clause-state c =
 pub returns-clause-found : goal.returns-clause-found
 returns-clause-found c =
     found_last c.self.inside.records.values c.push.new.self.values (pushed c) c.self.inside.greatest c.self.invariant.rising (ap (λ (s : NumberedState RunRecord). s.values) c.push.ensures) refl
-    ∙ ap (λ (m : MachineState). Some (run_for (c.self.inside.greatest + 1) c.args.ccb.now (arc_value c.args.program).program m)) c.copy_from.ensures
+    ∙ ap (λ (m : MachineState). Some (run_for (c.self.inside.greatest + 1) c.args.ccb.now c.args.controller (arc_value c.args.program).program m)) c.copy_from.ensures

@@ -1,7 +1,7 @@
 -- Calls and their words with values: there and back, a line a row.
 use Rattle.std.proofs.Common.{◌≡◌, ℕ, Some, None, List, refl, sym, ap, ◌∙◌}
 use Rattle.ccb.specs.Completion.{Outcome}
-use Rattle.freeze_ledger.specs.declared.place.Place.TheVariants.{Device}
+use Rattle.freeze_ledger.specs.declared.place.Place.TheVariants.{Controller, Device}
 use Rattle.calls.specs.declared.call.Call.{Call}
 use Rattle.calls.specs.declared.call.Call.TheVariants as calls
 use Rattle.call_lines.specs.Calls.{one, two, three, completed, values_of, word_of, word_text, call_of}
@@ -22,6 +22,7 @@ there_and_back (calls.Submit queue priority retries) = refl
 there_and_back (calls.Dispatch queue) = refl
 there_and_back (calls.Complete outcome) = refl
 there_and_back (calls.GuestFreeze (Device queue) guest) = refl
+there_and_back (calls.GuestFreeze (Controller controller) guest) = refl
 there_and_back (calls.GuestRelease freeze) = refl
 there_and_back (calls.Clock reading) = refl
 there_and_back (calls.Park run) = refl
@@ -37,6 +38,17 @@ one_number word make held call s its e made =
     let is = as_one held (values.Number a.0) a.1 (holds_nothing held.second s.two s.second) (holds_nothing held.third s.three s.third) (holds_nothing held.fourth s.four s.fourth) in
     let at : Some (make a.0) ≡ Some call = sym (made a.0) ∙ ap (call_of word) (sym is) ∙ e in
     let found = from (make a.0) call word (one (values.Number a.0)) (its a.0) at in
+    (found.0, found.1 ∙ sym is)
+
+two_numbers : (word : Word) (make : ℕ → ℕ → Call) (held : Slots Value) (call : Call) → HasSlots (record { first = Some kinds.Number; second = Some kinds.Number; third = None; fourth = None }) held
+    → ((n m : ℕ) → (word_of (make n m) ≡ word) × (values_of (make n m) ≡ two (values.Number n) (values.Number m))) → (call_of word held ≡ Some call)
+    → ((n m : ℕ) → call_of word (two (values.Number n) (values.Number m)) ≡ Some (make n m)) → (word_of call ≡ word) × (values_of call ≡ held)
+two_numbers word make held call s its e made =
+    let a = holds_number held.first s.one s.first in
+    let b = holds_number held.second s.two s.second in
+    let is = as_two held (values.Number a.0) (values.Number b.0) a.1 b.1 (holds_nothing held.third s.three s.third) (holds_nothing held.fourth s.four s.fourth) in
+    let at : Some (make a.0 b.0) ≡ Some call = sym (made a.0 b.0) ∙ ap (call_of word) (sym is) ∙ e in
+    let found = from (make a.0 b.0) call word (two (values.Number a.0) (values.Number b.0)) (its a.0 b.0) at in
     (found.0, found.1 ∙ sym is)
 
 back_and_there : (word : Word) (held : Slots Value) (text : List ℕ) (call : Call) → fields_text (row_of word).fields held ≡ Some text → call_of word held ≡ Some call → (word_of call ≡ word) × (values_of call ≡ held)
@@ -63,12 +75,9 @@ back_and_there words.Complete held text call e made =
     (found.0, found.1 ∙ sym is)
 back_and_there words.Advance held text call e made = absurd cc
 back_and_there words.FreezeQueue held text call e made =
-    let s = slots_of (row_of words.FreezeQueue).fields held text e in
-    let a = holds_number held.first s.one s.first in
-    let b = holds_number held.second s.two s.second in
-    let is = as_two held (values.Number a.0) (values.Number b.0) a.1 b.1 (holds_nothing held.third s.three s.third) (holds_nothing held.fourth s.four s.fourth) in
-    let found = from (calls.GuestFreeze (Device (record { 0 = a.0 })) b.0) call words.FreezeQueue (two (values.Number a.0) (values.Number b.0)) (refl, refl) (ap (call_of words.FreezeQueue) (sym is) ∙ made) in
-    (found.0, found.1 ∙ sym is)
+    two_numbers words.FreezeQueue (λ n m. calls.GuestFreeze (Device (record { 0 = n })) m) held call (slots_of (row_of words.FreezeQueue).fields held text e) (λ n m. (refl, refl)) made (λ n m. refl)
+back_and_there words.FreezeController held text call e made =
+    two_numbers words.FreezeController (λ n m. calls.GuestFreeze (Controller n) m) held call (slots_of (row_of words.FreezeController).fields held text e) (λ n m. (refl, refl)) made (λ n m. refl)
 back_and_there words.ReleaseFreeze held text call e made =
     one_number words.ReleaseFreeze calls.GuestRelease held call (slots_of (row_of words.ReleaseFreeze).fields held text e) (λ n. (refl, refl)) made (λ n. refl)
 back_and_there words.Clock held text call e made =

@@ -8,7 +8,7 @@ use Rattle.call_lines.specs.declared.kind.Slots.{Slots}
 use Rattle.call_lines.specs.declared.value.Value.{Value}
 use Rattle.call_lines.specs.declared.word.Word.{Word}
 use Rattle.call_lines.specs.Calls.{word_text}
-use Rattle.call_lines.specs.Rows.{row_of, word_named, is_of_version}
+use Rattle.call_lines.specs.Rows.{row_of, word_named}
 use Rattle.call_lines.specs.Texts.{field_text}
 use Rattle.call_lines.specs.Lines.{slot_text, fields_text, line_text}
 use Rattle.call_lines.specs.Reading.{ends_word, is_stop, is_behind, stops_at, stops_last, IsCut, ReadsSlot, ReadsFields, ReadsLine}
@@ -212,7 +212,7 @@ module _ (fields : Slots Kind) (text : List ℕ) where
 
 -- ---- the word before them
 
-module _ (version : ℕ) (text name rest : List ℕ) (cut : IsCut text name rest) where
+module _ (text name rest : List ℕ) (cut : IsCut text name rest) where
   front : (word : Word) (held : Slots Value) → line_text word held ≡ Some text → (word_text word ≡ name) × (fields_text (row_of word).fields held ≡ Some rest)
   front word held e =
       let parts = parts_of (Some (word_text word)) (fields_text (row_of word).fields held) text e in
@@ -221,32 +221,30 @@ module _ (version : ℕ) (text name rest : List ℕ) (cut : IsCut text name rest
       let found = cut_once (word_text word) name parts.1 rest joined_so (word_black word) (ends_fields (row_of word).fields held parts.1 parts.3) cut.black cut.ends in
       (found.0, parts.3 ∙ ap Some found.1)
 
-  again : (word : Word) (held : Slots Value) → line_text word held ≡ Some text → is_of_version version word ≡ true → word_named name version ≡ Some word
-  again word held e of = ap (λ (n : List ℕ). word_named n version) (sym (front word held e).0) ∙ found_again word version of
+  again : (word : Word) (held : Slots Value) → line_text word held ≡ Some text → word_named name ≡ Some word
+  again word held e = ap word_named (sym (front word held e).0) ∙ found_again word
 
-  pub no_word : word_named name version ≡ None → ReadsLine version text None
-  no_word none = record { said = tt; back = λ word held e of. let there = again word held e of in absurd cc }
+  pub no_word : word_named name ≡ None → ReadsLine text None
+  no_word none = record { said = tt; back = λ word held e. let there = again word held e in absurd cc }
 
-  module _ (found : Word) (is : word_named name version ≡ Some found) where
-    same : (word : Word) (held : Slots Value) → line_text word held ≡ Some text → is_of_version version word ≡ true → found ≡ word
-    same word held e of = let there = again word held e of in cc
+  module _ (found : Word) (is : word_named name ≡ Some found) where
+    same : (word : Word) (held : Slots Value) → line_text word held ≡ Some text → found ≡ word
+    same word held e = let there = again word held e in cc
 
-    pub no_fields : ReadsFields (row_of found).fields rest None → ReadsLine version text None
+    pub no_fields : ReadsFields (row_of found).fields rest None → ReadsLine text None
     no_fields none = record {
       said = tt;
-      back = λ word held e of.
-          let it = same word held e of in
+      back = λ word held e.
+          let it = same word held e in
           let there = none.back (row_stops found) held (ap (λ (w : Word). fields_text (row_of w).fields held) it ∙ (front word held e).1) in
           absurd cc;
     }
 
-    pub line_read : (held : Slots Value) → ReadsFields (row_of found).fields rest (Some held) → ReadsLine version text (Some (found, held))
+    pub line_read : (held : Slots Value) → ReadsFields (row_of found).fields rest (Some held) → ReadsLine text (Some (found, held))
     line_read held reads = record {
-      said =
-          let its = found_is name version found is in
-          (joined (Some (word_text found)) (fields_text (row_of found).fields held) name rest (ap Some its.0) reads.said ∙ ap Some (sym cut.whole), its.1);
-      back = λ word other e of.
-          let it = same word other e of in
+      said = joined (Some (word_text found)) (fields_text (row_of found).fields held) name rest (ap Some (found_is name found is)) reads.said ∙ ap Some (sym cut.whole);
+      back = λ word other e.
+          let it = same word other e in
           let there = reads.back (row_stops found) other (ap (λ (w : Word). fields_text (row_of w).fields other) it ∙ (front word other e).1) in
           let held_same : held ≡ other = cc in
           pairs found word held other it held_same;

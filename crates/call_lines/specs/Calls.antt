@@ -2,7 +2,7 @@
 use Rattle.std.specs.Prelude.{ℕ, Option, Some, None, List, [], codes, unwrap_or}
 use Rattle.ccb.specs.Completion.{Outcome}
 use Rattle.ccb.specs.declared.cam_status.CamStatus.TheVariants.{RequestInProgress}
-use Rattle.freeze_ledger.specs.declared.place.Place.TheVariants.{Device}
+use Rattle.freeze_ledger.specs.declared.place.Place.TheVariants.{Controller, Device}
 use Rattle.calls.specs.declared.call.Call.{Call}
 use Rattle.calls.specs.declared.call.Call.TheVariants as calls
 use Rattle.call_lines.specs.Values.{byte_in, bytes_in, long_number_at, number_at, status_in}
@@ -18,6 +18,7 @@ word_text words.Dispatch = codes "dispatch"
 word_text words.Complete = codes "complete"
 word_text words.Advance = codes "advance"
 word_text words.FreezeQueue = codes "gfreeze"
+word_text words.FreezeController = codes "cfreeze"
 word_text words.ReleaseFreeze = codes "grelease"
 word_text words.Clock = codes "clock"
 word_text words.Park = codes "park"
@@ -45,6 +46,7 @@ word_of (calls.Submit queue priority retries) = words.Submit
 word_of (calls.Dispatch queue) = words.Dispatch
 word_of (calls.Complete outcome) = words.Complete
 word_of (calls.GuestFreeze (Device queue) guest) = words.FreezeQueue
+word_of (calls.GuestFreeze (Controller controller) guest) = words.FreezeController
 word_of (calls.GuestRelease freeze) = words.ReleaseFreeze
 word_of (calls.Clock reading) = words.Clock
 word_of (calls.Park run) = words.Park
@@ -55,6 +57,7 @@ values_of (calls.Submit queue priority retries) = three (values.Number queue.0) 
 values_of (calls.Dispatch queue) = one (values.Number queue.0)
 values_of (calls.Complete outcome) = completed outcome
 values_of (calls.GuestFreeze (Device queue) guest) = two (values.Number queue.0) (values.Number guest)
+values_of (calls.GuestFreeze (Controller controller) guest) = two (values.Number controller) (values.Number guest)
 values_of (calls.GuestRelease freeze) = one (values.Number freeze)
 values_of (calls.Clock reading) = one (values.LongNumber reading)
 values_of (calls.Park run) = one (values.Number run)
@@ -76,6 +79,7 @@ call_of words.Dispatch held = Some (calls.Dispatch (record { 0 = number_at held.
 call_of words.Complete held = Some (calls.Complete (outcome_of held))
 call_of words.Advance held = None
 call_of words.FreezeQueue held = Some (calls.GuestFreeze (Device (record { 0 = number_at held.first })) (number_at held.second))
+call_of words.FreezeController held = Some (calls.GuestFreeze (Controller (number_at held.first)) (number_at held.second))
 call_of words.ReleaseFreeze held = Some (calls.GuestRelease (number_at held.first))
 call_of words.Clock held = Some (calls.Clock (long_number_at held.first))
 call_of words.Park held = Some (calls.Park (number_at held.first))

@@ -2,7 +2,6 @@
 use Rattle.std.specs.Prelude.{◌≡◌, ◌==◌, ◌&&◌, ◌||◌, ◌++◌, not, ℕ, Option, Some, None, IfSome, IsSomeAnd, is_none, if◌then◌else◌, Bool, true, false, List, [], ◌∷◌}
 use Rattle.std.specs.List.{list_all}
 use Rattle.helpers.specs.declared.table.Helper.{Helper}
-use Rattle.call_lines.specs.Rows.{is_of_version}
 use Rattle.call_lines.specs.Texts.{told_text}
 use Rattle.call_lines.specs.Lines.{slot_text, fields_text, line_text}
 use Rattle.call_lines.specs.declared.kind.Kind.{Kind}
@@ -86,7 +85,7 @@ pub record ReadsFields (fields : Slots Kind) (text : List ℕ) (read : Option (S
   pub said : IfSome read (λ held. fields_text fields held ≡ Some text)
   pub back : stops_last fields ≡ true → (held : Slots Value) → fields_text fields held ≡ Some text → read ≡ Some held
 
--- What is read is a line that the version has and that is spelled so, and each such line is read.
-pub record ReadsLine (version : ℕ) (text : List ℕ) (read : Option (Word × Slots Value)) : Type 0 where
-  pub said : IfSome read (λ line. (line_text line.0 line.1 ≡ Some text) × (is_of_version version line.0 ≡ true))
-  pub back : (word : Word) (held : Slots Value) → line_text word held ≡ Some text → is_of_version version word ≡ true → read ≡ Some (word, held)
+-- What is read is a line that is spelled so, and each such line is read.
+pub record ReadsLine (text : List ℕ) (read : Option (Word × Slots Value)) : Type 0 where
+  pub said : IfSome read (λ line. line_text line.0 line.1 ≡ Some text)
+  pub back : (word : Word) (held : Slots Value) → line_text word held ≡ Some text → read ≡ Some (word, held)

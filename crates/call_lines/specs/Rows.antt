@@ -1,5 +1,5 @@
 -- The rows of the lines, each at its word's place.
-use Rattle.std.specs.Prelude.{ℕ, ◌==◌, ◌&&◌, nat_le, Bool, false, List, [], Option, Some, None, bytes_eq, find, slice_index_or}
+use Rattle.std.specs.Prelude.{ℕ, ◌==◌, Bool, false, List, [], Option, Some, None, bytes_eq, find, slice_index_or}
 use Rattle.std.specs.List.{list_any}
 use Rattle.std.specs.Option.{option_map}
 use Rattle.calls.specs.declared.call_refusal.CallRefusal.{CallRefusal}
@@ -20,23 +20,18 @@ no_row = record {
   fields = record { first = None; second = None; third = None; fourth = None };
   form = forms.Ok;
   refusals = [];
-  version = 0;
 }
 
 -- the row of a word
 unfoldable pub row_of : Word → Row
 row_of name = slice_index_or LINES (tag_of word.the_type name) no_row
 
--- the version has the line of the word
-unfoldable pub is_of_version : ℕ → Word → Bool
-is_of_version version name = nat_le (row_of name).version version
+abbrev pub is_named : List ℕ → Row → Bool
+is_named name row = bytes_eq (word_text row.word) name
 
-abbrev pub is_named : List ℕ → ℕ → Row → Bool
-is_named name version row = bytes_eq (word_text row.word) name && nat_le row.version version
-
--- the word that is spelled so, where a version has its line
-unfoldable pub word_named : List ℕ → ℕ → Option Word
-word_named name version = option_map (λ row. row.word) (find (is_named name version) LINES)
+-- the word that is spelled so
+unfoldable pub word_named : List ℕ → Option Word
+word_named name = option_map (λ row. row.word) (find (is_named name) LINES)
 
 -- the refusal is that one, or among these
 abbrev pub is_refusal : Option CallRefusal → CallRefusal → Bool

@@ -24,6 +24,7 @@ pub fn word_of(call: &Call) -> Word
         Call::Complete { .. } => Word::Complete,
         Call::GuestFreeze { place, .. } => match place {
             Place::Device(_) => Word::FreezeQueue,
+            Place::Controller(_) => Word::FreezeController,
         },
         Call::GuestRelease { .. } => Word::ReleaseFreeze,
         Call::Clock { .. } => Word::Clock,
@@ -50,6 +51,9 @@ pub fn values_of(call: &Call) -> Slots<Value>
         Call::Complete { completion } => completed(completion),
         Call::GuestFreeze { place, guest } => match place {
             Place::Device(queue) => two(Value::Number(queue.0), Value::Number(*guest)),
+            Place::Controller(controller) => {
+                two(Value::Number(*controller), Value::Number(*guest))
+            }
         },
         Call::GuestRelease { freeze } => one(Value::Number(*freeze)),
         Call::Clock { reading } => one(Value::LongNumber(*reading)),
@@ -128,6 +132,10 @@ fn plain_call_of(word: Word, held: &Slots<Value>) -> Option<Call>
         }),
         Word::FreezeQueue => Some(Call::GuestFreeze {
             place: Place::Device(QueueId(number_at(held.first))),
+            guest: number_at(held.second),
+        }),
+        Word::FreezeController => Some(Call::GuestFreeze {
+            place: Place::Controller(number_at(held.first)),
             guest: number_at(held.second),
         }),
         Word::ReleaseFreeze => Some(Call::GuestRelease {

@@ -2,7 +2,6 @@
 
 ghost use Rattle.std.specs.Prelude.{◌≡◌, ◌+◌, ◌≤◌, length};
 ghost use Rattle.call_lines.specs.Lines.{fields_text, line_text, slot_text};
-ghost use Rattle.call_lines.specs.Rows.{is_of_version};
 ghost use Rattle.call_lines.specs.Reading.{IsCutFor, ReadsFields, ReadsLine, ReadsSlot};
 ghost use Rattle.call_lines.specs.Written.{Puts};
 
@@ -61,12 +60,12 @@ fn print_slot(kind: Option<Kind>, value: Option<Value>, text: &mut Text) -> Resu
     }
 }
 
-/// The word and what the fields hold of the line that is spelled so, where a version has it.
-pub fn read_line(text: &str, version: u8) -> Option<(Word, Slots<Value>)>
-    ensures { ReadsLine version text.now result }
+/// The word and what the fields hold of the line that is spelled so.
+pub fn read_line(text: &str) -> Option<(Word, Slots<Value>)>
+    ensures { ReadsLine text.now result }
 {
     let (name, rest) = first_word(text);
-    let word = Word::named(name, version)?;
+    let word = Word::named(name)?;
     Some((word, read_fields(&word.row().fields, rest)?))
 }
 

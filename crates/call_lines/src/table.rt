@@ -35,12 +35,10 @@ pub struct Row {
     pub form: Form,
     /// By what it may be refused.
     pub refusals: [Option<CallRefusal>; 5],
-    /// The first version of the formats that has the line.
-    pub version: u8,
 }
 
 /// The lines, in the order of their words. The comment of a row names its fields and answers for people.
-pub const LINES: [Row; 9] = [
+pub const LINES: [Row; 10] = [
     // submit Q PRIORITY RETRIES = ccb C
     Row {
         word: Word::Submit,
@@ -58,7 +56,6 @@ pub const LINES: [Row; 9] = [
             None,
             None,
         ],
-        version: 1,
     },
     // dispatch Q = ccb C
     Row {
@@ -75,9 +72,8 @@ pub const LINES: [Row; 9] = [
             Some(CallRefusal::Frozen),
             Some(CallRefusal::NoOpening),
             Some(CallRefusal::NothingWaits),
-            None,
+            Some(CallRefusal::ControllerFrozen),
         ],
-        version: 1,
     },
     // complete C STATUS SCSI SENSE = done, or run R freeze F
     Row {
@@ -96,7 +92,6 @@ pub const LINES: [Row; 9] = [
             None,
             None,
         ],
-        version: 1,
     },
     // advance R N STOP = R0
     Row {
@@ -109,7 +104,6 @@ pub const LINES: [Row; 9] = [
         },
         form: Form::R0,
         refusals: [None; 5],
-        version: 1,
     },
     // gfreeze Q G = freeze F
     Row {
@@ -128,7 +122,24 @@ pub const LINES: [Row; 9] = [
             None,
             None,
         ],
-        version: 1,
+    },
+    // cfreeze C G = freeze F
+    Row {
+        word: Word::FreezeController,
+        fields: Slots {
+            first: Some(Kind::Number),
+            second: Some(Kind::Number),
+            third: None,
+            fourth: None,
+        },
+        form: Form::Freeze,
+        refusals: [
+            Some(CallRefusal::Unknown),
+            Some(CallRefusal::Limit),
+            None,
+            None,
+            None,
+        ],
     },
     // grelease F = LEFT
     Row {
@@ -141,7 +152,6 @@ pub const LINES: [Row; 9] = [
         },
         form: Form::Left,
         refusals: [None; 5],
-        version: 1,
     },
     // clock T = WENT
     Row {
@@ -160,7 +170,6 @@ pub const LINES: [Row; 9] = [
             None,
             None,
         ],
-        version: 1,
     },
     // park R = ok
     Row {
@@ -173,7 +182,6 @@ pub const LINES: [Row; 9] = [
         },
         form: Form::Ok,
         refusals: [None; 5],
-        version: 1,
     },
     // resume R = ok
     Row {
@@ -186,7 +194,6 @@ pub const LINES: [Row; 9] = [
         },
         form: Form::Ok,
         refusals: [Some(CallRefusal::Unknown), None, None, None, None],
-        version: 1,
     },
 ];
 
@@ -199,23 +206,23 @@ impl Word {
         LINES[self as usize]
     }
 
-    /// The word that is spelled so, where a version has its line.
+    /// The word that is spelled so.
     #[tactic(auto, unfolding(crate::specs::Rows::word_named))]
-    pub fn named(name: &str, version: u8) -> Option<Self>
-        ensures { result ≡ word_named name.now version }
+    pub fn named(name: &str) -> Option<Self>
+        ensures { result ≡ word_named name.now }
     {
         LINES
             .iter()
-            .find(|row| row.is_named(name, version))
+            .find(|row| row.is_named(name))
             .map(|row| row.word)
     }
 }
 
 impl Row {
-    fn is_named(&self, name: &str, version: u8) -> bool
-        ensures { result ≡ is_named name.now version self.now }
+    fn is_named(&self, name: &str) -> bool
+        ensures { result ≡ is_named name.now self.now }
     {
-        self.word.text() == name && self.version <= version
+        self.word.text() == name
     }
 
     /// Whether the line may be refused so.

@@ -13,7 +13,7 @@ use Rattle.call_lines.specs.Rows.{row_of}
 use Rattle.call_lines.specs.Texts.{field_text, long_number_text, stop_text}
 use Rattle.call_lines.specs.declared.value.Value.TheVariants as values
 use Rattle.call_lines.specs.declared.word.Word.TheVariants as words
-use Rattle.trace.specs.HasText.{HasText, StopFits}
+use Rattle.trace.specs.HasText.{StopFits}
 use Rattle.trace.specs.TraceText.{stop_of as spelled}
 use Rattle.world.specs.World.{Setup, queue_count, queue_setup, no_queue, LiveRun, World}
 use Rattle.world.specs.Lawful.{IsLawful}
@@ -33,7 +33,7 @@ use Rattle.world_laws.proofs.Sound.{IsSound, leads_sound}
 use Rattle.world_laws.proofs.Steps.Running.{call_parts, executes_parts}
 use Rattle.history_texts.specs.EachHasText.{FewInstructions}
 use Rattle.history_texts.proofs.Frames.{reached_whole}
-use Rattle.history_texts.proofs.Somes.{some_where, some_number, some_long_number, some_field, some_line, some_entry}
+use Rattle.history_texts.proofs.Somes.{HasLine, some_where, some_number, some_long_number, some_field, some_line, some_entry}
 use Rattle.history_texts.proofs.Stops.{called_some}
 
 -- ---- how many instructions
@@ -118,7 +118,7 @@ asked run instructions stop fits some few there =
     (some_field _ (some_where (nat_lt 0 instructions && nat_le instructions 65536) (decimal instructions) (and_from (nat_lt 0 instructions) (nat_le instructions 65536) (lt-ltb 0 instructions some) (le-leb instructions 65536 few))))
     (some_field _ there) refl
 
-pub advance_has : (setup : Setup) (before : World) (run instructions : ℕ) (stop : StoppedAt) (r0 : ℕ) (after : World) → IsLawful setup → FewInstructions setup → IsSound setup before → Leads setup before (advance_of run instructions stop r0) after → HasText (Advance run instructions stop r0)
+pub advance_has : (setup : Setup) (before : World) (run instructions : ℕ) (stop : StoppedAt) (r0 : ℕ) (after : World) → IsLawful setup → FewInstructions setup → IsSound setup before → Leads setup before (advance_of run instructions stop r0) after → HasLine (Advance run instructions stop r0)
 advance_has setup before run zero stop r0 after lawful few sound leads = absurd (empty_advance_is_none setup run stop r0 before after leads)
 advance_has setup before run (suc n) stop r0 after lawful few sound leads =
     let private_ones : List (Event × Reply) = replicate n (executes run private, went_on) in

@@ -9,7 +9,7 @@ use Rattle.ccb.specs.Completion.{Outcome}
 use Rattle.ccb.specs.Status.{code_of}
 use Rattle.ccb.specs.declared.cam_status.CamStatus.TheVariants.{RequestInProgress}
 use Rattle.freeze_ledger.specs.declared.freeze.Freeze.{Freeze}
-use Rattle.freeze_ledger.specs.declared.place.Place.TheVariants.{Device}
+use Rattle.freeze_ledger.specs.declared.place.Place.TheVariants.{Controller, Device}
 use Rattle.freeze_ledger.specs.Freezes.{entry_of, meets_limit}
 use Rattle.calls.specs.declared.call.Call.{Call}
 use Rattle.calls.specs.declared.call.Call.TheVariants as calls
@@ -25,7 +25,7 @@ use Rattle.call_lines.specs.Rows.{is_among, row_of}
 use Rattle.call_lines.specs.Texts.{field_text, is_byte, pair_text, sense_text, status_text}
 use Rattle.call_lines.specs.declared.table.Row.{Row}
 use Rattle.call_lines.specs.declared.word.Word.TheVariants as words
-use Rattle.trace.specs.HasText.{AnswerFits, CallFits, HasText}
+use Rattle.trace.specs.HasText.{AnswerFits, CallFits}
 use Rattle.world.specs.World.{Setup, LiveCcb, LiveRun, World}
 use Rattle.world.specs.Lookups.{ccb_of, next_waiting, run_of}
 use Rattle.world.specs.Event.{called, Reply, replies, went_on, result}
@@ -35,12 +35,12 @@ use Rattle.world.specs.ParkSteps.{parks, resumes}
 use Rattle.world.specs.Refusals.{refusals_of, unless_refused}
 use Rattle.world.specs.Step.{is_call, performs, WorldStep}
 use Rattle.world_laws.proofs.Steps.Running.{some_is}
-use Rattle.history_texts.proofs.Somes.{some_append, some_where, some_number, some_long_number, some_named, some_field, some_line, some_entry}
+use Rattle.history_texts.proofs.Somes.{HasLine, some_append, some_where, some_number, some_long_number, some_named, some_field, some_line, some_entry}
 
 -- ---- what is answered
 
 -- a reply to a call of this line has a text
-abbrev HasReply : Row → Reply → Type 0
+abbrev pub HasReply : Row → Reply → Type 0
 HasReply row (replies answer) = AnswerFits answer → IsSome (answer_text row answer)
 HasReply row went_on = ⊥
 HasReply row (result r0) = ⊥
@@ -53,7 +53,7 @@ by_test : (row : Row) (test : Bool) (told : Reply × World) (reply : Reply) (aft
 by_test row true told reply after has e = by_reply row told reply after has e
 by_test row false told reply after has e = absurd (let bad : None ≡ Some (reply, after) = e in cc)
 
-by_found : {X : Type 0} (row : Row) (does : X → Reply × World) (found : Option X) (reply : Reply) (after : World) → ((x : X) → HasReply row (does x).0) → option_map does found ≡ Some (reply, after) → HasReply row reply
+pub by_found : {X : Type 0} (row : Row) (does : X → Reply × World) (found : Option X) (reply : Reply) (after : World) → ((x : X) → HasReply row (does x).0) → option_map does found ≡ Some (reply, after) → HasReply row reply
 by_found row does None reply after has e = absurd (let bad : None ≡ Some (reply, after) = e in cc)
 by_found row does (Some x) reply after has e = by_reply row (does x) reply after (has x) e
 
@@ -90,6 +90,7 @@ performed setup world (calls.Dispatch queue) reply after e = by_found (row_of wo
 performed setup world (calls.Complete outcome) reply after e =
     by_found (row_of words.Complete) (completes setup world outcome) (ccb_of outcome.ccb.0 world.transport.live) reply after (λ live. completed setup world outcome live (is_success outcome.status) refl) e
 performed setup world (calls.GuestFreeze (Device queue) guest) reply after e = by_reply (row_of words.FreezeQueue) _ reply after (λ fits. some_named (codes "freeze ") _ fits) e
+performed setup world (calls.GuestFreeze (Controller controller) guest) reply after e = by_reply (row_of words.FreezeController) _ reply after (λ fits. some_named (codes "freeze ") _ fits) e
 performed setup world (calls.GuestRelease freeze) reply after e = released world (entry_of freeze world.transport.freezes) reply after e
 performed setup world (calls.Clock reading) reply after e = by_reply (row_of words.Clock) _ reply after (λ fits. some_number _ fits) e
 performed setup world (calls.Park run) reply after e = parked world (run_of run world.runs.list) reply after e
@@ -104,16 +105,17 @@ AreAmong row (x ∷ xs) = (is_among row.refusals x.1 ≡ true) × AreAmong row x
 among : (setup : Setup) (world : World) (call : Call) → AreAmong (row_of (word_of call)) (refusals_of setup world call)
 unfolding row_of
 among setup world (calls.Submit queue priority retries) = (refl, (refl, tt))
-among setup world (calls.Dispatch queue) = (refl, (refl, (refl, (refl, tt))))
+among setup world (calls.Dispatch queue) = (refl, (refl, (refl, (refl, (refl, tt)))))
 among setup world (calls.Complete outcome) = (refl, (refl, (refl, tt)))
 among setup world (calls.GuestFreeze (Device queue) guest) = (refl, (refl, tt))
+among setup world (calls.GuestFreeze (Controller controller) guest) = (refl, (refl, tt))
 among setup world (calls.GuestRelease freeze) = tt
 among setup world (calls.Clock reading) = (refl, (refl, tt))
 among setup world (calls.Park run) = tt
 among setup world (calls.Resume run) = (refl, tt)
 
 -- the first that holds, or else what is done
-told : (row : Row) (xs : List (Bool × CallRefusal)) (world : World) (does : Option (Reply × World)) (reply : Reply) (after : World) → AreAmong row xs → (does ≡ Some (reply, after) → HasReply row reply) → unless_refused xs world does ≡ Some (reply, after) → HasReply row reply
+pub told : (row : Row) (xs : List (Bool × CallRefusal)) (world : World) (does : Option (Reply × World)) (reply : Reply) (after : World) → AreAmong row xs → (does ≡ Some (reply, after) → HasReply row reply) → unless_refused xs world does ≡ Some (reply, after) → HasReply row reply
 told row [] world does reply after are otherwise e = otherwise e
 told row (x ∷ xs) world does reply after are otherwise e =
     elim (cases_Bool x.0) [
@@ -147,6 +149,7 @@ asked (calls.Complete outcome) can fits =
     some_line (word_text words.Complete) _ _ _ _ (some_field _ (some_number outcome.ccb.0 fits)) (some_field _ (some_status outcome parts.0))
     (some_field _ (some_where (is_byte outcome.scsi) (pair_text outcome.scsi) parts.1)) (some_field _ (some_sense outcome.sense few.1 all.1))
 asked (calls.GuestFreeze (Device queue) guest) can fits = some_line (word_text words.FreezeQueue) _ _ (Some []) (Some []) (some_field _ (some_number queue.0 fits.0)) (some_field _ (some_number guest fits.1)) refl refl
+asked (calls.GuestFreeze (Controller controller) guest) can fits = some_line (word_text words.FreezeController) _ _ (Some []) (Some []) (some_field _ (some_number controller fits.0)) (some_field _ (some_number guest fits.1)) refl refl
 asked (calls.GuestRelease freeze) can fits = some_line (word_text words.ReleaseFreeze) _ (Some []) (Some []) (Some []) (some_field _ (some_number freeze fits)) refl refl refl
 asked (calls.Clock reading) can fits = some_line (word_text words.Clock) _ (Some []) (Some []) (Some []) (some_field _ (some_long_number reading fits)) refl refl refl
 asked (calls.Park run) can fits = some_line (word_text words.Park) _ (Some []) (Some []) (Some []) (some_field _ (some_number run fits)) refl refl refl
@@ -154,12 +157,21 @@ asked (calls.Resume run) can fits = some_line (word_text words.Resume) _ (Some [
 
 -- ---- both
 
-pub call_has : (setup : Setup) (before : World) (call : Call) (answer : CallAnswer) (after : World) → WorldStep setup before (called call) (replies answer) after → HasText (Called answer call)
-call_has setup before call answer after e =
+-- what can be asked was asked
+can_be : (setup : Setup) (before : World) (call : Call) (reply : Reply) (after : World) → WorldStep setup before (called call) reply after → is_call call ≡ true
+can_be setup before call reply after e =
     elim (cases_Bool (is_call call)) [
-      | inl can ↦
-          let has = told (row_of (word_of call)) (refusals_of setup before call) before (performs setup before call) (replies answer) after (among setup before call) (performed setup before call (replies answer) after)
-          (sym (cond-true (is_call call) _ None can) ∙ e) in
-          λ fits. some_entry (line_text (word_of call) (values_of call)) (answer_text (row_of (word_of call)) answer) (asked call can fits.0) (has fits.1)
-      | inr cannot ↦ absurd (let bad : None ≡ Some (replies answer, after) = sym (cond-false (is_call call) _ None cannot) ∙ e in cc)
+      | inl can ↦ can
+      | inr cannot ↦ absurd (let bad : None ≡ Some (reply, after) = sym (cond-false (is_call call) _ None cannot) ∙ e in cc)
     ]
+
+-- and the answer is one of its line
+pub answered : (setup : Setup) (before : World) (call : Call) (answer : CallAnswer) (after : World) → WorldStep setup before (called call) (replies answer) after → HasReply (row_of (word_of call)) (replies answer)
+answered setup before call answer after e =
+    told (row_of (word_of call)) (refusals_of setup before call) before (performs setup before call) (replies answer) after (among setup before call) (performed setup before call (replies answer) after)
+    (sym (cond-true (is_call call) _ None (can_be setup before call (replies answer) after e)) ∙ e)
+
+pub call_has : (setup : Setup) (before : World) (call : Call) (answer : CallAnswer) (after : World) → WorldStep setup before (called call) (replies answer) after → HasLine (Called answer call)
+call_has setup before call answer after e =
+    let has = answered setup before call answer after e in
+    λ fits. some_entry (line_text (word_of call) (values_of call)) (answer_text (row_of (word_of call)) answer) (asked call (can_be setup before call (replies answer) after e) fits.0) (has fits.1)

@@ -4,7 +4,9 @@ use Rattle.std.proofs.lemmas.List.Concat.{flat_map-cons}
 use Rattle.calls.specs.declared.record.Record.{Record}
 use Rattle.calls.specs.declared.record.Record.TheVariants.{Called, Advance}
 use Rattle.trace.specs.HasText.{AllHaveText, HasText}
-use Rattle.world.specs.World.{Setup, World, opening}
+use Rattle.trace.specs.TraceText.{line_of}
+use Rattle.trace.specs.Versions.{is_of}
+use Rattle.world.specs.World.{Setup, World, opening, version_of}
 use Rattle.world.specs.Lawful.{IsLawful}
 use Rattle.world.specs.Event.{Event, Reply}
 use Rattle.world.specs.Flat.{events_of, flat}
@@ -14,12 +16,20 @@ use Rattle.world_laws.proofs.Sound.{IsSound, leads_sound, opening_sound}
 use Rattle.history_texts.specs.EachHasText.{EachRecordHasText, FewInstructions}
 use Rattle.history_texts.proofs.Advances.{advance_has}
 use Rattle.history_texts.proofs.Calls.{call_has}
+use Rattle.history_texts.proofs.Somes.{HasLine, some_tested}
+use Rattle.history_texts.proofs.Versions.{of_version}
 
-record_has : (setup : Setup) (before : World) (entry : Record) (after : World) → IsLawful setup → FewInstructions setup → IsSound setup before → Leads setup before (events_of entry) after → HasText entry
-record_has setup before (Called answer call) after lawful few sound leads = call_has setup before call answer leads.0 leads.1
-record_has setup before (Advance run instructions stop r0) after lawful few sound leads = advance_has setup before run instructions stop r0 after lawful few sound leads
+line_has : (setup : Setup) (before : World) (entry : Record) (after : World) → IsLawful setup → FewInstructions setup → IsSound setup before → Leads setup before (events_of entry) after → HasLine entry
+line_has setup before (Called answer call) after lawful few sound leads = call_has setup before call answer leads.0 leads.1
+line_has setup before (Advance run instructions stop r0) after lawful few sound leads = advance_has setup before run instructions stop r0 after lawful few sound leads
 
-each : (setup : Setup) (before : World) (records : List Record) (after : World) → IsLawful setup → FewInstructions setup → IsSound setup before → Leads setup before (flat records) after → AllHaveText records
+-- it has a line, and is of the version
+record_has : (setup : Setup) (before : World) (entry : Record) (after : World) → IsLawful setup → FewInstructions setup → IsSound setup before → Leads setup before (events_of entry) after → HasText (version_of setup) entry
+record_has setup before entry after lawful few sound leads =
+    let has = line_has setup before entry after lawful few sound leads in
+    λ fits. some_tested (is_of (version_of setup) entry) (line_of entry) (of_version setup before entry after lawful sound leads) (has fits)
+
+each : (setup : Setup) (before : World) (records : List Record) (after : World) → IsLawful setup → FewInstructions setup → IsSound setup before → Leads setup before (flat records) after → AllHaveText (version_of setup) records
 each setup before [] after lawful few sound leads = tt
 each setup before (entry ∷ records) after lawful few sound leads =
     let parts = leads_split setup before (events_of entry) (flat records) after (subst (λ (xs : List (Event × Reply)). Leads setup before xs after) (flat_map-cons events_of entry records) leads) in

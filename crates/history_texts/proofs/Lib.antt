@@ -3,4 +3,5 @@ pub mod Calls
 pub mod Frames
 pub mod Stops
 pub mod Advances
+pub mod Versions
 pub mod Each

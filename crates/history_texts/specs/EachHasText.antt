@@ -1,8 +1,8 @@
--- That the records of a history have texts: what of that is a law.
+-- That the records of a history have texts in the configuration's version: what of that is a law.
 use Rattle.std.specs.Prelude.{◌≤◌, All, List}
 use Rattle.calls.specs.declared.record.Record.{Record}
 use Rattle.trace.specs.HasText.{AllHaveText}
-use Rattle.world.specs.World.{Setup, World}
+use Rattle.world.specs.World.{Setup, World, version_of}
 use Rattle.world.specs.Lawful.{IsLawful}
 use Rattle.world.specs.Flat.{flat}
 use Rattle.world.specs.WorldRun.{WorldRun}
@@ -15,4 +15,4 @@ FewInstructions setup = All (λ queue. queue.budget ≤ 65536) setup.queues
 abbrev pub EachRecordHasText : Type 0
 EachRecordHasText =
     (setup : Setup) → IsLawful setup → FewInstructions setup → (records : List Record) (world : World) → WorldRun setup (flat records) world →
-    AllHaveText records
+    AllHaveText (version_of setup) records

@@ -5,6 +5,7 @@ use Rattle.std.proofs.lemmas.List.{take-append-drop}
 use Rattle.std.proofs.lemmas.List.Concat.{flat_map-append}
 use Rattle.calls.specs.declared.record.Record.{Record}
 use Rattle.calls.specs.declared.totals.Totals.{Totals}
+use Rattle.calls.specs.declared.trace.Trace.{Trace}
 use Rattle.world.specs.World.{Setup, opening}
 use Rattle.world.specs.Event.{Event, Reply}
 use Rattle.world.specs.WorldRun.{WorldRun}
@@ -13,7 +14,9 @@ use Rattle.world.specs.TotalsOf.{TotalsOf}
 use Rattle.world_laws.proofs.Leads.{leads_split}
 use Rattle.engine_core.specs.Unrecorded.{IsHistory}
 use Rattle.replay.specs.OneVerdict.{OneVerdict}
-use Rattle.replay.specs.Replaying.{IsFirstFaulty}
+use Rattle.replay.specs.Replaying.{IsFaultyAt, IsFirstFaulty, IsTraceOf}
+use Rattle.replay.specs.declared.fault.ReplayFault.{ReplayFault}
+use Rattle.replay.specs.declared.fault.ReplayFault.TheVariants.{Header, Behind}
 
 -- a front of a history
 shorter : (setup : Setup) (xs ys : List Record) → IsHistory setup (xs ++ ys) → IsHistory setup xs
@@ -49,11 +52,23 @@ one_line setup records totals count other one two = elim (cases_lt count other) 
   ]
 ]
 
-pub not_accepted : (setup : Setup) (records : List Record) (totals : Totals) (count : ℕ) → IsFirstFaulty setup records totals count → TotalsOf setup records totals → ⊥
-not_accepted setup records totals count one is = elim one.stops [
+not_whole : (setup : Setup) (records : List Record) (totals : Totals) (count : ℕ) → IsFirstFaulty setup records totals count → TotalsOf setup records totals → ⊥
+not_whole setup records totals count one is = elim one.stops [
   | inl some ↦ some.1 (shorter setup (take (count + 1) records) (drop (count + 1) records) (subst (IsHistory setup) (sym (take-append-drop (count + 1) records)) (is.0, is.1)))
   | inr all ↦ all.1 is
 ]
 
+-- ---- with the header
+
+one_fault : (setup : Setup) (trace : Trace) (fault other : ReplayFault) → IsFaultyAt setup trace fault → IsFaultyAt setup trace other → fault ≡ other
+one_fault setup trace Header Header one two = refl
+one_fault setup trace Header (Behind count) one two = absurd (one two.0)
+one_fault setup trace (Behind count) Header one two = absurd (two one.0)
+one_fault setup trace (Behind count) (Behind other) one two = ap Behind (one_line setup trace.records.items trace.totals count other one.1 two.1)
+
+pub not_accepted : (setup : Setup) (trace : Trace) (fault : ReplayFault) → IsFaultyAt setup trace fault → IsTraceOf setup trace → ⊥
+not_accepted setup trace Header one is = one is.0
+not_accepted setup trace (Behind count) one is = not_whole setup trace.records.items trace.totals count one.1 is.1
+
 pub one_verdict : OneVerdict
-one_verdict = (one_line, not_accepted)
+one_verdict = (one_fault, not_accepted)

@@ -1,6 +1,7 @@
--- What an engine's history and sums are to a replay.
+-- What an engine's trace is to a replay.
 use Rattle.std.specs.Prelude.{◌≡◌, ◌⊎◌, Result, Ok, Err}
-use Rattle.calls.specs.declared.totals.Totals.{Totals}
+use Rattle.calls.specs.declared.trace.Trace.{Trace}
+use Rattle.world.specs.World.{version_of}
 use Rattle.world.specs.TotalsOf.{TotalsOf}
 use Rattle.or_memory.specs.declared.OrMemory.{OrMemory}
 use Rattle.or_memory.specs.declared.OrMemory.TheVariants.{OutOfMemory}
@@ -8,9 +9,9 @@ use Rattle.engine_core.specs.EngineState.{EngineState}
 use Rattle.replay.specs.declared.fault.ReplayFault.{ReplayFault}
 use Rattle.replay.specs.Replaying.{Replays}
 
--- Of an engine's setup, with its whole history and the sums of that, as it gives them when it is shut, a replay says that the trace is
--- accepted, memory aside.
+-- Of an engine's setup, with a trace that is of its version and has its whole history and the sums of that, as it gives one when it is
+-- shut, a replay says that the trace is accepted, memory aside.
 abbrev pub OwnTraceIsAccepted : Type 0
-OwnTraceIsAccepted = (engine : EngineState) (totals : Totals) (verdict : Result (Unit {0}) (OrMemory ReplayFault))
-    → TotalsOf engine.setup engine.history totals → Replays engine.setup engine.history totals verdict
-    → (verdict ≡ Ok (tt {0})) ⊎ (verdict ≡ Err OutOfMemory)
+OwnTraceIsAccepted = (engine : EngineState) (trace : Trace) (verdict : Result (Unit {0}) (OrMemory ReplayFault))
+    → trace.version ≡ version_of engine.setup → trace.records.items ≡ engine.history → TotalsOf engine.setup engine.history trace.totals
+    → Replays engine.setup trace verdict → (verdict ≡ Ok (tt {0})) ⊎ (verdict ≡ Err OutOfMemory)

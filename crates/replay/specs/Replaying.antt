@@ -1,18 +1,21 @@
--- What a replay says of a trace: that its records lead from the opening of the setup and its last line is their sums, or which line
--- is the first that does not follow.
-use Rattle.std.specs.Prelude.{◌≡◌, ℕ, ◌+◌, ◌<◌, ◌⊎◌, Bool, true, false, List, length, take, ◌++◌, codes, decimal, Result, Ok, Err}
+-- What a replay says of a trace: that it is of the setup's version, its records lead from the opening of the setup and its last line is
+-- their sums, or which line is the first that does not follow.
+use Rattle.std.specs.Prelude.{◌≡◌, ◌≢◌, ℕ, ◌+◌, ◌<◌, ◌⊎◌, Bool, true, false, List, length, take, ◌++◌, codes, decimal, Result, Ok, Err}
 use Rattle.calls.specs.declared.record.Record.{Record}
 use Rattle.calls.specs.declared.totals.Totals.{Totals}
+use Rattle.calls.specs.declared.trace.Trace.{Trace}
 use Rattle.or_memory.specs.declared.OrMemory.{OrMemory}
 use Rattle.or_memory.specs.declared.OrMemory.TheVariants.{OutOfMemory, Fault}
-use Rattle.world.specs.World.{Setup}
+use Rattle.world.specs.World.{Setup, version_of}
 use Rattle.world.specs.TotalsOf.{TotalsOf}
 use Rattle.engine_core.specs.Unrecorded.{UnrecordedState, IsBehind, IsHistory, Follows, CannotFollow}
 use Rattle.replay.specs.declared.fault.ReplayFault.{ReplayFault}
+use Rattle.replay.specs.declared.fault.ReplayFault.TheVariants.{Header, Behind}
 
--- how a fault is printed: by the number of the line behind the header and these records
+-- how a fault is printed: by the number of the line
 abbrev pub fault_text : ReplayFault → List ℕ
-fault_text fault = codes "X3 at " ++ decimal (fault.0 + 2)
+fault_text Header = codes "X3 at 1"
+fault_text (Behind count) = codes "X3 at " ++ decimal (count + 2)
 
 -- with one more nothing leads; or these are all, and the last line is not their sums
 abbrev pub StopsAt : Setup → List Record → Totals → ℕ → Type 0
@@ -24,11 +27,20 @@ pub record IsFirstFaulty (setup : Setup) (records : List Record) (totals : Total
   pub lead : IsHistory setup (take count records)
   pub stops : StopsAt setup records totals count
 
+-- the trace is the history of an engine of the setup, with its sums
+abbrev pub IsTraceOf : Setup → Trace → Type 0
+IsTraceOf setup trace = (trace.version ≡ version_of setup) × TotalsOf setup trace.records.items trace.totals
+
+-- this line of the trace is the first that does not follow: its header, which is of the other version; or else one behind the header
+abbrev pub IsFaultyAt : Setup → Trace → ReplayFault → Type 0
+IsFaultyAt setup trace Header = trace.version ≢ version_of setup
+IsFaultyAt setup trace (Behind count) = (trace.version ≡ version_of setup) × IsFirstFaulty setup trace.records.items trace.totals count
+
 -- what a replay says; want of memory says nothing
-abbrev pub Replays : Setup → List Record → Totals → Result (Unit {0}) (OrMemory ReplayFault) → Type 0
-Replays setup records totals (Ok done) = TotalsOf setup records totals
-Replays setup records totals (Err OutOfMemory) = Unit {0}
-Replays setup records totals (Err (Fault fault)) = IsFirstFaulty setup records totals fault.0
+abbrev pub Replays : Setup → Trace → Result (Unit {0}) (OrMemory ReplayFault) → Type 0
+Replays setup trace (Ok done) = IsTraceOf setup trace
+Replays setup trace (Err OutOfMemory) = Unit {0}
+Replays setup trace (Err (Fault fault)) = IsFaultyAt setup trace fault
 
 -- ---- inside
 

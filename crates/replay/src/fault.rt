@@ -4,9 +4,14 @@ use or_memory::OrMemory;
 use std::error::Error;
 use std::fmt;
 
-/// X3: the line of this number is the first that does not follow from those before it. The header is line 1.
+/// X3: which line is the first that does not follow.
 #[derive(Clone, Copy, Debug, PartialEq, Eq)]
-pub struct ReplayFault(pub usize);
+pub enum ReplayFault {
+    /// The header, which is line 1: the trace is of another version than the configuration's histories.
+    Header,
+    /// The line behind the header and so many records: it does not follow from those before it.
+    Behind(usize),
+}
 
 /// Why a trace was not replayed to its end: memory was refused, or a line does not follow.
 pub type ReplayError = OrMemory<ReplayFault>;
@@ -18,7 +23,10 @@ impl fmt::Display for ReplayFault {
     ghost output = { λ fault. Some (fault_text fault) };
 
     fn fmt<W: fmt::Write>(&self, f: &mut fmt::Formatter<W>) -> fmt::Result {
-        write!(f, "X3 at {}", self.0 as u128 + 2)
+        match self {
+            ReplayFault::Header => f.write_str("X3 at 1"),
+            ReplayFault::Behind(count) => write!(f, "X3 at {}", *count as u128 + 2),
+        }
     }
 }
 

@@ -4,8 +4,15 @@ ghost use Rattle.std.specs.Prelude.{◌≡◌, ◌↔◌, IsTrue};
 ghost use Rattle.calls.specs.declared.record.Record.TheVariants.{Advance};
 ghost use Rattle.calls.specs.declared.record.StoppedAt.TheVariants as stopped;
 
-use calls::{CallAnswer, Record, StoppedAt, Totals};
+use calls::{CallAnswer, Record, StoppedAt, Totals, Version};
 use helpers::Helper;
+
+/// Whether both are the same version.
+pub(crate) fn is_same_version(told: Version, its: Version) -> bool
+    ensures { IsTrue result ↔ (told ≡ its) }
+{
+    told == its
+}
 
 /// Whether both are the same answer.
 pub(crate) fn is_same_answer(made: CallAnswer, told: CallAnswer) -> bool

@@ -1,13 +1,14 @@
 // The replay of a whole trace, record by record, and of its last line. It relies on `following` for whether a record follows.
 
-ghost use Rattle.std.specs.Prelude.{[], IfOk};
+ghost use Rattle.std.specs.Prelude.{◌≡◌, [], IfOk};
 ghost use Rattle.engine_core.specs.Unrecorded.{IsBehind};
 ghost use Rattle.replay.specs.Replaying.{Replays, Leads};
+ghost use Rattle.world.specs.World.{version_of};
 
 use crate::fault::{ReplayError, ReplayFault};
 use crate::following::follows;
-use crate::likeness::is_same_totals;
-use calls::{Record, Trace};
+use crate::likeness::{is_same_totals, is_same_version};
+use calls::{Record, Trace, Version};
 use chunked_list::ChunkedList;
 use engine_core::{Config, Unrecorded};
 use notices::{Notice, Notices};
@@ -17,9 +18,9 @@ use std::alloc::{AllocError, Global};
 /// After how many records it is asked again whether it is to be told how far a replay is.
 const OFTEN: usize = 4096;
 
-/// Whether the trace is a history of an engine of this configuration, with its sums: each record is what the engine tells when it
-/// is asked the same, an advance that of the run's next stop, and the last line has the sums behind them all. Else X3 with the first
-/// line that does not follow. Of the trace's lines it takes no memory but for bytes that a line tells. How far it is, is told where
+/// Whether the trace is a history of an engine of this configuration, with its sums: it is of the version of such histories, each
+/// record is what the engine tells when it is asked the same, an advance that of the run's next stop, and the last line has the sums
+/// behind them all. Else X3 with the first line that does not follow, the header's where the version is another. Of the trace's lines it takes no memory but for bytes that a line tells. How far it is, is told where
 /// that is wanted.
 pub fn replay<N: Notices>(
     alloc: Global,
@@ -27,8 +28,11 @@ pub fn replay<N: Notices>(
     trace: &Trace,
     notices: &N,
 ) -> Result<(), ReplayError>
-    ensures { Replays config.now trace.now.records.items trace.now.totals result }
+    ensures { Replays config.now trace.now result }
 {
+    if !is_same_version(trace.version, Version::of(config.helpers())) {
+        return Err(OrMemory::Fault(ReplayFault::Header));
+    }
     let mut engine = Unrecorded::open(alloc, config)?;
     replay_on(&mut engine, trace, notices)
 }
@@ -39,8 +43,9 @@ fn replay_on<N: Notices>(
     trace: &Trace,
     notices: &N,
 ) -> Result<(), ReplayError>
-    requires { IsBehind [] engine.old }
-    ensures { Replays engine.old.setup trace.now.records.items trace.now.totals result }
+    requires nothing { IsBehind [] engine.old }
+    requires version { trace.now.version ≡ version_of engine.old.setup }
+    ensures { Replays engine.old.setup trace.now result }
 {
     let followed = followed(engine, &trace.records, notices)?;
     if followed == trace.records.len()
@@ -48,7 +53,7 @@ fn replay_on<N: Notices>(
     {
         Ok(())
     } else {
-        Err(OrMemory::Fault(ReplayFault(followed)))
+        Err(OrMemory::Fault(ReplayFault::Behind(followed)))
     }
 }
 

@@ -6,13 +6,13 @@ use Rattle.std.proofs.lemmas.Slice.Eq.{bytes_eq-Decides}
 use Rattle.std.proofs.lemmas.List.Elements.{All-from_get_or}
 use Rattle.ccb.specs.Completion.{Outcome, IsCompletion}
 use Rattle.ccb.specs.declared.cam_status.CamStatus.TheVariants.{RequestInProgress}
-use Rattle.freeze_ledger.specs.declared.place.Place.TheVariants.{Device}
+use Rattle.freeze_ledger.specs.declared.place.Place.TheVariants.{Controller, Device}
 use Rattle.call_lines.specs.declared.kind.Kind.TheVariants as kinds
 use Rattle.ccb.specs.declared.cam_status.CamStatus.{CamStatus}
 use Rattle.ccb.specs.Status.{code_of}
 use Rattle.call_lines.specs.Calls.{completed, word_text}
 use Rattle.call_lines.specs.Lines.{line_text, fields_text}
-use Rattle.call_lines.specs.Rows.{row_of, is_of_version}
+use Rattle.call_lines.specs.Rows.{row_of}
 use Rattle.call_lines.specs.Texts.{pair_text, status_text, field_text}
 use Rattle.call_lines.specs.Reading.{ReadsLine}
 use Rattle.call_lines.specs.Written.{Reads}
@@ -52,7 +52,6 @@ pub record IsLineOf (line : List ℕ) (command : Command) : Type 0 where
   pub held : Slots Value
   pub is : line_of command ≡ Some (word, held)
   pub text : line_text word held ≡ Some line
-  pub version : is_of_version 1 word ≡ true
   pub made : command_made word held ≡ Some command
 
 completion_made : (outcome : Outcome) (line : List ℕ) → line_text words.Complete (completed outcome) ≡ Some line → command_made words.Complete (completed outcome) ≡ Some (commands.Complete outcome)
@@ -65,14 +64,15 @@ completion_made outcome line e =
 
 -- each command but `drain` is made of its line
 pub line_of_it : (command : Command) (line : List ℕ) → bytes_eq line (codes "drain") ≡ false → command_text command ≡ Some line → IsLineOf line command
-unfolding is_of_version row_of
-line_of_it (commands.Submit queue priority retries) line other e = record { word = _; held = _; is = refl; text = e; version = refl; made = refl }
-line_of_it (commands.Dispatch queue) line other e = record { word = _; held = _; is = refl; text = e; version = refl; made = refl }
-line_of_it (commands.Complete outcome) line other e = record { word = _; held = _; is = refl; text = e; version = refl; made = completion_made outcome line e }
+unfolding row_of
+line_of_it (commands.Submit queue priority retries) line other e = record { word = _; held = _; is = refl; text = e; made = refl }
+line_of_it (commands.Dispatch queue) line other e = record { word = _; held = _; is = refl; text = e; made = refl }
+line_of_it (commands.Complete outcome) line other e = record { word = _; held = _; is = refl; text = e; made = completion_made outcome line e }
 line_of_it commands.Drain line other e = absurd (not_drain line e other)
-line_of_it (commands.GuestFreeze (Device queue) guest) line other e = record { word = _; held = _; is = refl; text = e; version = refl; made = refl }
-line_of_it (commands.GuestRelease freeze) line other e = record { word = _; held = _; is = refl; text = e; version = refl; made = refl }
-line_of_it (commands.Clock reading) line other e = record { word = _; held = _; is = refl; text = e; version = refl; made = refl }
+line_of_it (commands.GuestFreeze (Device queue) guest) line other e = record { word = _; held = _; is = refl; text = e; made = refl }
+line_of_it (commands.GuestFreeze (Controller controller) guest) line other e = record { word = _; held = _; is = refl; text = e; made = refl }
+line_of_it (commands.GuestRelease freeze) line other e = record { word = _; held = _; is = refl; text = e; made = refl }
+line_of_it (commands.Clock reading) line other e = record { word = _; held = _; is = refl; text = e; made = refl }
 
 -- ---- what is made of a line
 
@@ -111,6 +111,12 @@ said_made words.FreezeQueue held text e command =
     let b = holds_number held.second s.two s.second in
     let is = as_two held (values.Number a.0) (values.Number b.0) a.1 b.1 (holds_nothing held.third s.three s.third) (holds_nothing held.fourth s.four s.fourth) in
     subst (λ h. command_made words.FreezeQueue h ≡ Some command → line_of command ≡ Some (words.FreezeQueue, h)) (sym is) (λ m. from_made _ command words.FreezeQueue _ refl m)
+said_made words.FreezeController held text e command =
+    let s = slots_of (row_of words.FreezeController).fields held text e in
+    let a = holds_number held.first s.one s.first in
+    let b = holds_number held.second s.two s.second in
+    let is = as_two held (values.Number a.0) (values.Number b.0) a.1 b.1 (holds_nothing held.third s.three s.third) (holds_nothing held.fourth s.four s.fourth) in
+    subst (λ h. command_made words.FreezeController h ≡ Some command → line_of command ≡ Some (words.FreezeController, h)) (sym is) (λ m. from_made _ command words.FreezeController _ refl m)
 said_made words.ReleaseFreeze held text e command =
     let s = slots_of (row_of words.ReleaseFreeze).fields held text e in
     let a = holds_number held.first s.one s.first in
@@ -133,22 +139,22 @@ said_command line word held (Some command) e is =
     let parts = parts_of (Some (word_text word)) (fields_text (row_of word).fields held) line e in
     ap spelled (said_made word held parts.1 parts.3 command is) ∙ e
 
-pub made_reads : (line : List ℕ) (word : Word) (held : Slots Value) (made : Option Command) → bytes_eq line (codes "drain") ≡ false → ReadsLine 1 line (Some (word, held)) → made ≡ command_made word held
+pub made_reads : (line : List ℕ) (word : Word) (held : Slots Value) (made : Option Command) → bytes_eq line (codes "drain") ≡ false → ReadsLine line (Some (word, held)) → made ≡ command_made word held
     → Reads command_text line made
 made_reads line word held made other reads is = record {
-  said = said_command line word held made reads.said.0 (sym is);
+  said = said_command line word held made reads.said (sym is);
   back = λ command e.
       let its = line_of_it command line other e in
-      let same = reads.back its.word its.held its.text its.version in
+      let same = reads.back its.word its.held its.text in
       is ∙ made_same word its.word held its.held same ∙ its.made;
 }
 
-pub not_read : (line : List ℕ) → bytes_eq line (codes "drain") ≡ false → ReadsLine 1 line None → Reads command_text line None
+pub not_read : (line : List ℕ) → bytes_eq line (codes "drain") ≡ false → ReadsLine line None → Reads command_text line None
 not_read line other reads = record {
   said = tt;
   back = λ command e.
       let its = line_of_it command line other e in
-      let same = reads.back its.word its.held its.text its.version in
+      let same = reads.back its.word its.held its.text in
       absurd cc;
 }
 
@@ -164,6 +170,7 @@ no_other words.Dispatch fields e = let letter : true ≡ false = ap (λ (t : Lis
 no_other words.Complete fields e = let letter : true ≡ false = ap (λ (t : List ℕ). get_or t 0 0 == 100) (begins words.Complete fields e).1 in absurd cc
 no_other words.Advance fields e = let letter : true ≡ false = ap (λ (t : List ℕ). get_or t 0 0 == 100) (begins words.Advance fields e).1 in absurd cc
 no_other words.FreezeQueue fields e = let letter : true ≡ false = ap (λ (t : List ℕ). get_or t 0 0 == 100) (begins words.FreezeQueue fields e).1 in absurd cc
+no_other words.FreezeController fields e = let letter : true ≡ false = ap (λ (t : List ℕ). get_or t 0 0 == 100) (begins words.FreezeController fields e).1 in absurd cc
 no_other words.ReleaseFreeze fields e = let letter : true ≡ false = ap (λ (t : List ℕ). get_or t 0 0 == 100) (begins words.ReleaseFreeze fields e).1 in absurd cc
 no_other words.Clock fields e = let letter : true ≡ false = ap (λ (t : List ℕ). get_or t 0 0 == 100) (begins words.Clock fields e).1 in absurd cc
 no_other words.Park fields e = let letter : true ≡ false = ap (λ (t : List ℕ). get_or t 0 0 == 100) (begins words.Park fields e).1 in absurd cc
@@ -176,6 +183,7 @@ only_drain (commands.Dispatch queue) e = absurd (no_other words.Dispatch _ e)
 only_drain (commands.Complete outcome) e = absurd (no_other words.Complete _ e)
 only_drain commands.Drain e = refl
 only_drain (commands.GuestFreeze (Device queue) guest) e = absurd (no_other words.FreezeQueue _ e)
+only_drain (commands.GuestFreeze (Controller controller) guest) e = absurd (no_other words.FreezeController _ e)
 only_drain (commands.GuestRelease freeze) e = absurd (no_other words.ReleaseFreeze _ e)
 only_drain (commands.Clock reading) e = absurd (no_other words.Clock _ e)
 

@@ -3,7 +3,7 @@ use Rattle.std.specs.Prelude.{ℕ, nat_lt, Option, Some, None, List, codes, if�
 use Rattle.ccb.specs.Status.{code_of}
 use Rattle.ccb.specs.declared.cam_status.CamStatus.{CamStatus}
 use Rattle.freeze_ledger.specs.declared.place.Place.{Place}
-use Rattle.freeze_ledger.specs.declared.place.Place.TheVariants.{Device}
+use Rattle.freeze_ledger.specs.declared.place.Place.TheVariants.{Controller, Device}
 use Rattle.call_lines.specs.Calls.{one, two, three, completed}
 use Rattle.call_lines.specs.Lines.{line_text}
 use Rattle.call_lines.specs.Values.{byte_in, bytes_in, long_number_in, number_in, status_in}
@@ -22,6 +22,7 @@ line_of (commands.Dispatch queue) = Some (words.Dispatch, one (values.Number que
 line_of (commands.Complete outcome) = Some (words.Complete, completed outcome)
 line_of commands.Drain = None
 line_of (commands.GuestFreeze (Device queue) guest) = Some (words.FreezeQueue, two (values.Number queue.0) (values.Number guest))
+line_of (commands.GuestFreeze (Controller controller) guest) = Some (words.FreezeController, two (values.Number controller) (values.Number guest))
 line_of (commands.GuestRelease freeze) = Some (words.ReleaseFreeze, one (values.Number freeze))
 line_of (commands.Clock reading) = Some (words.Clock, one (values.LongNumber reading))
 
@@ -45,6 +46,10 @@ dispatched None = None
 abbrev pub device_named : Option ℕ → Option Place
 device_named (Some queue) = Some (Device (record { 0 = queue }))
 device_named None = None
+
+abbrev pub controller_named : Option ℕ → Option Place
+controller_named (Some controller) = Some (Controller controller)
+controller_named None = None
 
 abbrev pub frozen : Option Place → Option ℕ → Option Command
 frozen (Some place) (Some guest) = Some (commands.GuestFreeze place guest)
@@ -72,6 +77,7 @@ command_made words.Submit held = submitted (number_in held.first) (number_in hel
 command_made words.Dispatch held = dispatched (number_in held.first)
 command_made words.Complete held = completed_by (number_in held.first) (status_in held.second) (byte_in held.third) (bytes_in held.fourth)
 command_made words.FreezeQueue held = frozen (device_named (number_in held.first)) (number_in held.second)
+command_made words.FreezeController held = frozen (controller_named (number_in held.first)) (number_in held.second)
 command_made words.ReleaseFreeze held = released (number_in held.first)
 command_made words.Clock held = clock_read (long_number_in held.first)
 command_made words.Advance held = None

@@ -3,7 +3,7 @@
 
 ghost use Rattle.std.specs.Prelude.{◌≡◌, ◌≤◌, length, IfErr, IfOk};
 ghost use Rattle.call_lines.specs.Written.{Reads};
-ghost use Rattle.scenario.specs.Commands.{clock_read, command_made, command_text, completed_by, dispatched, device_named, frozen, released, reported, submitted};
+ghost use Rattle.scenario.specs.Commands.{clock_read, command_made, command_text, completed_by, controller_named, dispatched, device_named, frozen, released, reported, submitted};
 ghost use Rattle.scenario.specs.Said.{IfFault, IsFaultyLine, Keeps, Say, is_skipped, lines_of};
 
 use crate::steps::{Command, Step};
@@ -15,9 +15,6 @@ use freeze_ledger::Place;
 use or_memory::OrMemory;
 use short_bytes::ShortBytes;
 use std::alloc::{AllocError, Global};
-
-/// The version of the formats whose lines a scenario has.
-const VERSION: u8 = 1;
 
 /// N1: the line of that number, from 1, is not of the form.
 #[derive(Clone, Copy, Debug, PartialEq, Eq)]
@@ -77,7 +74,7 @@ fn command_of(line: &str) -> Option<Command>
     if line == "drain" {
         return Some(Command::Drain);
     }
-    match read_line(line, VERSION) {
+    match read_line(line) {
         Some((word, held)) => command_made(word, &held),
         None => None,
     }
@@ -101,6 +98,10 @@ fn command_made(word: Word, held: &Slots<Value>) -> Option<Command>
             bytes_in(held.fourth),
         ),
         Word::FreezeQueue => frozen(device_named(number_in(held.first)), number_in(held.second)),
+        Word::FreezeController => frozen(
+            controller_named(number_in(held.first)),
+            number_in(held.second),
+        ),
         Word::ReleaseFreeze => released(number_in(held.first)),
         Word::Clock => clock_read(long_number_in(held.first)),
         Word::Advance | Word::Park | Word::Resume => None,
@@ -130,6 +131,13 @@ fn device_named(queue: Option<u32>) -> Option<Place>
     ensures { result ≡ device_named queue }
 {
     Some(Place::Device(QueueId(queue?)))
+}
+
+// The controller of that number.
+fn controller_named(controller: Option<u32>) -> Option<Place>
+    ensures { result ≡ controller_named controller }
+{
+    Some(Place::Controller(controller?))
 }
 
 fn frozen(place: Option<Place>, guest: Option<u32>) -> Option<Command>

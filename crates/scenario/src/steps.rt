@@ -23,7 +23,8 @@ pub enum Command {
     },
     /// `drain`: the completions that were reported are served.
     Drain,
-    /// The guest freezes the place, of the kind that the line's word says: `gfreeze Q G` device queue Q.
+    /// The guest freezes the place, of the kind that the line's word says: `gfreeze Q G` device queue Q, `cfreeze C G`
+    /// controller C.
     GuestFreeze {
         place: Place,
         guest: u32,

@@ -30,7 +30,7 @@ pub fn run<N: Notices + Sync, R: Threads + Wait + Sync>(
     notices: &N,
 ) -> Result<Trace, RunFault>
     requires { (1 ≤ workers) × (workers ≤ MAX_WORKERS) }
-    ensures { IfOk result (λ trace. IsTraceOf config trace.records.items trace.totals) }
+    ensures { IfOk result (λ trace. IsTraceOf config trace.version trace.records.items trace.totals) }
 {
     let engine = match Engine::open(alloc, config) {
         Ok(engine) => engine,
@@ -56,7 +56,7 @@ fn run_on<B: Object + Send + Sync, N: Notices + Sync, R: Threads + Wait + Sync>(
     requires begun { opened.engine.history ≡ B.begun }
     requires name { (opened.calls.name ≡ B.name) × (opened.calls.parts ≡ B.parts) }
     requires table { opened.monitor ≡ B.table }
-    ensures { IfOk result (λ trace. IsTraceOf B.setup trace.records.items trace.totals) }
+    ensures { IfOk result (λ trace. IsTraceOf B.setup trace.version trace.records.items trace.totals) }
 {
     let mut host = open(rt, alloc, opened.named::<B>(), workers, notices)?;
     match host.carry_out_all(rt, steps) {
@@ -173,7 +173,7 @@ fn seated<B: Object, R: Wait>(
 
 // Ends the host: the whole history of its engine.
 fn close<B: Object, N: Notices, R: Wait>(rt: &R, host: Host<'_, B, N>) -> Result<Trace, RunFault>
-    ensures { IfOk result (λ trace. IsTraceOf B.setup trace.records.items trace.totals) }
+    ensures { IfOk result (λ trace. IsTraceOf B.setup trace.version trace.records.items trace.totals) }
 {
     let Host {
         shared,

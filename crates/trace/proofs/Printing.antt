@@ -9,6 +9,7 @@ use Rattle.calls.specs.declared.record.Record.{Record}
 use Rattle.call_lines.specs.Written.{IsPut}
 use Rattle.call_lines.proofs.Tests.{same_text, parts_of}
 use Rattle.calls.specs.declared.trace.Trace.{Trace}
+use Rattle.calls.specs.declared.trace.Version.{Version}
 use Rattle.trace.specs.declared.fault.PrintFault.{PrintFault}
 use Rattle.trace.specs.declared.page.Page.{Page}
 use Rattle.trace.specs.Pages.{Passed, IsCut, Flushes}
@@ -42,19 +43,19 @@ nothing_append (Some a) = refl
 
 -- ---- the records
 
-pub records_push : (entries : List Record) (entry : Record) → records_text (entries ++ entry ∷ []) ≡ option_append (records_text entries) (record_text entry)
+pub records_push : (version : Version) (entries : List Record) (entry : Record) → records_text version (entries ++ entry ∷ []) ≡ option_append (records_text version entries) (record_text version entry)
 unfolding records_text
-records_push [] entry = append_nothing (record_text entry) ∙ sym (nothing_append (record_text entry))
-records_push (first ∷ entries) entry = ap (option_append (record_text first)) (records_push entries entry) ∙ sym (append_three (record_text first) (records_text entries) (record_text entry))
+records_push version [] entry = append_nothing (record_text version entry) ∙ sym (nothing_append (record_text version entry))
+records_push version (first ∷ entries) entry = ap (option_append (record_text version first)) (records_push version entries entry) ∙ sym (append_three (record_text version first) (records_text version entries) (record_text version entry))
 
-pub records_both : (entries others : List Record) → records_text (entries ++ others) ≡ option_append (records_text entries) (records_text others)
+pub records_both : (version : Version) (entries others : List Record) → records_text version (entries ++ others) ≡ option_append (records_text version entries) (records_text version others)
 unfolding records_text
-records_both [] others = sym (nothing_append (records_text others))
-records_both (first ∷ entries) others = ap (option_append (record_text first)) (records_both entries others) ∙ sym (append_three (record_text first) (records_text entries) (records_text others))
+records_both version [] others = sym (nothing_append (records_text version others))
+records_both version (first ∷ entries) others = ap (option_append (record_text version first)) (records_both version entries others) ∙ sym (append_three (record_text version first) (records_text version entries) (records_text version others))
 
-pub no_records : records_text [] ≡ Some []
+pub no_records : (version : Version) → records_text version [] ≡ Some []
 unfolding records_text
-no_records = refl
+no_records version = refl
 
 -- ---- pages
 
@@ -71,8 +72,8 @@ passed_none page old failed = record {
 }
 
 -- no records are printed
-pub nothing_passed : (page : Page) (old : Option (List ℕ)) (failed : ℕ) → Passed (records_text []) page old failed page old failed
-nothing_passed page old failed = subst (λ (t : Option (List ℕ)). Passed t page old failed page old failed) (sym no_records) (passed_none page old failed)
+pub nothing_passed : (version : Version) (page : Page) (old : Option (List ℕ)) (failed : ℕ) → Passed (records_text version []) page old failed page old failed
+nothing_passed version page old failed = subst (λ (t : Option (List ℕ)). Passed t page old failed page old failed) (sym (no_records version)) (passed_none page old failed)
 
 -- a text that is put on the page
 pub passed_put : (text : Option (List ℕ)) (before page : Page) (old : Option (List ℕ)) (failed : ℕ) → IsPut text before.text page.text → page.written ≡ before.written → Passed text before old failed page old failed
@@ -175,64 +176,64 @@ cut_there before old new failed fails taken written within count told fault = re
 -- ---- records by their places
 
 -- one record more
-pub one_more : (records : List Record) (place : ℕ) (entry : Record) → place < length records → entry ≡ get_or records place entry
-    → records_text (take (place + 1) records) ≡ option_append (records_text (take place records)) (record_text entry)
-one_more records place entry within is =
+pub one_more : (version : Version) (records : List Record) (place : ℕ) (entry : Record) → place < length records → entry ≡ get_or records place entry
+    → records_text version (take (place + 1) records) ≡ option_append (records_text version (take place records)) (record_text version entry)
+one_more version records place entry within is =
     let more : take (place + 1) records ≡ take place records ++ entry ∷ [] =
     rw add-one (take-suc records place entry within ∙ ap (λ (o : Record). take place records ++ o ∷ []) (sym is)) in
-    ap records_text more ∙ records_push (take place records) entry
+    ap (records_text version) more ∙ records_push version (take place records) entry
 
 -- the first records, and all of them
-pub first_of_all : (records : List Record) (place : ℕ) → records_text records ≡ option_append (records_text (take place records)) (records_text (drop place records))
-first_of_all records place = ap records_text (sym (take-append-drop place records)) ∙ records_both (take place records) (drop place records)
+pub first_of_all : (version : Version) (records : List Record) (place : ℕ) → records_text version records ≡ option_append (records_text version (take place records)) (records_text version (drop place records))
+first_of_all version records place = ap (records_text version) (sym (take-append-drop place records)) ∙ records_both version (take place records) (drop place records)
 
 -- one record more is put
-pub record_passed : (records : List Record) (place : ℕ) (entry : Record) (before first mid page : Page) (old one two : Option (List ℕ)) (failed same also : ℕ)
+pub record_passed : (version : Version) (records : List Record) (place : ℕ) (entry : Record) (before first mid page : Page) (old one two : Option (List ℕ)) (failed same also : ℕ)
     → place < length records → entry ≡ get_or records place entry
-    → Passed (records_text (take place records)) before old failed first one same → Passed (Some []) first one same mid two also
-    → IsPut (record_text entry) mid.text page.text → page.written ≡ mid.written
-    → Passed (records_text (take (place + 1) records)) before old failed page two also
-record_passed records place entry before first mid page old one two failed same also within is so_far flushed put still =
-    let text = records_text (take place records) in
+    → Passed (records_text version (take place records)) before old failed first one same → Passed (Some []) first one same mid two also
+    → IsPut (record_text version entry) mid.text page.text → page.written ≡ mid.written
+    → Passed (records_text version (take (place + 1) records)) before old failed page two also
+record_passed version records place entry before first mid page old one two failed same also within is so_far flushed put still =
+    let text = records_text version (take place records) in
     let to_here = passed_both text (Some []) before first mid old one two failed same also so_far flushed in
-    let whole = passed_both (option_append text (Some [])) (record_text entry) before mid page old two two failed also also to_here (passed_put (record_text entry) mid page two also put still) in
+    let whole = passed_both (option_append text (Some [])) (record_text version entry) before mid page old two two failed also also to_here (passed_put (record_text version entry) mid page two also put still) in
     subst (λ (t : Option (List ℕ)). Passed t before old failed page two also)
-    (ap (λ (t : Option (List ℕ)). option_append t (record_text entry)) (append_nothing text) ∙ sym (one_more records place entry within is)) whole
+    (ap (λ (t : Option (List ℕ)). option_append t (record_text version entry)) (append_nothing text) ∙ sym (one_more version records place entry within is)) whole
 
 -- a write failed before the record at this place was put
-pub records_cut : (records : List Record) (place : ℕ) (fault : PrintFault) (before mid : Page) (old between new : Option (List ℕ)) (failed same fails : ℕ)
-    → Passed (records_text (take place records)) before old failed mid between same
+pub records_cut : (version : Version) (records : List Record) (place : ℕ) (fault : PrintFault) (before mid : Page) (old between new : Option (List ℕ)) (failed same fails : ℕ)
+    → Passed (records_text version (take place records)) before old failed mid between same
     → IsCut (Some []) mid between same fault.written new fails
-    → IsCut (records_text records) before old failed fault.written new fails
-records_cut records place fault before mid old between new failed same fails so_far cut =
-    let text = records_text (take place records) in
+    → IsCut (records_text version records) before old failed fault.written new fails
+records_cut version records place fault before mid old between new failed same fails so_far cut =
+    let text = records_text version (take place records) in
     let here = cut_behind text (Some []) before mid old between new failed same fails fault.written so_far cut in
-    let all = cut_before (option_append text (Some [])) (records_text (drop place records)) before old new failed fails fault.written here in
+    let all = cut_before (option_append text (Some [])) (records_text version (drop place records)) before old new failed fails fault.written here in
     subst (λ (t : Option (List ℕ)). IsCut t before old failed fault.written new fails)
-    (ap (λ (t : Option (List ℕ)). option_append t (records_text (drop place records))) (append_nothing text) ∙ sym (first_of_all records place)) all
+    (ap (λ (t : Option (List ℕ)). option_append t (records_text version (drop place records))) (append_nothing text) ∙ sym (first_of_all version records place)) all
 
 -- ---- the whole trace, behind its first line
 
 -- a write failed
-pub begun : (text : Option (List ℕ)) (page : Page) (old new : Option (List ℕ)) (failed fails written : ℕ) → page.text ≡ header → page.written ≡ 0
-    → IsCut text page old failed written new fails → IsBegun (option_append (Some header) text) old failed written new fails
-begun text page old new failed fails written first none cut = record {
+pub begun : (version : Version) (text : Option (List ℕ)) (page : Page) (old new : Option (List ℕ)) (failed fails written : ℕ) → page.text ≡ header version → page.written ≡ 0
+    → IsCut text page old failed written new fails → IsBegun (option_append (Some (header version)) text) old failed written new fails
+begun version text page old new failed fails written first none cut = record {
   fault = cut.fault;
   front = λ bytes is.
-      let parts = parts_of (Some header) text bytes is in
+      let parts = parts_of (Some (header version)) text bytes is in
       let there = cut.front parts.1 parts.3 in
       let whole : bytes ≡ there.handed ++ there.rest =
-      parts.4 ∙ ap (λ (t : List ℕ). t ++ parts.1) (sym (same_text header parts.0 parts.2) ∙ sym first) ∙ there.whole in
+      parts.4 ∙ ap (λ (t : List ℕ). t ++ parts.1) (sym (same_text (header version) parts.0 parts.2) ∙ sym first) ∙ there.whole in
       let count : written ≡ length there.handed = omega (arith, there.count, none) in
       let out : take written bytes ≡ there.handed = ap (λ (n : ℕ). take n bytes) count ∙ ap (take (length there.handed)) whole ∙ take-append_seam there.handed there.rest in
       (omega (arith, count, ap length whole, length-append there.handed there.rest), subst (Appends old new) (sym out) there.told);
 }
 
 -- all went out
-pub all_out : (text : Option (List ℕ)) (before page : Page) (old new : Option (List ℕ)) (failed fails : ℕ) → before.text ≡ header → page.text ≡ []
-    → Passed text before old failed page new fails → IsOut (option_append (Some header) text) old failed new fails
-all_out text before page old new failed fails first empty passed = record {
-  bytes = header ++ passed.more;
+pub all_out : (version : Version) (text : Option (List ℕ)) (before page : Page) (old new : Option (List ℕ)) (failed fails : ℕ) → before.text ≡ header version → page.text ≡ []
+    → Passed text before old failed page new fails → IsOut (option_append (Some (header version)) text) old failed new fails
+all_out version text before page old new failed fails first empty passed = record {
+  bytes = header version ++ passed.more;
   is = rw passed.is refl;
   told = subst (Appends old new)
       (sym (append-nil passed.handed) ∙ ap (λ (t : List ℕ). passed.handed ++ t) (sym empty) ∙ sym passed.whole ∙ ap (λ (t : List ℕ). t ++ passed.more) first)
@@ -241,45 +242,45 @@ all_out text before page old new failed fails first empty passed = record {
 }
 
 -- the records were not all printed
-pub records_stopped : (trace : Trace) (fault : PrintFault) (before : Page) (old new : Option (List ℕ)) (failed fails : ℕ) → before.text ≡ header → before.written ≡ 0
-    → IsCut (records_text trace.records.items) before old failed fault.written new fails → IsBegun (trace_text trace) old failed fault.written new fails
+pub records_stopped : (trace : Trace) (fault : PrintFault) (before : Page) (old new : Option (List ℕ)) (failed fails : ℕ) → before.text ≡ header trace.version → before.written ≡ 0
+    → IsCut (records_text trace.version trace.records.items) before old failed fault.written new fails → IsBegun (trace_text trace) old failed fault.written new fails
 records_stopped trace fault before old new failed fails first none cut =
-    begun (lines_text trace.records.items trace.totals) before old new failed fails fault.written first none
-    (cut_before (records_text trace.records.items) (totals_text trace.totals) before old new failed fails fault.written cut)
+    begun trace.version (lines_text trace.version trace.records.items trace.totals) before old new failed fails fault.written first none
+    (cut_before (records_text trace.version trace.records.items) (totals_text trace.totals) before old new failed fails fault.written cut)
 
 -- they were, and there was no room for the last line, nor could it be made
-pub room_stopped : (trace : Trace) (fault : PrintFault) (before mid : Page) (old between new : Option (List ℕ)) (failed same fails : ℕ) → before.text ≡ header → before.written ≡ 0
-    → Passed (records_text trace.records.items) before old failed mid between same
+pub room_stopped : (trace : Trace) (fault : PrintFault) (before mid : Page) (old between new : Option (List ℕ)) (failed same fails : ℕ) → before.text ≡ header trace.version → before.written ≡ 0
+    → Passed (records_text trace.version trace.records.items) before old failed mid between same
     → IsCut (Some []) mid between same fault.written new fails → IsBegun (trace_text trace) old failed fault.written new fails
 room_stopped trace fault before mid old between new failed same fails first none passed cut =
-    let text = records_text trace.records.items in
+    let text = records_text trace.version trace.records.items in
     let here = cut_behind text (Some []) before mid old between new failed same fails fault.written passed cut in
-    begun (lines_text trace.records.items trace.totals) before old new failed fails fault.written first none
+    begun trace.version (lines_text trace.version trace.records.items trace.totals) before old new failed fails fault.written first none
     (cut_before text (totals_text trace.totals) before old new failed fails fault.written
     (subst (λ (t : Option (List ℕ)). IsCut t before old failed fault.written new fails) (append_nothing text) here))
 
 -- all lines were printed, and what was left of them went out, or a write failed
-pub ended : (trace : Trace) (r : Result (Unit {0}) PrintFault) (before mid page : Page) (old between new : Option (List ℕ)) (failed same fails : ℕ) → before.text ≡ header → before.written ≡ 0
-    → Passed (lines_text trace.records.items trace.totals) before old failed mid between same
+pub ended : (trace : Trace) (r : Result (Unit {0}) PrintFault) (before mid page : Page) (old between new : Option (List ℕ)) (failed same fails : ℕ) → before.text ≡ header trace.version → before.written ≡ 0
+    → Passed (lines_text trace.version trace.records.items trace.totals) before old failed mid between same
     → Flushes mid between same r page new fails → OnOk r (page.text ≡ []) → Prints trace old failed r new fails
 ended trace (Ok done) before mid page old between new failed same fails first none passed flushed empty =
-    let text = lines_text trace.records.items trace.totals in
-    all_out text before page old new failed fails first empty
+    let text = lines_text trace.version trace.records.items trace.totals in
+    all_out trace.version text before page old new failed fails first empty
     (subst (λ (t : Option (List ℕ)). Passed t before old failed page new fails) (append_nothing text)
     (passed_both text (Some []) before mid page old between new failed same fails passed flushed))
 ended trace (Err fault) before mid page old between new failed same fails first none passed cut empty =
-    let text = lines_text trace.records.items trace.totals in
-    begun text before old new failed fails fault.written first none
+    let text = lines_text trace.version trace.records.items trace.totals in
+    begun trace.version text before old new failed fails fault.written first none
     (subst (λ (t : Option (List ℕ)). IsCut t before old failed fault.written new fails) (append_nothing text)
     (cut_behind text (Some []) before mid old between new failed same fails fault.written passed cut))
 
 -- the last line is put behind the records'
 pub last_put : (trace : Trace) (before first mid page : Page) (old one two : Option (List ℕ)) (failed same also : ℕ)
-    → Passed (records_text trace.records.items) before old failed first one same → Passed (Some []) first one same mid two also
+    → Passed (records_text trace.version trace.records.items) before old failed first one same → Passed (Some []) first one same mid two also
     → IsPut (totals_text trace.totals) mid.text page.text → page.written ≡ mid.written
-    → Passed (lines_text trace.records.items trace.totals) before old failed page two also
+    → Passed (lines_text trace.version trace.records.items trace.totals) before old failed page two also
 last_put trace before first mid page old one two failed same also so_far flushed put still =
-    let text = records_text trace.records.items in
+    let text = records_text trace.version trace.records.items in
     let to_here = passed_both text (Some []) before first mid old one two failed same also so_far flushed in
     let whole = passed_both (option_append text (Some [])) (totals_text trace.totals) before mid page old two two failed also also to_here (passed_put (totals_text trace.totals) mid page two also put still) in
     subst (λ (t : Option (List ℕ)). Passed t before old failed page two also)

@@ -9,10 +9,10 @@ use Rattle.call_lines.specs.Texts.{field_text, instructions_text, long_number_te
 use Rattle.call_lines.specs.Written.{IsPut}
 use Rattle.call_lines.proofs.Putting.{none_first, none_second, put_text, put_both}
 use Rattle.trace.specs.declared.sums.TheConstants.{SUMS}
-use Rattle.trace.specs.TraceText.{entry_text, stop_of, values_of_sums}
+use Rattle.trace.specs.TraceText.{line_of, stop_of, values_of_sums}
 
 -- where a run stopped has no spelling, and so the record has none
-pub advance_none : (run instructions r0 : ℕ) (stop : StoppedAt) → stop_text (stop_of stop) ≡ None → entry_text (Advance run instructions stop r0) ≡ None
+pub advance_none : (run instructions r0 : ℕ) (stop : StoppedAt) → stop_text (stop_of stop) ≡ None → line_of (Advance run instructions stop r0) ≡ None
 unfolding row_of fields_text field_text
 advance_none run instructions r0 stop e =
     none_first _ (option_append (Some (codes " = ")) (long_number_text r0))

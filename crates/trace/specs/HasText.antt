@@ -1,7 +1,7 @@
--- Which records have a text. That their numbers and bytes are as their types have them is no part of it.
+-- Which records have a text in a version. That their numbers and bytes are as their types have them is no part of it.
 use Rattle.std.specs.Prelude.{◌<◌, ◌^◌, All, IsSome, List}
 use Rattle.std.specs.List.{AllByRecursion}
-use Rattle.freeze_ledger.specs.declared.place.Place.TheVariants.{Device}
+use Rattle.freeze_ledger.specs.declared.place.Place.TheVariants.{Controller, Device}
 use Rattle.calls.specs.declared.call.Call.{Call}
 use Rattle.calls.specs.declared.call.Call.TheVariants as calls
 use Rattle.calls.specs.declared.call_answer.CallAnswer.{CallAnswer}
@@ -10,6 +10,7 @@ use Rattle.calls.specs.declared.record.Record.{Record}
 use Rattle.calls.specs.declared.record.Record.TheVariants.{Called, Advance}
 use Rattle.calls.specs.declared.record.StoppedAt.{StoppedAt}
 use Rattle.calls.specs.declared.record.StoppedAt.TheVariants as stopped
+use Rattle.calls.specs.declared.trace.Version.{Version}
 use Rattle.trace.specs.TraceText.{record_text}
 
 -- the numbers of a call are below 2^32, and a clock reading below 2^64
@@ -18,6 +19,7 @@ CallFits (calls.Submit queue priority retries) = (queue.0 < 2 ^ 32) × (priority
 CallFits (calls.Dispatch queue) = queue.0 < 2 ^ 32
 CallFits (calls.Complete outcome) = outcome.ccb.0 < 2 ^ 32
 CallFits (calls.GuestFreeze (Device queue) guest) = (queue.0 < 2 ^ 32) × (guest < 2 ^ 32)
+CallFits (calls.GuestFreeze (Controller controller) guest) = (controller < 2 ^ 32) × (guest < 2 ^ 32)
 CallFits (calls.GuestRelease freeze) = freeze < 2 ^ 32
 CallFits (calls.Clock reading) = reading < 2 ^ 64
 CallFits (calls.Park run) = run < 2 ^ 32
@@ -44,8 +46,8 @@ Fits (Called answer call) = CallFits call × AnswerFits answer
 Fits (Advance run instructions stop r0) = (run < 2 ^ 32) × StopFits stop × (r0 < 2 ^ 64)
 
 -- with numbers and bytes that are such, the record has a text
-abbrev pub HasText : Record → Type 0
-HasText entry = Fits entry → IsSome (record_text entry)
+abbrev pub HasText : Version → Record → Type 0
+HasText version entry = Fits entry → IsSome (record_text version entry)
 
-abbrev pub AllHaveText : List Record → Type 0
-AllHaveText records = AllByRecursion HasText records
+abbrev pub AllHaveText : Version → List Record → Type 0
+AllHaveText version records = AllByRecursion (HasText version) records

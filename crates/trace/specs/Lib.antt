@@ -1,3 +1,4 @@
+pub mod Versions
 pub mod TraceText
 pub mod Sinks
 pub mod Pages

@@ -3,6 +3,7 @@ use Rattle.std.specs.Prelude.{◌≡◌, ℕ, ◌≤◌, Option, Some, List, Res
 use Rattle.std.specs.Io.KnownBytes.{Appends}
 use Rattle.calls.specs.declared.record.Record.{Record}
 use Rattle.calls.specs.declared.trace.Trace.{Trace}
+use Rattle.calls.specs.declared.trace.Version.{Version}
 use Rattle.trace.specs.declared.fault.PrintFault.{PrintFault}
 use Rattle.trace.specs.declared.page.Page.{Page}
 use Rattle.trace.specs.Pages.{Passed, IsCut}
@@ -27,6 +28,6 @@ Prints trace old failed (Ok done) new fails = IsOut (trace_text trace) old faile
 Prints trace old failed (Err fault) new fails = IsBegun (trace_text trace) old failed fault.written new fails
 
 -- what is said of records, a page and a sink
-abbrev pub PrintsRecords : {T : Type 0} → List Record → Page → Option (List ℕ) → ℕ → Result T PrintFault → Page → Option (List ℕ) → ℕ → Type 0
-PrintsRecords records before old failed (Ok done) page new fails = Passed (records_text records) before old failed page new fails
-PrintsRecords records before old failed (Err fault) page new fails = IsCut (records_text records) before old failed fault.written new fails
+abbrev pub PrintsRecords : {T : Type 0} → Version → List Record → Page → Option (List ℕ) → ℕ → Result T PrintFault → Page → Option (List ℕ) → ℕ → Type 0
+PrintsRecords version records before old failed (Ok done) page new fails = Passed (records_text version records) before old failed page new fails
+PrintsRecords version records before old failed (Err fault) page new fails = IsCut (records_text version records) before old failed fault.written new fails

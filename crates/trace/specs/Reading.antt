@@ -6,6 +6,7 @@ use Rattle.calls.specs.declared.record.StoppedAt.{StoppedAt}
 use Rattle.calls.specs.declared.record.StoppedAt.TheVariants as stopped
 use Rattle.calls.specs.declared.totals.Totals.{Totals}
 use Rattle.calls.specs.declared.trace.Trace.{Trace}
+use Rattle.calls.specs.declared.trace.Version.{Version}
 use Rattle.call_lines.specs.Values.{long_number_at, number_at}
 use Rattle.call_lines.specs.declared.kind.Slots.{Slots}
 use Rattle.call_lines.specs.declared.value.Stop.{Stop}
@@ -19,61 +20,61 @@ use Rattle.trace.specs.declared.fault.TraceFault.TheVariants.{Header, Line}
 use Rattle.trace.specs.TraceText.{asked_of, header, lines_text, record_text, records_text, told_text, totals_text, trace_text}
 
 -- no line of a record stands in front, and no last line
-pub record HasNoLine (text : List ℕ) : Type 0 where
-  pub no_record : (entry : Record) (rest : List ℕ) → option_append (record_text entry) (Some rest) ≢ Some text
+pub record HasNoLine (version : Version) (text : List ℕ) : Type 0 where
+  pub no_record : (entry : Record) (rest : List ℕ) → option_append (record_text version entry) (Some rest) ≢ Some text
   pub no_end : (totals : Totals) (rest : List ℕ) → option_append (totals_text totals) (Some rest) ≢ Some text
 
 -- lines of records, and the last line where it is there: what they are, and how many
-abbrev pub front_text : List Record → Option Totals → Option (List ℕ)
-front_text records None = records_text records
-front_text records (Some totals) = lines_text records totals
+abbrev pub front_text : Version → List Record → Option Totals → Option (List ℕ)
+front_text version records None = records_text version records
+front_text version records (Some totals) = lines_text version records totals
 
 abbrev pub front_lines : List Record → Option Totals → ℕ
 front_lines records None = length records
 front_lines records (Some totals) = length records + 1
 
 -- what may not follow these: what begins with no line, as nothing does; behind the last line any text
-abbrev pub MayNotFollow : Option Totals → List ℕ → Type 0
-MayNotFollow None rest = HasNoLine rest
-MayNotFollow (Some totals) rest = rest ≢ []
+abbrev pub MayNotFollow : Version → Option Totals → List ℕ → Type 0
+MayNotFollow version None rest = HasNoLine version rest
+MayNotFollow version (Some totals) rest = rest ≢ []
 
--- In a text behind the first line the line of this number is the first that is not of the form: the lines before it are records' lines,
+-- In a text behind the first line of a version the line of this number is the first that is not of the form: the lines before it are records' lines,
 -- and maybe the last line, and what follows these may not. Where nothing follows, it is the number of the line that is missing.
-pub record IsFaultyLine (text : List ℕ) (number : ℕ) : Type 0 where
+pub record IsFaultyLine (version : Version) (text : List ℕ) (number : ℕ) : Type 0 where
   pub records : List Record
   pub sums : Option Totals
   pub rest : List ℕ
-  pub front : option_append (front_text records sums) (Some rest) ≡ Some text
+  pub front : option_append (front_text version records sums) (Some rest) ≡ Some text
   pub place : number ≡ front_lines records sums + 2
-  pub faulty : MayNotFollow sums rest
+  pub faulty : MayNotFollow version sums rest
 
--- what is said of a text behind the first line
-abbrev pub SaysLines : List ℕ → Result Trace (OrMemory TraceFault) → Type 0
-SaysLines text (Ok trace) = lines_text trace.records.items trace.totals ≡ Some text
-SaysLines text (Err OutOfMemory) = Unit {0}
-SaysLines text (Err (Fault Header)) = ⊥
-SaysLines text (Err (Fault (Line number))) = IsFaultyLine text number
+-- what is said of a text behind the first line of a version
+abbrev pub SaysLines : Version → List ℕ → Result Trace (OrMemory TraceFault) → Type 0
+SaysLines version text (Ok trace) = (trace.version ≡ version) × (lines_text version trace.records.items trace.totals ≡ Some text)
+SaysLines version text (Err OutOfMemory) = Unit {0}
+SaysLines version text (Err (Fault Header)) = ⊥
+SaysLines version text (Err (Fault (Line number))) = IsFaultyLine version text number
 
--- What is said of a text: that it is this trace's; that no header stands in front; or that behind the header this line is the first that
--- is not of the form. Want of memory says nothing.
+-- What is said of a text: that it is this trace's; that no version's header stands in front; or that behind the header of one this line is
+-- the first that is not of the form. Want of memory says nothing.
 abbrev pub Says : List ℕ → Result Trace (OrMemory TraceFault) → Type 0
 Says text (Ok trace) = trace_text trace ≡ Some text
 Says text (Err OutOfMemory) = Unit {0}
-Says text (Err (Fault Header)) = (rest : List ℕ) → text ≢ header ++ rest
-Says text (Err (Fault (Line number))) = (rest : List ℕ) × (text ≡ header ++ rest) × IsFaultyLine rest number
+Says text (Err (Fault Header)) = (version : Version) (rest : List ℕ) → text ≢ header version ++ rest
+Says text (Err (Fault (Line number))) = (version : Version) × (rest : List ℕ) × (text ≡ header version ++ rest) × IsFaultyLine version rest number
 
--- these records and sums are what was read, unless memory was refused
-abbrev pub IsTrace : List Record → Totals → Result Trace (OrMemory TraceFault) → Type 0
-IsTrace records totals (Ok trace) = (trace.records.items ≡ records) × (trace.totals ≡ totals)
-IsTrace records totals (Err OutOfMemory) = Unit {0}
-IsTrace records totals (Err (Fault fault)) = ⊥
+-- this version, these records and these sums are what was read, unless memory was refused
+abbrev pub IsTrace : Version → List Record → Totals → Result Trace (OrMemory TraceFault) → Type 0
+IsTrace version records totals (Ok trace) = (trace.version ≡ version) × (trace.records.items ≡ records) × (trace.totals ≡ totals)
+IsTrace version records totals (Err OutOfMemory) = Unit {0}
+IsTrace version records totals (Err (Fault fault)) = ⊥
 
--- the trace whose text this is, or whose text stands behind the first line
+-- the trace whose text this is, or whose text stands behind the first line of a version
 abbrev pub IsReadAgain : List ℕ → Result Trace (OrMemory TraceFault) → Type 0
-IsReadAgain text read = (trace : Trace) → trace_text trace ≡ Some text → IsTrace trace.records.items trace.totals read
+IsReadAgain text read = (trace : Trace) → trace_text trace ≡ Some text → IsTrace trace.version trace.records.items trace.totals read
 
-abbrev pub AreReadAgain : List ℕ → Result Trace (OrMemory TraceFault) → Type 0
-AreReadAgain text read = (records : List Record) (totals : Totals) → lines_text records totals ≡ Some text → IsTrace records totals read
+abbrev pub AreReadAgain : Version → List ℕ → Result Trace (OrMemory TraceFault) → Type 0
+AreReadAgain version text read = (records : List Record) (totals : Totals) → lines_text version records totals ≡ Some text → IsTrace version records totals read
 
 -- ---- a line
 

@@ -1,5 +1,5 @@
--- The text of a trace, if all of it has a spelling.
-use Rattle.std.specs.Prelude.{ℕ, Option, Some, List, [], ◌∷◌, codes}
+-- The text of a trace, if all of it has a spelling in the trace's version.
+use Rattle.std.specs.Prelude.{ℕ, Option, Some, None, List, [], ◌∷◌, codes, if◌then◌else◌}
 use Rattle.std.specs.Fmt.{option_append, with_newline}
 use Rattle.calls.specs.declared.record.Record.{Record}
 use Rattle.calls.specs.declared.record.Record.TheVariants.{Called, Advance}
@@ -7,6 +7,8 @@ use Rattle.calls.specs.declared.record.StoppedAt.{StoppedAt}
 use Rattle.calls.specs.declared.record.StoppedAt.TheVariants as stopped
 use Rattle.calls.specs.declared.totals.Totals.{Totals}
 use Rattle.calls.specs.declared.trace.Trace.{Trace}
+use Rattle.calls.specs.declared.trace.Version.{Version}
+use Rattle.calls.specs.declared.trace.Version.TheVariants.{One, Two}
 use Rattle.call_lines.specs.Answers.{answer_text}
 use Rattle.call_lines.specs.Calls.{three, values_of, word_of}
 use Rattle.call_lines.specs.Lines.{fields_text, line_text}
@@ -19,11 +21,13 @@ use Rattle.call_lines.specs.declared.value.Value.{Value}
 use Rattle.call_lines.specs.declared.value.Value.TheVariants as values
 use Rattle.call_lines.specs.declared.word.Word.{Word}
 use Rattle.call_lines.specs.declared.word.Word.TheVariants as words
+use Rattle.trace.specs.Versions.{is_of}
 use Rattle.trace.specs.declared.sums.TheConstants.{SUMS}
 
 -- the first line, with its line feed
-abbrev pub header : List ℕ
-header = codes "camr-trace 1\n"
+abbrev pub header : Version → List ℕ
+header One = codes "camr-trace 1\n"
+header Two = codes "camr-trace 2\n"
 
 -- where a run stopped, as a field
 abbrev pub stop_of : StoppedAt → Stop
@@ -42,16 +46,20 @@ abbrev pub told_text : Record → Option (List ℕ)
 told_text (Called answer call) = answer_text (row_of (word_of call)) answer
 told_text (Advance run instructions stop r0) = long_number_text r0
 
--- a record's line without its line feed, and with it
-abbrev pub entry_text : Record → Option (List ℕ)
-entry_text entry = option_append (line_text (asked_of entry).0 (asked_of entry).1) (option_append (Some (codes " = ")) (told_text entry))
+-- a record's line without its line feed, which is the same in both versions
+abbrev pub line_of : Record → Option (List ℕ)
+line_of entry = option_append (line_text (asked_of entry).0 (asked_of entry).1) (option_append (Some (codes " = ")) (told_text entry))
 
-abbrev pub record_text : Record → Option (List ℕ)
-record_text entry = with_newline (entry_text entry)
+-- the line, of a record that a text of the version may have, and with its line feed
+abbrev pub entry_text : Version → Record → Option (List ℕ)
+entry_text version entry = if is_of version entry then line_of entry else None
 
-unfoldable pub records_text : List Record → Option (List ℕ)
-records_text [] = Some []
-records_text (first ∷ rest) = option_append (record_text first) (records_text rest)
+abbrev pub record_text : Version → Record → Option (List ℕ)
+record_text version entry = with_newline (entry_text version entry)
+
+unfoldable pub records_text : Version → List Record → Option (List ℕ)
+records_text version [] = Some []
+records_text version (first ∷ rest) = option_append (record_text version first) (records_text version rest)
 
 -- what the fields of the last line hold
 abbrev pub values_of_sums : Totals → Slots Value
@@ -70,8 +78,8 @@ abbrev pub totals_text : Totals → Option (List ℕ)
 totals_text totals = with_newline (sums_text totals)
 
 -- what stands behind the first line
-abbrev pub lines_text : List Record → Totals → Option (List ℕ)
-lines_text records totals = option_append (records_text records) (totals_text totals)
+abbrev pub lines_text : Version → List Record → Totals → Option (List ℕ)
+lines_text version records totals = option_append (records_text version records) (totals_text totals)
 
 abbrev pub trace_text : Trace → Option (List ℕ)
-trace_text trace = option_append (Some header) (lines_text trace.records.items trace.totals)
+trace_text trace = option_append (Some (header trace.version)) (lines_text trace.version trace.records.items trace.totals)

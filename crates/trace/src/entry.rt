@@ -1,28 +1,52 @@
 // Reads a record of its line: what was asked by the row of its word, and behind ` = ` what was answered. It relies on `call_lines` for
 // lines and answers, and on `calls` for records.
 
-ghost use Rattle.std.specs.Prelude.{◌≡◌, ◌≢◌, IfOk, List, Some, ℕ};
+ghost use Rattle.std.specs.Prelude.{◌≡◌, ◌≢◌, IfOk, List, None, Some, ℕ, if◌then◌else◌};
 ghost use Rattle.call_lines.specs.Lines.{line_text};
 ghost use Rattle.call_lines.specs.Written.{Reads};
 ghost use Rattle.trace.specs.Reading.{ReadsAnswered, stopped_at};
-ghost use Rattle.trace.specs.TraceText.{entry_text};
+ghost use Rattle.trace.specs.TraceText.{entry_text, line_of};
+ghost use Rattle.trace.specs.Versions.{is_of};
 
+use crate::version::is_of;
 use call_lines::{Slots, Stop, Value, Word, call_of, long_number, number_at, read_line, stop_in};
-use calls::{Record, StoppedAt, TracedBytes};
+use calls::{Record, StoppedAt, TracedBytes, Version};
 use std::alloc::{AllocError, Global};
 
-/// The version of the formats whose lines a trace has.
-const VERSION: u8 = 1;
+/// The record of a line, which stands without its line feed. None where it is that of no record which a text of the version may have. It
+/// takes memory for sense bytes and traced bytes alone.
+pub(crate) fn read_record(
+    alloc: Global,
+    version: Version,
+    line: &str,
+) -> Result<Option<Record>, AllocError>
+    ensures { IfOk result (Reads (entry_text version) line.now) }
+{
+    match read_any(alloc, line)? {
+        Some(entry) => Ok(of_version(version, entry)),
+        None => Ok(None),
+    }
+}
 
-/// The record of a line, which stands without its line feed. None where it is no record's. It takes memory for sense bytes and traced
-/// bytes alone.
-pub(crate) fn read_record(alloc: Global, line: &str) -> Result<Option<Record>, AllocError>
-    ensures { IfOk result (Reads entry_text line.now) }
+// The record, where a text of the version may have it.
+fn of_version(version: Version, entry: Record) -> Option<Record>
+    ensures { result ≡ (if is_of version entry then Some entry else None) }
+{
+    if is_of(version, &entry) {
+        Some(entry)
+    } else {
+        None
+    }
+}
+
+// The record of a line, of any version.
+fn read_any(alloc: Global, line: &str) -> Result<Option<Record>, AllocError>
+    ensures { IfOk result (Reads line_of line.now) }
 {
     let Some((asked, told)) = line.split_once(" = ") else {
         return Ok(None);
     };
-    let Some((word, held)) = read_line(asked, VERSION) else {
+    let Some((word, held)) = read_line(asked) else {
         return Ok(None);
     };
     read_answered(alloc, word, &held, told)

@@ -7,7 +7,7 @@ use std::fmt;
 /// What is wrong with a text that is no trace. Its lines are numbered from 1, the header being the first.
 #[derive(Clone, Copy, Debug, PartialEq, Eq)]
 pub enum TraceFault {
-    /// X1: the text does not begin with the header.
+    /// X1: the text begins with no version's header.
     Header,
     /// X2: the line of this number is the first that is not of the form. Where the last line is missing, this is the one behind the
     /// others.

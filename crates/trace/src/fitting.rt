@@ -44,6 +44,10 @@ fn call_fits(call: &Call)
                 number_fits(queue.0);
                 number_fits(*guest);
             }
+            Place::Controller(controller) => {
+                number_fits(*controller);
+                number_fits(*guest);
+            }
         },
         Call::GuestRelease { freeze } => number_fits(*freeze),
         Call::Clock { reading } => long_number_fits(*reading),

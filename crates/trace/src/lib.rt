@@ -11,6 +11,7 @@ mod printer;
 mod reader;
 mod sink;
 mod sums;
+mod version;
 
 pub use fault::{PrintFault, TraceError, TraceFault};
 pub use printer::print;

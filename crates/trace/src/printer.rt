@@ -1,23 +1,24 @@
-// Prints a trace, version 1: a header, a line a record by the row of its word, and the sums. It relies on `page` for what goes out, on
-// `call_lines` for lines, and on `calls` for records, which stand in a `chunked_list`.
+// Prints a trace: the header of its version, a line a record by the row of its word, and the sums. It relies on `page` for what goes out,
+// on `call_lines` for lines, and on `calls` for records, which stand in a `chunked_list`.
 
-ghost use Rattle.std.specs.Prelude.{◌≡◌, ◌+◌, ◌*◌, ◌^◌, ◌≤◌, length, None, IfOk, OnErr};
+ghost use Rattle.std.specs.Prelude.{◌≡◌, ◌+◌, ◌*◌, ◌^◌, ◌≤◌, length, IsSome, None, IfOk, OnErr};
 ghost use Rattle.call_lines.specs.Texts.{stop_text};
 ghost use Rattle.call_lines.specs.Written.{IsPut, Puts};
-ghost use Rattle.trace.specs.HasText.{AllHaveText, HasText};
+ghost use Rattle.std.specs.Fmt.{with_newline};
+ghost use Rattle.trace.specs.HasText.{AllHaveText};
 ghost use Rattle.trace.specs.Printed.{Prints, PrintsRecords};
-ghost use Rattle.trace.specs.TraceText.{entry_text, record_text, stop_of};
+ghost use Rattle.trace.specs.TraceText.{line_of, stop_of};
 
 use crate::fault::PrintFault;
 use crate::fitting::fits;
 use crate::page::{Page, RECORD, flush, make_room};
 use crate::sink::Sink;
 use crate::sums::print_totals;
+use crate::version::header;
 use call_lines::{
     NoText, ROOM, Slots, Stop, Text, Value, Word, print_line, print_long_number, values_of, word_of,
 };
 use calls::{Call, CallAnswer, Record, StoppedAt, Trace};
-use chunked_list::ChunkedList;
 use short_bytes::ShortBytes;
 
 /// How long a line may be without its line feed.
@@ -26,44 +27,41 @@ const ENTRY: usize = 696;
 /// Hands the whole text of a trace on to a sink, where each of its records has one, as those of an engine have. Where a write fails it
 /// answers how many bytes of the text are out. It takes no memory.
 pub fn print<S: Sink>(trace: &Trace, out: &mut S) -> Result<(), PrintFault>
-    requires { AllHaveText trace.now.records.items }
+    requires { AllHaveText trace.now.version trace.now.records.items }
     ensures { Prints trace.now (S.bytes out.old) (S.failures out.old) result (S.bytes out.new) (S.failures out.new) }
 {
     let mut page = Page {
         text: Text::none(),
         written: 0,
     };
-    page.text.put(b"camr-trace 1\n");
-    print_records(&trace.records, &mut page, out)?;
+    page.text.put(header(trace.version).as_bytes());
+    print_records(trace, &mut page, out)?;
     make_room(&mut page, out)?;
     print_totals(trace.totals, &mut page.text);
     flush(&mut page, out)
 }
 
-fn print_records<S: Sink>(
-    records: &ChunkedList<Record>,
-    page: &mut Page,
-    out: &mut S,
-) -> Result<(), PrintFault>
-    requires spelled { AllHaveText records.now.items }
+fn print_records<S: Sink>(trace: &Trace, page: &mut Page, out: &mut S) -> Result<(), PrintFault>
+    requires spelled { AllHaveText trace.now.version trace.now.records.items }
     requires first { page.old.written ≡ 0 }
-    ensures text { PrintsRecords records.now.items page.old (S.bytes out.old) (S.failures out.old) result page.new (S.bytes out.new) (S.failures out.new) }
+    ensures text { PrintsRecords trace.now.version trace.now.records.items page.old (S.bytes out.old) (S.failures out.old) result page.new (S.bytes out.new) (S.failures out.new) }
     ensures most { page.new.written ≤ 2 ^ 80 }
 {
-    for number in 0..records.len() {
+    for number in 0..trace.records.len() {
         make_room(page, out)?;
-        print_record(&records[number], &mut page.text);
+        let entry = &trace.records[number];
+        fits(entry);
+        print_record(entry, &mut page.text);
     }
     Ok(())
 }
 
 fn print_record(entry: &Record, text: &mut Text)
     requires room { length text.old + RECORD ≤ ROOM }
-    requires spelled { HasText entry.now }
-    ensures text { IsPut (record_text entry.now) text.old text.new }
+    requires spelled { IsSome (line_of entry.now) }
+    ensures text { IsPut (with_newline (line_of entry.now)) text.old text.new }
     ensures few { length text.new ≤ length text.old + RECORD }
 {
-    fits(entry);
     match print_entry(entry, text) {
         Ok(()) => text.push(b'\n'),
         Err(NoText) => unreachable!(),
@@ -73,7 +71,7 @@ fn print_record(entry: &Record, text: &mut Text)
 // A record's line without its line feed.
 fn print_entry(entry: &Record, text: &mut Text) -> Result<(), NoText>
     requires room { length text.old + ENTRY ≤ ROOM }
-    ensures text { Puts (entry_text entry.now) text.old result text.new }
+    ensures text { Puts (line_of entry.now) text.old result text.new }
     ensures few { length text.new ≤ length text.old + ENTRY }
 {
     match entry {
@@ -89,7 +87,7 @@ fn print_entry(entry: &Record, text: &mut Text) -> Result<(), NoText>
 
 fn print_called(call: &Call, answer: CallAnswer, text: &mut Text) -> Result<(), NoText>
     requires room { length text.old + ENTRY ≤ ROOM }
-    ensures text { Puts (entry_text (Record.Called answer call.now)) text.old result text.new }
+    ensures text { Puts (line_of (Record.Called answer call.now)) text.old result text.new }
     ensures few { length text.new ≤ length text.old + ENTRY }
 {
     let word = word_of(call);
@@ -106,7 +104,7 @@ fn print_advance(
     text: &mut Text,
 ) -> Result<(), NoText>
     requires room { length text.old + ENTRY ≤ ROOM }
-    ensures text { Puts (entry_text (Record.Advance run instructions stop.now r0)) text.old result text.new }
+    ensures text { Puts (line_of (Record.Advance run instructions stop.now r0)) text.old result text.new }
     ensures few { length text.new ≤ length text.old + ENTRY }
 {
     let stop = stop_of(stop)?;

@@ -1,14 +1,16 @@
-// Reads a trace: its first line, a record a line, and the sums. It relies on `entry` and `sums` for lines, and on `chunked_list` for
-// the records.
+// Reads a trace: its first line, which says the version, a record a line, and the sums. It relies on `entry` and `sums` for lines, and on
+// `chunked_list` for the records.
 
-ghost use Rattle.std.specs.Prelude.{IfOk};
+ghost use Rattle.std.specs.Prelude.{◌≡◌, ◌++◌, IfOk, MatchOption};
 ghost use Rattle.trace.specs.HasText.{AllHaveText};
 ghost use Rattle.trace.specs.Reading.{AreReadAgain, IsReadAgain, Says, SaysLines};
+ghost use Rattle.trace.specs.TraceText.{header};
 
 use crate::entry::read_record;
 use crate::fault::{TraceError, TraceFault};
 use crate::sums::read_totals;
-use calls::Trace;
+use crate::version::header;
+use calls::{Trace, Version};
 use chunked_list::ChunkedList;
 use or_memory::OrMemory;
 use std::alloc::Global;
@@ -20,30 +22,44 @@ pub fn read(alloc: Global, text: &str) -> Result<Trace, TraceError>
     // What is printed so is read again.
     ensures back { IsReadAgain text.now result }
     // What was read can be printed.
-    ensures spelled { IfOk result (λ trace. AllHaveText trace.records.items) }
+    ensures spelled { IfOk result (λ trace. AllHaveText trace.version trace.records.items) }
 {
-    match text.strip_prefix("camr-trace 1\n") {
-        Some(lines) => read_lines(alloc, lines),
+    if let Some(lines) = behind(Version::One, text) {
+        return read_lines(alloc, Version::One, lines);
+    }
+    match behind(Version::Two, text) {
+        Some(lines) => read_lines(alloc, Version::Two, lines),
         None => Err(OrMemory::Fault(TraceFault::Header)),
     }
 }
 
-// Reads what stands behind the first line.
-fn read_lines(alloc: Global, text: &str) -> Result<Trace, TraceError>
-    ensures said { SaysLines text.now result }
-    ensures back { AreReadAgain text.now result }
+// What stands behind the version's first line.
+fn behind(version: Version, text: &str) -> Option<&str>
+    ensures { MatchOption result ((rest : _) → ¬ (text.now ≡ header version ++ rest)) (λ rest. text.now ≡ header version ++ rest.now) }
+{
+    text.strip_prefix(header(version))
+}
+
+// Reads what stands behind the first line, which is the version's.
+fn read_lines(alloc: Global, version: Version, text: &str) -> Result<Trace, TraceError>
+    ensures said { SaysLines version text.now result }
+    ensures back { AreReadAgain version text.now result }
 {
     let mut records = ChunkedList::with_room(alloc)?;
     let (mut rest, mut number) = (text, 2usize);
     while let Some((line, behind)) = rest.split_once('\n') {
-        let Some(entry) = read_record(alloc, line)? else {
+        let Some(entry) = read_record(alloc, version, line)? else {
             let Some(totals) = read_totals(line) else {
                 return Err(OrMemory::Fault(TraceFault::Line(number)));
             };
             if !behind.is_empty() {
                 return Err(OrMemory::Fault(TraceFault::Line(number + 1)));
             }
-            return Ok(Trace { records, totals });
+            return Ok(Trace {
+                version,
+                records,
+                totals,
+            });
         };
         records.reserve(1)?;
         records.push_reserved(entry);

@@ -1,23 +1,13 @@
-use Rattle.std.proofs.Common.{Some, None, codes}
-use Rattle.std.proofs.lemmas.Result.{IfOk-weaker}
-use Rattle.std.proofs.lemmas.Str.Pattern.{split_text_parts}
+use Rattle.std.proofs.Common.{subst, sym}
 use Rattle.call_lines.specs.Written.{Reads}
-use Rattle.trace.specs.Reading.{ReadsAnswered}
-use Rattle.trace.specs.TraceText.{entry_text}
-use Rattle.trace.proofs.Entries.{unanswered, unasked, answered}
+use Rattle.trace.specs.TraceText.{entry_text, line_of}
+use Rattle.trace.proofs.Entries.{unread, read_of}
 use Rattle.trace.proofs.entry.read_record.Goals as goal
 
-pub returns-in_default : goal.returns-in_default
-returns-in_default c = unanswered c.args.line.now (split_text_parts (codes " = ") c.args.line.now None c.in_default.ensures.cases)
+pub returns-in-Some : goal.returns-in-Some
+returns-in-Some c =
+    subst (Reads (entry_text c.args.version) c.args.line.now) (sym c.of_version.ensures)
+    (read_of c.args.version c.args.line.now c.in-Some.entry (subst (Reads line_of c.args.line.now) c.in-Some.is c.in_ok-entry.ensures))
 
-pub returns-in_default-read_line : goal.returns-in_default-read_line
-returns-in_default-read_line c =
-    unasked c.args.line.now c.in-Some.asked.now c.in-Some.told.now (split_text_parts (codes " = ") c.args.line.now (Some (c.in-Some.asked, c.in-Some.told)) c.in-Some.ensures.cases) c.in_default-read_line.ensures
-
-pub returns : goal.returns
-returns c =
-    let whole = split_text_parts (codes " = ") c.args.line.now (Some (c.in-Some.asked, c.in-Some.told)) c.in-Some.ensures.cases in
-    let reads = c.in-Some-read_line.ensures in
-    IfOk-weaker c.read_answered.result (ReadsAnswered c.in-Some-read_line.word c.in-Some-read_line.held c.in-Some.told.now) (Reads entry_text c.args.line.now)
-    (λ read its. answered c.args.line.now c.in-Some.asked.now c.in-Some.told.now whole c.in-Some-read_line.word c.in-Some-read_line.held reads read its)
-    (c.read_answered.ensures c.in-Some.asked.now reads.said.0)
+pub returns-in-None : goal.returns-in-None
+returns-in-None c = unread c.args.version c.args.line.now (subst (Reads line_of c.args.line.now) c.in-None.is c.in_ok-entry.ensures)

@@ -1,5 +1,5 @@
-use Rattle.trace.proofs.Spelled.{has_line}
+use Rattle.trace.proofs.Spelled.{no_line}
 use Rattle.trace.proofs.printer.print_record.Goals as goal
 
 pub unreachable-requires : goal.unreachable-requires
-unreachable-requires c = has_line c.args.entry.now c.requires.spelled c.fits.ensures c.in-Err.ensures.text
+unreachable-requires c = no_line _ c.requires.spelled c.in-Err.ensures.text

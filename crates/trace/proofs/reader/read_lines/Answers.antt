@@ -6,7 +6,7 @@ use Rattle.trace.proofs.reader.read_lines.Goals as goal
 
 pub loop-line-init : goal.loop-line-init
 loop-line-init c = record {
-  so_far = rw c.in_ok-records.ensures (begin c.args.text.now);
+  so_far = rw c.in_ok-records.ensures (begin c.args.version c.args.text.now);
   place = rw c.in_ok-records.ensures refl;
   fits = omega arith;
   text = c.utf8.text;
@@ -18,8 +18,8 @@ loop-line-preserved c =
     let one : c.push_reserved.new.self.items ≡ c.loop-line.records.items ++ c.in-Some-2.entry ∷ [] =
     c.push_reserved.ensures.items ∙ ap (λ (r : List Record). r ++ c.in-Some-2.entry ∷ []) c.in_ok-reserve.ensures.items in
     record {
-      so_far = subst (λ (r : List Record). IsReadSoFar c.args.text.now r c.in-Some.behind.now) (sym one)
-          (one_more c.args.text.now c.loop-line.records.items c.loop-line.rest.now c.loop-line.invariant.so_far c.in-Some.line.now c.in-Some.behind.now first c.in-Some-2.entry (rw c.in-Some-2.is at c.in_ok-entry.ensures));
+      so_far = subst (λ (r : List Record). IsReadSoFar c.args.version c.args.text.now r c.in-Some.behind.now) (sym one)
+          (one_more c.args.version c.args.text.now c.loop-line.records.items c.loop-line.rest.now c.loop-line.invariant.so_far c.in-Some.line.now c.in-Some.behind.now first c.in-Some-2.entry (rw c.in-Some-2.is at c.in_ok-entry.ensures));
       place = omega (arith, ap length one, length-append c.loop-line.records.items (c.in-Some-2.entry ∷ []), c.loop-line.invariant.place);
       fits = omega (arith, ap length first.whole, length-append c.in-Some.line.now (10 ∷ c.in-Some.behind.now), c.loop-line.invariant.fits);
       text = search rules;
@@ -28,38 +28,40 @@ loop-line-preserved c =
 pub returns-in_default-read_totals-clause-said : goal.returns-in_default-read_totals-clause-said
 returns-in_default-read_totals-clause-said c =
     let first = first_line c.loop-line.rest.now c.in-Some.line c.in-Some.behind c.in-Some.ensures.cases in
-    let none = not_a_line c.args.text.now c.loop-line.records.items c.loop-line.rest.now c.loop-line.invariant.so_far c.in-Some.line.now c.in-Some.behind.now first (rw c.in_default-2.is at c.in_ok-entry.ensures) c.in_default-read_totals.ensures in
-    faulty_line c.args.text.now c.loop-line.records.items c.loop-line.rest.now c.loop-line.invariant.so_far none c.loop-line.number c.loop-line.invariant.place
+    let none = not_a_line c.args.version c.args.text.now c.loop-line.records.items c.loop-line.rest.now c.loop-line.invariant.so_far c.in-Some.line.now c.in-Some.behind.now first (rw c.in_default-2.is at c.in_ok-entry.ensures) c.in_default-read_totals.ensures in
+    faulty_line c.args.version c.args.text.now c.loop-line.records.items c.loop-line.rest.now c.loop-line.invariant.so_far none c.loop-line.number c.loop-line.invariant.place
 
 pub returns-in_default-read_totals-clause-back : goal.returns-in_default-read_totals-clause-back
 returns-in_default-read_totals-clause-back c =
     let first = first_line c.loop-line.rest.now c.in-Some.line c.in-Some.behind c.in-Some.ensures.cases in
-    let none = not_a_line c.args.text.now c.loop-line.records.items c.loop-line.rest.now c.loop-line.invariant.so_far c.in-Some.line.now c.in-Some.behind.now first (rw c.in_default-2.is at c.in_ok-entry.ensures) c.in_default-read_totals.ensures in
-    no_trace c.args.text.now c.loop-line.records.items c.loop-line.rest.now c.loop-line.invariant.so_far none
+    let none = not_a_line c.args.version c.args.text.now c.loop-line.records.items c.loop-line.rest.now c.loop-line.invariant.so_far c.in-Some.line.now c.in-Some.behind.now first (rw c.in_default-2.is at c.in_ok-entry.ensures) c.in_default-read_totals.ensures in
+    no_trace c.args.version c.args.text.now c.loop-line.records.items c.loop-line.rest.now c.loop-line.invariant.so_far none
 
 pub returns-then-not-is_empty-clause-said : goal.returns-then-not-is_empty-clause-said
 returns-then-not-is_empty-clause-said c =
     let first = first_line c.loop-line.rest.now c.in-Some.line c.in-Some.behind c.in-Some.ensures.cases in
-    goes_on c.args.text.now c.loop-line.records.items c.loop-line.rest.now c.loop-line.invariant.so_far c.in-Some.line.now c.in-Some.behind.now first c.in-Some-read_totals.totals c.in-Some-read_totals.ensures
+    goes_on c.args.version c.args.text.now c.loop-line.records.items c.loop-line.rest.now c.loop-line.invariant.so_far c.in-Some.line.now c.in-Some.behind.now first c.in-Some-read_totals.totals c.in-Some-read_totals.ensures
     c.loop-line.number c.loop-line.invariant.place (not_empty c.in-Some.behind.now (sym c.is_empty.ensures ∙ c.if-not-is_empty.true))
 
 pub returns-then-not-is_empty-clause-back : goal.returns-then-not-is_empty-clause-back
 returns-then-not-is_empty-clause-back c =
     let first = first_line c.loop-line.rest.now c.in-Some.line c.in-Some.behind c.in-Some.ensures.cases in
-    no_trace_on c.args.text.now c.loop-line.records.items c.loop-line.rest.now c.loop-line.invariant.so_far c.in-Some.line.now c.in-Some.behind.now first c.in-Some-read_totals.totals c.in-Some-read_totals.ensures
+    no_trace_on c.args.version c.args.text.now c.loop-line.records.items c.loop-line.rest.now c.loop-line.invariant.so_far c.in-Some.line.now c.in-Some.behind.now first c.in-Some-read_totals.totals c.in-Some-read_totals.ensures
     (not_empty c.in-Some.behind.now (sym c.is_empty.ensures ∙ c.if-not-is_empty.true))
 
 pub returns-in_default-2-clause-back : goal.returns-in_default-2-clause-back
 returns-in_default-2-clause-back c =
     let first = first_line c.loop-line.rest.now c.in-Some.line c.in-Some.behind c.in-Some.ensures.cases in
-    only_trace c.args.text.now c.loop-line.records.items c.loop-line.rest.now c.loop-line.invariant.so_far c.in-Some.line.now c.in-Some.behind.now first c.in-Some-read_totals.totals c.in-Some-read_totals.ensures
+    λ all sums e.
+    let its = only_trace c.args.version c.args.text.now c.loop-line.records.items c.loop-line.rest.now c.loop-line.invariant.so_far c.in-Some.line.now c.in-Some.behind.now first c.in-Some-read_totals.totals c.in-Some-read_totals.ensures all sums e in
+    (refl, its.0, its.1)
 
 pub returns-clause-said : goal.returns-clause-said
 returns-clause-said c =
-    let none = not_ended c.args.text.now c.loop-line.records.items c.loop-line.rest.now c.loop-line.invariant.so_far (no_first_line c.loop-line.rest.now c.in_default.ensures.cases) in
-    faulty_line c.args.text.now c.loop-line.records.items c.loop-line.rest.now c.loop-line.invariant.so_far none c.loop-line.number c.loop-line.invariant.place
+    let none = not_ended c.args.version c.args.text.now c.loop-line.records.items c.loop-line.rest.now c.loop-line.invariant.so_far (no_first_line c.loop-line.rest.now c.in_default.ensures.cases) in
+    faulty_line c.args.version c.args.text.now c.loop-line.records.items c.loop-line.rest.now c.loop-line.invariant.so_far none c.loop-line.number c.loop-line.invariant.place
 
 pub returns-clause-back : goal.returns-clause-back
 returns-clause-back c =
-    let none = not_ended c.args.text.now c.loop-line.records.items c.loop-line.rest.now c.loop-line.invariant.so_far (no_first_line c.loop-line.rest.now c.in_default.ensures.cases) in
-    no_trace c.args.text.now c.loop-line.records.items c.loop-line.rest.now c.loop-line.invariant.so_far none
+    let none = not_ended c.args.version c.args.text.now c.loop-line.records.items c.loop-line.rest.now c.loop-line.invariant.so_far (no_first_line c.loop-line.rest.now c.in_default.ensures.cases) in
+    no_trace c.args.version c.args.text.now c.loop-line.records.items c.loop-line.rest.now c.loop-line.invariant.so_far none

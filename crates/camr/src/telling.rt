@@ -26,8 +26,11 @@ impl<'a, C: Clock> Telling<'a, C> {
         let is_on = match plan {
             Plan::Run(_, Watch::Lines, _, _) => true,
             Plan::Run(_, Watch::Terminal, _, _) | Plan::Replay(..) => err.is_terminal(),
-            Plan::Run(_, Watch::Never, _, _) | Plan::Asm(..) | Plan::Dis(_) | Plan::Check(_) =>
-                false,
+            Plan::Run(_, Watch::Never, _, _)
+            | Plan::Asm(..)
+            | Plan::Migrate(..)
+            | Plan::Dis(_)
+            | Plan::Check(_) => false,
         };
         let due = match clock.monotonic() {
             Ok(now) => milliseconds(now).saturating_add(SILENCE),

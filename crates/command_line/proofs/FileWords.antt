@@ -1,18 +1,18 @@
--- What `clap` makes of the lines that ask for an assembly, for a program's text, for a check and for a replay, and what follows
--- for their plans.
+-- What `clap` makes of the lines that ask for an assembly, for a program's text, for a check, for a migration and for a replay,
+-- and what follows for their plans.
 use Rattle.std.proofs.Common.{◌≡◌, List, [], ◌∷◌, Option, Some, false, codes, sym, subst, ◌∙◌, ap}
 use Rattle.std.specs.Prelude.{find, string_bytes, unwrap_or}
 use Rattle.clap.specs.Words.{Row, Rule, Text, first_of, subcommand_of}
 use Rattle.clap.specs.Walk.{Walk, answers_to, arg_by_index, finished, idle, nothing_held, rows_after, to_positional, walked}
 use Rattle.clap.specs.Simple.{built, entered, label_of, new_shape}
-use Rattle.command_line.specs.FileLines.{IsAsm, IsCheck, IsDis, IsReplay, asm_line, check_line, dis_line, replay_line}
+use Rattle.command_line.specs.FileLines.{IsAsm, IsCheck, IsDis, IsMigrate, IsReplay, asm_line, check_line, dis_line, migrate_line, replay_line}
 use Rattle.command_line.specs.FoundPlan.{HasFound, HasFoundBehind}
 use Rattle.command_line.specs.RunCommand.{camr_command}
 use Rattle.command_line.specs.RunLine.{IsPlain}
 use Rattle.command_line.specs.declared.plans.Plan.{Plan}
-use Rattle.command_line.specs.declared.plans.Plan.TheVariants.{Asm, Dis, Check, Run, Replay}
+use Rattle.command_line.specs.declared.plans.Plan.TheVariants.{Asm, Migrate, Dis, Check, Run, Replay}
 use Rattle.command_line.proofs.PlainWords.{walk_at, walked_path}
-use Rattle.command_line.proofs.Planned.{asm_not_check, asm_not_dis, asm_not_replay, asm_not_run, check_not_replay, check_not_run, dis_not_check, dis_not_replay, dis_not_run, replay_not_run}
+use Rattle.command_line.proofs.Planned.{asm_not_check, asm_not_dis, asm_not_replay, asm_not_run, check_not_replay, check_not_run, dis_not_check, dis_not_replay, dis_not_run, migrate_not_asm, migrate_not_check, migrate_not_dis, migrate_not_replay, migrate_not_run, replay_not_run}
 use Rattle.command_line.proofs.RunWords.{stays_stopped, stopped_at, top, top_names, top_walk}
 
 -- the rules of a subcommand as it is built
@@ -27,6 +27,9 @@ dis_rules = rules_of (codes "dis")
 
 abbrev check_rules : List Rule
 check_rules = rules_of (codes "check")
+
+abbrev migrate_rules : List Rule
+migrate_rules = rules_of (codes "migrate")
 
 abbrev replay_rules : List Rule
 replay_rules = rules_of (codes "replay")
@@ -43,6 +46,10 @@ check_walk : (rest : List Text) → top_walk (codes "check" ∷ rest) ≡ stoppe
 unfolding walked
 check_walk rest = stays_stopped top.rules top_names nothing_held idle 1 false (codes "check") [] rest
 
+migrate_walk : (rest : List Text) → top_walk (codes "migrate" ∷ rest) ≡ stopped_at nothing_held idle 1 false (codes "migrate") rest
+unfolding walked
+migrate_walk rest = stays_stopped top.rules top_names nothing_held idle 1 false (codes "migrate") [] rest
+
 replay_walk : (rest : List Text) → top_walk (codes "replay" ∷ rest) ≡ stopped_at nothing_held idle 1 false (codes "replay") rest
 unfolding walked
 replay_walk rest = stays_stopped top.rules top_names nothing_held idle 1 false (codes "replay") [] rest
@@ -56,6 +63,9 @@ enters_dis rest = ap (λ (w : Walk). entered (built camr_command) w.stopped) (di
 
 enters_check : (rest : List Text) → subcommand_of camr_command (codes "check" ∷ rest) ≡ Some (codes "check", rows_after check_rules [] rest)
 enters_check rest = ap (λ (w : Walk). entered (built camr_command) w.stopped) (check_walk rest)
+
+enters_migrate : (rest : List Text) → subcommand_of camr_command (codes "migrate" ∷ rest) ≡ Some (codes "migrate", rows_after migrate_rules [] rest)
+enters_migrate rest = ap (λ (w : Walk). entered (built camr_command) w.stopped) (migrate_walk rest)
 
 enters_replay : (rest : List Text) → subcommand_of camr_command (codes "replay" ∷ rest) ≡ Some (codes "replay", rows_after replay_rules [] rest)
 enters_replay rest = ap (λ (w : Walk). entered (built camr_command) w.stopped) (replay_walk rest)
@@ -87,6 +97,18 @@ text_found text program plain_text plain_program = ap (first_of (codes "IN")) (a
 program_found : (text program : Text) → IsPlain text → IsPlain program → first_of (codes "OUT") (rows_after asm_rules [] (text ∷ program ∷ [])) ≡ Some program
 program_found text program plain_text plain_program = ap (first_of (codes "OUT")) (asm_rows text program plain_text plain_program)
 
+migrate_rows : (manifest migrated : Text) → IsPlain manifest → IsPlain migrated → rows_after migrate_rules [] (manifest ∷ migrated ∷ []) ≡ finished migrate_rules (path_walk migrate_rules (path_walk migrate_rules start manifest) migrated).held
+migrate_rows manifest migrated plain_manifest plain_migrated =
+    let first = path_walk migrate_rules start manifest in
+    ap (λ (w : Walk). finished migrate_rules (walked migrate_rules [] w migrated).held) (walked_path migrate_rules nothing_held 1 manifest plain_manifest)
+    ∙ ap (λ (w : Walk). finished migrate_rules w.held) (walked_path migrate_rules first.held 2 migrated plain_migrated)
+
+old_found : (manifest migrated : Text) → IsPlain manifest → IsPlain migrated → first_of (codes "IN") (rows_after migrate_rules [] (manifest ∷ migrated ∷ [])) ≡ Some manifest
+old_found manifest migrated plain_manifest plain_migrated = ap (first_of (codes "IN")) (migrate_rows manifest migrated plain_manifest plain_migrated)
+
+new_found : (manifest migrated : Text) → IsPlain manifest → IsPlain migrated → first_of (codes "OUT") (rows_after migrate_rules [] (manifest ∷ migrated ∷ [])) ≡ Some migrated
+new_found manifest migrated plain_manifest plain_migrated = ap (first_of (codes "OUT")) (migrate_rows manifest migrated plain_manifest plain_migrated)
+
 replay_rows : (manifest trace : Text) → IsPlain manifest → IsPlain trace → rows_after replay_rules [] (manifest ∷ trace ∷ []) ≡ finished replay_rules (path_walk replay_rules (path_walk replay_rules start manifest) trace).held
 replay_rows manifest trace plain_manifest plain_trace =
     let first = path_walk replay_rules start manifest in
@@ -104,6 +126,7 @@ same_text a b o p q = ap (λ (x : Option Text). unwrap_or x a) (sym p ∙ q)
 
 behind_asm : (text program : Text) (rows : List Row) (plan : Plan) → first_of (codes "IN") rows ≡ Some text → first_of (codes "OUT") rows ≡ Some program → HasFoundBehind (codes "asm") rows plan → IsAsm text program plan
 behind_asm text program rows (Asm a b) is_text is_program found = (same_text (string_bytes a) text _ found.1 is_text, same_text (string_bytes b) program _ found.2 is_program)
+behind_asm text program rows (Migrate a b) is_text is_program found = absurd (migrate_not_asm (sym found.0))
 behind_asm text program rows (Dis path) is_text is_program found = absurd (asm_not_dis found.0)
 behind_asm text program rows (Check path) is_text is_program found = absurd (asm_not_check found.0)
 behind_asm text program rows (Run workers watch a b) is_text is_program found = absurd (asm_not_run found.0)
@@ -111,6 +134,7 @@ behind_asm text program rows (Replay a b) is_text is_program found = absurd (asm
 
 behind_dis : (program : Text) (rows : List Row) (plan : Plan) → first_of (codes "FILE") rows ≡ Some program → HasFoundBehind (codes "dis") rows plan → IsDis program plan
 behind_dis program rows (Dis path) is found = same_text (string_bytes path) program _ found.1 is
+behind_dis program rows (Migrate a b) is found = absurd (migrate_not_dis (sym found.0))
 behind_dis program rows (Asm a b) is found = absurd (asm_not_dis (sym found.0))
 behind_dis program rows (Check path) is found = absurd (dis_not_check found.0)
 behind_dis program rows (Run workers watch a b) is found = absurd (dis_not_run found.0)
@@ -118,6 +142,7 @@ behind_dis program rows (Replay a b) is found = absurd (dis_not_replay found.0)
 
 behind_check : (manifest : Text) (rows : List Row) (plan : Plan) → first_of (codes "MANIFEST") rows ≡ Some manifest → HasFoundBehind (codes "check") rows plan → IsCheck manifest plan
 behind_check manifest rows (Check path) is found = same_text (string_bytes path) manifest _ found.1 is
+behind_check manifest rows (Migrate a b) is found = absurd (migrate_not_check (sym found.0))
 behind_check manifest rows (Asm a b) is found = absurd (asm_not_check (sym found.0))
 behind_check manifest rows (Dis path) is found = absurd (dis_not_check (sym found.0))
 behind_check manifest rows (Run workers watch a b) is found = absurd (check_not_run found.0)
@@ -125,10 +150,19 @@ behind_check manifest rows (Replay a b) is found = absurd (check_not_replay foun
 
 behind_replay : (manifest trace : Text) (rows : List Row) (plan : Plan) → first_of (codes "MANIFEST") rows ≡ Some manifest → first_of (codes "TRACE") rows ≡ Some trace → HasFoundBehind (codes "replay") rows plan → IsReplay manifest trace plan
 behind_replay manifest trace rows (Replay a b) is_manifest is_trace found = (same_text (string_bytes a) manifest _ found.1 is_manifest, same_text (string_bytes b) trace _ found.2 is_trace)
+behind_replay manifest trace rows (Migrate a b) is_manifest is_trace found = absurd (migrate_not_replay (sym found.0))
 behind_replay manifest trace rows (Asm a b) is_manifest is_trace found = absurd (asm_not_replay (sym found.0))
 behind_replay manifest trace rows (Dis path) is_manifest is_trace found = absurd (dis_not_replay (sym found.0))
 behind_replay manifest trace rows (Check path) is_manifest is_trace found = absurd (check_not_replay (sym found.0))
 behind_replay manifest trace rows (Run workers watch a b) is_manifest is_trace found = absurd (replay_not_run found.0)
+
+behind_migrate : (manifest migrated : Text) (rows : List Row) (plan : Plan) → first_of (codes "IN") rows ≡ Some manifest → first_of (codes "OUT") rows ≡ Some migrated → HasFoundBehind (codes "migrate") rows plan → IsMigrate manifest migrated plan
+behind_migrate manifest migrated rows (Migrate a b) is_manifest is_migrated found = (same_text (string_bytes a) manifest _ found.1 is_manifest, same_text (string_bytes b) migrated _ found.2 is_migrated)
+behind_migrate manifest migrated rows (Asm a b) is_manifest is_migrated found = absurd (migrate_not_asm found.0)
+behind_migrate manifest migrated rows (Dis path) is_manifest is_migrated found = absurd (migrate_not_dis found.0)
+behind_migrate manifest migrated rows (Check path) is_manifest is_migrated found = absurd (migrate_not_check found.0)
+behind_migrate manifest migrated rows (Run workers watch a b) is_manifest is_migrated found = absurd (migrate_not_run found.0)
+behind_migrate manifest migrated rows (Replay a b) is_manifest is_migrated found = absurd (migrate_not_replay found.0)
 
 -- the plan of the line is what it asks for
 pub asm_plan : (words : List Text) (text program : Text) (plan : Plan) → words ≡ asm_line text program → IsPlain text → IsPlain program → HasFound (subcommand_of camr_command words) plan → IsAsm text program plan
@@ -154,3 +188,9 @@ replay_plan words manifest trace plan line plain_manifest plain_trace found =
     let rows = rows_after replay_rules [] (manifest ∷ trace ∷ []) in
     let here : HasFound (Some (codes "replay", rows)) plan = subst (λ f. HasFound f plan) (ap (subcommand_of camr_command) line ∙ enters_replay (manifest ∷ trace ∷ [])) found in
     behind_replay manifest trace rows plan (replayed_found manifest trace plain_manifest plain_trace) (trace_found manifest trace plain_manifest plain_trace) here
+
+pub migrate_plan : (words : List Text) (manifest migrated : Text) (plan : Plan) → words ≡ migrate_line manifest migrated → IsPlain manifest → IsPlain migrated → HasFound (subcommand_of camr_command words) plan → IsMigrate manifest migrated plan
+migrate_plan words manifest migrated plan line plain_manifest plain_migrated found =
+    let rows = rows_after migrate_rules [] (manifest ∷ migrated ∷ []) in
+    let here : HasFound (Some (codes "migrate", rows)) plan = subst (λ f. HasFound f plan) (ap (subcommand_of camr_command) line ∙ enters_migrate (manifest ∷ migrated ∷ [])) found in
+    behind_migrate manifest migrated rows plan (old_found manifest migrated plain_manifest plain_migrated) (new_found manifest migrated plain_manifest plain_migrated) here

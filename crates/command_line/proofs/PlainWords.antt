@@ -1,6 +1,6 @@
 -- What `clap`'s walk makes of words that do not begin with a hyphen.
 use Rattle.std.proofs.Common.{◌≡◌, ℕ, List, [], ◌∷◌, None, true, false, refl}
-use Rattle.clap.specs.Words.{Rule, Text}
+use Rattle.clap.specs.Words.{Rule, Text, is_simple}
 use Rattle.clap.specs.Walk.{Held, Walk, Waiting, idle, option, walked, to_positional, arg_by_index, option_word, arg_by_id, value}
 use Rattle.clap.specs.Simple.{Shape}
 use Rattle.clap.specs.Lexer.{short_of, strip_byte}
@@ -13,6 +13,10 @@ use Rattle.command_line.specs.RunLine.{IsPlain}
 pub is_simple_camr : is_simple_and_free camr_command ≡ true
 unfolding clap_on_literals
 is_simple_camr = refl
+
+pub is_simple_alone : is_simple camr_command ≡ true
+unfolding clap_on_literals
+is_simple_alone = refl
 
 -- where the walk stands before a word, with this that waits for a value
 abbrev pub walk_at : Held → Waiting → ℕ → Walk

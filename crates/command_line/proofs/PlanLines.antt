@@ -10,9 +10,9 @@ use Rattle.command_line.specs.RunCommand.{camr_command}
 use Rattle.command_line.specs.RunLine.{IsPlain, IsRun, RunLine, SpellsNoLawfulNumber}
 use Rattle.command_line.specs.declared.plans.Plan.{Plan}
 use Rattle.command_line.specs.declared.plans.Watch.TheVariants.{Never}
-use Rattle.command_line.specs.declared.plans.Plan.TheVariants.{Asm, Dis, Check, Run, Replay}
+use Rattle.command_line.specs.declared.plans.Plan.TheVariants.{Asm, Migrate, Dis, Check, Run, Replay}
 use Rattle.command_line.proofs.Numbers.{refused_number}
-use Rattle.command_line.proofs.Planned.{asm_not_run, check_not_run, dis_not_run, replay_not_run}
+use Rattle.command_line.proofs.Planned.{asm_not_run, check_not_run, dis_not_run, migrate_not_run, replay_not_run}
 use Rattle.command_line.proofs.Readings.{line_reading, one_to_sixteen}
 
 module _ (words : List Text) (number manifest scenario : Text) (line : RunLine words number manifest scenario)
@@ -29,6 +29,7 @@ module _ (words : List Text) (number manifest scenario : Text) (line : RunLine w
       run_found : (plan : Plan) (rows : List Row) → HasFoundBehind (codes "run") rows plan → HasFoundIn rows plan
       run_found (Run workers watch a b) rows found = found.1
       run_found (Asm text program) rows found = absurd (asm_not_run (sym found.0))
+      run_found (Migrate manifest migrated) rows found = absurd (migrate_not_run (sym found.0))
       run_found (Dis program) rows found = absurd (dis_not_run (sym found.0))
       run_found (Check path) rows found = absurd (check_not_run (sym found.0))
       run_found (Replay manifest trace) rows found = absurd (replay_not_run (sym found.0))

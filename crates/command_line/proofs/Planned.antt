@@ -8,7 +8,7 @@ use Rattle.clap.specs.declared.parser.matches.ArgMatches.TheViews.{out-ArgMatche
 use Rattle.clap.specs.declared.parser.matches.SubCommand.{SubCommand}
 use Rattle.command_line.specs.FoundPlan.{HasFound, PlansBehind, PlansFound, PlansRows}
 use Rattle.command_line.specs.declared.plans.Plan.{Plan}
-use Rattle.command_line.specs.declared.plans.Plan.TheVariants.{Asm, Dis, Check, Run, Replay}
+use Rattle.command_line.specs.declared.plans.Plan.TheVariants.{Asm, Migrate, Dis, Check, Run, Replay}
 
 abbrev pub rows_in : Option (Text × List Row) → Option (List Row)
 rows_in = option_map (λ (p : Text × List Row). p.1)
@@ -33,6 +33,21 @@ entered_is m name rows named found = both_in (out-ArgMatches m).subcommand name 
 -- the words that name a subcommand differ
 first_apart : (a b : Text) → (get_or a 0 0 ≡ get_or b 0 0 → ⊥) → a ≡ b → ⊥
 first_apart a b apart e = apart (ap (λ (t : Text). get_or t 0 0) e)
+
+pub migrate_not_asm : codes "migrate" ≡ codes "asm" → ⊥
+migrate_not_asm = first_apart (codes "migrate") (codes "asm") (λ bad. omega (arith, bad))
+
+pub migrate_not_dis : codes "migrate" ≡ codes "dis" → ⊥
+migrate_not_dis = first_apart (codes "migrate") (codes "dis") (λ bad. omega (arith, bad))
+
+pub migrate_not_check : codes "migrate" ≡ codes "check" → ⊥
+migrate_not_check = first_apart (codes "migrate") (codes "check") (λ bad. omega (arith, bad))
+
+pub migrate_not_run : codes "migrate" ≡ codes "run" → ⊥
+migrate_not_run = first_apart (codes "migrate") (codes "run") (λ bad. omega (arith, bad))
+
+pub migrate_not_replay : codes "migrate" ≡ codes "replay" → ⊥
+migrate_not_replay = first_apart (codes "migrate") (codes "replay") (λ bad. omega (arith, bad))
 
 pub asm_not_run : codes "asm" ≡ codes "run" → ⊥
 asm_not_run = first_apart (codes "asm") (codes "run") (λ bad. omega (arith, bad))
@@ -72,6 +87,7 @@ pub plan_in : (found : Option (Text × List Row)) (rows : List Row) (planned : O
     → PlansRows rows planned → PlansFound found planned
 plan_in found rows (Some (Run workers watch a b)) is h = (subst (λ f. HasFound f (Run workers watch a b)) (sym is) (refl, h.0), h.1)
 plan_in found rows (Some (Asm text program)) is h = absurd h.0.same
+plan_in found rows (Some (Migrate manifest migrated)) is h = absurd h.0.same
 plan_in found rows (Some (Dis program)) is h = absurd h.0.same
 plan_in found rows (Some (Check path)) is h = absurd h.0.same
 plan_in found rows (Some (Replay manifest trace)) is h = absurd h.0.same

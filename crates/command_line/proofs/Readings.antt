@@ -106,6 +106,12 @@ module _ (n m s : Text) (plain_m : IsPlain m) (plain_s : IsPlain s) where
       (λ e. rw e refl) (λ e. rw e refl)
       (record { workers = refl; watch_is = refl; manifest_is = refl; scenario_is = refl })
 
+  taken_last : accepts false one_to_sixteen n ≡ true → react_fault run_rules false built_workers (n ∷ []) (path_walk (path_walk start m) s).held ≡ []
+  taken_last e = rw e refl
+
+  refused_last : accepts false one_to_sixteen n ≡ false → react_fault run_rules false built_workers (n ∷ []) (path_walk (path_walk start m) s).held ≡ kind.ValueValidation ∷ []
+  refused_last e = rw e refl
+
   read_joined_behind : Reading (codes "run" ∷ m ∷ s ∷ (codes "--workers=" ++ n) ∷ []) n m s
   unfolding defaults_fault
   read_joined_behind =
@@ -114,7 +120,8 @@ module _ (n m s : Text) (plain_m : IsPlain m) (plain_s : IsPlain s) where
       let w3 = joined_walk n w2 in
       reading _ n m s _ w3
       (trace_path start.held 1 m _ _ w3 plain_m (trace_path w1.held 2 s _ _ w3 plain_s (trace_joined w2.held 3 n [] [] w3 (trace_nil w3))))
-      (λ e. rw e refl) (λ e. rw e refl)
+      (λ e. ap (λ (k : Kinds). end_fault (or_else (step_fault run_shape 1 start.held value) (or_else (step_fault run_shape 2 w1.held value) (or_else k []))) w3) (taken_last e))
+      (λ e. ap (λ (k : Kinds). end_fault (or_else (step_fault run_shape 1 start.held value) (or_else (step_fault run_shape 2 w1.held value) (or_else k []))) w3) (refused_last e))
       (record { workers = refl; watch_is = refl; manifest_is = refl; scenario_is = refl })
 
   module _ (plain_n : IsPlain n) where

@@ -1,8 +1,9 @@
--- The lines that ask for an assembly, for a program's text, for a check and for a replay: a word, and the paths of the files.
+-- The lines that ask for an assembly, for a program's text, for a check, for a migration and for a replay: a word, and the paths
+-- of the files.
 use Rattle.std.specs.Prelude.{◌≡◌, List, [], ◌∷◌, codes, string_bytes}
 use Rattle.clap.specs.Words.{Text}
 use Rattle.command_line.specs.declared.plans.Plan.{Plan}
-use Rattle.command_line.specs.declared.plans.Plan.TheVariants.{Asm, Dis, Check, Replay}
+use Rattle.command_line.specs.declared.plans.Plan.TheVariants.{Asm, Dis, Check, Migrate, Replay}
 
 abbrev pub asm_line : Text → Text → List Text
 asm_line text program = codes "asm" ∷ text ∷ program ∷ []
@@ -12,6 +13,9 @@ dis_line program = codes "dis" ∷ program ∷ []
 
 abbrev pub check_line : Text → List Text
 check_line manifest = codes "check" ∷ manifest ∷ []
+
+abbrev pub migrate_line : Text → Text → List Text
+migrate_line manifest migrated = codes "migrate" ∷ manifest ∷ migrated ∷ []
 
 abbrev pub replay_line : Text → Text → List Text
 replay_line manifest trace = codes "replay" ∷ manifest ∷ trace ∷ []
@@ -30,6 +34,11 @@ IsDis program plan = ⊥
 abbrev pub IsCheck : Text → Plan → Type 0
 IsCheck manifest (Check path) = string_bytes path ≡ manifest
 IsCheck manifest plan = ⊥
+
+-- the plan is the migration of this manifest into that one
+abbrev pub IsMigrate : Text → Text → Plan → Type 0
+IsMigrate manifest migrated (Migrate a b) = (string_bytes a ≡ manifest) × (string_bytes b ≡ migrated)
+IsMigrate manifest migrated plan = ⊥
 
 -- the plan is a replay of this trace over this manifest
 abbrev pub IsReplay : Text → Text → Plan → Type 0

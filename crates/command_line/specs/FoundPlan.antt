@@ -5,7 +5,7 @@ use Rattle.command_line.specs.RunLine.{HasLawfulNumber, IsLawfulNumber, IsRun, S
 use Rattle.command_line.specs.RunLine.{SpellsNoLawfulNumber}
 use Rattle.command_line.specs.declared.plans.Plan.{Plan}
 use Rattle.command_line.specs.declared.plans.Watch.{Watch}
-use Rattle.command_line.specs.declared.plans.Plan.TheVariants.{Asm, Dis, Check, Run, Replay}
+use Rattle.command_line.specs.declared.plans.Plan.TheVariants.{Asm, Migrate, Dis, Check, Run, Replay}
 
 -- the plan has what `clap` found behind `run` under the arguments' names
 pub record HasFoundIn (rows : List Row) (plan : Plan) : Type 0 where
@@ -24,6 +24,8 @@ abbrev pub HasFoundBehind : Text → List Row → Plan → Type 0
 HasFoundBehind name rows (Run workers watch a b) = (name ≡ codes "run") × HasFoundIn rows (Run workers watch a b)
 HasFoundBehind name rows (Asm text program) =
     (name ≡ codes "asm") × (first_of (codes "IN") rows ≡ Some (string_bytes text)) × (first_of (codes "OUT") rows ≡ Some (string_bytes program))
+HasFoundBehind name rows (Migrate manifest migrated) =
+    (name ≡ codes "migrate") × (first_of (codes "IN") rows ≡ Some (string_bytes manifest)) × (first_of (codes "OUT") rows ≡ Some (string_bytes migrated))
 HasFoundBehind name rows (Dis program) =
     (name ≡ codes "dis") × (first_of (codes "FILE") rows ≡ Some (string_bytes program))
 HasFoundBehind name rows (Check path) =

@@ -45,6 +45,10 @@ dis_command = with_rule (new_app (codes "dis")) (path_rule (codes "FILE"))
 abbrev pub check_command : App
 check_command = with_rule (new_app (codes "check")) (path_rule (codes "MANIFEST"))
 
+-- `migrate` with the manifest that it reads and the one that it writes
+abbrev pub migrate_command : App
+migrate_command = with_rule (with_rule (new_app (codes "migrate")) (path_rule (codes "IN"))) (path_rule (codes "OUT"))
+
 -- `replay` with its two paths in their order
 abbrev pub replay_command : App
 replay_command = with_rule (with_rule (new_app (codes "replay")) (path_rule (codes "MANIFEST"))) (path_rule (codes "TRACE"))
@@ -67,9 +71,13 @@ texts_command = with_subcommand (with_subcommand bare_command asm_command.top) d
 abbrev pub programs_command : App
 programs_command = with_subcommand texts_command check_command.top
 
+-- with `migrate` too
+abbrev pub manifests_command : App
+manifests_command = with_subcommand programs_command migrate_command.top
+
 -- with `run` too
 abbrev pub runs_command : App
-runs_command = with_subcommand programs_command run_command.top
+runs_command = with_subcommand manifests_command run_command.top
 
 -- the whole command line
 abbrev pub camr_command : App

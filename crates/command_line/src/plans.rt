@@ -24,6 +24,8 @@ pub enum Watch {
 pub enum Plan {
     /// Assembles a text: the text's file, and the file that gets the bytes of its program.
     Asm(String, String),
+    /// Writes a manifest of version 1 anew, of version 2 with one controller: the manifest, and the file that gets it.
+    Migrate(String, String),
     /// Prints the text of a program's bytes.
     Dis(String),
     /// Verifies the programs of a manifest.
@@ -40,7 +42,7 @@ impl Plan {
         ensures { result ≡ length (input_paths self.now) }
     {
         match self {
-            Plan::Asm(..) | Plan::Dis(_) | Plan::Check(_) => 1,
+            Plan::Asm(..) | Plan::Migrate(..) | Plan::Dis(_) | Plan::Check(_) => 1,
             Plan::Run(..) | Plan::Replay(..) => 2,
         }
     }
@@ -53,6 +55,7 @@ impl Plan {
         match (self, place) {
             (
                 Plan::Asm(first, _)
+                | Plan::Migrate(first, _)
                 | Plan::Dis(first)
                 | Plan::Check(first)
                 | Plan::Run(_, _, first, _)
@@ -69,7 +72,7 @@ impl Plan {
         ensures { MatchOption result (output_path self.now ≡ None) (λ path. output_path self.now ≡ Some path.now) }
     {
         match self {
-            Plan::Asm(_, output) => Some(output.as_str()),
+            Plan::Asm(_, output) | Plan::Migrate(_, output) => Some(output.as_str()),
             Plan::Dis(_) | Plan::Check(_) | Plan::Run(..) | Plan::Replay(..) => None,
         }
     }
@@ -80,7 +83,8 @@ impl Plan {
     {
         match self {
             Plan::Run(_, watch, _, _) => *watch,
-            Plan::Asm(..) | Plan::Dis(_) | Plan::Check(_) | Plan::Replay(..) => Watch::Never,
+            Plan::Asm(..) | Plan::Migrate(..) | Plan::Dis(_) | Plan::Check(_) | Plan::Replay(..) =>
+                Watch::Never,
         }
     }
 }

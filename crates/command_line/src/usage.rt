@@ -3,7 +3,7 @@
 
 ghost use Rattle.std.specs.Prelude.{◌≡◌, IfOk};
 ghost use Rattle.command_line.specs.RunCommand.{IsArgument, IsCommand, camr_command};
-ghost use Rattle.command_line.specs.RunCommand.{asm_command, check_command, dis_command, programs_command, texts_command};
+ghost use Rattle.command_line.specs.RunCommand.{asm_command, check_command, dis_command, manifests_command, migrate_command, programs_command, texts_command};
 ghost use Rattle.command_line.specs.RunCommand.{path_rule, replay_command, run_command, runs_command, watch_rule, workers_rule};
 
 use clap::{Arg, Command, value_parser};
@@ -15,21 +15,37 @@ pub fn camr_command<'a>(alloc: Global) -> Result<Command<'a>, AllocError>
 {
     let run = run_command(alloc)?;
     let check = check_command(alloc)?;
+    let migrate = migrate_command(alloc)?;
     let replay = replay_command(alloc)?;
-    runs_command(alloc, check, run)?.subcommand(replay)
+    runs_command(alloc, check, migrate, run)?.subcommand(replay)
 }
 
 // The command with all but `replay`.
 fn runs_command<'a>(
     alloc: Global,
     check: Command<'a>,
+    migrate: Command<'a>,
     run: Command<'a>,
 ) -> Result<Command<'a>, AllocError>
     requires check { IsCommand check_command check }
+    requires migrate { IsCommand migrate_command migrate }
     requires run { IsCommand run_command run }
     ensures { IfOk result (IsCommand runs_command) }
 {
-    programs_command(alloc, check)?.subcommand(run)
+    manifests_command(alloc, check, migrate)?.subcommand(run)
+}
+
+// The command with all that is for programs and manifests alone.
+fn manifests_command<'a>(
+    alloc: Global,
+    check: Command<'a>,
+    migrate: Command<'a>,
+) -> Result<Command<'a>, AllocError>
+    requires check { IsCommand check_command check }
+    requires migrate { IsCommand migrate_command migrate }
+    ensures { IfOk result (IsCommand manifests_command) }
+{
+    programs_command(alloc, check)?.subcommand(migrate)
 }
 
 // The command with all that is for programs alone.
@@ -93,6 +109,17 @@ fn check_command<'a>(alloc: Global) -> Result<Command<'a>, AllocError>
     Command::new(alloc, "check")
         .about("Verifies the programs of a manifest and prints their budgets")
         .arg(manifest)
+}
+
+fn migrate_command<'a>(alloc: Global) -> Result<Command<'a>, AllocError>
+    ensures { IfOk result (IsCommand migrate_command) }
+{
+    let manifest = path(alloc, "IN", "A manifest of version 1");
+    let migrated = path(alloc, "OUT", "The file that gets it as one of version 2");
+    Command::new(alloc, "migrate")
+        .about("Writes a manifest with one controller over its queues")
+        .arg(manifest)?
+        .arg(migrated)
 }
 
 /// The subcommand `run` by itself.

@@ -6,8 +6,8 @@ ghost use Rattle.clap.specs.Words.{FailsBy, Text, fault_of, found_of, kind_of, r
 ghost use Rattle.clap.specs.Words.{subcommand_of, subcommand_rows_of};
 ghost use Rattle.command_line.specs.FoundPlan.{HasFound, PlansBehind, PlansFound, PlansRows};
 ghost use Rattle.command_line.specs.FoundPlan.{ReadsWatch, ReadsWorkers};
-ghost use Rattle.command_line.specs.FileLines.{IsAsm, IsCheck, IsDis, IsReplay};
-ghost use Rattle.command_line.specs.FileLines.{asm_line, check_line, dis_line, replay_line};
+ghost use Rattle.command_line.specs.FileLines.{IsAsm, IsCheck, IsDis, IsMigrate, IsReplay};
+ghost use Rattle.command_line.specs.FileLines.{asm_line, check_line, dis_line, migrate_line, replay_line};
 ghost use Rattle.command_line.specs.RunCommand.{camr_command};
 ghost use Rattle.command_line.specs.RunLine.{GivesRun, HasLawfulNumber, IsLawfulNumber, IsPlain};
 ghost use Rattle.command_line.specs.RunLine.{RunLine, Spells, SpellsNoLawfulNumber, spelled_out, watch_word};
@@ -23,8 +23,8 @@ use std::alloc::{AllocError, Global};
 /// `exit_code` is the status to end with.
 pub type UsageFault = Error;
 
-/// Reads the words after the program's name. A line that asks for an assembly, for a program's text, for a check or for a
-/// replay gives that or an error. A line that asks for a run gives that run, or an error where its number is none from 1 to 16 in
+/// Reads the words after the program's name. A line that asks for an assembly, for a program's text, for a check, for a
+/// migration or for a replay gives that or an error. A line that asks for a run gives that run, or an error where its number is none from 1 to 16 in
 /// decimal digits alone or memory is refused. `--watch` by itself stands for `--watch=terminal`. Whatever the words are, a run has 1 to
 /// 16 workers, tells its sums when the word that `clap` found says, and has the paths that it found in their places.
 pub fn plan(alloc: Global, words: &[String]) -> Result<Plan, UsageFault>
@@ -43,6 +43,9 @@ pub fn plan(alloc: Global, words: &[String]) -> Result<Plan, UsageFault>
     ensures checks { (manifest : Text)
         → map string_bytes words.now ≡ check_line manifest → IsPlain manifest
         → IfOk result (IsCheck manifest) }
+    ensures migrates { (manifest migrated : Text)
+        → map string_bytes words.now ≡ migrate_line manifest migrated → IsPlain manifest → IsPlain migrated
+        → IfOk result (IsMigrate manifest migrated) }
     ensures replays { (manifest trace : Text)
         → map string_bytes words.now ≡ replay_line manifest trace → IsPlain manifest → IsPlain trace
         → IfOk result (IsReplay manifest trace) }
@@ -112,6 +115,7 @@ fn planned(alloc: Global, matches: &ArgMatches) -> Result<Option<Plan>, AllocErr
         Some(("asm", asm)) => asm_plan(alloc, asm),
         Some(("dis", dis)) => dis_plan(alloc, dis),
         Some(("check", check)) => check_plan(alloc, check),
+        Some(("migrate", migrate)) => migrate_plan(alloc, migrate),
         Some(("replay", replay)) => replay_plan(alloc, replay),
         Some(("run", run)) => run_plan(alloc, run),
         _ => Ok(None),
@@ -151,6 +155,21 @@ fn check_plan(alloc: Global, check: &ArgMatches) -> Result<Option<Plan>, AllocEr
         return Ok(None);
     };
     Ok(Some(Plan::Check(String::from_str(alloc, manifest)?)))
+}
+
+// The plan of what clap found behind `migrate`.
+fn migrate_plan(alloc: Global, migrate: &ArgMatches) -> Result<Option<Plan>, AllocError>
+    ensures { IfOk result (PlansBehind (codes "migrate") (rows_of (found_of migrate.now))) }
+{
+    let Some(manifest) = migrate.get_str("IN") else {
+        return Ok(None);
+    };
+    let Some(migrated) = migrate.get_str("OUT") else {
+        return Ok(None);
+    };
+    let manifest = String::from_str(alloc, manifest)?;
+    let migrated = String::from_str(alloc, migrated)?;
+    Ok(Some(Plan::Migrate(manifest, migrated)))
 }
 
 // The plan of what clap found behind `replay`.

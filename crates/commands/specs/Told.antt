@@ -7,11 +7,12 @@ use Rattle.bpf_asm.specs.Assembly.{Says, HasFault as HasAsmFault}
 use Rattle.bpf_asm.specs.declared.fault.AsmFault.{AsmFault}
 use Rattle.manifest.specs.declared.ManifestFault.{ManifestFault}
 use Rattle.manifest.specs.Meaning.{Means, HasFault}
+use Rattle.manifest.specs.Migration.{HasMigrationFault, IsMigrated}
 use Rattle.calls.specs.declared.trace.Trace.{Trace}
 use Rattle.trace.specs.TraceText.{trace_text}
 use Rattle.world.specs.TotalsOf.{TotalsOf}
 use Rattle.command_line.specs.declared.plans.Plan.{Plan}
-use Rattle.command_line.specs.declared.plans.Plan.TheVariants.{Asm, Dis, Check, Run, Replay}
+use Rattle.command_line.specs.declared.plans.Plan.TheVariants.{Asm, Dis, Check, Migrate, Run, Replay}
 
 -- the bytes are the text of a program, spell one, or are a manifest
 abbrev pub IsText : List ℕ → Type 0
@@ -23,6 +24,10 @@ IsProgram bytes = (program : _) × Spells bytes program
 abbrev pub IsManifest : List ℕ → Type 0
 IsManifest bytes = (setup : _) × (programs : _) × Means bytes setup programs
 
+-- they are a manifest that can be written anew with one controller
+abbrev pub IsMigratable : List ℕ → Type 0
+IsMigratable bytes = (migrated : List ℕ) × IsMigrated bytes migrated
+
 -- they have a fault of such a one
 abbrev pub IsFaultyText : List ℕ → Type 0
 IsFaultyText bytes = (fault : AsmFault) × HasAsmFault bytes fault
@@ -33,11 +38,15 @@ IsFaultyProgram bytes = (fault : DecodeFault) × HasDecodeFault bytes fault
 abbrev pub IsFaultyManifest : List ℕ → Type 0
 IsFaultyManifest bytes = (fault : ManifestFault) × HasFault bytes fault
 
+abbrev pub IsFaultyMigration : List ℕ → Type 0
+IsFaultyMigration bytes = (fault : ManifestFault) × HasMigrationFault bytes fault
+
 -- a plan's first file is what the plan asks for
 abbrev pub IsAsAsked : Plan → List ℕ → Type 0
 IsAsAsked (Asm text program) bytes = IsText bytes
 IsAsAsked (Dis program) bytes = IsProgram bytes
 IsAsAsked (Check manifest) bytes = IsManifest bytes
+IsAsAsked (Migrate manifest migrated) bytes = IsMigratable bytes
 IsAsAsked (Run workers watch manifest scenario) bytes = IsManifest bytes
 IsAsAsked (Replay manifest trace) bytes = IsManifest bytes
 
@@ -46,6 +55,7 @@ abbrev pub IsFaulty : Plan → List ℕ → Type 0
 IsFaulty (Asm text program) bytes = IsFaultyText bytes
 IsFaulty (Dis program) bytes = IsFaultyProgram bytes
 IsFaulty (Check manifest) bytes = IsFaultyManifest bytes
+IsFaulty (Migrate manifest migrated) bytes = IsFaultyMigration bytes
 IsFaulty (Run workers watch manifest scenario) bytes = Unit {0}
 IsFaulty (Replay manifest trace) bytes = Unit {0}
 

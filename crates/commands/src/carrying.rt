@@ -1,12 +1,13 @@
 // A plan, carried out over the bytes of its files. It relies on the crates that read a manifest, a scenario and a trace,
 // on `scenario_host` and `replay`, and on `trace` and `verdicts` for what goes out.
 
-ghost use Rattle.std.specs.Prelude.{◌≡◌, ◌≤◌, true, Contains, Some, IfOk, IfErr, IsErrAnd, IsUtf8, MatchResult, length, slice_get};
+ghost use Rattle.std.specs.Prelude.{◌≡◌, ◌≤◌, true, Contains, Some, IfOk, IfErr, IsErrAnd, IsUtf8, MatchResult, length, slice_get, string_bytes};
 ghost use Rattle.command_line.specs.Files.{input_paths, reads_text};
+ghost use Rattle.manifest.specs.Migration.{IsMigrated};
 ghost use Rattle.trace.specs.HasText.{AllHaveText};
 ghost use Rattle.workers.specs.declared.serving.TheConstants.{MAX_WORKERS};
 ghost use Rattle.commands.specs.Faults.{status_of};
-ghost use Rattle.commands.specs.Told.{IsText, IsProgram, IsManifest, IsFaultyText, IsFaultyProgram, IsFaultyManifest, IsAsAsked, IsAccepted, IsAcceptedTrace, IsFaulty};
+ghost use Rattle.commands.specs.Told.{IsText, IsProgram, IsManifest, IsMigratable, IsFaultyText, IsFaultyProgram, IsFaultyManifest, IsFaultyMigration, IsAsAsked, IsAccepted, IsAcceptedTrace, IsFaulty};
 
 use crate::fault::Fault;
 use crate::handing::Handing;
@@ -75,6 +76,10 @@ pub fn carry<N: Notices + Sync, R: Threads + Wait + Sync, W: Write, E: Write>(
             let trace = (trace.as_str(), inputs[1].as_slice());
             print_replay(alloc, manifest, trace, notices, out, err)
         }
+        Plan::Migrate(manifest, _) => {
+            let manifest = (manifest.as_str(), inputs[0].as_slice());
+            print_migrated(alloc, manifest, out, err)
+        }
     }
 }
 
@@ -127,6 +132,33 @@ fn check<'a>(alloc: Global, file: (&'a str, &[u8])) -> Result<Manifest, Fault<'a
     Ok(manifest::read(alloc, text(file)?)?)
 }
 
+// Prints a manifest of version 1, a path and its bytes, as one of version 2, and answers the status.
+fn print_migrated<W: Write, E: Write>(
+    alloc: Global,
+    manifest: (&str, &[u8]),
+    out: &mut W,
+    err: &mut E,
+) -> u8
+    ensures status { result ≤ 2 }
+    ensures no_text { ¬ (IsUtf8 manifest.entry.1.now) → result ≡ 2 }
+    ensures done { result ≡ 0 → IsMigratable manifest.entry.1.now }
+    ensures refused { result ≡ 1 → IsFaultyMigration manifest.entry.1.now }
+{
+    match migrated(alloc, manifest) {
+        Ok(text) => status(out.write_all(text.as_bytes()), err),
+        Err(fault) => fault.report(err),
+    }
+}
+
+// The text of version 2 for a manifest of version 1, a path and its bytes.
+fn migrated<'a>(alloc: Global, file: (&'a str, &[u8])) -> Result<String, Fault<'a>>
+    ensures no_text { ¬ (IsUtf8 file.entry.1.now) → IsErrAnd result (λ e. status_of e ≡ 2) }
+    ensures migrated { IfOk result (λ text. IsMigrated file.entry.1.now (string_bytes text)) }
+    ensures fault { IfErr result (λ e. status_of e ≡ 1 → IsFaultyMigration file.entry.1.now) }
+{
+    Ok(manifest::migrate(alloc, text(file)?)?)
+}
+
 // Prints the trace of a manifest and a scenario, each a path and its bytes, run by so many workers, and answers the status.
 fn print_run<N: Notices + Sync, R: Threads + Wait + Sync, W: Write, E: Write>(
     rt: &R,
@@ -152,7 +184,7 @@ fn print_run<N: Notices + Sync, R: Threads + Wait + Sync, W: Write, E: Write>(
 
 // The whole trace goes out, or why not.
 fn print_trace<W: Write>(trace: &Trace, out: &mut W) -> io::Result<()>
-    requires { AllHaveText trace.now.records.items }
+    requires { AllHaveText trace.now.version trace.now.records.items }
 {
     let mut handing = Handing::new(out);
     match trace::print(trace, &mut handing) {
@@ -175,7 +207,7 @@ fn run<'a, N: Notices + Sync, R: Threads + Wait + Sync>(
     ensures manifest { ¬ (IsUtf8 manifest.entry.1.now) → IsErrAnd result (λ e. status_of e ≡ 2) }
     ensures scenario { ¬ (IsUtf8 scenario.entry.1.now) → IsErrAnd result (λ e. status_of e ≡ 2) }
     ensures done { IfOk result (λ _. IsManifest manifest.entry.1.now) }
-    ensures spelled { IfOk result (λ trace. AllHaveText trace.records.items) }
+    ensures spelled { IfOk result (λ trace. AllHaveText trace.version trace.records.items) }
 {
     let manifest = text(manifest)?;
     let scenario = text(scenario)?;

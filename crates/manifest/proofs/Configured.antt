@@ -1,27 +1,28 @@
 -- A configuration of what a manifest says: it is lawful, and its queues are those that are written.
-use Rattle.std.proofs.Common.{arith, ◌⊎◌, inl, inr, string_bytes, ◌≡◌, ℕ, ℤ, pos, negsuc, zero, suc, ◌<◌, ◌≤◌, Bool, true, false, ◌&&◌, ◌||◌, cond, List, [], ◌∷◌, length, get_or, map, find, filter_map, Option, Some, None, IsSome, is_some, option_map, refl, ap, ◌∙◌, sym, subst, bytes_eq, codes, nat_le, if◌then◌else◌}
+use Rattle.std.proofs.Common.{arith, ◌⊎◌, inl, inr, string_bytes, ◌≡◌, ℕ, ℤ, pos, negsuc, zero, suc, ◌<◌, ◌≤◌, Bool, true, false, ◌&&◌, ◌||◌, cond, List, [], ◌∷◌, length, get_or, map, find, filter_map, Option, Some, None, IsSome, is_some, option_map, refl, ap, ◌∙◌, sym, subst, bytes_eq, codes, unwrap_or, nat_le, nat_lt, if◌then◌else◌}
 use Rattle.std.specs.List.{AllZip, AllByRecursion, All, list_all, cons_option}
-use Rattle.std.proofs.lemmas.Bool.{and_parts, leb-true, cases_Bool}
+use Rattle.std.proofs.lemmas.Bool.{and_parts, leb-true, ltb-true, cases_Bool}
 use Rattle.std.proofs.lemmas.List.Elements.{All-nil, All-cons}
 use Rattle.toml.specs.Data.{Data, table, Members}
 use Rattle.toml.specs.Parse.{parse_document}
 use Rattle.helpers.specs.declared.limits.HelperLimits.{HelperLimits}
-use Rattle.helpers.specs.Table.{of_queues}
+use Rattle.helpers.specs.declared.limits.HelperSet.{HelperSet}
 use Rattle.engine_config.specs.Configured.{Given, IsConfigured, IsGivenUnder, queue_of as queue_given}
 use Rattle.accepted.specs.Verdict.{Verdict}
 use Rattle.world.specs.World.{QueueSetup}
+use Rattle.world.specs.Lawful.{AreUnder}
 use Rattle.manifest_form.specs.Document.{elements_at, integer_at, text_at, is_among}
-use Rattle.manifest_form.specs.Entries.{QueueLine, ProgramLine, Plan, up_to, openings_at, queue_by, queue_of, length_of, plan_of}
-use Rattle.manifest_form.specs.Faults.{has_lawful_keys, has_lawful_form, has_lawful_ranges}
+use Rattle.manifest_form.specs.Entries.{QueueLine, ProgramLine, Plan, up_to, below, is_first, is_integer, number_of_controllers, controllers_of, controller_written, controller_at, openings_at, queue_by, queue_of, length_of, plan_of}
+use Rattle.manifest_form.specs.Faults.{has_lawful_keys, has_lawful_form, has_lawful_ranges, document_has_ranges, queue_has_ranges, table_has_ranges}
 use Rattle.manifest_form.specs.Names.{has_lawful_numbers, has_lawful_names, names_of, is_name, is_alone, is_between}
-use Rattle.manifest.specs.Meaning.{lowest, lowest_fault, limits_of, Named, is_named, setup_of, setup_with, IsAccepted, IsUnread, IsUnaccepted, HasProgramFault, Writes}
+use Rattle.manifest.specs.Meaning.{lowest, lowest_fault, helpers_with, limits_of, Named, is_named, setup_of, setup_with, IsAccepted, IsUnread, IsUnaccepted, HasProgramFault, Writes}
 use Rattle.manifest.specs.declared.programs.NamedProgram.{NamedProgram}
 use Rattle.manifest_form.specs.declared.form.Plan.{Plan as Entries}
 use Rattle.manifest_form.specs.declared.entries.QueueEntry.{QueueEntry}
 use Rattle.manifest.specs.declared.ManifestFault.{ManifestFault}
 use Rattle.std.proofs.lemmas.List.{length-map}
 use Rattle.manifest_form.specs.Seen.{queue_seen, plan_seen}
-use Rattle.manifest.specs.Seen.{IsGivenFor, IsReady, IsLawfulPlan, named_seen}
+use Rattle.manifest.specs.Seen.{AreWrittenUnder, IsGivenFor, IsReady, IsLawfulPlan, named_seen}
 
 pub all_at : {E X : Type 0} (P : X → Type 0) (f : E → X) (entries : List E) (i : ℕ) (entry : E) → i < length entries → entry ≡ get_or entries i entry → AllByRecursion P (map f entries) → P (f entry)
 all_at P f [] i entry within is all = absurd (omega arith)
@@ -33,8 +34,9 @@ some_is a b is = cc
 
 setup_is : (programs : List Named) (queue : QueueLine) (given : Given) → IsGivenFor programs queue given → setup_of programs queue ≡ Some (queue_given given)
 setup_is programs queue given h =
-    let named : setup_with queue h.program ≡ queue_given given = λ i. record { openings = sym h.openings i; program = (h.verdict i).program; budget = (h.verdict i).budget } in
-    ap (option_map (setup_with queue)) h.found ∙ ap Some named
+    let named : setup_with queue h.verdict.program ≡ queue_given given =
+    λ i. record { openings = sym h.openings i; controller = sym h.controller i; program = (h.verdict.is i).program; budget = (h.verdict.is i).budget } in
+    ap (option_map (setup_with queue)) h.verdict.found ∙ ap Some named
 
 -- the setup of each queue
 pub setups : (programs : List Named) (queues : List QueueLine) (given : List Given) → AllZip (IsGivenFor programs) queues given → map (setup_of programs) queues ≡ map Some (map queue_given given)
@@ -66,20 +68,38 @@ all_given limits programs [] [] h openings accepted = All-nil (IsGivenUnder limi
 all_given limits programs [] (g ∷ gs) h openings accepted = absurd h
 all_given limits programs (q ∷ qs) [] h openings accepted = absurd h
 all_given limits programs (q ∷ qs) (g ∷ gs) h openings accepted =
-    let some : 1 ≤ g.0 = rw h.0.openings openings.0 in
-    let under : g.1.limits ≡ limits = sym (ap (λ (v : Verdict). v.limits) h.0.verdict) ∙ found_has (λ named. named.1.limits ≡ limits) (is_named q.program) programs h.0.program accepted h.0.found in
+    let some : 1 ≤ g.openings = rw h.0.openings openings.0 in
+    let verdict = h.0.verdict in
+    let under : g.verdict.limits ≡ limits = sym (ap (λ (v : Verdict). v.limits) verdict.is) ∙ found_has (λ named. named.1.limits ≡ limits) (is_named q.program) programs verdict.program accepted verdict.found in
     All-cons (IsGivenUnder limits) g gs (some, under) (all_given limits programs qs gs h.1 openings.1 accepted)
 
 all_from : {X : Type 0} (P : X → Type 0) (xs : List X) → AllByRecursion P xs → All P xs
 all_from P [] h = All-nil P
 all_from P (x ∷ xs) h = All-cons P x xs h.0 (all_from P xs h.1)
 
-pub configured : (limits : HelperLimits) (queues : List QueueLine) (programs : List Named) (given : List Given) → IsReady limits queues programs → AllZip (IsGivenFor programs) queues given → IsConfigured limits given
-configured limits queues programs given ready h =
+-- each controller is the one that is written
+all_numbered : (P : ℕ → Type 0) (programs : List Named) (queues : List QueueLine) (given : List Given) → AllZip (IsGivenFor programs) queues given
+    → AllByRecursion (λ queue. P queue.controller) queues → All (λ queue. P queue.controller) (map queue_given given)
+all_numbered P programs [] [] h each = All-nil (λ queue. P queue.controller)
+all_numbered P programs [] (g ∷ gs) h each = absurd h
+all_numbered P programs (q ∷ qs) [] h each = absurd h
+all_numbered P programs (q ∷ qs) (g ∷ gs) h each =
+    All-cons (λ queue. P queue.controller) (queue_given g) (map queue_given gs) (subst P (sym h.0.controller) each.0) (all_numbered P programs qs gs h.1 each.1)
+
+given_under : (controllers : Option ℕ) (programs : List Named) (queues : List QueueLine) (given : List Given) → AllZip (IsGivenFor programs) queues given
+    → AreWrittenUnder controllers queues → AreUnder (helpers_with controllers) (unwrap_or controllers 0) (map queue_given given)
+given_under None programs queues given h each = (refl, all_numbered (λ controller. controller ≡ 0) programs queues given h each)
+given_under (Some controllers) programs queues given h (number, each) =
+    (number, all_numbered (λ controller. controller < controllers) programs queues given h each)
+
+pub configured : (limits : HelperLimits) (controllers : Option ℕ) (queues : List QueueLine) (programs : List Named) (given : List Given)
+    → IsReady limits controllers queues programs → AllZip (IsGivenFor programs) queues given → IsConfigured limits (unwrap_or controllers 0) given
+configured limits controllers queues programs given ready h =
     let many : length queues ≡ length given = as_many (IsGivenFor programs) queues given h in
     record {
       queue_number = (rw (← many) ready.queue_number.0, rw (← many) ready.queue_number.1);
       agreed = ready.agreed ∙ many;
+      under = subst (λ (helpers : HelperSet). AreUnder helpers (unwrap_or controllers 0) (map queue_given given)) (sym ready.helpers) (given_under controllers programs queues given h ready.under);
       table_number = ready.table_number;
       table_lengths = all_from (λ words. (1 ≤ words) × (words ≤ 4096)) limits.table_lengths ready.lengths;
       queues = all_given limits programs queues given h ready.openings ready.accepted;
@@ -107,13 +127,60 @@ up_to_range most (Some (pos m)) n is =
     let greatest : m ≤ most = leb-true m most high in
     (rw (← same) least, rw (← same) greatest)
 
-least_by : (openings : Option ℕ) (program : Option (List ℕ)) (queue : QueueLine) → ((n : ℕ) → openings ≡ Some n → 1 ≤ n) → queue_by openings program ≡ Some queue → 1 ≤ queue.openings
-least_by None program queue least is = absurd (cc)
-least_by (Some n) None queue least is = absurd (cc)
-least_by (Some n) (Some name) queue least is = subst (λ (q : QueueLine). 1 ≤ q.openings) (some_is _ _ is) (least n refl)
+-- what a queue's line has, by its parts
+line_has : (P : QueueLine → Type 0) (openings controller : Option ℕ) (program : Option (List ℕ)) (queue : QueueLine)
+    → ((n c : ℕ) (name : List ℕ) → openings ≡ Some n → controller ≡ Some c → P (record { openings = n; controller = c; program = name }))
+    → queue_by openings controller program ≡ Some queue → P queue
+line_has P None controller program queue each is = absurd (cc)
+line_has P (Some n) None program queue each is = absurd (cc)
+line_has P (Some n) (Some c) None queue each is = absurd (cc)
+line_has P (Some n) (Some c) (Some name) queue each is = subst P (some_is _ _ is) (each n c name refl refl)
 
-queue_least : (d : Data) (queue : QueueLine) → queue_of d ≡ Some queue → 1 ≤ queue.openings
-queue_least d queue is = least_by (openings_at d) (text_at (codes "program") d) queue (λ n h. (up_to_range 255 (integer_at (codes "openings") d) n h).0) is
+queue_least : (controllers : Option ℕ) (d : Data) (queue : QueueLine) → queue_of controllers d ≡ Some queue → 1 ≤ queue.openings
+queue_least controllers d queue is =
+    line_has (λ q. 1 ≤ q.openings) (openings_at d) (controller_at controllers d) (text_at (codes "program") d) queue
+    (λ n c name h _. (up_to_range 255 (integer_at (codes "openings") d) n h).0) is
+
+below_by : (a : Bool) (m n : ℕ) → (if a then Some m else None) ≡ Some n → (a ≡ true) × (m ≡ n)
+below_by true m n is = (refl, some_is m n is)
+below_by false m n is = absurd (cc)
+
+below_bound : (bound : ℕ) (number : Option ℤ) (n : ℕ) → below bound number ≡ Some n → n < bound
+below_bound bound None n is = absurd (cc)
+below_bound bound (Some (negsuc k)) n is = absurd (cc)
+below_bound bound (Some (pos m)) n is =
+    let (less, same) = below_by (nat_lt m bound) m n is in
+    let lt : m < bound = ltb-true m bound less in
+    rw (← same) lt
+
+-- without controllers each queue is under number 0, and else under one of them
+queue_below : (controllers : Option ℕ) (d : Data) (queue : QueueLine) → queue_of controllers d ≡ Some queue → queue.controller < unwrap_or controllers 1
+queue_below controllers d queue is =
+    line_has (λ q. q.controller < unwrap_or controllers 1) (openings_at d) (controller_at controllers d) (text_at (codes "program") d) queue
+    (λ n c name _ h. below_bound (unwrap_or controllers 1) (controller_written controllers d) c h) is
+
+all_weaker : {X : Type 0} (P Q : X → Type 0) → ((x : X) → P x → Q x) → (xs : List X) → AllByRecursion P xs → AllByRecursion Q xs
+all_weaker P Q weaker [] h = tt
+all_weaker P Q weaker (x ∷ xs) h = (weaker x h.0, all_weaker P Q weaker xs h.1)
+
+-- how many controllers there are, by whether the version is 1, and by what is written
+in_range_by : (first second : Bool) (number : Option ℕ) (n : ℕ) → ((m : ℕ) → number ≡ Some m → (1 ≤ m) × (m ≤ 8))
+    → (first || (second && is_some number)) ≡ true → (if first then None else Some (unwrap_or number 0)) ≡ Some n → (1 ≤ n) × (n ≤ 8)
+in_range_by true second number n range lawful is = absurd (cc)
+in_range_by false true (Some m) n range lawful is = subst (λ (x : ℕ). (1 ≤ x) × (x ≤ 8)) (some_is m n is) (range m refl)
+in_range_by false true None n range lawful is = absurd (cc)
+in_range_by false false number n range lawful is = absurd (cc)
+
+controllers_range : (manifest : Data) (n : ℕ) → document_has_ranges manifest ≡ true → controllers_of manifest ≡ Some n → (1 ≤ n) × (n ≤ 8)
+unfolding controllers_of
+controllers_range manifest n lawful is =
+    in_range_by (is_first manifest) (is_integer 2 (integer_at (codes "version") manifest)) (number_of_controllers manifest) n
+    (λ m h. up_to_range 8 (integer_at (codes "controllers") manifest) m h) lawful is
+
+written_under_by : (controllers : Option ℕ) (queues : List QueueLine) → ((n : ℕ) → controllers ≡ Some n → (1 ≤ n) × (n ≤ 8))
+    → AllByRecursion (λ queue. queue.controller < unwrap_or controllers 1) queues → AreWrittenUnder controllers queues
+written_under_by None queues range each = all_weaker (λ queue. queue.controller < 1) (λ queue. queue.controller ≡ 0) (λ queue less. omega arith) queues each
+written_under_by (Some n) queues range each = (range n refl, each)
 
 found_by : (here : Bool) (n : Named) (rest : Option Named) (more : Bool) → more ≡ is_some rest → (here || more) ≡ is_some (cond here (Some n) rest)
 found_by true n rest more h = refl
@@ -146,8 +213,8 @@ all_under limits [] (n ∷ ns) h = absurd h
 all_under limits (l ∷ ls) [] h = absurd h
 all_under limits (l ∷ ls) (n ∷ ns) h = (h.0.verdict.limits_are, all_under limits ls ns h.1)
 
-pub lowest_parts : (keys form ranges numbers names : Bool) → lowest keys form ranges numbers names ≡ None → (numbers ≡ true) × (names ≡ true)
-lowest_parts true true true true true is = (refl, refl)
+pub lowest_parts : (keys form ranges numbers names : Bool) → lowest keys form ranges numbers names ≡ None → (numbers ≡ true) × (names ≡ true) × (ranges ≡ true)
+lowest_parts true true true true true is = (refl, refl, refl)
 lowest_parts true true true true false is = absurd (cc)
 lowest_parts true true true false names is = absurd (cc)
 lowest_parts true true false numbers names is = absurd (cc)
@@ -171,18 +238,26 @@ unfolding has_lawful_names
 known_of plan h = (and_parts (list_all is_name (names_of plan) && list_all (is_alone (names_of plan)) (names_of plan)) (list_all (λ queue. is_among (names_of plan) queue.program) plan.queues) h).1
 
 -- what is lawful makes a configuration
-pub ready : (manifest : Data) (plan : Plan) (programs : List Named) → lowest_fault manifest ≡ None → plan ≡ plan_of manifest → AllZip (IsAccepted (limits_of plan)) plan.programs programs → IsReady (limits_of plan) plan.queues programs
+pub ready : (manifest : Data) (plan : Plan) (programs : List Named) → lowest_fault manifest ≡ None → plan ≡ plan_of manifest → AllZip (IsAccepted (limits_of plan)) plan.programs programs → IsReady (limits_of plan) plan.controllers plan.queues programs
 ready manifest plan programs lawful says accepted =
-    let (numbers, names) = lowest_parts (has_lawful_keys manifest) (has_lawful_form manifest) (has_lawful_ranges manifest) (has_lawful_numbers (plan_of manifest)) (has_lawful_names (plan_of manifest)) lawful in
+    let (numbers, names, ranges) = lowest_parts (has_lawful_keys manifest) (has_lawful_form manifest) (has_lawful_ranges manifest) (has_lawful_numbers (plan_of manifest)) (has_lawful_names (plan_of manifest)) lawful in
     let counts = numbers_of plan (ap has_lawful_numbers says ∙ numbers) in
     let Queues : List QueueLine → Type 0 = AllByRecursion (λ queue. 1 ≤ queue.openings) in
     let Tables : List ℕ → Type 0 = AllByRecursion (λ words. (1 ≤ words) × (words ≤ 4096)) in
+    let cs = controllers_of manifest in
+    let queues = elements_at (codes "queue") manifest in
+    let (both, _) = and_parts (document_has_ranges manifest && list_all (queue_has_ranges cs) queues) (list_all table_has_ranges (elements_at (codes "table") manifest)) ranges in
+    let (document, _) = and_parts (document_has_ranges manifest) (list_all (queue_has_ranges cs) queues) both in
     record {
+      helpers = refl;
       queue_number = counts.queues;
       agreed = refl;
       table_number = counts.tables;
       lengths = subst (λ (p : Plan). Tables p.tables) (sym says) (all_filtered (λ words. (1 ≤ words) × (words ≤ 4096)) length_of (λ d words is. up_to_range 4096 (integer_at (codes "length") d) words is) (elements_at (codes "table") manifest));
-      openings = subst (λ (p : Plan). Queues p.queues) (sym says) (all_filtered (λ queue. 1 ≤ queue.openings) queue_of queue_least (elements_at (codes "queue") manifest));
+      openings = subst (λ (p : Plan). Queues p.queues) (sym says) (all_filtered (λ queue. 1 ≤ queue.openings) (queue_of cs) (queue_least cs) queues);
+      under = subst (λ (p : Plan). AreWrittenUnder p.controllers p.queues) (sym says)
+          (written_under_by cs (plan_of manifest).queues (λ n is. controllers_range manifest n document is)
+          (all_filtered (λ queue. queue.controller < unwrap_or cs 1) (queue_of cs) (queue_below cs) queues));
       known = all_known programs (names_of plan) plan.queues (same_names (limits_of plan) plan.programs programs accepted) (known_of plan (ap has_lawful_names says ∙ names));
       accepted = all_under (limits_of plan) plan.programs programs accepted;
     }
@@ -199,7 +274,7 @@ find_seen name (p ∷ ps) = seen_by (bytes_eq (string_bytes p.name) name) p (fin
 pub plan_numbers : (plan : Plan) → IsLawfulPlan plan → Numbers plan
 plan_numbers plan h =
     let d = h.document in
-    let (numbers, names) = lowest_parts (has_lawful_keys d) (has_lawful_form d) (has_lawful_ranges d) (has_lawful_numbers (plan_of d)) (has_lawful_names (plan_of d)) h.lawful in
+    let (numbers, names, ranges) = lowest_parts (has_lawful_keys d) (has_lawful_form d) (has_lawful_ranges d) (has_lawful_numbers (plan_of d)) (has_lawful_names (plan_of d)) h.lawful in
     numbers_of plan (ap has_lawful_numbers h.says ∙ numbers)
 
 -- the programs, under the limits as they are made
@@ -208,7 +283,7 @@ pub accepted_by : (plan : Plan) (limits : HelperLimits) (lines : List ProgramLin
 accepted_by plan limits lines programs limits_is lines_is h = rw (← limits_is, ← lines_is) h
 
 pub ready_by : (plan : Plan) (limits : HelperLimits) (queues : List QueueLine) (programs named : List Named) → IsLawfulPlan plan → limits ≡ limits_of plan → queues ≡ plan.queues → named ≡ programs
-    → AllZip (IsAccepted (limits_of plan)) plan.programs programs → IsReady limits queues named
+    → AllZip (IsAccepted (limits_of plan)) plan.programs programs → IsReady limits plan.controllers queues named
 ready_by plan limits queues programs named lawful limits_is queues_is named_is h = rw (limits_is, queues_is, named_is) (ready lawful.document plan programs lawful.lawful lawful.says h)
 
 pub queues_by : (plan : Plan) (queues : List QueueLine) (programs named : List Named) (given : List QueueSetup) → queues ≡ plan.queues → named ≡ programs
@@ -216,11 +291,11 @@ pub queues_by : (plan : Plan) (queues : List QueueLine) (programs named : List N
 queues_by plan queues programs named given queues_is named_is h = rw (← queues_is, ← named_is) h
 
 -- the limits, as they are made
-pub limits_by : (plan : Entries) (count : ℕ) (lent : List QueueEntry) (lengths : List ℕ) → lent ≡ plan.queues.items → count ≡ length lent → lengths ≡ plan.tables.items
-    → ◌≡◌ {A = HelperLimits} (of_queues count lengths) (limits_of (plan_seen plan))
-limits_by plan count lent lengths same counted tables =
+pub limits_by : (plan : Entries) (helpers : HelperSet) (count : ℕ) (lent : List QueueEntry) (lengths : List ℕ) → helpers ≡ helpers_with plan.controllers → lent ≡ plan.queues.items → count ≡ length lent → lengths ≡ plan.tables.items
+    → ◌≡◌ {A = HelperLimits} (record { helpers = helpers; queues = count; table_lengths = lengths }) (limits_of (plan_seen plan))
+limits_by plan helpers count lent lengths those same counted tables =
     let queues : count ≡ length (map queue_seen plan.queues.items) = counted ∙ ap length same ∙ sym (length-map plan.queues.items queue_seen) in
-    λ i. of_queues (queues i) (tables i)
+    λ i. record { helpers = those i; queues = queues i; table_lengths = tables i }
 
 pub few_queues : (plan : Entries) (lent : List QueueEntry) → lent ≡ plan.queues.items → IsLawfulPlan (plan_seen plan) → length lent ≤ 64
 few_queues plan lent same lawful =

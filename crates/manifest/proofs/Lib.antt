@@ -1,3 +1,4 @@
 pub mod OneByOne
 pub mod Configured
 pub mod Short
+pub mod Migrating

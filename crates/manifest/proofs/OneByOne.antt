@@ -10,7 +10,7 @@ use Rattle.or_memory.specs.declared.OrMemory.{OrMemory}
 use Rattle.or_memory.specs.declared.OrMemory.TheVariants.{OutOfMemory, Fault}
 use Rattle.helpers.specs.declared.limits.HelperLimits.{HelperLimits}
 use Rattle.manifest.specs.declared.ManifestFault.{ManifestFault}
-use Rattle.manifest.specs.declared.ManifestFault.TheVariants.{Text, Key, Form, Range, Number, Name, Undecoded, Unassembled, Unaccepted}
+use Rattle.manifest.specs.declared.ManifestFault.TheVariants.{Text, Key, Form, Range, Number, Name, Undecoded, Unassembled, Unaccepted, Migrated}
 use Rattle.manifest_form.specs.Entries.{ProgramLine}
 use Rattle.manifest.specs.Meaning.{FirstIs, IsReadable, IsUnread, IsUnaccepted, IsAccepted, IsAcceptable, Named, IsRefused, IsReadAs}
 use Rattle.manifest_form.specs.Seen.{IfFault}
@@ -70,6 +70,7 @@ unread_first lines Form h = none_first Readables lines h
 unread_first lines Range h = none_first Readables lines h
 unread_first lines Number h = none_first Readables lines h
 unread_first lines Name h = none_first Readables lines h
+unread_first lines Migrated h = none_first Readables lines h
 
 pub if_fault : {F : Type 0} (P Q : F → Type 0) → ((fault : F) → P fault → Q fault) → (error : OrMemory F) → IfFault P error → IfFault Q error
 if_fault P Q weaker OutOfMemory h = h
@@ -127,6 +128,7 @@ unaccepted_first limits lines reads Form a h = none_first (Acceptables limits) r
 unaccepted_first limits lines reads Range a h = none_first (Acceptables limits) reads h
 unaccepted_first limits lines reads Number a h = none_first (Acceptables limits) reads h
 unaccepted_first limits lines reads Name a h = none_first (Acceptables limits) reads h
+unaccepted_first limits lines reads Migrated a h = none_first (Acceptables limits) reads h
 
 pub if_ok : {X E : Type 0} (P Q : X → Type 0) → ((x : X) → P x → Q x) → (r : Result X E) → IfOk r P → IfOk r Q
 if_ok P Q weaker (Ok x) h = weaker x h

@@ -1,5 +1,5 @@
 -- What a manifest means, and which fault is answered of a text that is none.
-use Rattle.std.specs.Prelude.{◌≡◌, ◌≤◌, ◌⊎◌, ℕ, All, Bool, true, false, List, [], ◌∷◌, Option, Some, None, string_bytes, length, map, find, option_map, bytes_eq}
+use Rattle.std.specs.Prelude.{◌≡◌, ◌≤◌, ◌⊎◌, ℕ, All, Bool, true, false, List, [], ◌∷◌, Option, Some, None, unwrap_or, string_bytes, length, map, find, option_map, bytes_eq}
 use Rattle.std.specs.List.{AllByRecursion, AllZip}
 use Rattle.toml.specs.Data.{Data, table, Members}
 use Rattle.toml.specs.Parse.{parse_document}
@@ -10,7 +10,8 @@ use Rattle.bpf_decode.specs.declared.fault.DecodeFault.{DecodeFault}
 use Rattle.bpf_asm.specs.Assembly.{Says, HasFault as HasAsmFault}
 use Rattle.bpf_asm.specs.declared.fault.AsmFault.{AsmFault}
 use Rattle.helpers.specs.declared.limits.HelperLimits.{HelperLimits}
-use Rattle.helpers.specs.Table.{of_queues}
+use Rattle.helpers.specs.declared.limits.HelperSet.{HelperSet}
+use Rattle.helpers.specs.declared.limits.HelperSet.TheVariants.{Controllers, Queues}
 use Rattle.or_memory.specs.declared.OrMemory.TheVariants.{Fault}
 use Rattle.accepted.specs.Verdict.{Verdict}
 use Rattle.call_shape.specs.declared.lawful_shape.TheConstants.{MAX_WRITTEN_OUT}
@@ -45,9 +46,14 @@ pub record Writes (text : List ℕ) (plan : Plan) : Type 0 where
   pub lawful : lowest_fault (table document) ≡ None
   pub says : plan ≡ plan_of (table document)
 
+-- the helpers that its programs may call, by whether there are controllers
+abbrev pub helpers_with : Option ℕ → HelperSet
+helpers_with None = Queues
+helpers_with (Some controllers) = Controllers
+
 -- there are as many queues as are written, and tables of the lengths that are
 abbrev pub limits_of : Plan → HelperLimits
-limits_of plan = of_queues (length plan.queues) plan.tables
+limits_of plan = record { helpers = helpers_with plan.controllers; queues = length plan.queues; table_lengths = plan.tables }
 
 -- the program that a source spells, or that it says
 abbrev pub IsReadAs : Source → List Slot → Type 0
@@ -109,14 +115,16 @@ is_named name named = bytes_eq named.0 name
 
 -- what a queue of the plan is set up with, by the program of its name
 abbrev pub setup_with : QueueLine → Named → QueueSetup
-setup_with queue named = record { openings = queue.openings; program = named.1.program; budget = named.1.budget }
+setup_with queue named = record { openings = queue.openings; controller = queue.controller; program = named.1.program; budget = named.1.budget }
 
 abbrev pub setup_of : List Named → QueueLine → Option QueueSetup
 setup_of programs queue = option_map (setup_with queue) (find (is_named queue.program) programs)
 
--- What a plan is set up as: its programs, in the text's order, each accepted under its limits, and its queues with theirs.
+-- What a plan is set up as: its controllers, its programs, in the text's order, each accepted under its limits, and its queues
+-- with theirs.
 pub record IsSetUp (plan : Plan) (setup : Setup) (programs : List Named) : Type 0 where
   pub limits : setup.limits ≡ limits_of plan
+  pub controllers : setup.controllers ≡ unwrap_or plan.controllers 0
   pub accepted : AllZip (IsAccepted (limits_of plan)) plan.programs programs
   pub queues : map (setup_of programs) plan.queues ≡ map Some setup.queues
 

@@ -1,6 +1,7 @@
 -- How what a call gives meets what the definitions give.
 use Rattle.std.specs.Arc.{arc_value}
 use Rattle.bpf_insn.specs.declared.program.Slot.{Slot}
+use Rattle.accepted.specs.Verdict.{Verdict}
 use Rattle.helpers.specs.declared.limits.HelperLimits.{HelperLimits}
 use Rattle.verifier.specs.Verdict.{IsVerdictOn, ToldOfShape}
 use Rattle.verifier.specs.Plain.{IsPlain}
@@ -11,8 +12,8 @@ use Rattle.manifest_form.specs.declared.form_fault.FormFault.{FormFault}
 use Rattle.manifest_form.specs.declared.form_fault.FormFault.TheVariants as form
 use Rattle.manifest.specs.declared.programs.ReadProgram.{ReadProgram}
 use Rattle.manifest.specs.declared.programs.NamedProgram.{NamedProgram}
-use Rattle.manifest.specs.Meaning.{Named, is_named, lowest_fault, IsReadAs, IsFaultyCode, IsFaultyText, FirstIs}
-use Rattle.std.specs.Prelude.{◌≡◌, ◌≤◌, ℕ, Some, None, IsSome, length, find, string_bytes, List}
+use Rattle.manifest.specs.Meaning.{Named, is_named, helpers_with, lowest_fault, IsReadAs, IsFaultyCode, IsFaultyText, FirstIs}
+use Rattle.std.specs.Prelude.{◌≡◌, ◌<◌, ◌≤◌, ℕ, Option, Some, None, IsSome, length, find, string_bytes, List}
 use Rattle.std.specs.List.{AllByRecursion}
 use Rattle.engine_config.specs.Configured.{Given}
 use Rattle.or_memory.specs.declared.OrMemory.TheVariants.{Fault}
@@ -63,21 +64,38 @@ named form.Key = Key
 named form.Form = Form
 named form.Range = Range
 
--- a queue as it is given to the configuration
-pub record IsGivenFor (programs : List Named) (queue : QueueLine) (given : Given) : Type 0 where
+-- the verdict on the program that a queue names
+pub record IsItsVerdict (programs : List Named) (queue : QueueLine) (verdict : Verdict) : Type 0 where
   pub program : Named
   pub found : find (is_named queue.program) programs ≡ Some program
-  pub verdict : program.1 ≡ given.1
-  pub openings : given.0 ≡ queue.openings
+  pub is : program.1 ≡ verdict
+
+-- a queue as it is given to the configuration
+pub record IsGivenFor (programs : List Named) (queue : QueueLine) (given : Given) : Type 0 where
+  pub verdict : IsItsVerdict programs queue given.verdict
+  pub openings : given.openings ≡ queue.openings
+  pub controller : given.controller ≡ queue.controller
+
+-- where there are controllers there are 1 to 8, and each queue is under one of them; else it is under number 0
+abbrev pub AreWrittenUnder : Option ℕ → List QueueLine → Type 0
+AreWrittenUnder None queues = AllByRecursion (λ queue. queue.controller ≡ 0) queues
+AreWrittenUnder (Some controllers) queues =
+    ((1 ≤ controllers) × (controllers ≤ 8)) × AllByRecursion (λ queue. queue.controller < controllers) queues
+
+-- each queue names one of the programs
+abbrev pub AreNamed : List Named → List QueueLine → Type 0
+AreNamed programs queues = AllByRecursion (λ queue. IsSome (find (is_named queue.program) programs)) queues
 
 -- what a configuration can be made of
-pub record IsReady (limits : HelperLimits) (queues : List QueueLine) (programs : List Named) : Type 0 where
+pub record IsReady (limits : HelperLimits) (controllers : Option ℕ) (queues : List QueueLine) (programs : List Named) : Type 0 where
+  pub helpers : limits.helpers ≡ helpers_with controllers
   pub queue_number : (1 ≤ length queues) × (length queues ≤ 64)
   pub agreed : limits.queues ≡ length queues
   pub table_number : length limits.table_lengths ≤ 16
   pub lengths : AllByRecursion (λ words. (1 ≤ words) × (words ≤ 4096)) limits.table_lengths
   pub openings : AllByRecursion (λ queue. 1 ≤ queue.openings) queues
-  pub known : AllByRecursion (λ queue. IsSome (find (is_named queue.program) programs)) queues
+  pub under : AreWrittenUnder controllers queues
+  pub known : AreNamed programs queues
   pub accepted : AllByRecursion (λ named. named.1.limits ≡ limits) programs
 
 -- a plan of a document that has none of M2 to M6

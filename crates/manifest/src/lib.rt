@@ -1,16 +1,18 @@
-// The manifest, version 1: TOML that is parsed untyped with `toml`, and read once into what it says. It relies on
+// The manifest: TOML that is parsed untyped with `toml`, and read once into what it says. It relies on
 // `manifest_form` for what a manifest has to be, on `programs` for what its programs are, and on `setup` for its queues.
 #![tactic(auto)]
 
-ghost use Rattle.std.specs.Prelude.{◌≡◌, ◌≤◌, Some, None, map, length, IfOk, IfErr};
+ghost use Rattle.std.specs.Prelude.{◌≡◌, ◌≤◌, Some, None, map, length, string_bytes, IfOk, IfErr};
 ghost use Rattle.toml.specs.Parse.{parse_document};
 ghost use Rattle.toml.specs.View.{view, table_view};
 ghost use Rattle.manifest_form.specs.Entries.{plan_of};
-ghost use Rattle.manifest.specs.Meaning.{AreShort, Means, HasFault, HasProgramFault, IsSetUp, lowest_fault};
+ghost use Rattle.manifest.specs.Meaning.{AreShort, Means, HasFault, HasProgramFault, IsSetUp, helpers_with, lowest_fault};
+ghost use Rattle.manifest.specs.Migration.{HasMigrationFault, IsMigrated};
 ghost use Rattle.manifest.specs.declared.ManifestFault.TheVariants as ManifestFault;
 ghost use Rattle.manifest_form.specs.Seen.{plan_seen, queue_seen, IfFault};
 ghost use Rattle.manifest.specs.Seen.{named_seen, named, IsLawfulPlan};
 
+mod migration;
 mod programs;
 mod setup;
 
@@ -47,7 +49,8 @@ pub enum ManifestFault {
     /// A value is of another type or form.
     #[error("M3")]
     Form,
-    /// `version` is not 1, `openings` not 1 to 255, or `length` not 1 to 4096.
+    /// `version` is neither 1 nor 2, `controllers` is not 1 to 8, a `controller` is not below it, `openings` is not 1 to 255, or
+    /// `length` not 1 to 4096.
     #[error("M4")]
     Range,
     /// There is no queue or no program, or there are more than 64 of them or 16 tables.
@@ -65,6 +68,9 @@ pub enum ManifestFault {
     /// The program of that name is not accepted.
     #[error("M8 {0} {1}")]
     Unaccepted(String, Refusal),
+    /// The manifest is to be migrated, and is of version 2 already.
+    #[error("M9")]
+    Migrated,
 }
 
 /// Why a manifest was not read: memory was refused, or what it says is faulty.
@@ -85,6 +91,25 @@ pub fn read(alloc: Global, text: &str) -> Result<Manifest, ManifestError>
     set_up(alloc, plan)
 }
 
+/// The text of version 2 that says what a text of version 1 says, with one controller, which is number 0, over all its queues.
+/// The text is read and its programs are verified first: its faults are those of `read`, and then M9, where it is of version 2
+/// already. The table alone stays: comments and layout are not kept.
+pub fn migrate(alloc: Global, text: &str) -> Result<String, ManifestError>
+    // What is written is a manifest again, and says the same with one controller.
+    ensures migrated { IfOk result (λ migrated. IsMigrated text.now (string_bytes migrated)) }
+    // Which fault it is.
+    ensures fault { IfErr result (IfFault (HasMigrationFault text.now)) }
+{
+    let document = Value::Table(parse(alloc, text)?);
+    let plan = plan(alloc, &document)?;
+    let controllers = plan.controllers;
+    let _manifest = set_up(alloc, plan)?;
+    match controllers {
+        None => Ok(migration::print(alloc, &document)?),
+        Some(_) => Err(OrMemory::Fault(ManifestFault::Migrated)),
+    }
+}
+
 // A plan set up.
 fn set_up(alloc: Global, plan: Plan<'_>) -> Result<Manifest, ManifestError>
     requires { IsLawfulPlan (plan_seen plan) }
@@ -92,18 +117,29 @@ fn set_up(alloc: Global, plan: Plan<'_>) -> Result<Manifest, ManifestError>
     ensures fault { IfErr result (IfFault (HasProgramFault (plan_seen plan.entry))) }
 {
     let Plan {
+        controllers,
         queues,
         tables,
         programs,
     } = plan;
     let limits = HelperLimits {
-        helpers: HelperSet::Queues,
+        helpers: helpers_with(controllers),
         queues: count(&queues),
         table_lengths: TableLengths::new(tables),
     };
     let programs = programs::read(alloc, &programs, &limits)?;
-    let config = setup::config(alloc, &queues, limits, &programs)?;
+    let config = setup::config(alloc, &queues, controllers, limits, &programs)?;
     Ok(Manifest { config, programs })
+}
+
+// The helpers that the programs may call.
+fn helpers_with(controllers: Option<u8>) -> HelperSet
+    ensures { result ≡ helpers_with controllers }
+{
+    match controllers {
+        None => HelperSet::Queues,
+        Some(_) => HelperSet::Controllers,
+    }
 }
 
 // The text as TOML.

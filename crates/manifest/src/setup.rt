@@ -1,11 +1,13 @@
-// The configuration of a manifest whose programs are accepted: each queue with its openings and the program that it names.
+// The configuration of a manifest whose programs are accepted: each queue with its openings, its controller and the program that
+// it names.
 
-ghost use Rattle.std.specs.Prelude.{◌≡◌, [], ◌∷◌, ◌++◌, Some, map, find, option_copied, string_bytes, bytes_eq, length, IsSome, IfOk, IfErr, OnOk};
+ghost use Rattle.std.specs.Prelude.{◌≡◌, [], ◌∷◌, ◌++◌, Some, None, unwrap_or, map, find, option_copied, string_bytes, bytes_eq, length, IsSome, IfOk, IfErr, OnOk};
+ghost use Rattle.std.specs.Arc.{arc_value};
 ghost use Rattle.std.specs.List.{AllByRecursion, AllZip};
-ghost use Rattle.engine_config.specs.Configured.{given_of};
+ghost use Rattle.engine_config.specs.Configured.{alone_of, under_of};
 ghost use Rattle.manifest.specs.Meaning.{setup_of, is_named};
 ghost use Rattle.manifest_form.specs.Seen.{queue_seen};
-ghost use Rattle.manifest.specs.Seen.{named_seen, IsGivenFor, IsReady};
+ghost use Rattle.manifest.specs.Seen.{named_seen, AreNamed, IsGivenFor, IsItsVerdict, IsReady};
 
 use crate::programs::NamedProgram;
 use accepted::Accepted;
@@ -15,50 +17,110 @@ use manifest_form::QueueEntry;
 use std::alloc::{AllocError, Global};
 use std::sync::Arc;
 
-/// The configuration of these queues, whose programs are among those that were accepted under the limits.
+/// The configuration of these queues, under so many controllers, or without any, whose programs are among those that were
+/// accepted under the limits.
 pub fn config(
+    alloc: Global,
+    queues: &[QueueEntry<'_>],
+    controllers: Option<u8>,
+    limits: HelperLimits,
+    programs: &[NamedProgram],
+) -> Result<Config, AllocError>
+    requires { IsReady limits controllers (map queue_seen queues.now) (map named_seen programs.now) }
+    ensures limits { IfOk result (λ config. config.limits ≡ limits) }
+    ensures controllers { IfOk result (λ config. config.controllers ≡ unwrap_or controllers 0) }
+    ensures queues { IfOk result (λ config. map (setup_of (map named_seen programs.now)) (map queue_seen queues.now) ≡ map Some config.queues) }
+{
+    match controllers {
+        None => alone(alloc, queues, limits, programs),
+        Some(controllers) => under(alloc, queues, controllers, limits, programs),
+    }
+}
+
+fn alone(
     alloc: Global,
     queues: &[QueueEntry<'_>],
     limits: HelperLimits,
     programs: &[NamedProgram],
 ) -> Result<Config, AllocError>
-    requires { IsReady limits (map queue_seen queues.now) (map named_seen programs.now) }
+    requires { IsReady limits None (map queue_seen queues.now) (map named_seen programs.now) }
     ensures limits { IfOk result (λ config. config.limits ≡ limits) }
+    ensures controllers { IfOk result (λ config. config.controllers ≡ 0) }
     ensures queues { IfOk result (λ config. map (setup_of (map named_seen programs.now)) (map queue_seen queues.now) ≡ map Some config.queues) }
 {
-    let given = given_all(alloc, queues, programs)?;
+    let given = given_alone(alloc, queues, programs)?;
     let Some(config) = Config::new(limits, given) else {
         unreachable!()
     };
     Ok(config)
 }
 
-fn given_all(
+fn under(
+    alloc: Global,
+    queues: &[QueueEntry<'_>],
+    controllers: u8,
+    limits: HelperLimits,
+    programs: &[NamedProgram],
+) -> Result<Config, AllocError>
+    requires { IsReady limits (Some controllers) (map queue_seen queues.now) (map named_seen programs.now) }
+    ensures limits { IfOk result (λ config. config.limits ≡ limits) }
+    ensures controllers { IfOk result (λ config. config.controllers ≡ controllers) }
+    ensures queues { IfOk result (λ config. map (setup_of (map named_seen programs.now)) (map queue_seen queues.now) ≡ map Some config.queues) }
+{
+    let given = given_under(alloc, queues, programs)?;
+    let Some(config) = Config::with_controllers(limits, controllers, given) else {
+        unreachable!()
+    };
+    Ok(config)
+}
+
+fn given_alone(
     alloc: Global,
     queues: &[QueueEntry<'_>],
     programs: &[NamedProgram],
 ) -> Result<Vec<(u8, Arc<Accepted>)>, AllocError>
-    requires { AllByRecursion (λ queue. IsSome (find (is_named queue.program) (map named_seen programs.now))) (map queue_seen queues.now) }
-    ensures { IfOk result (λ given. AllZip (IsGivenFor (map named_seen programs.now)) (map queue_seen queues.now) (map given_of given.items)) }
+    requires known { AreNamed (map named_seen programs.now) (map queue_seen queues.now) }
+    requires alone { AllByRecursion (λ queue. queue.controller ≡ 0) (map queue_seen queues.now) }
+    ensures { IfOk result (λ given. AllZip (IsGivenFor (map named_seen programs.now)) (map queue_seen queues.now) (map alone_of given.items)) }
 {
     let mut all = Vec::new(alloc);
     for queue in queues {
-        all.push(given(queue, programs)?)?;
+        all.push((queue.openings, its_program(queue, programs)?))?;
     }
     Ok(all)
 }
 
-fn given(
+fn given_under(
+    alloc: Global,
+    queues: &[QueueEntry<'_>],
+    programs: &[NamedProgram],
+) -> Result<Vec<(u8, u8, Arc<Accepted>)>, AllocError>
+    requires { AreNamed (map named_seen programs.now) (map queue_seen queues.now) }
+    ensures { IfOk result (λ given. AllZip (IsGivenFor (map named_seen programs.now)) (map queue_seen queues.now) (map under_of given.items)) }
+{
+    let mut all = Vec::new(alloc);
+    for queue in queues {
+        all.push((
+            queue.openings,
+            queue.controller,
+            its_program(queue, programs)?,
+        ))?;
+    }
+    Ok(all)
+}
+
+// The program that the queue names, shared.
+fn its_program(
     queue: &QueueEntry<'_>,
     programs: &[NamedProgram],
-) -> Result<(u8, Arc<Accepted>), AllocError>
+) -> Result<Arc<Accepted>, AllocError>
     requires { IsSome (find (is_named queue.now.program.now) (map named_seen programs.now)) }
-    ensures { IfOk result (λ given. IsGivenFor (map named_seen programs.now) (queue_seen queue.now) (given_of given)) }
+    ensures { IfOk result (λ program. IsItsVerdict (map named_seen programs.now) (queue_seen queue.now) (arc_value program)) }
 {
     let Some(named) = named_program(queue.program, programs) else {
         unreachable!()
     };
-    Ok((queue.openings, Arc::try_clone(&named.accepted)?))
+    Ok(Arc::try_clone(&named.accepted)?)
 }
 
 fn named_program<'a>(name: &str, programs: &'a [NamedProgram]) -> Option<&'a NamedProgram>

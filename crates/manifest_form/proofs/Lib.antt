@@ -2,3 +2,5 @@ pub mod Lists
 pub mod Codes
 pub mod Lowest
 pub mod Naming
+pub mod Putting
+pub mod Migrated

@@ -1,5 +1,5 @@
 -- The tests of names, over the code's entries.
-use Rattle.std.proofs.Common.{◌≡◌, ℕ, Bool, ◌&&◌, ◌==◌, List, [], ◌∷◌, map, refl, ap, ◌∙◌, bytes_eq, count_by, fold, cond, ◌+◌, sym}
+use Rattle.std.proofs.Common.{◌≡◌, ℕ, Bool, ◌&&◌, ◌==◌, List, [], ◌∷◌, map, Option, refl, ap, ◌∙◌, bytes_eq, count_by, fold, cond, ◌+◌, sym}
 use Rattle.std.specs.List.{list_all, list_any}
 use Rattle.manifest_form.specs.declared.entries.QueueEntry.{QueueEntry}
 use Rattle.manifest_form.specs.declared.entries.ProgramEntry.{ProgramEntry}
@@ -28,11 +28,11 @@ any_named test programs = list_any-map test name (map program_seen programs) ∙
 counted_named : (test : List ℕ → Bool) (programs : List ProgramEntry) → count_by test (map name (map program_seen programs)) ≡ count_by (λ program. test program.name.now) programs
 counted_named test programs = count_by-map test name (map program_seen programs) ∙ count_by-map (λ program. test (name program)) program_seen programs
 
-pub names_lawful : (queues : List QueueEntry) (tables : List ℕ) (programs : List ProgramEntry) →
-    has_lawful_names (record { queues = map queue_seen queues; tables = tables; programs = map program_seen programs })
+pub names_lawful : (controllers : Option ℕ) (queues : List QueueEntry) (tables : List ℕ) (programs : List ProgramEntry) →
+    has_lawful_names (record { controllers = controllers; queues = map queue_seen queues; tables = tables; programs = map program_seen programs })
     ≡ (are_lawful programs && are_known queues programs)
 unfolding has_lawful_names
-names_lawful queues tables programs =
+names_lawful controllers queues tables programs =
     let names = map name (map program_seen programs) in
     let formed = all_named is_name programs in
     let alone = all_named (is_alone names) programs
@@ -41,7 +41,7 @@ names_lawful queues tables programs =
     ∙ list_all_same _ _ (λ (queue : QueueEntry). any_named (λ other. bytes_eq other queue.program.now) programs) queues in
     λ i. formed i && alone i && known i
 
-pub names_told : (queues listed : List QueueEntry) (tables : List ℕ) (programs those : List ProgramEntry) (lawful known : Bool) → those ≡ programs → listed ≡ queues
+pub names_told : (controllers : Option ℕ) (queues listed : List QueueEntry) (tables : List ℕ) (programs those : List ProgramEntry) (lawful known : Bool) → those ≡ programs → listed ≡ queues
     → lawful ≡ are_lawful those → known ≡ are_known listed those
-    → (lawful && known) ≡ has_lawful_names (record { queues = map queue_seen queues; tables = tables; programs = map program_seen programs })
-names_told queues listed tables programs those lawful known a b c d = rw (c, d, a, b) (sym (names_lawful queues tables programs))
+    → (lawful && known) ≡ has_lawful_names (record { controllers = controllers; queues = map queue_seen queues; tables = tables; programs = map program_seen programs })
+names_told controllers queues listed tables programs those lawful known a b c d = rw (c, d, a, b) (sym (names_lawful controllers queues tables programs))

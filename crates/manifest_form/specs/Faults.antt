@@ -1,15 +1,16 @@
 -- The faults of a manifest's form, and which of them is answered.
-use Rattle.std.specs.Prelude.{ℤ, pos, Bool, true, false, ◌&&◌, ◌||◌, ◌==◌, not, List, [], ◌∷◌, Option, Some, None, is_some, codes}
+use Rattle.std.specs.Prelude.{ℕ, Bool, true, false, ◌&&◌, ◌||◌, not, List, [], ◌∷◌, Option, Some, None, is_some, codes, if◌then◌else◌}
 use Rattle.std.specs.List.{list_all}
 use Rattle.toml.specs.Data.{Data, get}
 use Rattle.manifest_form.specs.declared.form_fault.FormFault.{FormFault}
 use Rattle.manifest_form.specs.declared.form_fault.FormFault.TheVariants.{Key, Form, Range}
 use Rattle.manifest_form.specs.Document.{array_at, elements_at, integer_at, text_at, has_keys}
-use Rattle.manifest_form.specs.Entries.{openings_at, length_of, source_of}
+use Rattle.manifest_form.specs.Entries.{is_first, is_integer, controllers_of, number_of_controllers, controller_written, controller_at, openings_at, length_of, source_of}
 
 -- M2: every key that is needed is there, and no other.
-abbrev pub queue_has_keys : Data → Bool
-queue_has_keys = has_keys (codes "openings" ∷ codes "program" ∷ []) []
+abbrev pub queue_has_keys : Option ℕ → Data → Bool
+queue_has_keys None = has_keys (codes "openings" ∷ codes "program" ∷ []) []
+queue_has_keys (Some controllers) = has_keys (codes "openings" ∷ codes "controller" ∷ codes "program" ∷ []) []
 
 abbrev pub table_has_keys : Data → Bool
 table_has_keys = has_keys (codes "length" ∷ []) []
@@ -20,18 +21,23 @@ program_has_keys program =
     has_keys (codes "name" ∷ codes "code" ∷ []) [] program || has_keys (codes "name" ∷ codes "asm" ∷ []) [] program
 
 abbrev pub document_has_keys : Data → Bool
-document_has_keys = has_keys (codes "version" ∷ codes "queue" ∷ codes "program" ∷ []) (codes "table" ∷ [])
+document_has_keys manifest =
+    if is_first manifest then has_keys (codes "version" ∷ codes "queue" ∷ codes "program" ∷ []) (codes "table" ∷ []) manifest
+    else has_keys (codes "version" ∷ codes "controllers" ∷ codes "queue" ∷ codes "program" ∷ []) (codes "table" ∷ []) manifest
 
 abbrev pub has_lawful_keys : Data → Bool
 has_lawful_keys manifest =
     document_has_keys manifest
-    && list_all queue_has_keys (elements_at (codes "queue") manifest)
+    && list_all (queue_has_keys (controllers_of manifest)) (elements_at (codes "queue") manifest)
     && list_all table_has_keys (elements_at (codes "table") manifest)
     && list_all program_has_keys (elements_at (codes "program") manifest)
 
 -- M3: every value is of its type and form.
-abbrev pub queue_has_form : Data → Bool
-queue_has_form queue = is_some (integer_at (codes "openings") queue) && is_some (text_at (codes "program") queue)
+abbrev pub queue_has_form : Option ℕ → Data → Bool
+queue_has_form controllers queue =
+    is_some (integer_at (codes "openings") queue)
+    && is_some (controller_written controllers queue)
+    && is_some (text_at (codes "program") queue)
 
 abbrev pub table_has_form : Data → Bool
 table_has_form entry = is_some (integer_at (codes "length") entry)
@@ -47,25 +53,25 @@ has_arrays manifest =
     && (not (is_some (get (codes "table") manifest)) || is_some (array_at (codes "table") manifest))
 
 abbrev pub document_has_form : Data → Bool
-document_has_form manifest = has_arrays manifest && is_some (integer_at (codes "version") manifest)
+document_has_form manifest =
+    has_arrays manifest
+    && is_some (integer_at (codes "version") manifest)
+    && (is_first manifest || is_some (integer_at (codes "controllers") manifest))
 
 abbrev pub has_lawful_form : Data → Bool
 has_lawful_form manifest =
     document_has_form manifest
-    && list_all queue_has_form (elements_at (codes "queue") manifest)
+    && list_all (queue_has_form (controllers_of manifest)) (elements_at (codes "queue") manifest)
     && list_all table_has_form (elements_at (codes "table") manifest)
     && list_all program_has_form (elements_at (codes "program") manifest)
 
--- M4: the version is 1, and every number is in its range.
-abbrev pub is_one : Option ℤ → Bool
-is_one (Some (pos number)) = number == 1
-is_one _ = false
-
+-- M4: the version is 1, or it is 2 and there are 1 to 8 controllers, and every number is in its range.
 abbrev pub document_has_ranges : Data → Bool
-document_has_ranges manifest = is_one (integer_at (codes "version") manifest)
+document_has_ranges manifest =
+    is_first manifest || (is_integer 2 (integer_at (codes "version") manifest) && is_some (number_of_controllers manifest))
 
-abbrev pub queue_has_ranges : Data → Bool
-queue_has_ranges queue = is_some (openings_at queue)
+abbrev pub queue_has_ranges : Option ℕ → Data → Bool
+queue_has_ranges controllers queue = is_some (openings_at queue) && is_some (controller_at controllers queue)
 
 abbrev pub table_has_ranges : Data → Bool
 table_has_ranges entry = is_some (length_of entry)
@@ -73,7 +79,7 @@ table_has_ranges entry = is_some (length_of entry)
 abbrev pub has_lawful_ranges : Data → Bool
 has_lawful_ranges manifest =
     document_has_ranges manifest
-    && list_all queue_has_ranges (elements_at (codes "queue") manifest)
+    && list_all (queue_has_ranges (controllers_of manifest)) (elements_at (codes "queue") manifest)
     && list_all table_has_ranges (elements_at (codes "table") manifest)
 
 -- the lowest of M2 to M4, by whether keys, form and ranges are lawful
@@ -95,8 +101,8 @@ lower (Some Range) other = other
 abbrev pub document_fault : Data → Option FormFault
 document_fault manifest = lowest_of (document_has_keys manifest) (document_has_form manifest) (document_has_ranges manifest)
 
-abbrev pub queue_fault : Data → Option FormFault
-queue_fault queue = lowest_of (queue_has_keys queue) (queue_has_form queue) (queue_has_ranges queue)
+abbrev pub queue_fault : Option ℕ → Data → Option FormFault
+queue_fault controllers queue = lowest_of (queue_has_keys controllers queue) (queue_has_form controllers queue) (queue_has_ranges controllers queue)
 
 abbrev pub table_fault : Data → Option FormFault
 table_fault entry = lowest_of (table_has_keys entry) (table_has_form entry) (table_has_ranges entry)

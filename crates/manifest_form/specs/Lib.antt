@@ -4,3 +4,4 @@ pub mod Entries
 pub mod Faults
 pub mod Names
 pub mod Seen
+pub mod Migration

@@ -12,7 +12,7 @@ use Rattle.manifest_form.specs.Entries.{Source, code, asm, QueueLine, ProgramLin
 use Rattle.manifest_form.specs.Names.{is_name}
 
 abbrev pub queue_seen : QueueEntry → QueueLine
-queue_seen queue = record { openings = queue.openings; program = queue.program.now }
+queue_seen queue = record { openings = queue.openings; controller = queue.controller; program = queue.program.now }
 
 abbrev pub source_seen : Written → Source
 source_seen (Code bytes) = code bytes.items
@@ -23,6 +23,7 @@ program_seen program = record { name = program.name.now; source = source_seen pr
 
 abbrev pub plan_seen : Entries → Plan
 plan_seen entries = record {
+  controllers = entries.controllers;
   queues = map queue_seen entries.queues.items;
   tables = entries.tables.items;
   programs = map program_seen entries.programs.items;

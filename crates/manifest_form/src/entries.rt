@@ -4,7 +4,7 @@ ghost use Rattle.std.specs.Prelude.{◌≡◌, Some, None, IfOk, IfErr, option_m
 ghost use Rattle.std.specs.Result.{result_err};
 ghost use Rattle.toml.specs.View.{view};
 ghost use Rattle.manifest_form.specs.Document.{integer_at};
-ghost use Rattle.manifest_form.specs.Entries.{up_to, queue_of, length_of, program_of, source_of};
+ghost use Rattle.manifest_form.specs.Entries.{up_to, below, controller_written, queue_of, length_of, program_of, source_of};
 ghost use Rattle.manifest_form.specs.Faults.{queue_fault, table_fault, program_fault, queue_has_keys};
 ghost use Rattle.manifest_form.specs.Seen.{queue_seen, program_seen, source_seen, IfFault};
 
@@ -19,10 +19,12 @@ use toml::Value;
 /// Why an entry was not read: memory was refused, or its form is faulty.
 pub type FormError = OrMemory<FormFault>;
 
-/// A device queue: how many CCBs may be active at a time, 1 to 255, and the name of its program.
+/// A device queue: how many CCBs may be active at a time, 1 to 255, the number of its controller, which is 0 where there are
+/// none, and the name of its program.
 #[derive(Drop)]
 pub struct QueueEntry<'a> {
     pub openings: u8,
+    pub controller: u8,
     pub program: &'a str,
 }
 
@@ -40,18 +42,44 @@ pub struct ProgramEntry<'a> {
     pub source: Source<'a>,
 }
 
-/// A device queue.
-pub fn queue(value: &Value) -> Result<QueueEntry<'_>, FormFault>
-    ensures says { IfOk result (λ queue. queue_of (view value.now) ≡ Some (queue_seen queue)) }
-    ensures fault { result_err result ≡ queue_fault (view value.now) }
+/// A device queue, where there are so many controllers, or none.
+pub fn queue(value: &Value, controllers: Option<u8>) -> Result<QueueEntry<'_>, FormFault>
+    ensures says { IfOk result (λ queue. queue_of controllers (view value.now) ≡ Some (queue_seen queue)) }
+    ensures fault { result_err result ≡ queue_fault controllers (view value.now) }
 {
-    if !has_keys(value, &["openings", "program"], &[]) {
+    if !queue_has_keys(value, controllers) {
         return Err(FormFault::Key);
     }
     let openings = integer(value, "openings").ok_or(FormFault::Form)?;
+    let controller = controller_written(value, controllers).ok_or(FormFault::Form)?;
     let program = text(value, "program").ok_or(FormFault::Form)?;
     let openings = up_to_255(openings).ok_or(FormFault::Range)?;
-    Ok(QueueEntry { openings, program })
+    let controller = below(controllers.unwrap_or(1), controller).ok_or(FormFault::Range)?;
+    Ok(QueueEntry {
+        openings,
+        controller,
+        program,
+    })
+}
+
+// A queue names its controller exactly where there are some.
+fn queue_has_keys(value: &Value, controllers: Option<u8>) -> bool
+    ensures { result ≡ queue_has_keys controllers (view value.now) }
+{
+    match controllers {
+        None => has_keys(value, &["openings", "program"], &[]),
+        Some(_) => has_keys(value, &["openings", "controller", "program"], &[]),
+    }
+}
+
+// The controller that a queue names; 0 where there are none.
+fn controller_written(value: &Value, controllers: Option<u8>) -> Option<i64>
+    ensures { result ≡ controller_written controllers (view value.now) }
+{
+    match controllers {
+        None => Some(0),
+        Some(_) => integer(value, "controller"),
+    }
 }
 
 /// The length of a table, in words.
@@ -97,6 +125,15 @@ fn read_source(alloc: Global, value: &Value) -> Result<Option<Source<'_>>, FormE
     match code::bytes(alloc, digits)? {
         Some(bytes) => Ok(Some(Source::Code(bytes))),
         None => Ok(None),
+    }
+}
+
+fn below(bound: u8, number: i64) -> Option<u8>
+    ensures { result ≡ below bound (Some number) }
+{
+    match u8::try_from(number) {
+        Ok(number) if number < bound => Some(number),
+        _ => None,
     }
 }
 

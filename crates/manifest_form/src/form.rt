@@ -1,15 +1,17 @@
 // A whole manifest, read once into what it says: each entry from its table, and of all faults of the form the lowest.
 // It relies on `entries` for one entry, and on `engine_config` for how many there may be.
 
-ghost use Rattle.std.specs.Prelude.{◌≡◌, ◌++◌, Some, None, map, filter_map, IfOk, IfErr};
+ghost use Rattle.std.specs.Prelude.{◌≡◌, ◌++◌, Some, None, map, filter_map, codes, IfOk, IfErr};
 ghost use Rattle.toml.specs.View.{view};
-ghost use Rattle.manifest_form.specs.Entries.{queue_of, length_of, program_of, plan_of};
-ghost use Rattle.manifest_form.specs.Faults.{lower, lowest_among, queue_fault, table_fault, program_fault, document_fault, form_fault, has_arrays};
+ghost use Rattle.manifest_form.specs.Document.{integer_at};
+ghost use Rattle.manifest_form.specs.Entries.{up_to, is_first, is_integer, number_of_controllers, controllers_of, queue_of, length_of, program_of, plan_of};
+ghost use Rattle.manifest_form.specs.Faults.{lower, lowest_among, queue_fault, table_fault, program_fault, document_fault, form_fault, has_arrays, document_has_keys, document_has_form, document_has_ranges};
 ghost use Rattle.manifest_form.specs.Seen.{queue_seen, program_seen, plan_seen, IfFault};
 
 use crate::document::{array, elements, has, has_keys, integer};
 use crate::entries::{FormError, ProgramEntry, QueueEntry, program, queue, table};
 use crate::form_fault::{FormFault, note};
+use engine_config::MAX_CONTROLLERS;
 use or_memory::OrMemory;
 use std::alloc::{AllocError, Global};
 use toml::Value;
@@ -17,6 +19,8 @@ use toml::Value;
 /// What a manifest says, entry by entry, in the text's order.
 #[derive(Drop)]
 pub struct Plan<'a> {
+    /// How many controllers there are, 1 to 8; `None` in version 1.
+    pub controllers: Option<u8>,
     pub queues: Vec<QueueEntry<'a>>,
     pub tables: Vec<u16>,
     pub programs: Vec<ProgramEntry<'a>>,
@@ -29,11 +33,13 @@ pub fn read(alloc: Global, manifest: &Value) -> Result<Plan<'_>, FormError>
     ensures fault { IfErr result (IfFault (λ fault. form_fault (view manifest.now) ≡ Some fault)) }
 {
     let mut lowest = document_fault(manifest);
-    let queues = queues(alloc, elements(manifest, "queue"), &mut lowest)?;
+    let controllers = controllers(manifest);
+    let queues = queues(alloc, elements(manifest, "queue"), controllers, &mut lowest)?;
     let tables = tables(alloc, elements(manifest, "table"), &mut lowest)?;
     let programs = programs(alloc, elements(manifest, "program"), &mut lowest)?;
     match lowest {
         None => Ok(Plan {
+            controllers,
             queues,
             tables,
             programs,
@@ -42,20 +48,88 @@ pub fn read(alloc: Global, manifest: &Value) -> Result<Plan<'_>, FormError>
     }
 }
 
-// The fault of what is no entry: the keys, their types, and the version.
+// The fault of what is no entry: the keys, their types, the version, and how many controllers there are.
 fn document_fault(manifest: &Value) -> Option<FormFault>
     ensures { result ≡ document_fault (view manifest.now) }
 {
-    if !has_keys(manifest, &["version", "queue", "program"], &["table"]) {
+    if !document_has_keys(manifest) {
         return Some(FormFault::Key);
     }
-    if !has_arrays(manifest) {
+    if !document_has_form(manifest) {
         return Some(FormFault::Form);
     }
-    match integer(manifest, "version") {
-        None => Some(FormFault::Form),
-        Some(1) => None,
-        Some(_) => Some(FormFault::Range),
+    if !document_has_ranges(manifest) {
+        return Some(FormFault::Range);
+    }
+    None
+}
+
+// Whether the manifest is of version 1, by the integer 1 alone.
+#[tactic(auto, unfolding(crate::specs::Entries::is_first))]
+fn is_first(manifest: &Value) -> bool
+    ensures { result ≡ is_first (view manifest.now) }
+{
+    matches!(integer(manifest, "version"), Some(1))
+}
+
+fn document_has_keys(manifest: &Value) -> bool
+    ensures { result ≡ document_has_keys (view manifest.now) }
+{
+    if is_first(manifest) {
+        has_keys(manifest, &["version", "queue", "program"], &["table"])
+    } else {
+        has_keys(
+            manifest,
+            &["version", "controllers", "queue", "program"],
+            &["table"],
+        )
+    }
+}
+
+fn document_has_form(manifest: &Value) -> bool
+    ensures { result ≡ document_has_form (view manifest.now) }
+{
+    has_arrays(manifest)
+        && integer(manifest, "version").is_some()
+        && (is_first(manifest) || integer(manifest, "controllers").is_some())
+}
+
+fn document_has_ranges(manifest: &Value) -> bool
+    ensures { result ≡ document_has_ranges (view manifest.now) }
+{
+    is_first(manifest) || (is_second(manifest) && number_of_controllers(manifest).is_some())
+}
+
+fn is_second(manifest: &Value) -> bool
+    ensures { result ≡ is_integer 2 (integer_at (codes "version") (view manifest.now)) }
+{
+    matches!(integer(manifest, "version"), Some(2))
+}
+
+// How many controllers there are: no number in version 1, and 0 where it is out of its range.
+#[tactic(auto, unfolding(crate::specs::Entries::controllers_of))]
+fn controllers(manifest: &Value) -> Option<u8>
+    ensures { result ≡ controllers_of (view manifest.now) }
+{
+    if is_first(manifest) {
+        None
+    } else {
+        Some(number_of_controllers(manifest).unwrap_or(0))
+    }
+}
+
+fn number_of_controllers(manifest: &Value) -> Option<u8>
+    ensures { result ≡ number_of_controllers (view manifest.now) }
+{
+    up_to_8(integer(manifest, "controllers")?)
+}
+
+fn up_to_8(number: i64) -> Option<u8>
+    ensures { result ≡ up_to 8 (Some number) }
+{
+    match u8::try_from(number) {
+        Ok(number) if 0 < number && number <= MAX_CONTROLLERS => Some(number),
+        _ => None,
     }
 }
 
@@ -71,14 +145,15 @@ fn has_arrays(manifest: &Value) -> bool
 fn queues<'a>(
     alloc: Global,
     entries: &'a [Value],
+    controllers: Option<u8>,
     lowest: &mut Option<FormFault>,
 ) -> Result<Vec<QueueEntry<'a>>, AllocError>
-    ensures says { IfOk result (λ queues. lowest.new ≡ None → map queue_seen queues.items ≡ filter_map queue_of (map view entries.now)) }
-    ensures fault { IfOk result (λ _. lowest.new ≡ lower lowest.old (lowest_among queue_fault (map view entries.now))) }
+    ensures says { IfOk result (λ queues. lowest.new ≡ None → map queue_seen queues.items ≡ filter_map (queue_of controllers) (map view entries.now)) }
+    ensures fault { IfOk result (λ _. lowest.new ≡ lower lowest.old (lowest_among (queue_fault controllers) (map view entries.now))) }
 {
     let mut queues = Vec::new(alloc);
     for entry in entries {
-        match queue(entry) {
+        match queue(entry, controllers) {
             Ok(queue) => queues.push(queue)?,
             Err(fault) => note(lowest, fault),
         }

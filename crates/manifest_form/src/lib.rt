@@ -1,4 +1,4 @@
-// What a manifest of version 1 has to be, by its form alone: its keys, the types and ranges of their values, how many entries
+// What a manifest has to be, by its form alone: its keys, the types and ranges of their values, how many entries
 // there are and their names; and what it says then. It relies on `toml` for the document, on `hexadecimal` for code that is
 // written as bytes, and on `engine_config` for how much there may be.
 #![tactic(auto)]
@@ -8,9 +8,11 @@ mod document;
 mod entries;
 mod form;
 mod form_fault;
+mod migration;
 mod names;
 
 pub use entries::{FormError, ProgramEntry, QueueEntry, Source};
 pub use form::{Plan, read};
 pub use form_fault::FormFault;
+pub use migration::under_one_controller;
 pub use names::{has_lawful_names, has_lawful_numbers};

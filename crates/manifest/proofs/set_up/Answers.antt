@@ -1,7 +1,6 @@
 use Rattle.std.proofs.Common.{◌≡◌, ◌⊎◌, map, ap, ◌∙◌}
 use Rattle.std.proofs.lemmas.Result.{err_from_is_err_and}
 use Rattle.helpers.specs.declared.limits.HelperLimits.{HelperLimits}
-use Rattle.helpers.specs.Table.{of_queues}
 use Rattle.manifest.specs.declared.ManifestFault.{ManifestFault}
 use Rattle.manifest.specs.Meaning.{limits_of, HasProgramFault, IsUnread, IsUnaccepted}
 use Rattle.manifest_form.specs.Seen.{plan_seen, queue_seen, program_seen}
@@ -16,9 +15,9 @@ count-requires c = few_queues c.args.plan c.deref.result.now c.deref.ensures.val
 pub returns-in_err-programs-clause-fault : goal.returns-in_err-programs-clause-fault
 returns-in_err-programs-clause-fault c =
     let plan = plan_seen c.args.plan in
-    let limits : HelperLimits = of_queues c.count.result c.new.result in
+    let limits : HelperLimits = record { helpers = c.helpers_with.result; queues = c.count.result; table_lengths = c.new.result } in
     let lines = map program_seen c.deref-2.result.now in
-    let limits_is : limits ≡ limits_of plan = limits_by c.args.plan c.count.result c.deref.result.now c.new.result c.deref.ensures.value c.count.ensures c.new.ensures in
+    let limits_is : limits ≡ limits_of plan = limits_by c.args.plan c.helpers_with.result c.count.result c.deref.result.now c.new.result c.helpers_with.ensures c.deref.ensures.value c.count.ensures c.new.ensures in
     let lines_is : lines ≡ plan.programs = ap (map program_seen) c.deref-2.ensures.value in
     let p = err_from_is_err_and c.from_residual.result c.from_residual.ensures.1 in
     rw (p.1, p.2) (if_fault (λ (fault : ManifestFault). IsUnread lines fault ⊎ IsUnaccepted limits lines fault) (HasProgramFault plan)
@@ -28,8 +27,8 @@ returns-in_err-programs-clause-fault c =
 pub config-requires : goal.config-requires
 config-requires c =
     let plan = plan_seen c.args.plan in
-    let limits : HelperLimits = of_queues c.count.result c.new.result in
-    let limits_is : limits ≡ limits_of plan = limits_by c.args.plan c.count.result c.deref.result.now c.new.result c.deref.ensures.value c.count.ensures c.new.ensures in
+    let limits : HelperLimits = record { helpers = c.helpers_with.result; queues = c.count.result; table_lengths = c.new.result } in
+    let limits_is : limits ≡ limits_of plan = limits_by c.args.plan c.helpers_with.result c.count.result c.deref.result.now c.new.result c.helpers_with.ensures c.deref.ensures.value c.count.ensures c.new.ensures in
     let programs = map named_seen c.in_ok-programs.programs.items in
     ready_by plan limits (map queue_seen c.deref-3.result.now) programs (map named_seen c.deref-4.result.now) c.requires limits_is
     (ap (map queue_seen) c.deref-3.ensures.value) (ap (map named_seen) c.deref-4.ensures.value)
@@ -38,11 +37,12 @@ config-requires c =
 pub returns-clause-found : goal.returns-clause-found
 returns-clause-found c =
     let plan = plan_seen c.args.plan in
-    let limits : HelperLimits = of_queues c.count.result c.new.result in
-    let limits_is : limits ≡ limits_of plan = limits_by c.args.plan c.count.result c.deref.result.now c.new.result c.deref.ensures.value c.count.ensures c.new.ensures in
+    let limits : HelperLimits = record { helpers = c.helpers_with.result; queues = c.count.result; table_lengths = c.new.result } in
+    let limits_is : limits ≡ limits_of plan = limits_by c.args.plan c.helpers_with.result c.count.result c.deref.result.now c.new.result c.helpers_with.ensures c.deref.ensures.value c.count.ensures c.new.ensures in
     let programs = map named_seen c.in_ok-programs.programs.items in
     record {
       limits = c.in_ok-config.ensures.limits ∙ limits_is;
+      controllers = c.in_ok-config.ensures.controllers;
       accepted = accepted_by plan limits (map program_seen c.deref-2.result.now) programs limits_is (ap (map program_seen) c.deref-2.ensures.value) c.in_ok-programs.ensures.accepted;
       queues = queues_by plan (map queue_seen c.deref-3.result.now) programs (map named_seen c.deref-4.result.now) _ (ap (map queue_seen) c.deref-3.ensures.value) (ap (map named_seen) c.deref-4.ensures.value) c.in_ok-config.ensures.queues;
     }

@@ -8,7 +8,7 @@ use Rattle.command_line.specs.RunCommand.{camr_command}
 use Rattle.command_line.specs.RunLine.{GivesRun, SpellsNoLawfulNumber, spelled_out}
 use Rattle.command_line.specs.UsageFault.{IsValueFault}
 use Rattle.command_line.specs.declared.plans.Plan.{Plan}
-use Rattle.command_line.proofs.FileWords.{asm_plan, check_plan, dis_plan, replay_plan}
+use Rattle.command_line.proofs.FileWords.{asm_plan, check_plan, dis_plan, migrate_plan, replay_plan}
 use Rattle.command_line.proofs.PlanLines.{line_fault, line_plan, line_refuses}
 use Rattle.command_line.proofs.SpelledOut.{one_out, run_out, two_out}
 use Rattle.command_line.proofs.words.plan.Goals as goal
@@ -93,3 +93,10 @@ returns-in-Some-clause-replays c manifest trace line plain_manifest plain_trace 
     let same = same_words _ words _ (lent _ c.deref.result.now _ c.deref.ensures.value c.in_ok-spelled.ensures) line (two_out (codes "replay") manifest trace refl plain_manifest plain_trace) ∙ sym line in
     let found = found_so _ words _ (Some c.in-Some.plan) same c.in_ok-matches.ensures.rows (subst (λ o. PlansFound (subcommand_rows_of c.in_ok-matches.matches) o) c.in-Some.is c.in_ok-plan.ensures) in
     replay_plan words manifest trace c.in-Some.plan line plain_manifest plain_trace found.0
+
+pub returns-in-Some-clause-migrates : goal.returns-in-Some-clause-migrates
+returns-in-Some-clause-migrates c manifest migrated line plain_manifest plain_migrated =
+    let words = map string_bytes c.args.words.now in
+    let same = same_words _ words _ (lent _ c.deref.result.now _ c.deref.ensures.value c.in_ok-spelled.ensures) line (two_out (codes "migrate") manifest migrated refl plain_manifest plain_migrated) ∙ sym line in
+    let found = found_so _ words _ (Some c.in-Some.plan) same c.in_ok-matches.ensures.rows (subst (λ o. PlansFound (subcommand_rows_of c.in_ok-matches.matches) o) c.in-Some.is c.in_ok-plan.ensures) in
+    migrate_plan words manifest migrated c.in-Some.plan line plain_manifest plain_migrated found.0

@@ -3,7 +3,7 @@ use Rattle.std.specs.Prelude.{IsUtf8}
 use Rattle.std.specs.Global.{Global}
 use Rattle.command_line.specs.Files.{input_paths}
 use Rattle.command_line.specs.declared.plans.Plan.{Plan}
-use Rattle.commands.specs.Told.{IsAccepted, IsAcceptedTrace, IsAsAsked, IsFaulty, IsFaultyManifest, IsFaultyText, IsManifest}
+use Rattle.commands.specs.Told.{IsAccepted, IsAcceptedTrace, IsAsAsked, IsFaulty, IsFaultyManifest, IsFaultyMigration, IsFaultyText, IsManifest, IsMigratable}
 use Rattle.commands.proofs.Telling.{first_is, one_of_two, over_manifest, second_is}
 use Rattle.commands.proofs.carrying.carry.Goals as goal
 
@@ -58,3 +58,15 @@ returns-in-Replay-clause-no_text g c = λ reads input there not_text.
       | inl first ↦ c.print_replay.ensures.manifest (λ text. not_text (subst (λ (bytes : List ℕ). IsUtf8 bytes) (c.as_slice-in-Replay.ensures.value ∙ ap (λ (bytes : Vec ℕ Global). bytes.items) first) text))
       | inr second ↦ c.print_replay.ensures.trace (λ text. not_text (subst (λ (bytes : List ℕ). IsUtf8 bytes) (c.as_slice-in-Replay-2.ensures.value ∙ ap (λ (bytes : Vec ℕ Global). bytes.items) second) text))
     ]
+
+pub returns-in-Migrate-clause-done : goal.returns-in-Migrate-clause-done
+returns-in-Migrate-clause-done g c = λ is input there.
+    let read = first_is c.args.inputs.now c.index-inputs-0-in-Migrate.result input c.index-inputs-0-in-Migrate.is there in
+    let same : c.as_slice-in-Migrate.result.now ≡ input.items = c.as_slice-in-Migrate.ensures.value ∙ ap (λ (bytes : Vec ℕ Global). bytes.items) read in
+    subst (λ (plan : Plan). IsAsAsked plan input.items) (sym c.in-Migrate.is) (subst (λ (bytes : List ℕ). IsMigratable bytes) same (c.print_migrated.ensures.done is))
+
+pub returns-in-Migrate-clause-refused : goal.returns-in-Migrate-clause-refused
+returns-in-Migrate-clause-refused g c = λ is input there.
+    let read = first_is c.args.inputs.now c.index-inputs-0-in-Migrate.result input c.index-inputs-0-in-Migrate.is there in
+    let same : c.as_slice-in-Migrate.result.now ≡ input.items = c.as_slice-in-Migrate.ensures.value ∙ ap (λ (bytes : Vec ℕ Global). bytes.items) read in
+    subst (λ (plan : Plan). IsFaulty plan input.items) (sym c.in-Migrate.is) (subst (λ (bytes : List ℕ). IsFaultyMigration bytes) same (c.print_migrated.ensures.refused is))

@@ -8,6 +8,6 @@ use Rattle.manifest_form.proofs.form.queues.Given as goal
 
 abbrev pub invariant-loop-entry : goal.invariant-loop-entry
 invariant-loop-entry l = record {
-  fault : lower l.lowest (lowest_among queue_fault (map view (drop l.entry-index l.entries))) ≡ lower l.fn.lowest (lowest_among queue_fault (map view l.entries));
-  says : l.lowest ≡ None → map queue_seen l.queues.items ++ filter_map queue_of (map view (drop l.entry-index l.entries)) ≡ filter_map queue_of (map view l.entries);
+  fault : lower l.lowest (lowest_among (queue_fault l.controllers) (map view (drop l.entry-index l.entries))) ≡ lower l.fn.lowest (lowest_among (queue_fault l.controllers) (map view l.entries));
+  says : l.lowest ≡ None → map queue_seen l.queues.items ++ filter_map (queue_of l.controllers) (map view (drop l.entry-index l.entries)) ≡ filter_map (queue_of l.controllers) (map view l.entries);
 }

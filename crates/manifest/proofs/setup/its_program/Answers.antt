@@ -3,7 +3,7 @@ use Rattle.std.proofs.lemmas.Bool.{false≢true}
 use Rattle.manifest.specs.declared.programs.NamedProgram.{NamedProgram}
 use Rattle.manifest.specs.Seen.{named_seen}
 use Rattle.manifest.proofs.Configured.{find_seen}
-use Rattle.manifest.proofs.setup.given.Goals as goal
+use Rattle.manifest.proofs.setup.its_program.Goals as goal
 
 pub unreachable-requires : goal.unreachable-requires
 unreachable-requires c =
@@ -14,6 +14,5 @@ pub returns : goal.returns
 returns c = record {
   program = named_seen c.in-Some.named.now;
   found = sym (find_seen c.args.queue.now.program.now c.args.programs.now) ∙ sym (ap (option_map named_seen) c.in-Some.ensures);
-  verdict = sym c.in_ok-try_clone.ensures;
-  openings = refl;
+  is = sym c.in_ok-try_clone.ensures;
 }

@@ -69,7 +69,7 @@ fn sink_of(alloc: Global, most: usize, fails_at: u32) -> Counting {
 
 // The trace of the text.
 fn trace_of(alloc: Global) -> Result<Trace, Fail>
-    ensures { IfOk result (λ trace. AllHaveText trace.records.items) }
+    ensures { IfOk result (λ trace. AllHaveText trace.version trace.records.items) }
 {
     match read(alloc, TEXT) {
         Ok(trace) => Ok(trace),
@@ -94,7 +94,7 @@ fn few_bytes_at_a_time(rt: HostRuntime) -> Result<(), Fail> {
 
 // At the write of this number a sink fails: what is out is just what was told to be out, the beginning of the text.
 fn fail_at(rt: &impl Abort, alloc: Global, trace: &Trace, most: usize, write: u32) -> bool
-    requires { AllHaveText trace.now.records.items }
+    requires { AllHaveText trace.now.version trace.now.records.items }
 {
     let mut sink = sink_of(alloc, most, write);
     match print(trace, &mut sink) {

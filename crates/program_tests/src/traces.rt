@@ -5,10 +5,12 @@ use commands::Handing;
 use or_memory::OrMemory;
 use std::alloc::{AllocError, Global};
 use std::io::Write;
+use std::process::Abort;
 use std::test::Fail;
 use trace::{print, read};
 
-const RECORDS: [&str; 33] = [
+/// Lines of both versions.
+const RECORDS: [&str; 34] = [
     "submit 0 0 0 = ccb 1",
     "submit 4294967295 4294967295 4294967295 = C1",
     "submit 0 10 3 = C2",
@@ -38,13 +40,26 @@ const RECORDS: [&str; 33] = [
     "gfreeze 0 7 = freeze 1",
     "gfreeze 0 4294967295 = C1",
     "gfreeze 0 0 = C2",
+    "cfreeze 0 7 = C1",
     "grelease 1 = 254",
     "park 1 = ok",
     "resume 1 = ok",
     "resume 1 = C1",
 ];
 
-const NO_RECORDS: [&str; 116] = [
+/// Lines of the second version alone.
+const OF_CONTROLLERS: [&str; 7] = [
+    "dispatch 0 = Q5",
+    "cfreeze 0 7 = freeze 1",
+    "cfreeze 4294967295 4294967295 = C2",
+    "advance 1 1 helper 13 = 0",
+    "advance 1 3 helper 13 = 4294967295",
+    "advance 1 1 helper 14 = 0",
+    "advance 1 3 helper 14 = 255",
+];
+
+/// Lines of neither.
+const NO_RECORDS: [&str; 125] = [
     "",
     "# park 1 = ok",
     " park 1 = ok",
@@ -74,7 +89,6 @@ const NO_RECORDS: [&str; 116] = [
     "Park 1 = ok",
     "drain",
     "drain = ok",
-    "cfreeze 0 7 = freeze 1",
     "submit 4294967296 0 0 = ccb 1",
     "submit 0 4294967296 0 = ccb 1",
     "submit 0 0 4294967296 = ccb 1",
@@ -89,7 +103,8 @@ const NO_RECORDS: [&str; 116] = [
     "submit 0 0 0 = c1",
     "dispatch 0 = C2",
     "dispatch 0 = Q1",
-    "dispatch 0 = Q5",
+    "dispatch 0 = Q6",
+    "dispatch 0 = q5",
     "dispatch 4294967296 = ccb 1",
     "complete 1 00 00 - = done",
     "complete 1 03 00 - = done",
@@ -110,6 +125,7 @@ const NO_RECORDS: [&str; 116] = [
     "complete 1 01 00 - = run 1 freeze 4294967296",
     "complete 1 01 00 - = run 01 freeze 1",
     "complete 1 01 00 - = C5",
+    "complete 1 01 00 - = Q5",
     "complete 1 01 00 - = ok",
     "advance 1 0 exit = 0",
     "advance 1 65537 exit = 0",
@@ -124,7 +140,9 @@ const NO_RECORDS: [&str; 116] = [
     "advance 1 1 = 0",
     "advance 1 1 helper = 0",
     "advance 1 1 helper 0 = 0",
-    "advance 1 1 helper 13 = 0",
+    "advance 1 1 helper 15 = 0",
+    "advance 1 1 helper 013 = 0",
+    "advance 1 1 helper 13 00 = 0",
     "advance 1 1 helper 257 = 0",
     "advance 1 1 helper 02 = 0",
     "advance 1 1 helper 2 00 = 0",
@@ -146,6 +164,12 @@ const NO_RECORDS: [&str; 116] = [
     "gfreeze 0 4294967296 = freeze 1",
     "gfreeze 0 7 = freeze 4294967296",
     "gfreeze 0 7 = C3",
+    "gfreeze 0 7 = Q5",
+    "cfreeze 0 = C1",
+    "cfreeze 4294967296 7 = C1",
+    "cfreeze 0 4294967296 = C1",
+    "cfreeze 0 7 = C3",
+    "cfreeze 0 7 = Q5",
     "grelease 1 = C1",
     "grelease 1 = C6",
     "grelease 1 = 4294967296",
@@ -163,9 +187,36 @@ const NO_RECORDS: [&str; 116] = [
     "End 1 0 0 0",
 ];
 
-const TEXTS: [(&str, &str); 22] = [
+/// Two traces of the second version.
+const FROZEN: &str = "submit 1 0 0 = ccb 1\ncfreeze 0 7 = freeze 1\ndispatch 1 = Q5\n\
+    grelease 1 = 0\ndispatch 1 = ccb 1\nend 5 0 1 0\n";
+
+const BY_A_RUN: &str = "submit 0 0 1 = ccb 1\nsubmit 1 0 1 = ccb 2\ndispatch 0 = ccb 1\n\
+    complete 1 05 00 - = run 1 freeze 1\nadvance 1 3 helper 2 = 0\nadvance 1 1 helper 13 = 2\n\
+    advance 1 4 helper 3 = 0\nadvance 1 2 helper 4 = 0\nadvance 1 2 exit = 0\ndispatch 1 = Q5\n\
+    clock 1000 = 1\ndispatch 1 = ccb 2\nend 12 0 1 0\n";
+
+/// What stands behind the header of the first version, and the first line that it may not have.
+const OF_THE_OTHER: [(&str, &str); 4] = [
+    (FROZEN, "X2 at 3"),
+    (BY_A_RUN, "X2 at 7"),
+    (
+        "cfreeze 0 7 = C1\nadvance 1 1 helper 14 = 0\nend 2 0 0 1\n",
+        "X2 at 3",
+    ),
+    (
+        "cfreeze 8 7 = C1\ndispatch 0 = Q2\ndispatch 0 = Q5\nend 3 1 0 0\n",
+        "X2 at 4",
+    ),
+];
+
+const TEXTS: [(&str, &str); 27] = [
     ("", "X1 at 1"),
     ("camr-trace 1", "X1 at 1"),
+    ("camr-trace 0\nend 0 0 0 0\n", "X1 at 1"),
+    ("camr-trace 3\nend 0 0 0 0\n", "X1 at 1"),
+    ("camr-trace 12\nend 0 0 0 0\n", "X1 at 1"),
+    ("camr-trace 2", "X1 at 1"),
     ("camr-trace 9\nend 0 0 0 0\n", "X1 at 1"),
     ("camr-trace 1\r\nend 0 0 0 0\n", "X1 at 1"),
     ("camr-trace 1 \nend 0 0 0 0\n", "X1 at 1"),
@@ -173,6 +224,7 @@ const TEXTS: [(&str, &str); 22] = [
     ("\ncamr-trace 1\nend 0 0 0 0\n", "X1 at 1"),
     ("end 0 0 0 0\n", "X1 at 1"),
     ("camr-trace 1\n", "X2 at 2"),
+    ("camr-trace 2\n", "X2 at 2"),
     ("camr-trace 1\nend 0 0 0 0", "X2 at 2"),
     ("camr-trace 1\npark 1 = ok", "X2 at 2"),
     ("camr-trace 1\npark 1 = ok\n", "X2 at 3"),
@@ -213,18 +265,51 @@ fn told(alloc: Global, text: &str) -> Result<Vec<u8>, AllocError> {
     Ok(out)
 }
 
+// The trace of the version that has this line alone.
+fn around(alloc: Global, version: u32, line: &str) -> Result<String, Fail> {
+    Ok(format!(in alloc;
+        "camr-trace {version}\n{line}\nend 18446744073709551615 0 4294967295 1\n"
+    )?)
+}
+
+// The line stands in a trace of the version.
+fn is_read(rt: &impl Abort, alloc: Global, version: u32, line: &str) -> Result<(), Fail> {
+    let text = around(alloc, version, line)?;
+    assert_eq!(rt;
+        told(alloc, text.as_str())?.as_slice(),
+        text.as_bytes(),
+        "{version}: {line}"
+    );
+    Ok(())
+}
+
+// No line of the version stands so.
+fn is_faulty(rt: &impl Abort, alloc: Global, version: u32, line: &str) -> Result<(), Fail> {
+    let text = around(alloc, version, line)?;
+    assert_eq!(rt;
+        told(alloc, text.as_str())?.as_slice(),
+        "X2 at 2".as_bytes(),
+        "{version}: {line}"
+    );
+    Ok(())
+}
+
 #[test]
 fn lines_of_records(rt: HostRuntime) -> Result<(), Fail> {
     let alloc = rt.alloc();
     for line in RECORDS {
-        let text = format!(in alloc;
-            "camr-trace 1\n{line}\nend 18446744073709551615 0 4294967295 1\n"
-        )?;
-        assert_eq!(rt;
-            told(alloc, text.as_str())?.as_slice(),
-            text.as_bytes(),
-            "{line}"
-        );
+        is_read(&rt, alloc, 1, line)?;
+        is_read(&rt, alloc, 2, line)?;
+    }
+    Ok(())
+}
+
+#[test]
+fn lines_of_controllers(rt: HostRuntime) -> Result<(), Fail> {
+    let alloc = rt.alloc();
+    for line in OF_CONTROLLERS {
+        is_faulty(&rt, alloc, 1, line)?;
+        is_read(&rt, alloc, 2, line)?;
     }
     Ok(())
 }
@@ -233,11 +318,28 @@ fn lines_of_records(rt: HostRuntime) -> Result<(), Fail> {
 fn lines_of_no_record(rt: HostRuntime) -> Result<(), Fail> {
     let alloc = rt.alloc();
     for line in NO_RECORDS {
-        let text = format!(in alloc; "camr-trace 1\n{line}\nend 1 0 0 0\n")?;
+        is_faulty(&rt, alloc, 1, line)?;
+        is_faulty(&rt, alloc, 2, line)?;
+    }
+    Ok(())
+}
+
+// What the second version has and the first has not, under either header.
+#[test]
+fn texts_of_both_headers(rt: HostRuntime) -> Result<(), Fail> {
+    let alloc = rt.alloc();
+    for (lines, fault) in OF_THE_OTHER {
+        let first = format!(in alloc; "camr-trace 1\n{lines}")?;
         assert_eq!(rt;
-            told(alloc, text.as_str())?.as_slice(),
-            "X2 at 2".as_bytes(),
-            "{line}"
+            told(alloc, first.as_str())?.as_slice(),
+            fault.as_bytes(),
+            "{lines}"
+        );
+        let second = format!(in alloc; "camr-trace 2\n{lines}")?;
+        assert_eq!(rt;
+            told(alloc, second.as_str())?.as_slice(),
+            second.as_bytes(),
+            "{lines}"
         );
     }
     Ok(())

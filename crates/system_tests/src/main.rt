@@ -1,9 +1,10 @@
 // The tests of the whole program, as data: it reads the cases of the files that its words name, carries each out
-// as `camr` would, and prints each case that comes out otherwise, and how many passed. It relies on `test_cases` for
+// as `camr` would, those of runs once more over their manifest as `camr migrate` makes it, and prints each case that comes out otherwise, and how many passed. It relies on `test_cases` for
 // cases, and on `command_line` and `commands`, which are all of `camr` but its files. How a case is written stands in
 // data/README.
 #![tactic(auto)]
 
+mod migrating;
 mod report;
 mod running;
 mod tally;
@@ -17,6 +18,7 @@ use std::sync::Wait;
 use std::thread::Threads;
 use std::{env, fs, io};
 use tally::Tally;
+use test_cases::Case;
 
 fn main(rt: HostRuntime) -> Result<ExitCode> {
     let mut out = BufWriter::new(rt.alloc(), io::writer(&rt))?;
@@ -54,12 +56,26 @@ fn test_file<R: AllocGlobal + Threads + Wait + Sync, W: Write>(
     out: &mut W,
 ) -> Result<()> {
     for case in &test_cases::read(rt.alloc(), text)? {
-        let came = running::run(rt, rt.alloc(), case)?;
-        let passes = came.is_same(&case.wanted);
-        if !passes {
-            report::print(path, case, &came, out)?;
+        test(rt, path, case, tally, out)?;
+        if let Some(migrated) = migrating::migrated(rt, rt.alloc(), case)? {
+            test(rt, path, &migrated, tally, out)?;
         }
-        tally.count(passes);
     }
+    Ok(())
+}
+
+fn test<R: AllocGlobal + Threads + Wait + Sync, W: Write>(
+    rt: &R,
+    path: &str,
+    case: &Case<'_>,
+    tally: &mut Tally,
+    out: &mut W,
+) -> Result<()> {
+    let came = running::run(rt, rt.alloc(), case)?;
+    let passes = came.is_same(&case.wanted);
+    if !passes {
+        report::print(path, case, &came, out)?;
+    }
+    tally.count(passes);
     Ok(())
 }

@@ -32,8 +32,8 @@ pub fn run<R: Threads + Wait + Sync>(
     Ok(Outcome { out, err, status })
 }
 
-// The words as text, and none where one is not UTF-8.
-fn words_of(alloc: Global, case: &Case<'_>) -> Result<Option<Vec<String>>, AllocError> {
+/// The words as text, and none where one is not UTF-8.
+pub(crate) fn words_of(alloc: Global, case: &Case<'_>) -> Result<Option<Vec<String>>, AllocError> {
     let mut words = Vec::new(alloc);
     for word in &case.words {
         match str::from_utf8(word) {

@@ -65,7 +65,7 @@ impl<'a> Sink for Compared<'a> {
 
 // Whether that is the trace's text.
 fn is_printed(trace: &Trace, text: &[u8]) -> bool
-    requires { AllHaveText trace.now.records.items }
+    requires { AllHaveText trace.now.version trace.now.records.items }
 {
     let mut sink = Compared {
         rest: text,

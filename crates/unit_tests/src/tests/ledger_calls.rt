@@ -10,7 +10,9 @@ use timer_events::expire_due;
 
 const CALLS: u32 = 10_000;
 
-const PLACES: u32 = 6;
+const QUEUES: u32 = 4;
+
+const CONTROLLERS: u32 = 2;
 
 const MAX: usize = 1024;
 
@@ -34,7 +36,12 @@ impl Random {
     }
 
     fn place(&mut self) -> Place {
-        Place::Device(QueueId((self.below(PLACES as u64) % 6) as u32))
+        let drawn = (self.below(6) % 6) as u32;
+        if drawn < QUEUES {
+            Place::Device(QueueId(drawn))
+        } else {
+            Place::Controller(drawn.wrapping_sub(QUEUES))
+        }
     }
 
     fn holder(&mut self) -> Holder {
@@ -48,10 +55,10 @@ impl Random {
 }
 
 fn with_room(alloc: Global) -> Result<Ledger, AllocError> {
-    let queues = PLACES;
-    match Ledger::with_room(alloc, queues) {
+    let queues = QUEUES;
+    match Ledger::with_room(alloc, queues, CONTROLLERS) {
         Ok(ledger) => Ok(ledger),
-        Err(AllocError) => Ledger::with_room(alloc, queues),
+        Err(AllocError) => Ledger::with_room(alloc, queues, CONTROLLERS),
     }
 }
 
@@ -73,7 +80,7 @@ fn room_for_tokens(alloc: Global) -> Result<Vec<FreezeToken>, AllocError> {
 // The ledger's calls as they are: their clauses stay here.
 
 fn take(ledger: &mut Ledger, place: Place, holder: Holder) -> Option<FreezeToken> {
-    if place.index() >= ledger.queues() as usize {
+    if place.index() >= ledger.places() {
         return None;
     }
     ledger.take(place, holder)
@@ -92,7 +99,7 @@ fn all_go(ledger: &mut Ledger, reading: u64) -> u32 {
 }
 
 fn count(ledger: &Ledger, place: Place) -> Option<u32> {
-    if place.index() >= ledger.queues() as usize {
+    if place.index() >= ledger.places() {
         return None;
     }
     Some(ledger.count(place))
@@ -108,7 +115,7 @@ fn len(ledger: &Ledger) -> usize {
 
 // Whether the ledger's holders of the place are those of the list: each is there, their numbers rise, and none is left out.
 fn same_holders(ledger: &Ledger, plain: &[Freeze], place: Place) -> bool {
-    if place.index() >= ledger.queues() as usize {
+    if place.index() >= ledger.places() {
         return false;
     }
     let mut told: usize = 0;

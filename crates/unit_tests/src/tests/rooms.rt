@@ -23,7 +23,7 @@ fn submit(transport: &mut Transport, queue: QueueId) -> Result<CcbId, CallRefusa
 }
 
 fn freeze(transport: &mut Transport, guest: u32) -> Result<FreezeToken, CallRefusal> {
-    transport.guest_freeze(Place::Device(QueueId(0)), guest)
+    transport.guest_freeze(Place::Device(QueueId(0)), 0, guest)
 }
 
 #[test]

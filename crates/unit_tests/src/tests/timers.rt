@@ -13,11 +13,11 @@ const QUEUE: Place = Place::Device(QueueId(0));
 // The ledger's calls as they are: their clauses stay here, so that the tests below are checked without them.
 
 fn with_room(alloc: Global, queues: u32) -> Result<Ledger, AllocError> {
-    Ledger::with_room(alloc, queues)
+    Ledger::with_room(alloc, queues, 0)
 }
 
 fn take(ledger: &mut Ledger, place: Place, guest: u32) -> Option<FreezeToken> {
-    if place.index() >= ledger.queues() as usize {
+    if place.index() >= ledger.places() {
         return None;
     }
     ledger.take(place, Holder::Guest(guest))

@@ -17,17 +17,32 @@ const NUMBERS: u32 = 400;
 
 const PRIORITIES: u32 = 4;
 
-/// How often the queue is frozen.
+/// How often the queue is frozen, and its controller.
 #[derive(Drop)]
-struct Freezes(u32);
+struct Freezes {
+    queue: u32,
+    controller: u32,
+}
 
 impl Frozen for Freezes {
-    ghost frozen_count = { λ f. f.0 };
+    ghost frozen_count = { λ f. f.queue };
+
+    ghost controller_count = { λ f. f.controller };
 
     fn frozen(&self) -> u32 {
-        self.0
+        self.queue
+    }
+
+    fn controller_frozen(&self) -> u32 {
+        self.controller
     }
 }
+
+/// None of either.
+const NONE: Freezes = Freezes {
+    queue: 0,
+    controller: 0,
+};
 
 /// Numbers without an order, the same ones each time.
 #[derive(Drop)]
@@ -89,8 +104,8 @@ impl PlainQueue {
         least
     }
 
-    fn start(&mut self, frozen: bool) -> Result<CcbId, QueueFault> {
-        if frozen {
+    fn start(&mut self, freezes: &Freezes) -> Result<CcbId, QueueFault> {
+        if freezes.queue != 0 {
             return Err(QueueFault::Frozen);
         }
         if self.active >= u32::from(self.openings) {
@@ -99,6 +114,9 @@ impl PlainQueue {
         let Some(pair) = self.least() else {
             return Err(QueueFault::NothingWaits);
         };
+        if freezes.controller != 0 {
+            return Err(QueueFault::ControllerFrozen);
+        }
         let number = pair.number;
         self.waiting.retain(|other| other.number != number);
         self.active = self.active.saturating_add(1);
@@ -162,7 +180,7 @@ impl Both {
     fn start(&mut self, rt: &impl Abort) {
         let before = self.queue.steps();
         let started = self.queue.start(&self.freezes);
-        assert_eq!(rt; started, self.plain.start(self.freezes.0 != 0));
+        assert_eq!(rt; started, self.plain.start(&self.freezes));
         if started.is_err() {
             assert_eq!(rt; self.queue.steps(), before);
         }
@@ -212,7 +230,12 @@ impl Both {
     fn call(&mut self, rt: &impl Abort, fills: bool) -> Result<(), Fail> {
         match self.numbers.next() % 16 {
             0 => self.set_openings(),
-            1 => self.freezes = Freezes(self.numbers.next() % 2),
+            1 => {
+                self.freezes = Freezes {
+                    queue: self.numbers.next() % 2,
+                    controller: self.numbers.next() % 2,
+                };
+            }
             2 | 3 => self.put_back()?,
             4 => self.stop(),
             5 => self.leave(),
@@ -230,7 +253,7 @@ impl Both {
 
 // What comes last starts all that still wait.
 fn start_all(rt: &impl Abort, both: &mut Both) {
-    both.freezes = Freezes(0);
+    both.freezes = NONE;
     both.queue.set_openings(u8::MAX);
     both.plain.openings = u8::MAX;
     for _turn in 0..MAX_LIVE {
@@ -246,7 +269,7 @@ fn a_heap_answers_as_a_plain_list_does(rt: HostRuntime) -> Result<(), Fail> {
     let mut both = Both {
         queue: DevQueue::with_room(rt.alloc(), 2)?,
         plain: PlainQueue::new(rt.alloc(), 2),
-        freezes: Freezes(0),
+        freezes: NONE,
         numbers: Numbers(42),
     };
     assert_eq!(rt; both.queue.steps(), 0);

@@ -1,6 +1,5 @@
-/* What a policy sees: its context, and the helpers that it may call. Compile with
-   clang-14 -O2 -target bpf -mcpu=v3 -c policy.c -o policy.o
-   llvm-objcopy-14 -O binary --only-section=.text policy.o policy.bin */
+/* What a policy sees: its context with the codes that stand in it, and the helpers that it may call. tools/policy-from-c makes a
+   program of a manifest of one. */
 typedef unsigned char u8;
 typedef unsigned short u16;
 typedef unsigned int u32;
@@ -11,18 +10,44 @@ typedef int s32;
 typedef long long s64;
 
 struct context {
-    u32 ccb;
-    u32 queue;
-    u32 status;
-    u8 scsi;
-    u8 key;
-    u8 asc;
-    u8 ascq;
-    u32 retries;
-    u32 sense_length;
-    u32 attempts;
+    u32 ccb;          /* the CCB's number */
+    u32 queue;        /* its queue */
+    u32 status;       /* the CAM status in the low 6 bits, with these flags */
+    u8 scsi;          /* the SCSI status */
+    u8 key;           /* of the sense data that came: the sense key, */
+    u8 asc;           /* the additional sense code, */
+    u8 ascq;          /* and its qualifier */
+    u32 retries;      /* how many are left */
+    u32 sense_length; /* how many sense bytes came, 0 to 64 */
+    u32 attempts;     /* how often it was started */
     u32 zero;
-    u8 sense[64];
+    u8 sense[64];     /* the sense bytes, and zeros behind them */
+};
+
+/* The status: its code, and the flags beside it. */
+enum { STATUS_CODE = 0x3f, DEV_QFRZN = 0x40, AUTOSNS_VALID = 0x80 };
+enum {
+    CAM_REQ_ABORTED = 0x02,
+    CAM_BUSY = 0x05,
+    CAM_SEL_TIMEOUT = 0x0a,
+    CAM_CMD_TIMEOUT = 0x0b,
+    CAM_SCSI_STATUS_ERROR = 0x0c,
+    CAM_SCSI_BUS_RESET = 0x0e,
+    CAM_BDR_SENT = 0x17,
+    CAM_REQUEUE_REQ = 0x1b
+};
+
+/* SCSI statuses (SAM) and sense keys (SPC). */
+enum { SCSI_CHECK_CONDITION = 0x02, SCSI_BUSY = 0x08, SCSI_RESERVATION_CONFLICT = 0x18, SCSI_TASK_SET_FULL = 0x28 };
+enum {
+    SENSE_RECOVERED_ERROR = 0x1,
+    SENSE_NOT_READY = 0x2,
+    SENSE_MEDIUM_ERROR = 0x3,
+    SENSE_HARDWARE_ERROR = 0x4,
+    SENSE_ILLEGAL_REQUEST = 0x5,
+    SENSE_UNIT_ATTENTION = 0x6,
+    SENSE_DATA_PROTECT = 0x7,
+    SENSE_ABORTED_COMMAND = 0xb
 };
 
 /* What queue_info writes. */
@@ -45,3 +70,6 @@ static u64 (*const queue_info)(void *to) = (void *)9;
 static u64 (*const trace)(const void *bytes, u64 length) = (void *)10;
 static u64 (*const now)(void) = (void *)11;
 static u64 (*const set_openings)(u64 openings) = (void *)12;
+/* In a manifest of version 2 alone. */
+static u64 (*const freeze_controller)(void) = (void *)13;
+static u64 (*const controller_frozen)(void) = (void *)14;

@@ -1,3 +1,3 @@
 pub mod Rows
 pub mod Within
-pub mod Lengths
+pub mod PathLengths

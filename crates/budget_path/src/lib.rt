@@ -4,4 +4,4 @@
 
 mod longest;
 
-pub use longest::budget;
+pub use longest::{budget, lengths};

@@ -5,6 +5,7 @@ ghost use Rattle.call_shape.specs.StaticPath.{outermost, StaticPath};
 ghost use Rattle.call_shape.specs.Tables.{HasEntries};
 ghost use Rattle.call_shape.specs.declared.lawful_shape.TheConstants.{MAX_WRITTEN_OUT};
 ghost use Rattle.budget_path.specs.Length.{length_by};
+ghost use Rattle.budget_path.specs.Longest.{AreLongest};
 
 use call_shape::{MAX_WRITTEN_OUT, Onward, Shape};
 use std::alloc::{AllocError, Global};
@@ -16,6 +17,17 @@ pub fn budget(alloc: Global, shape: &Shape<'_>) -> Result<u32, AllocError>
     ensures longest { IfOk result (λ budget. (n : ℕ) → StaticPath shape.now (outermost 0) n → n ≤ budget) }
     ensures within { IfOk result (λ budget. budget ≤ MAX_WRITTEN_OUT) }
 {
+    // The proof knows what the program of a shape is.
+    let _program = shape.program();
+    let lengths = lengths(alloc, shape)?;
+    Ok(lengths[0])
+}
+
+/// The same from each slot where an instruction begins, to the exit of its function; one above `MAX_WRITTEN_OUT` stands for all that
+/// are too many, as a function may have them that slot 0's does not come to.
+pub fn lengths(alloc: Global, shape: &Shape<'_>) -> Result<Vec<u32>, AllocError>
+    ensures { IfOk result (λ lengths. AreLongest shape.now lengths.items) }
+{
     let program = shape.program();
     let mut lengths = vec![in alloc; 0u32; program.len()]?;
     for place in shape.postorder() {
@@ -26,7 +38,7 @@ pub fn budget(alloc: Global, shape: &Shape<'_>) -> Result<u32, AllocError>
         let longest = length_by(&lengths, Onward::of(place, insn));
         lengths[place] = longest;
     }
-    Ok(lengths[0])
+    Ok(lengths)
 }
 
 // The length of the longest path from a place, by those from where control goes on, up to one that is too great. A

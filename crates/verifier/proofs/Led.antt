@@ -1,7 +1,6 @@
 -- What it is for machines to be let on one way.
-use Rattle.std.proofs.Common.{◌≡◌, ℕ, ◌<◌, ◌≤◌, Bool, true, false, List, length, Option, Some, None, Result, Ok, Err, refl, ap, sym, subst, ◌∙◌, arith, ◌⊎◌, inl, inr, get_or-set_other, get_or-set_same}
-use Rattle.std.specs.Prelude.{IfOk, slice_set}
-use Rattle.std.proofs.lemmas.Bool.{cases_eq}
+use Rattle.std.proofs.Common.{◌≡◌, ℕ, ◌≤◌, Bool, true, false, List, length, Some, Result, Ok, Err, refl, sym, subst, ◌∙◌, arith, ◌⊎◌, inl, inr}
+use Rattle.std.specs.Prelude.{IfOk}
 use Rattle.bpf_insn.specs.declared.insn.Insn.{Insn}
 use Rattle.bpf_insn.specs.declared.program.Slot.{Slot}
 use Rattle.bpf_insn.specs.Program.{insn_at}
@@ -14,9 +13,9 @@ use Rattle.description.specs.Description.{Describes, NeverStuck}
 use Rattle.reg_domain.specs.Enough.{Leaves}
 use Rattle.reg_domain.specs.Ways.{HasWay}
 use Rattle.private_insns.specs.Follows.{Follows}
-use Rattle.verifier.specs.Arrives.{AllArrive, Arrives, NeverLacks, follows, goes_to}
-use Rattle.verifier.specs.Table.{Table, described, IsKnown, IsMerged, HasJoined, HasLed}
-use Rattle.verifier.proofs.Joined.{joined_in, merged_first, same_description}
+use Rattle.verifier.specs.Arrives.{Arrives, NeverLacks, follows, goes_to}
+use Rattle.verifier.specs.Table.{Table, described, IsKnown, HasJoined, HasLed}
+use Rattle.verifier.proofs.Joined.{same_description}
 
 -- what holds where all goes well, from what holds there
 pub if_ok : {A E P Q : Type 0} (result : Result A E) → (P → Q) → IfOk result (λ _. P) → IfOk result (λ _. Q)

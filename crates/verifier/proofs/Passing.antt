@@ -1,5 +1,5 @@
 -- What a visit of one place makes of what is passed: a call, an exit of a function, or an instruction by which control stays in it.
-use Rattle.std.proofs.Common.{◌≡◌, ℕ, ℤ, ◌+◌, ◌<◌, ◌≤◌, List, [], ◌∷◌, ◌++◌, length, Option, Some, None, refl, ap, sym, subst, ◌∙◌, arith, ◌⊎◌, inl, inr, get_or-set_other, get_or-set_same}
+use Rattle.std.proofs.Common.{◌≡◌, ℕ, ℤ, ◌+◌, ◌<◌, List, [], ◌∷◌, ◌++◌, length, Option, Some, None, refl, ap, sym, subst, ◌∙◌, arith, inl, inr, get_or-set_other, get_or-set_same}
 use Rattle.std.specs.Prelude.{slice_set}
 use Rattle.std.proofs.lemmas.Bool.{cases_eq}
 use Rattle.std.proofs.lemmas.List.{length-set}
@@ -10,7 +10,7 @@ use Rattle.bpf_insn.specs.declared.insn.Callee.TheVariants.{Local}
 use Rattle.bpf_insn.specs.declared.program.Slot.{Slot}
 use Rattle.bpf_insn.specs.Program.{insn_at}
 use Rattle.call_shape.specs.Calls.{callee_in}
-use Rattle.call_shape.specs.StaticPath.{Standing, outermost}
+use Rattle.call_shape.specs.StaticPath.{outermost}
 use Rattle.helpers.specs.declared.limits.HelperLimits.{HelperLimits}
 use Rattle.description.specs.declared.description.Description.{Description}
 use Rattle.description.specs.declared.saved.SavedRegisters.{SavedRegisters}
@@ -24,7 +24,7 @@ use Rattle.verifier.proofs.Called.{HasComeBack, behind_alone, visited_call}
 use Rattle.verifier.proofs.Checks.{alone, call_once, call_there, one_once, one_there}
 use Rattle.verifier.proofs.LeftOrChecked.{ahead_alone, visited_check, visited_leave}
 use Rattle.verifier.proofs.OnItsWay.{local_call}
-use Rattle.verifier.proofs.Passed.{IsTaken, carried, carry, carry_same, passed_more, taken_out}
+use Rattle.verifier.proofs.Passed.{IsTaken, carry, carry_same, passed_more, taken_out}
 use Rattle.verifier.proofs.Sound.{inside_table}
 
 module _ (limits : HelperLimits) (program : List Slot) (callers : List SavedRegisters) (entry : Description) (start : ℕ) (table : Table) (left : Option Description) (at first now : ℕ) (are : ArePassed limits program callers entry start table left at first now) where

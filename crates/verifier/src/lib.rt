@@ -12,7 +12,9 @@ mod refusal;
 mod table;
 mod verification;
 mod ways;
+mod witness;
 
 pub use refusal::{Refusal, VerifyError};
 pub use register_kinds::Cause;
-pub use verification::verify;
+pub use verification::{verify, verify_before};
+pub use witness::{Nobody, Witness};

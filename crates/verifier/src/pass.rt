@@ -22,10 +22,11 @@ ghost use Rattle.verifier.specs.Goes.{IsCallVisited, IsVisited};
 ghost use Rattle.verifier.specs.Table.{described};
 ghost use Rattle.verifier.specs.Verdict.{IsNumberOfChecks};
 
-use crate::known::{Known, Spare};
+use crate::known::Known;
 use crate::refusal::VerifyError;
 use crate::table::{Check, arrive, first_table, lead, leave};
 use crate::ways::{callee_of, end_of, returning, target_of};
+use crate::witness::{Along, Witness};
 use bpf_insn::Program;
 use call_shape::Shape;
 use description::SavedRegisters;
@@ -38,15 +39,19 @@ use std::alloc::Global;
 /// Describes each place of a program of lawful shape, and checks each instruction that something leads to, under these
 /// limits. The answer is how many checks were made. It takes memory for as many descriptions as ways are open at a time, and for
 /// a small table of each function that is open.
-pub fn pass(alloc: Global, limits: &HelperLimits, shape: &Shape<'_>) -> Result<u32, VerifyError>
+pub fn pass<W: Witness + Drop>(
+    alloc: Global,
+    limits: &HelperLimits,
+    shape: &Shape<'_>,
+    along: &mut Along<W>,
+) -> Result<u32, VerifyError>
     ensures safe { IfOk result (λ _. Safe shape.now limits.now) }
     ensures visits { IfOk result (IsNumberOfChecks shape.now) }
     ensures short { IfOk result (λ visits. visits ≤ MAX_WRITTEN_OUT) }
     ensures fails { IfErr result (LacksMemoryOrMore shape.now) }
 {
     let program = shape.program();
-    let mut spare = Spare::new(alloc)?;
-    let entry = spare.copy_of(&entry(alloc))?;
+    let entry = along.spare.copy_of(&entry(alloc))?;
     let mut callers = Vec::new(alloc);
     let mut visits = 0;
     visit_function(
@@ -56,7 +61,7 @@ pub fn pass(alloc: Global, limits: &HelperLimits, shape: &Shape<'_>) -> Result<u
         0,
         entry,
         &mut callers,
-        &mut spare,
+        along,
         &mut visits,
     )?;
     Ok(visits)
@@ -65,14 +70,14 @@ pub fn pass(alloc: Global, limits: &HelperLimits, shape: &Shape<'_>) -> Result<u
 // Visits a function that starts at a slot, while these wait for it, from what is known there. What is known where it is left
 // is the answer, if it is anywhere, for the place behind its call.
 #[cycle(functions)]
-fn visit_function(
+fn visit_function<W: Witness + Drop>(
     limits: &HelperLimits,
     program: &Program,
     start: usize,
     behind_call: usize,
     entry: Known,
     callers: &mut Vec<SavedRegisters>,
-    spare: &mut Spare,
+    along: &mut Along<W>,
     visits: &mut u32,
 ) -> Result<Option<Known>, VerifyError>
     requires lawful { IsLawfulProgram program.now }
@@ -86,7 +91,7 @@ fn visit_function(
     ensures fails { IfErr result (FailsUnless (IsNeverLacking program.now callers.old.items start × IsEntryKnown entry)) }
 {
     let len = end_of(program, start) - start;
-    let mut table = first_table(spare, len, entry)?;
+    let mut table = first_table(&mut along.spare, len, entry)?;
     let mut left = None;
     for at in 0..len {
         visit(
@@ -98,17 +103,17 @@ fn visit_function(
             &mut table,
             &mut left,
             callers,
-            spare,
+            along,
             visits,
         )?;
     }
-    spare.keep_table(table);
+    along.spare.keep_table(table);
     Ok(left)
 }
 
 // Visits one place: where something leads to it, its instruction is checked, and what is known there is led on.
 #[cycle(functions)]
-fn visit(
+fn visit<W: Witness + Drop>(
     limits: &HelperLimits,
     program: &Program,
     start: usize,
@@ -117,7 +122,7 @@ fn visit(
     table: &mut [Option<Known>],
     left: &mut Option<Known>,
     callers: &mut Vec<SavedRegisters>,
-    spare: &mut Spare,
+    along: &mut Along<W>,
     visits: &mut u32,
 ) -> Result<(), VerifyError>
     requires lawful { IsLawfulProgram program.now }
@@ -142,34 +147,40 @@ fn visit(
         return Ok(());
     };
     let check = Check::make(place, insn, visits);
+    along
+        .witness
+        .checks(check.number, place, &known.description);
     if let Some(target) = callee_of(place, insn) {
         let back = call(
-            limits, program, place, target, known, callers, spare, visits,
+            limits, program, place, target, known, callers, along, visits,
         )?;
         return match back {
-            Some(back) => arrive(table, at + 1, back, spare, place + 1),
+            Some(back) => arrive(table, at + 1, back, &mut along.spare, place + 1),
             None => Ok(()),
         };
     }
     if let Some(saved) = returning(insn, callers) {
-        return leave(known, &saved, left, spare, behind_call);
+        along
+            .witness
+            .leaves(check.number, behind_call, &known.description);
+        return leave(known, &saved, left, &mut along.spare, behind_call);
     }
     check_ways(
-        limits, program, callers, table, start, at, check, known, spare,
+        limits, program, callers, table, start, at, check, known, along,
     )
 }
 
 // Visits the function that the instruction at a place calls where that is known. What is known behind the call is the answer, if
 // any machine comes back.
 #[cycle(functions)]
-fn call(
+fn call<W: Witness + Drop>(
     limits: &HelperLimits,
     program: &Program,
     place: usize,
     callee: usize,
     mut known: Known,
     callers: &mut Vec<SavedRegisters>,
-    spare: &mut Spare,
+    along: &mut Along<W>,
     visits: &mut u32,
 ) -> Result<Option<Known>, VerifyError>
     requires lawful { IsLawfulProgram program.now }
@@ -194,7 +205,7 @@ fn call(
         place + 1,
         known,
         callers,
-        spare,
+        along,
         visits,
     )?;
     callers.pop();
@@ -202,7 +213,7 @@ fn call(
 }
 
 // Checks the instruction at a place, where that is known, by which control stays in its function, and lets it lead on both ways.
-fn check_ways(
+fn check_ways<W: Witness + Drop>(
     limits: &HelperLimits,
     program: &Program,
     callers: &[SavedRegisters],
@@ -211,7 +222,7 @@ fn check_ways(
     at: usize,
     check: Check,
     known: Known,
-    spare: &mut Spare,
+    along: &mut Along<W>,
 ) -> Result<(), VerifyError>
     requires lawful { IsLawfulProgram program.now }
     requires at { at < length table.old }
@@ -226,21 +237,21 @@ fn check_ways(
     let behind = at + check.insn.slots();
     match target_of(start + at, check.insn) {
         Some(target) => {
-            let also = spare.copy_of(&known.description)?;
+            let also = along.spare.copy_of(&known.description)?;
             let ahead = Way::FallThrough;
             lead(
-                limits, callers, table, check, also, ahead, start, behind, spare,
+                limits, callers, table, check, also, ahead, start, behind, along,
             )?;
             let to = target - start;
             let taken = Way::Taken;
             lead(
-                limits, callers, table, check, known, taken, start, to, spare,
+                limits, callers, table, check, known, taken, start, to, along,
             )
         }
         None => {
             let ahead = Way::FallThrough;
             lead(
-                limits, callers, table, check, known, ahead, start, behind, spare,
+                limits, callers, table, check, known, ahead, start, behind, along,
             )
         }
     }

@@ -16,6 +16,7 @@ ghost use Rattle.verifier.specs.Table.{HasJoined, HasLed, HasLeft, IsFirstTable,
 
 use crate::known::{Known, Spare};
 use crate::refusal::{Refusal, VerifyError, refused};
+use crate::witness::{Along, Witness};
 use bpf_insn::Insn;
 use description::SavedRegisters;
 use helpers::HelperLimits;
@@ -70,7 +71,7 @@ pub fn first_table(
 
 /// Checks an instruction where that is known, and lets it lead on one way: what is known then is joined into the table, of a function
 /// that starts at that slot. Nothing is behind the last exit.
-pub fn lead(
+pub fn lead<W: Witness + Drop>(
     limits: &HelperLimits,
     callers: &[SavedRegisters],
     table: &mut [Option<Known>],
@@ -79,7 +80,7 @@ pub fn lead(
     way: Way,
     start: usize,
     to: usize,
-    spare: &mut Spare,
+    along: &mut Along<W>,
 ) -> Result<(), VerifyError>
     requires stays { Stays callers.now check.insn }
     ensures whole { length table.new ≡ length table.old }
@@ -97,9 +98,11 @@ pub fn lead(
     ) {
         Ok(is_open) => {
             if is_open && to < table.len() {
-                arrive(table, to, known, spare, start.saturating_add(to))
+                let place = start.saturating_add(to);
+                along.witness.leads(check.number, place, &known.description);
+                arrive(table, to, known, &mut along.spare, place)
             } else {
-                spare.keep(known);
+                along.spare.keep(known);
                 Ok(())
             }
         }

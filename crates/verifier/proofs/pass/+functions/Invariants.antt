@@ -8,17 +8,17 @@ use Rattle.verifier.proofs.pass.+functions.Given as goal
 
 -- each call has one function more that waits
 abbrev pub decreases-call : goal.decreases-call
-decreases-call l = 3 * (8 - length l.callers.now.items)
+decreases-call g l = 3 * (8 - length l.callers.now.items)
 
 abbrev pub decreases-visit : goal.decreases-visit
-decreases-visit l = 3 * (8 - length l.callers.now.items) + 1
+decreases-visit g l = 3 * (8 - length l.callers.now.items) + 1
 
 abbrev pub decreases-visit_function : goal.decreases-visit_function
-decreases-visit_function l = 3 * (8 - length l.callers.now.items) + 2
+decreases-visit_function g l = 3 * (8 - length l.callers.now.items) + 2
 
 -- the places so far are done with, by as many checks at most as they have instructions with calls written out
 abbrev pub invariant-visit_function-loop-at : goal.invariant-visit_function-loop-at
-invariant-visit_function-loop-at l = record {
+invariant-visit_function-loop-at g l = record {
   whole : length l.table.items ≡ l.len;
   done : ArePassed l.limits l.program l.fn.callers.items l.fn.entry l.start l.table.items l.left l.at l.fn.visits l.visits;
   callers : l.callers.items ≡ l.fn.callers.items;

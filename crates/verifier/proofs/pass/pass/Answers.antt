@@ -21,7 +21,7 @@ visited_outermost : (limits : HelperLimits) (program : List Slot) (entry : Descr
 visited_outermost limits program entry left before after callers none = subst (λ (cs : List SavedRegisters). IsVisited limits program cs entry 0 left before after) none
 
 pub visit_function-requires-clause-own : goal.visit_function-requires-clause-own
-visit_function-requires-clause-own c =
+visit_function-requires-clause-own g c =
     let program = c.program-program.result.now in
     let is : IsProgram program = subst IsProgram (sym c.program-program.ensures.value) c.program-program.ensures.program in
     let own : IsOwn program [] 0 0 c.in_ok-entry.entry = record {
@@ -33,14 +33,14 @@ visit_function-requires-clause-own c =
     subst (λ (cs : List SavedRegisters). IsOwn program cs 0 0 c.in_ok-entry.entry) (sym c.new-callers.ensures.items) own
 
 pub visit_function-requires-clause-few : goal.visit_function-requires-clause-few
-visit_function-requires-clause-few c =
+visit_function-requires-clause-few g c =
     let program = c.program-program.result.now in
     let lawful : IsLawful program = subst IsLawful (sym c.program-program.ensures.value) c.program-program.ensures.lawful in
     let deep = ap (λ (cs : List SavedRegisters). written_out (8 - length cs) program 0) c.new-callers.ensures.items in
     omega (arith, deep, within_count 8 program 0 lawful.count lawful.written_out, lawful.short)
 
 pub returns-clause-safe : goal.returns-clause-safe
-returns-clause-safe c =
+returns-clause-safe g c =
     let program = c.program-program.result.now in
     let limits = c.args.limits.now in
     let left = c.in_ok-visit_function.field-0 in
@@ -48,7 +48,7 @@ returns-clause-safe c =
     subst (λ (p : List Slot). Safe p limits) c.program-program.ensures.value (outermost_safe limits program c.in_ok-entry.entry left visited.checks (subst DescribesEntries (sym c.in_ok-entry.ensures) c.entry.ensures.entries) visited.sound)
 
 pub returns-clause-visits : goal.returns-clause-visits
-returns-clause-visits c =
+returns-clause-visits g c =
     let program = c.program-program.result.now in
     let limits = c.args.limits.now in
     let left = c.in_ok-visit_function.field-0 in
@@ -67,7 +67,7 @@ returns-clause-visits c =
     }
 
 pub returns-clause-short : goal.returns-clause-short
-returns-clause-short c =
+returns-clause-short g c =
     let program = c.program-program.result.now in
     let lawful : IsLawful program = subst IsLawful (sym c.program-program.ensures.value) c.program-program.ensures.lawful in
     let deep = ap (λ (cs : List SavedRegisters). written_out (8 - length cs) program 0) c.new-callers.ensures.items in

@@ -30,8 +30,8 @@ returns-in_err-visits-clause-plain c =
     let told : IsPlain c.args.program.now → c.in_err-visits.field-0.0 ≡ OutOfMemory = λ is. only_memory c.args.program.now c.in_err-visits.field-0.0 (plain_never_lacks c.args.program.now is) fails in
     search (rules, told)
 
-pub new-requires : goal.new-requires
-new-requires c =
+pub new-requires-2 : goal.new-requires-2
+new-requires-2 c =
     let shape_is : c.in-Ok.shape ≡ c.args.program.now = c.in-Ok.ensures.value in
     let same : c.in_ok-program.program ≡ c.args.program.now = c.in_ok-program.ensures in
     let is : IsProgram c.args.program.now = subst IsProgram same (rw (← c.program.view_is) c.program.invariant.0) in

@@ -16,8 +16,9 @@ use Rattle.call_shape.specs.StaticPath.{outermost, StaticPath, depth}
 use Rattle.call_shape.proofs.Places.{begins_inside, there_begins}
 use Rattle.call_shape.proofs.Paths.{HasPath, WaysFrom, GoesOut, ways_on, way_from}
 use Rattle.call_shape.proofs.Ways.{IsFurther, IsCalled, IsLawfulWay, lawful_way}
-use Rattle.call_shape.proofs.Filled.{AreFilled, filled_none, filled_more, filled_further, filled_callee}
+use Rattle.call_shape.proofs.Filled.{AreFilled, filled_none, filled_more, filled_all, filled_further, filled_callee}
 use Rattle.budget_path.specs.Length.{length_by}
+use Rattle.budget_path.specs.Longest.{AreLongest, IsLongestFrom}
 use Rattle.budget_path.proofs.Within.{path_within}
 
 -- some path from a place is so long, and none is longer
@@ -157,12 +158,26 @@ pub record IsBudget (program : List Slot) (budget : ℕ) : Type 0 where
   pub longest : (n : ℕ) → StaticPath program (outermost 0) n → n ≤ budget
   pub within : budget ≤ MAX_WRITTEN_OUT
 
-pub budget_is : (program : List Slot) (entry : ℕ) → IsProgram program → IsLawful program → IsLength program 0 entry → IsBudget program entry
+pub budget_is : (program : List Slot) (entry : ℕ) → IsProgram program → IsLawful program → IsLongestFrom program 0 entry → IsBudget program entry
 budget_is program entry is lawful known =
-    let short = path_within program lawful.count known.whole known.longest.deep is lawful.frames.calls.functions lawful.written_out known.longest.path in
-    let same : known.whole ≡ entry = omega (arith, short, lawful.short, known.same) in
+    let short = path_within program lawful.count known.longest (depth program (outermost 0) known.longest known.path) is lawful.frames.calls.functions lawful.written_out (known.path, refl) in
+    let same : known.longest ≡ entry = omega (arith, short, lawful.short, known.same) in
     record {
-      path = subst (StaticPath program (outermost 0)) same known.longest.path.0;
-      longest = λ n path. omega (arith, same, known.longest.most n (depth program (outermost 0) n path) (path, refl));
+      path = subst (StaticPath program (outermost 0)) same known.path;
+      longest = λ n path. omega (arith, same, known.most n path);
       within = omega (arith, same, short, lawful.short);
     }
+
+-- at the end all places have theirs
+pub are_longest : (program : List Slot) (places lengths : List ℕ) → IsWholePostorder program places → AreLengths program places lengths (length places) → AreLongest program lengths
+are_longest program places lengths order done = record {
+  whole = done.whole;
+  each = λ place there.
+      let known = filled_all program places (IsLength program) lengths place order done.filled there in
+      record {
+        longest = known.whole;
+        path = known.longest.path.0;
+        most = λ n path. known.longest.most n (depth program (outermost place) n path) (path, refl);
+        same = known.same;
+      };
+}

@@ -1,0 +1,18 @@
+-- The lengths of the longest paths from all places.
+use Rattle.std.specs.Prelude.{◌≡◌, ℕ, ◌≤◌, true, List, length, slice_index}
+use Rattle.bpf_insn.specs.declared.program.Slot.{Slot}
+use Rattle.call_shape.specs.Calls.{begins}
+use Rattle.call_shape.specs.Counts.{capped}
+use Rattle.call_shape.specs.StaticPath.{outermost, StaticPath}
+
+-- some path from there to the exit of its function is so long and none is longer, up to where there are too many
+pub record IsLongestFrom (program : List Slot) (place entry : ℕ) : Type 0 where
+  pub longest : ℕ
+  pub path : StaticPath program (outermost place) longest
+  pub most : (n : ℕ) → StaticPath program (outermost place) n → n ≤ longest
+  pub same : entry ≡ capped longest
+
+-- an entry for each slot, of those where an instruction begins
+pub record AreLongest (program : List Slot) (lengths : List ℕ) : Type 0 where
+  pub whole : length lengths ≡ length program
+  pub each : (place : ℕ) → begins program place ≡ true → IsLongestFrom program place (slice_index lengths place)

@@ -1,0 +1,434 @@
+// Faults of a manifest's form in a report: keys, types, ranges, how many tables there are, and names. It relies on `keys` for what may
+// stand where, on `manifest_layout` for places, and on `strsim` for names that are near.
+
+use crate::excerpt;
+use crate::keys::{KEYS, Key, Presence, Wants, called, find, is_table};
+use crate::places::{table_span, value_span};
+use manifest::ManifestFault;
+use manifest_form::{Plan, has_lawful_numbers};
+use manifest_layout::{Entry, Layout, Span};
+use std::alloc::{AllocError, Global};
+use strsim::levenshtein;
+use toml::Value;
+use toml_parser::{Scalar, quoted, starts_string, unquoted};
+
+/// How far a name may be from one that is meant, in letters that differ.
+const NEAR: usize = 3;
+
+/// The most queues and programs, and the most tables.
+const MOST: usize = 64;
+
+const MOST_TABLES: usize = 16;
+
+/// Writes which key, which type or which number is wrong in a manifest that has such a fault.
+pub fn print(
+    alloc: Global,
+    path: &str,
+    text: &str,
+    layout: &Layout,
+    document: &Value,
+    fault: &ManifestFault,
+    out: &mut String,
+) -> Result<(), AllocError> {
+    let is_second = !matches!(document.get("version"), Some(Value::Integer(1)));
+    match fault {
+        ManifestFault::Key => print_key(alloc, path, text, layout, is_second, out),
+        ManifestFault::Form => print_form(alloc, path, text, layout, is_second, out),
+        _ => print_range(alloc, path, text, layout, is_second, out),
+    }
+}
+
+// The name of the table that a key stands in.
+fn table_of<'a>(layout: &'a Layout, entry: &Entry) -> &'a str {
+    match layout.tables.get(entry.table) {
+        Some(table) => table.name.as_str(),
+        None => "",
+    }
+}
+
+// Writes which key is not known, or is missing.
+fn print_key(
+    alloc: Global,
+    path: &str,
+    text: &str,
+    layout: &Layout,
+    is_second: bool,
+    out: &mut String,
+) -> Result<(), AllocError> {
+    for entry in &layout.entries {
+        let table = table_of(layout, entry);
+        if is_table(table) && find(table, entry.name.as_str(), is_second).is_none() {
+            excerpt::print(out, path, text, entry.key)?;
+            write!(
+                out,
+                "  = here: {} has no key `{}`",
+                called(table),
+                entry.name.as_str()
+            )?;
+            put_nearest_key(alloc, out, table, entry.name.as_str(), is_second)?;
+            return writeln!(out);
+        }
+    }
+    for table in &layout.tables {
+        if !is_table(table.name.as_str()) {
+            excerpt::print(out, path, text, table.span)?;
+            write!(
+                out,
+                "  = here: the manifest has no key `{}`",
+                table.name.as_str()
+            )?;
+            put_nearest_key(alloc, out, "", table.name.as_str(), is_second)?;
+            return writeln!(out);
+        }
+    }
+    print_missing(path, text, layout, is_second, out)
+}
+
+// Writes which key is missing.
+fn print_missing(
+    path: &str,
+    text: &str,
+    layout: &Layout,
+    is_second: bool,
+    out: &mut String,
+) -> Result<(), AllocError> {
+    for (place, table) in layout.tables.iter().enumerate() {
+        let name = table.name.as_str();
+        for key in &KEYS {
+            if key.table == name && key.must_stand(is_second) && !stands(layout, place, key) {
+                excerpt::print(out, path, text, table.span)?;
+                return writeln!(
+                    out,
+                    "  = here: the key `{}` of {} is missing",
+                    key.name,
+                    called(name)
+                );
+            }
+        }
+        let sources = count_either(layout, place, name);
+        if name == "program" && sources != 1 {
+            excerpt::print(out, path, text, table.span)?;
+            return writeln!(
+                out,
+                "  = here: a program has either `asm` or `code`, just one of them"
+            );
+        }
+    }
+    Ok(())
+}
+
+// Whether a key stands in that table, or tables of its name have headers.
+fn stands(layout: &Layout, table: usize, key: &Key) -> bool {
+    layout.entry(table, key.name).is_some()
+        || (key.wants == Wants::Tables && layout.count(key.name) > 0)
+}
+
+// How many of the keys stand in a table of which just one does.
+fn count_either(layout: &Layout, table: usize, name: &str) -> usize {
+    KEYS.iter()
+        .filter(|key| key.table == name && key.presence == Presence::Either)
+        .filter(|key| layout.entry(table, key.name).is_some())
+        .count()
+}
+
+// Writes the key of a table that is nearest to a word, if one is near.
+fn put_nearest_key(
+    alloc: Global,
+    out: &mut String,
+    table: &str,
+    word: &str,
+    is_second: bool,
+) -> Result<(), AllocError> {
+    let mut nearest = KEYS.len();
+    let mut least = NEAR + 1;
+    for (place, key) in KEYS.iter().enumerate() {
+        if key.table == table && key.may_stand(is_second) {
+            let distance = levenshtein(alloc, word, key.name)?;
+            if distance < least {
+                least = distance;
+                nearest = place;
+            }
+        }
+    }
+    match KEYS.get(nearest) {
+        Some(key) => put_near(out, key.name),
+        None => Ok(()),
+    }
+}
+
+fn put_near(out: &mut String, name: &str) -> Result<(), AllocError> {
+    if !name.is_empty() {
+        write!(out, "; `{name}` is near")?;
+    }
+    Ok(())
+}
+
+// Writes which value is of another type.
+fn print_form(
+    alloc: Global,
+    path: &str,
+    text: &str,
+    layout: &Layout,
+    is_second: bool,
+    out: &mut String,
+) -> Result<(), AllocError> {
+    for table in &layout.tables {
+        let name = table.name.as_str();
+        if !name.is_empty() && is_single(text, table.span) {
+            excerpt::print(out, path, text, table.span)?;
+            return writeln!(
+                out,
+                "  = here: there may be several of {name}: its header has two brackets, [[{name}]]"
+            );
+        }
+    }
+    for entry in &layout.entries {
+        let Some(key) = find(table_of(layout, entry), entry.name.as_str(), is_second) else {
+            continue;
+        };
+        let value = written(text, entry.value);
+        if !is_of_form(alloc, key.wants, value)? {
+            excerpt::print(out, path, text, entry.value)?;
+            write!(out, "  = here: `{}` is ", key.name)?;
+            put_wants(out, key.wants)?;
+            return writeln!(out);
+        }
+    }
+    Ok(())
+}
+
+// Whether it is a header in one pair of brackets.
+fn is_single(text: &str, span: Span) -> bool {
+    let header = written(text, span);
+    header.starts_with('[') && !header.starts_with("[[")
+}
+
+// What stands in a part of a text.
+fn written(text: &str, part: Span) -> &str {
+    match text.get(part.start..part.end) {
+        Some(written) => written,
+        None => "",
+    }
+}
+
+// Whether a value is of the type that a key has.
+fn is_of_form(alloc: Global, wants: Wants, value: &str) -> Result<bool, AllocError> {
+    Ok(match wants {
+        Wants::Number { .. } => number_in(alloc, value).is_some(),
+        Wants::Text => starts_string(value),
+        Wants::Code => is_code(alloc, value)?,
+        Wants::Tables => value.starts_with('['),
+    })
+}
+
+// The whole number that is written so.
+fn number_in(alloc: Global, value: &str) -> Option<i64> {
+    match unquoted(alloc, value) {
+        Ok((Scalar::Integer(number), _)) => Some(number),
+        _ => None,
+    }
+}
+
+// Whether it is a text of pairs of digits.
+fn is_code(alloc: Global, value: &str) -> Result<bool, AllocError> {
+    if !starts_string(value) {
+        return Ok(false);
+    }
+    match quoted(alloc, value) {
+        Ok((text, _)) => Ok(text.as_str().bytes().all(is_of_code)),
+        Err(_) => Err(AllocError),
+    }
+}
+
+fn is_of_code(byte: u8) -> bool {
+    matches!(byte, b'0'..=b'9' | b'a'..=b'f' | b' ' | b'\t' | b'\n')
+}
+
+// Writes of which type a value is.
+fn put_wants(out: &mut String, wants: Wants) -> Result<(), AllocError> {
+    match wants {
+        Wants::Number { least, most } => write!(out, "a whole number, {least} to {most}"),
+        Wants::Text => {
+            out.push_str("a text in quotes")?;
+            Ok(())
+        }
+        Wants::Code => {
+            out.push_str(
+                "a text of pairs of the digits 0 to 9 and a to f, with blanks and line feeds between them",
+            )?;
+            Ok(())
+        }
+        Wants::Tables => {
+            out.push_str("an array of tables")?;
+            Ok(())
+        }
+    }
+}
+
+// Writes which number is out of its range.
+fn print_range(
+    alloc: Global,
+    path: &str,
+    text: &str,
+    layout: &Layout,
+    is_second: bool,
+    out: &mut String,
+) -> Result<(), AllocError> {
+    let controllers = match layout.entry(0, "controllers") {
+        Some(entry) => number_in(alloc, written(text, entry.value)),
+        None => None,
+    };
+    for entry in &layout.entries {
+        let Some(key) = find(table_of(layout, entry), entry.name.as_str(), is_second) else {
+            continue;
+        };
+        let Some((least, most)) = range_of(key, controllers) else {
+            continue;
+        };
+        match number_in(alloc, written(text, entry.value)) {
+            Some(number) if number < least || most < number => {
+                excerpt::print(out, path, text, entry.value)?;
+                return writeln!(
+                    out,
+                    "  = here: `{}` is {least} to {most}, and not {number}",
+                    key.name
+                );
+            }
+            _ => {}
+        }
+    }
+    Ok(())
+}
+
+// The numbers that a key may have, where there are so many controllers.
+fn range_of(key: &Key, controllers: Option<i64>) -> Option<(i64, i64)> {
+    let Wants::Number { least, most } = key.wants else {
+        return None;
+    };
+    match controllers {
+        Some(count) if key.name == "controller" => Some((least, most.min(count.saturating_sub(1)))),
+        _ => Some((least, most)),
+    }
+}
+
+/// Writes what is wrong with a manifest whose keys, types and ranges are lawful: how many tables there are, or a name.
+pub fn print_plan(
+    alloc: Global,
+    path: &str,
+    text: &str,
+    layout: &Layout,
+    plan: &Plan<'_>,
+    out: &mut String,
+) -> Result<(), AllocError> {
+    if has_lawful_numbers(plan) {
+        print_names(alloc, path, text, layout, plan, out)
+    } else {
+        print_count(path, text, layout, plan, out)
+    }
+}
+
+// Writes of what there is none, or there are too many.
+fn print_count(
+    path: &str,
+    text: &str,
+    layout: &Layout,
+    plan: &Plan<'_>,
+    out: &mut String,
+) -> Result<(), AllocError> {
+    let counts = [
+        ("queue", plan.queues.len(), 1usize, MOST),
+        ("program", plan.programs.len(), 1usize, MOST),
+        ("table", plan.tables.len(), 0usize, MOST_TABLES),
+    ];
+    for (name, count, least, most) in counts {
+        if count < least || most < count {
+            let place = match layout.table(name, most) {
+                Some(table) => table_span(layout, table),
+                None => Span { start: 0, end: 0 },
+            };
+            excerpt::print(out, path, text, place)?;
+            return writeln!(
+                out,
+                "  = here: there are {count} of {name}, and may be {least} to {most}"
+            );
+        }
+    }
+    Ok(())
+}
+
+// Writes which name is not of the form, is there twice, or is of no program.
+fn print_names(
+    alloc: Global,
+    path: &str,
+    text: &str,
+    layout: &Layout,
+    plan: &Plan<'_>,
+    out: &mut String,
+) -> Result<(), AllocError> {
+    for (number, program) in plan.programs.iter().enumerate() {
+        let twice = plan
+            .programs
+            .iter()
+            .take(number)
+            .any(|other| other.name == program.name);
+        if twice || !is_name(program.name) {
+            excerpt::print(
+                out,
+                path,
+                text,
+                value_span(layout, "program", number, "name"),
+            )?;
+            return writeln!(
+                out,
+                "{}",
+                if twice {
+                    "  = here: an earlier program has this name"
+                } else {
+                    "  = here: a name has 1 to 32 of the characters a to z, 0 to 9, `_` and `-`"
+                }
+            );
+        }
+    }
+    for (number, queue) in plan.queues.iter().enumerate() {
+        if !plan
+            .programs
+            .iter()
+            .any(|program| program.name == queue.program)
+        {
+            excerpt::print(
+                out,
+                path,
+                text,
+                value_span(layout, "queue", number, "program"),
+            )?;
+            write!(out, "  = here: no program has this name")?;
+            put_nearest_program(alloc, out, plan, queue.program)?;
+            return writeln!(out);
+        }
+    }
+    Ok(())
+}
+
+fn is_name(name: &str) -> bool {
+    (1..=32).contains(&name.len())
+        && name.bytes().all(|byte| matches!(byte, b'a'..=b'z' | b'0'..=b'9' | b'_' | b'-'))
+}
+
+// Writes the program whose name is nearest, if one is near.
+fn put_nearest_program(
+    alloc: Global,
+    out: &mut String,
+    plan: &Plan<'_>,
+    word: &str,
+) -> Result<(), AllocError> {
+    let mut nearest = "";
+    let mut least = NEAR + 1;
+    for program in &plan.programs {
+        let distance = levenshtein(alloc, word, program.name)?;
+        if distance < least {
+            least = distance;
+            nearest = program.name;
+        }
+    }
+    put_near(out, nearest)
+}

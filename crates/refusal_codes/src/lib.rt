@@ -1,0 +1,12 @@
+// All codes by which the program tells refusals, and what there is to say of each. It relies on nothing.
+#![tactic(auto)]
+
+mod calls;
+mod code;
+mod explanation;
+mod files;
+mod policies;
+mod programs;
+
+pub use code::{CODES, Code, SPELLINGS, Spelling};
+pub use explanation::{Explanation, POLICY, POLICY_BYTES, Shown, print};

@@ -17,3 +17,4 @@ pub mod TakingOver
 pub mod Replies
 pub mod Performing
 pub mod Unrecorded
+pub mod Looking

@@ -2,10 +2,18 @@
 // freezes, and has the runs and the tokens itself. It relies on `parts` for what an event does, and on `world` for what may
 // happen.
 
-ghost use Rattle.std.specs.Prelude.{◌≡◌, ◌∷◌, [], ◌++◌, Some, IfOk, OnErr, false};
+ghost use Rattle.std.specs.Prelude.{◌≡◌, ◌<◌, ◌↔◌, ◌∷◌, [], ◌++◌, length, Some, None, IsSome, IfSome, IfNone, IfOk, OnErr, false};
 ghost use Rattle.calls.specs.declared.call.Call.{Call as TheCall};
 ghost use Rattle.calls.specs.declared.call.Call.TheVariants.{Complete, GuestFreeze, GuestRelease, Park};
 ghost use Rattle.calls.specs.declared.record.Record.TheVariants.{Called};
+ghost use Rattle.bpf_semantics.specs.declared.stop.Stop.TheVariants.{Helper as AtHelper};
+ghost use Rattle.freeze_ledger.specs.Freezes.{holders_of};
+ghost use Rattle.freeze_ledger.specs.Places.{index_of, places_of};
+ghost use Rattle.world.specs.Capacities.{most_controllers};
+ghost use Rattle.world.specs.Lookups.{ccb_of, run_of};
+ghost use Rattle.world.specs.QueueInfo.{queue_info};
+ghost use Rattle.world.specs.World.{World};
+ghost use Rattle.engine_core.specs.Looking.{AsksNext, IsRunTold};
 ghost use Rattle.engine_core.specs.Replies.{call_of};
 ghost use Rattle.engine_core.specs.Unrecorded.{Advances, Answers, CannotFollow, Follows, IsPlain, opened_unrecorded, sums_behind};
 
@@ -14,13 +22,18 @@ use crate::event::Event;
 use crate::guest_tokens::{GuestToken, take_token};
 use crate::parts::Parts;
 use crate::run_events::{advance, run_at};
+use crate::run_info::RunInfo;
 use crate::told::answer_in;
+use bpf_semantics::Stop;
 use calls::{Call, CallAnswer, CompletionRecord, Record, Totals};
-use ccb::Completion;
+use ccb::{CcbId, Completion, QueueId};
 use engine_config::Config;
-use freeze_ledger::Place;
+use freeze_ledger::{Holders, Place};
+use helpers::Request;
 use std::alloc::{AllocError, Global};
 use std::marker::Model;
+use transport::LiveCcb;
+use world::QueueInfo;
 
 /// Device queues with their CCBs, freezes and recovery runs, of which no history is kept. It is asked by plain calls, and has all
 /// runs and all guests' tokens itself. Contracts see the setup, and what it has of a world.
@@ -193,6 +206,73 @@ impl<'a> Unrecorded<'a> {
         }
     }
 
+    /// What the clock read last, in milliseconds, 0 before the first reading.
+    pub fn clock(&self) -> u64
+        ensures { result ≡ self.now.transport.clock }
+    {
+        self.parts.transport.clock()
+    }
+
+    /// The live CCB of that number, with where it is; `None` exactly where no live one has it.
+    pub fn ccb(&self, ccb: CcbId) -> Option<LiveCcb>
+        ensures { result ≡ ccb_of ccb.0 self.now.transport.live }
+    {
+        self.parts.transport.live(ccb)
+    }
+
+    /// The freezes, the active and the waiting CCBs and the openings of a queue; `None` exactly where there is no such queue.
+    pub fn queue_info(&self, queue: QueueId) -> Option<QueueInfo>
+        ensures there { IsSome result ↔ (queue.0 < length self.now.transport.openings) }
+        ensures told { IfSome result (λ told. (world : World) → told ≡ queue_info (record world { transport = self.now.transport }) queue.0) }
+    {
+        if self.parts.transport.has_queue(queue) {
+            Some(self.parts.transport.queue_info(queue))
+        } else {
+            None
+        }
+    }
+
+    /// The number and the holder of each freeze of a place, by rising number; `None` exactly where there is no such place:
+    /// neither a queue, nor one of as many controllers as there may be.
+    pub fn holders(&self, place: Place) -> Option<Holders<'_>>
+        ensures there { IsSome result ↔ (index_of place < places_of (length self.now.transport.openings) most_controllers) }
+        ensures holders { IfSome result (λ holders. holders ≡ holders_of place self.now.transport.freezes) }
+    {
+        self.parts.transport.holders(place)
+    }
+
+    /// What is recorded of the run of that number; `None` exactly where no live run has it.
+    pub fn run(&self, run: u32) -> Option<RunInfo>
+        ensures told { IfSome result (IsRunTold run self.now.runs.list) }
+        ensures none { IfNone result (run_of run self.now.runs.list ≡ None) }
+    {
+        let runs = &self.parts.runs;
+        let place = runs.place_of(run)?;
+        Some(RunInfo {
+            ccb: runs.ccb(place),
+            queue: runs.queue(place),
+            controller: runs.controller(place),
+            is_out: runs.is_out(place),
+        })
+    }
+
+    /// What the run of that number asks where it comes to its next stop: a helper, with its arguments. `None` where no run of
+    /// that number is out, or where it comes to its exit. It changes nothing.
+    pub fn asked(&mut self, run: u32) -> Result<Option<Request>, AllocError>
+        ensures asked { IfOk result (λ asked. IfSome asked (AsksNext self.old.runs.list run)) }
+        ensures same { self.new ≡ self.old }
+    {
+        let Some(place) = self.parts.runs.out_at(run) else {
+            return Ok(None);
+        };
+        let stopped = run_at(self.config, &mut self.parts.runs, place)?.to_stop();
+        let request = request_of(stopped.stop());
+        let (machine, next) = stopped.spent();
+        self.parts.runs.keep_place(machine);
+        self.parts.runs.keep_place(next);
+        Ok(request)
+    }
+
     /// The sums, behind so many records.
     pub fn totals(&self, records: u64) -> Totals
         ensures { result ≡ sums_behind records self.now }
@@ -203,5 +283,15 @@ impl<'a> Unrecorded<'a> {
             active: self.parts.transport.active(),
             runs: self.parts.runs.len(),
         }
+    }
+}
+
+// What is asked there, if a helper is.
+fn request_of(stop: Stop) -> Option<Request>
+    ensures { IfSome result (λ request. stop ≡ AtHelper request) }
+{
+    match stop {
+        Stop::Helper(request) => Some(request),
+        Stop::Exit { .. } => None,
     }
 }

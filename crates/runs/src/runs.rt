@@ -2,7 +2,7 @@
 // for where its record stands, on `held_tokens` for its rights to give freezes back, on `table_store` for tables, and on
 // `world` for what contracts see.
 
-ghost use Rattle.std.specs.Prelude.{◌≡◌, ℕ, ◌+◌, ◌%◌, ◌^◌, ◌<◌, ◌≤◌, ◌++◌, ◌==◌, ◌↔◌, true, false, not, List, [], ◌∷◌, length, filter, map, slice_set, Some, IsTrue, IsSome, IfSome, IfNone, IfOk};
+ghost use Rattle.std.specs.Prelude.{◌≡◌, ℕ, ◌+◌, ◌%◌, ◌^◌, ◌<◌, ◌≤◌, ◌++◌, ◌==◌, ◌↔◌, true, false, not, List, [], ◌∷◌, length, filter, map, slice_set, Some, None, IsTrue, IsSome, IfSome, IfNone, IfOk};
 ghost use Rattle.std.specs.List.{remove};
 ghost use Rattle.std.specs.Arc.{arc_value};
 ghost use Rattle.std.specs.Option.{option_to_list};
@@ -257,6 +257,16 @@ impl Runs {
         }
     }
 
+    /// Where the run of that number stands, out or parked; `None` exactly where no live run has it. The place is good until a
+    /// run starts or ends.
+    pub fn place_of(&self, run: u32) -> Option<usize>
+        ensures place { IfSome result (λ place. (it : LiveRun) × (run_of run self.now.runs.list ≡ Some it) × HasRunAt self.now.runs.list place it) }
+        ensures none { IfNone result (run_of run self.now.runs.list ≡ None) }
+    {
+        let place = place_of(&self.records, run)?;
+        Some(place)
+    }
+
     /// Where the run of that number stands, which is live and parked; `None`, which is C1, exactly where there is no such
     /// run. The place is good until a run starts or ends.
     pub fn parked(&self, run: u32) -> Option<usize>
@@ -283,6 +293,14 @@ impl Runs {
         } else {
             None
         }
+    }
+
+    /// Whether the run at this place is out; else it is parked.
+    pub fn is_out(&self, place: usize) -> bool
+        requires { (it : LiveRun) × HasRunAt self.now.runs.list place it }
+        ensures { (it : LiveRun) → HasRunAt self.now.runs.list place it → result ≡ it.out }
+    {
+        self.records[place].out
     }
 
     /// The run at this place is out from now on, or is parked.

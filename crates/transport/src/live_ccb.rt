@@ -49,6 +49,13 @@ impl LiveCcb {
         &self.ccb
     }
 
+    /// Where it is: it waits, is active, or is in recovery.
+    pub fn state(&self) -> CcbState
+        ensures { result ≡ self.now.state }
+    {
+        self.state
+    }
+
     /// Whether a device works on it.
     pub fn is_active(&self) -> bool
         ensures { result ≡ is_active self.now.state }

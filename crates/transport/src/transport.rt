@@ -2,14 +2,14 @@
 // of the freezes that guests, runs and timers hold. It relies on `ccb_list` for the CCBs, on `queue_list` for the queues,
 // and on `freeze_ledger` for the freezes.
 
-ghost use Rattle.std.specs.Prelude.{◌≡◌, ℕ, ◌+◌, ◌<◌, ◌≤◌, ◌++◌, [], ◌∷◌, ◌==◌, ◌↔◌, not, true, false, length, map, filter, count_by, slice_index, slice_set, All, Contains, IsTrue, None, Some, IfOk, IfSome, IfNone, OnOk, OnErr};
+ghost use Rattle.std.specs.Prelude.{◌≡◌, ℕ, ◌+◌, ◌<◌, ◌≤◌, ◌++◌, [], ◌∷◌, ◌==◌, ◌↔◌, not, true, false, length, map, filter, count_by, slice_index, slice_set, All, Contains, IsTrue, IsSome, None, Some, IfOk, IfSome, IfNone, OnOk, OnErr};
 ghost use Rattle.std.specs.Option.{is_some};
 ghost use Rattle.ccb.specs.Ccb.{completed, requeued};
 ghost use Rattle.dev_queue.specs.State.{empty_queue};
 ghost use Rattle.freeze_ledger.specs.declared.freeze.Holder.TheVariants.{Guest, Run};
 ghost use Rattle.freeze_ledger.specs.declared.place.Place.TheVariants.{Controller, Device};
 ghost use Rattle.freeze_ledger.specs.declared.ledger.TheConstants.{MAX_FREEZES};
-ghost use Rattle.freeze_ledger.specs.Freezes.{entry_of, frozen, handed_over, not_due_at, without};
+ghost use Rattle.freeze_ledger.specs.Freezes.{entry_of, frozen, handed_over, holders_of, not_due_at, without};
 ghost use Rattle.freeze_ledger.specs.Places.{index_of, places_of};
 ghost use Rattle.world.specs.declared.ccb_state.CcbState.TheVariants.{Waiting, Active as IsActive, InRecovery};
 ghost use Rattle.world.specs.World.{Setup, World, queue_count, queue_setup, LiveCcb as WorldCcb};
@@ -30,7 +30,7 @@ use crate::live_ccb::LiveCcb;
 use crate::queue_list::{FrozenTimes, QueueList, refusal};
 use calls::CallRefusal;
 use ccb::{Ccb, CcbId, Completion, QueueId};
-use freeze_ledger::{FreezeToken, Holder, Ledger, Place};
+use freeze_ledger::{FreezeToken, Holder, Holders, Ledger, Place};
 use std::alloc::{AllocError, Global};
 use std::marker::Model;
 use timer_events::expire_due;
@@ -169,6 +169,14 @@ impl Transport {
         self.ccbs.at(place)
     }
 
+    /// The live CCB of this number, with where it is; `None` exactly where no live one has it.
+    pub fn live(&self, ccb: CcbId) -> Option<LiveCcb>
+        ensures { result ≡ ccb_of ccb.0 self.now.live }
+    {
+        let place = self.ccbs.place_of(ccb)?;
+        Some(*self.ccbs.at(place))
+    }
+
     /// The CCB of this number is finished and gone. It asks for an active one, or one in recovery.
     pub fn finish(&mut self, ccb: CcbId)
         requires { (it : WorldCcb) × (ccb_of ccb.0 self.old.live ≡ Some it) × (is_waiting it.state ≡ false) }
@@ -235,6 +243,13 @@ impl Transport {
         }
     }
 
+    /// Whether there is a queue of that number.
+    pub fn has_queue(&self, queue: QueueId) -> bool
+        ensures { IsTrue result ↔ (queue.0 < length self.now.openings) }
+    {
+        (queue.0 as usize) < self.queues.len()
+    }
+
     /// A queue that there is has so many openings from now on, at least 1, and the answer is how many it had. Openings
     /// below its active CCBs stop starts and nothing else.
     pub fn set_openings(&mut self, queue: QueueId, openings: u8) -> u8
@@ -262,6 +277,19 @@ impl Transport {
         ensures bound { result ≤ MAX_FREEZES }
     {
         self.ledger.len() as u32
+    }
+
+    /// The number and the holder of each freeze of a place, by rising number; `None` exactly where there is no such place:
+    /// neither a queue, nor one of as many controllers as there may be.
+    pub fn holders(&self, place: Place) -> Option<Holders<'_>>
+        ensures there { IsSome result ↔ (index_of place < places_of (length self.now.openings) most_controllers) }
+        ensures holders { IfSome result (λ holders. holders ≡ holders_of place self.now.freezes) }
+    {
+        if place.index() < self.ledger.places() {
+            Some(self.ledger.holders(place))
+        } else {
+            None
+        }
     }
 
     /// Freezes a place that there is once more for this holder: the right to give that freeze back. `None`, which changes

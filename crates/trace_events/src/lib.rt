@@ -1,0 +1,16 @@
+// What the records of a trace tell, over the world through which they lead: who reads a trace in words, as sums or as a picture
+// goes by the same events. It relies on `engine_core` for the world, and on `calls` for records.
+#![tactic(auto)]
+
+mod advanced;
+mod called;
+mod event;
+mod programs;
+mod timers;
+mod times;
+mod walk;
+
+pub use event::{Cause, Event, Happening, Subject};
+pub use programs::{NamedAccepted, Programs};
+pub use times::{FreezeTimes, RunTimes};
+pub use walk::Walk;

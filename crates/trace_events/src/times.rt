@@ -1,0 +1,75 @@
+// What of a trace only time tells: since when a CCB is where it is, a freeze is there, and a run is live. By number, beside the world,
+// which says the rest. It relies on `event` for why a freeze is there.
+
+use crate::event::Cause;
+use ccb::CamStatus;
+use freeze_ledger::Place;
+use std::alloc::{AllocError, Global};
+use std::collections::BTreeMap;
+
+/// Of a freeze: its place, since when it is there, and why.
+#[derive(Clone, Copy, Debug, PartialEq, Eq)]
+pub struct FreezeTimes {
+    pub place: Place,
+    pub since: u64,
+    pub cause: Cause,
+}
+
+/// Of a run: its CCB, with which status that failed, since when the run is live, and how many instructions it executed.
+#[derive(Clone, Copy, Debug, PartialEq, Eq)]
+pub struct RunTimes {
+    pub ccb: u32,
+    pub status: CamStatus,
+    pub since: u64,
+    pub instructions: u64,
+}
+
+/// Of all that is live.
+#[derive(Drop)]
+pub(crate) struct Times {
+    pub(crate) ccbs: BTreeMap<u32, u64>,
+    pub(crate) freezes: BTreeMap<u32, FreezeTimes>,
+    pub(crate) runs: BTreeMap<u32, RunTimes>,
+}
+
+impl Times {
+    /// Nothing is live.
+    pub(crate) fn new(alloc: Global) -> Self {
+        Times {
+            ccbs: BTreeMap::new(alloc),
+            freezes: BTreeMap::new(alloc),
+            runs: BTreeMap::new(alloc),
+        }
+    }
+
+    /// The CCB is where it is since that reading: how long it was where it was before.
+    pub(crate) fn move_ccb(&mut self, ccb: u32, clock: u64) -> Result<u64, AllocError> {
+        let before = self.ccbs.insert(ccb, clock)?;
+        Ok(clock.saturating_sub(before.unwrap_or(clock)))
+    }
+
+    /// The CCB is gone: how long it was where it was before.
+    pub(crate) fn drop_ccb(&mut self, ccb: u32, clock: u64) -> u64 {
+        let before = self.ccbs.remove(&ccb);
+        clock.saturating_sub(before.unwrap_or(clock))
+    }
+
+    /// A freeze is there since that reading. Number 0 is none.
+    pub(crate) fn take(
+        &mut self,
+        freeze: u32,
+        place: Place,
+        cause: Cause,
+        clock: u64,
+    ) -> Result<(), AllocError> {
+        if freeze != 0 {
+            let times = FreezeTimes {
+                place,
+                since: clock,
+                cause,
+            };
+            let _ = self.freezes.insert(freeze, times)?;
+        }
+        Ok(())
+    }
+}

@@ -21,16 +21,22 @@ pub struct Telling<'a, C: Clock> {
 }
 
 impl<'a, C: Clock> Telling<'a, C> {
-    /// For this plan: a run tells when its line says so, and a replay where standard error is a terminal.
+    /// For this plan: a run tells when its line says so, and what replays a trace where standard error is a terminal.
     pub fn new(clock: &'a C, err: Stderr, plan: &Plan) -> Self {
         let is_on = match plan {
             Plan::Run(_, Watch::Lines, _, _) => true,
-            Plan::Run(_, Watch::Terminal, _, _) | Plan::Replay(..) => err.is_terminal(),
+            Plan::Run(_, Watch::Terminal, _, _)
+            | Plan::Replay(..)
+            | Plan::Show(..)
+            | Plan::Summarise(..)
+            | Plan::Draw(..) => err.is_terminal(),
             Plan::Run(_, Watch::Never, _, _)
             | Plan::Asm(..)
             | Plan::Migrate(..)
             | Plan::Dis(_)
-            | Plan::Check(_) => false,
+            | Plan::Check(_)
+            | Plan::ExplainCode(_)
+            | Plan::Explain(_) => false,
         };
         let due = match clock.monotonic() {
             Ok(now) => milliseconds(now).saturating_add(SILENCE),

@@ -1,22 +1,23 @@
--- What `clap` makes of the lines that ask for an assembly, for a program's text, for a check, for a migration and for a replay,
--- and what follows for their plans.
-use Rattle.std.proofs.Common.{◌≡◌, List, [], ◌∷◌, Option, Some, false, codes, sym, subst, ◌∙◌, ap}
+-- What `clap` makes of the lines that ask for an assembly, for a program's text, for a check, for an explanation, for a migration
+-- and for a replay, and what follows for their plans.
+use Rattle.std.proofs.Common.{◌≡◌, List, [], ◌∷◌, Option, None, Some, false, codes, refl, sym, subst, ◌∙◌, ap}
 use Rattle.std.specs.Prelude.{find, string_bytes, unwrap_or}
 use Rattle.clap.specs.Words.{Row, Rule, Text, first_of, subcommand_of}
 use Rattle.clap.specs.Walk.{Walk, answers_to, arg_by_index, finished, idle, nothing_held, rows_after, to_positional, walked}
 use Rattle.clap.specs.Simple.{built, entered, label_of, new_shape}
-use Rattle.command_line.specs.FileLines.{IsAsm, IsCheck, IsDis, IsMigrate, IsReplay, asm_line, check_line, dis_line, migrate_line, replay_line}
+use Rattle.command_line.specs.FileLines.{IsAsm, IsCheck, IsDis, IsExplanation, IsMigrate, IsReplay, asm_line, check_line, dis_line, explain_line, migrate_line, replay_line}
+use Rattle.refusal_codes.specs.Names.{code_named}
 use Rattle.command_line.specs.FoundPlan.{HasFound, HasFoundBehind}
 use Rattle.command_line.specs.RunCommand.{camr_command}
 use Rattle.command_line.specs.RunLine.{IsPlain}
 use Rattle.command_line.specs.declared.plans.Plan.{Plan}
-use Rattle.command_line.specs.declared.plans.Plan.TheVariants.{Asm, Migrate, Dis, Check, Run, Replay}
+use Rattle.command_line.specs.declared.plans.Plan.TheVariants.{Asm, Migrate, Dis, Check, Run, Replay, ExplainCode, Explain, Show, Summarise, Draw}
 use Rattle.command_line.proofs.PlainWords.{walk_at, walked_path}
-use Rattle.command_line.proofs.Planned.{asm_not_check, asm_not_dis, asm_not_replay, asm_not_run, check_not_replay, check_not_run, dis_not_check, dis_not_replay, dis_not_run, migrate_not_asm, migrate_not_check, migrate_not_dis, migrate_not_replay, migrate_not_run, replay_not_run}
+use Rattle.command_line.proofs.Planned.{apart}
 use Rattle.command_line.proofs.RunWords.{stays_stopped, stopped_at, top, top_names, top_walk}
 
 -- the rules of a subcommand as it is built
-abbrev rules_of : Text → List Rule
+abbrev pub rules_of : Text → List Rule
 rules_of name = (unwrap_or (find (λ s. answers_to name (label_of s)) (built camr_command).subs) (new_shape [])).rules
 
 abbrev asm_rules : List Rule
@@ -33,6 +34,9 @@ migrate_rules = rules_of (codes "migrate")
 
 abbrev replay_rules : List Rule
 replay_rules = rules_of (codes "replay")
+
+abbrev explain_rules : List Rule
+explain_rules = rules_of (codes "explain")
 
 asm_walk : (rest : List Text) → top_walk (codes "asm" ∷ rest) ≡ stopped_at nothing_held idle 1 false (codes "asm") rest
 unfolding walked
@@ -54,7 +58,14 @@ replay_walk : (rest : List Text) → top_walk (codes "replay" ∷ rest) ≡ stop
 unfolding walked
 replay_walk rest = stays_stopped top.rules top_names nothing_held idle 1 false (codes "replay") [] rest
 
+explain_walk : (rest : List Text) → top_walk (codes "explain" ∷ rest) ≡ stopped_at nothing_held idle 1 false (codes "explain") rest
+unfolding walked
+explain_walk rest = stays_stopped top.rules top_names nothing_held idle 1 false (codes "explain") [] rest
+
 -- the words behind the first one are for the subcommand
+enters_explain : (rest : List Text) → subcommand_of camr_command (codes "explain" ∷ rest) ≡ Some (codes "explain", rows_after explain_rules [] rest)
+enters_explain rest = ap (λ (w : Walk). entered (built camr_command) w.stopped) (explain_walk rest)
+
 enters_asm : (rest : List Text) → subcommand_of camr_command (codes "asm" ∷ rest) ≡ Some (codes "asm", rows_after asm_rules [] rest)
 enters_asm rest = ap (λ (w : Walk). entered (built camr_command) w.stopped) (asm_walk rest)
 
@@ -71,10 +82,10 @@ enters_replay : (rest : List Text) → subcommand_of camr_command (codes "replay
 enters_replay rest = ap (λ (w : Walk). entered (built camr_command) w.stopped) (replay_walk rest)
 
 -- the walk behind a path
-abbrev path_walk : List Rule → Walk → Text → Walk
+abbrev pub path_walk : List Rule → Walk → Text → Walk
 path_walk rules w path = to_positional rules (arg_by_index rules w.position) path w w.held
 
-abbrev start : Walk
+abbrev pub start : Walk
 start = walk_at nothing_held idle 1
 
 -- a path stands where it is looked for
@@ -83,6 +94,9 @@ file_found program plain = ap (λ (w : Walk). first_of (codes "FILE") (finished 
 
 manifest_found : (manifest : Text) → IsPlain manifest → first_of (codes "MANIFEST") (rows_after check_rules [] (manifest ∷ [])) ≡ Some manifest
 manifest_found manifest plain = ap (λ (w : Walk). first_of (codes "MANIFEST") (finished check_rules w.held)) (walked_path check_rules nothing_held 1 manifest plain)
+
+word_found : (word : Text) → IsPlain word → first_of (codes "WORD") (rows_after explain_rules [] (word ∷ [])) ≡ Some word
+word_found word plain = ap (λ (w : Walk). first_of (codes "WORD") (finished explain_rules w.held)) (walked_path explain_rules nothing_held 1 word plain)
 
 -- two paths, one behind the other
 asm_rows : (text program : Text) → IsPlain text → IsPlain program → rows_after asm_rules [] (text ∷ program ∷ []) ≡ finished asm_rules (path_walk asm_rules (path_walk asm_rules start text) program).held
@@ -121,48 +135,86 @@ replayed_found manifest trace plain_manifest plain_trace = ap (first_of (codes "
 trace_found : (manifest trace : Text) → IsPlain manifest → IsPlain trace → first_of (codes "TRACE") (rows_after replay_rules [] (manifest ∷ trace ∷ [])) ≡ Some trace
 trace_found manifest trace plain_manifest plain_trace = ap (first_of (codes "TRACE")) (replay_rows manifest trace plain_manifest plain_trace)
 
-same_text : (a b : Text) (o : Option Text) → o ≡ Some a → o ≡ Some b → a ≡ b
+pub same_text : (a b : Text) (o : Option Text) → o ≡ Some a → o ≡ Some b → a ≡ b
 same_text a b o p q = ap (λ (x : Option Text). unwrap_or x a) (sym p ∙ q)
 
 behind_asm : (text program : Text) (rows : List Row) (plan : Plan) → first_of (codes "IN") rows ≡ Some text → first_of (codes "OUT") rows ≡ Some program → HasFoundBehind (codes "asm") rows plan → IsAsm text program plan
 behind_asm text program rows (Asm a b) is_text is_program found = (same_text (string_bytes a) text _ found.1 is_text, same_text (string_bytes b) program _ found.2 is_program)
-behind_asm text program rows (Migrate a b) is_text is_program found = absurd (migrate_not_asm (sym found.0))
-behind_asm text program rows (Dis path) is_text is_program found = absurd (asm_not_dis found.0)
-behind_asm text program rows (Check path) is_text is_program found = absurd (asm_not_check found.0)
-behind_asm text program rows (Run workers watch a b) is_text is_program found = absurd (asm_not_run found.0)
-behind_asm text program rows (Replay a b) is_text is_program found = absurd (asm_not_replay found.0)
+behind_asm text program rows (Migrate a b) is_text is_program found = absurd (apart (codes "asm") (codes "migrate") refl found.0)
+behind_asm text program rows (Dis a) is_text is_program found = absurd (apart (codes "asm") (codes "dis") refl found.0)
+behind_asm text program rows (Check a) is_text is_program found = absurd (apart (codes "asm") (codes "check") refl found.0)
+behind_asm text program rows (Run workers watch a b) is_text is_program found = absurd (apart (codes "asm") (codes "run") refl found.0)
+behind_asm text program rows (Replay a b) is_text is_program found = absurd (apart (codes "asm") (codes "replay") refl found.0)
+behind_asm text program rows (ExplainCode code) is_text is_program found = absurd (apart (codes "asm") (codes "explain") refl found.0)
+behind_asm text program rows (Explain a) is_text is_program found = absurd (apart (codes "asm") (codes "explain") refl found.0)
+behind_asm text program rows (Show filter a b) is_text is_program found = absurd (apart (codes "asm") (codes "show") refl found.0)
+behind_asm text program rows (Summarise a b) is_text is_program found = absurd (apart (codes "asm") (codes "show") refl found.0)
+behind_asm text program rows (Draw a b c) is_text is_program found = absurd (apart (codes "asm") (codes "show") refl found.0)
 
 behind_dis : (program : Text) (rows : List Row) (plan : Plan) → first_of (codes "FILE") rows ≡ Some program → HasFoundBehind (codes "dis") rows plan → IsDis program plan
-behind_dis program rows (Dis path) is found = same_text (string_bytes path) program _ found.1 is
-behind_dis program rows (Migrate a b) is found = absurd (migrate_not_dis (sym found.0))
-behind_dis program rows (Asm a b) is found = absurd (asm_not_dis (sym found.0))
-behind_dis program rows (Check path) is found = absurd (dis_not_check found.0)
-behind_dis program rows (Run workers watch a b) is found = absurd (dis_not_run found.0)
-behind_dis program rows (Replay a b) is found = absurd (dis_not_replay found.0)
+behind_dis program rows (Asm a b) is found = absurd (apart (codes "dis") (codes "asm") refl found.0)
+behind_dis program rows (Migrate a b) is found = absurd (apart (codes "dis") (codes "migrate") refl found.0)
+behind_dis program rows (Dis a) is found = same_text (string_bytes a) program _ found.1 is
+behind_dis program rows (Check a) is found = absurd (apart (codes "dis") (codes "check") refl found.0)
+behind_dis program rows (Run workers watch a b) is found = absurd (apart (codes "dis") (codes "run") refl found.0)
+behind_dis program rows (Replay a b) is found = absurd (apart (codes "dis") (codes "replay") refl found.0)
+behind_dis program rows (ExplainCode code) is found = absurd (apart (codes "dis") (codes "explain") refl found.0)
+behind_dis program rows (Explain a) is found = absurd (apart (codes "dis") (codes "explain") refl found.0)
+behind_dis program rows (Show filter a b) is found = absurd (apart (codes "dis") (codes "show") refl found.0)
+behind_dis program rows (Summarise a b) is found = absurd (apart (codes "dis") (codes "show") refl found.0)
+behind_dis program rows (Draw a b c) is found = absurd (apart (codes "dis") (codes "show") refl found.0)
 
 behind_check : (manifest : Text) (rows : List Row) (plan : Plan) → first_of (codes "MANIFEST") rows ≡ Some manifest → HasFoundBehind (codes "check") rows plan → IsCheck manifest plan
-behind_check manifest rows (Check path) is found = same_text (string_bytes path) manifest _ found.1 is
-behind_check manifest rows (Migrate a b) is found = absurd (migrate_not_check (sym found.0))
-behind_check manifest rows (Asm a b) is found = absurd (asm_not_check (sym found.0))
-behind_check manifest rows (Dis path) is found = absurd (dis_not_check (sym found.0))
-behind_check manifest rows (Run workers watch a b) is found = absurd (check_not_run found.0)
-behind_check manifest rows (Replay a b) is found = absurd (check_not_replay found.0)
+behind_check manifest rows (Asm a b) is found = absurd (apart (codes "check") (codes "asm") refl found.0)
+behind_check manifest rows (Migrate a b) is found = absurd (apart (codes "check") (codes "migrate") refl found.0)
+behind_check manifest rows (Dis a) is found = absurd (apart (codes "check") (codes "dis") refl found.0)
+behind_check manifest rows (Check a) is found = same_text (string_bytes a) manifest _ found.1 is
+behind_check manifest rows (Run workers watch a b) is found = absurd (apart (codes "check") (codes "run") refl found.0)
+behind_check manifest rows (Replay a b) is found = absurd (apart (codes "check") (codes "replay") refl found.0)
+behind_check manifest rows (ExplainCode code) is found = absurd (apart (codes "check") (codes "explain") refl found.0)
+behind_check manifest rows (Explain a) is found = absurd (apart (codes "check") (codes "explain") refl found.0)
+behind_check manifest rows (Show filter a b) is found = absurd (apart (codes "check") (codes "show") refl found.0)
+behind_check manifest rows (Summarise a b) is found = absurd (apart (codes "check") (codes "show") refl found.0)
+behind_check manifest rows (Draw a b c) is found = absurd (apart (codes "check") (codes "show") refl found.0)
 
 behind_replay : (manifest trace : Text) (rows : List Row) (plan : Plan) → first_of (codes "MANIFEST") rows ≡ Some manifest → first_of (codes "TRACE") rows ≡ Some trace → HasFoundBehind (codes "replay") rows plan → IsReplay manifest trace plan
+behind_replay manifest trace rows (Asm a b) is_manifest is_trace found = absurd (apart (codes "replay") (codes "asm") refl found.0)
+behind_replay manifest trace rows (Migrate a b) is_manifest is_trace found = absurd (apart (codes "replay") (codes "migrate") refl found.0)
+behind_replay manifest trace rows (Dis a) is_manifest is_trace found = absurd (apart (codes "replay") (codes "dis") refl found.0)
+behind_replay manifest trace rows (Check a) is_manifest is_trace found = absurd (apart (codes "replay") (codes "check") refl found.0)
+behind_replay manifest trace rows (Run workers watch a b) is_manifest is_trace found = absurd (apart (codes "replay") (codes "run") refl found.0)
 behind_replay manifest trace rows (Replay a b) is_manifest is_trace found = (same_text (string_bytes a) manifest _ found.1 is_manifest, same_text (string_bytes b) trace _ found.2 is_trace)
-behind_replay manifest trace rows (Migrate a b) is_manifest is_trace found = absurd (migrate_not_replay (sym found.0))
-behind_replay manifest trace rows (Asm a b) is_manifest is_trace found = absurd (asm_not_replay (sym found.0))
-behind_replay manifest trace rows (Dis path) is_manifest is_trace found = absurd (dis_not_replay (sym found.0))
-behind_replay manifest trace rows (Check path) is_manifest is_trace found = absurd (check_not_replay (sym found.0))
-behind_replay manifest trace rows (Run workers watch a b) is_manifest is_trace found = absurd (replay_not_run found.0)
+behind_replay manifest trace rows (ExplainCode code) is_manifest is_trace found = absurd (apart (codes "replay") (codes "explain") refl found.0)
+behind_replay manifest trace rows (Explain a) is_manifest is_trace found = absurd (apart (codes "replay") (codes "explain") refl found.0)
+behind_replay manifest trace rows (Show filter a b) is_manifest is_trace found = absurd (apart (codes "replay") (codes "show") refl found.0)
+behind_replay manifest trace rows (Summarise a b) is_manifest is_trace found = absurd (apart (codes "replay") (codes "show") refl found.0)
+behind_replay manifest trace rows (Draw a b c) is_manifest is_trace found = absurd (apart (codes "replay") (codes "show") refl found.0)
 
 behind_migrate : (manifest migrated : Text) (rows : List Row) (plan : Plan) → first_of (codes "IN") rows ≡ Some manifest → first_of (codes "OUT") rows ≡ Some migrated → HasFoundBehind (codes "migrate") rows plan → IsMigrate manifest migrated plan
+behind_migrate manifest migrated rows (Asm a b) is_manifest is_migrated found = absurd (apart (codes "migrate") (codes "asm") refl found.0)
 behind_migrate manifest migrated rows (Migrate a b) is_manifest is_migrated found = (same_text (string_bytes a) manifest _ found.1 is_manifest, same_text (string_bytes b) migrated _ found.2 is_migrated)
-behind_migrate manifest migrated rows (Asm a b) is_manifest is_migrated found = absurd (migrate_not_asm found.0)
-behind_migrate manifest migrated rows (Dis path) is_manifest is_migrated found = absurd (migrate_not_dis found.0)
-behind_migrate manifest migrated rows (Check path) is_manifest is_migrated found = absurd (migrate_not_check found.0)
-behind_migrate manifest migrated rows (Run workers watch a b) is_manifest is_migrated found = absurd (migrate_not_run found.0)
-behind_migrate manifest migrated rows (Replay a b) is_manifest is_migrated found = absurd (migrate_not_replay found.0)
+behind_migrate manifest migrated rows (Dis a) is_manifest is_migrated found = absurd (apart (codes "migrate") (codes "dis") refl found.0)
+behind_migrate manifest migrated rows (Check a) is_manifest is_migrated found = absurd (apart (codes "migrate") (codes "check") refl found.0)
+behind_migrate manifest migrated rows (Run workers watch a b) is_manifest is_migrated found = absurd (apart (codes "migrate") (codes "run") refl found.0)
+behind_migrate manifest migrated rows (Replay a b) is_manifest is_migrated found = absurd (apart (codes "migrate") (codes "replay") refl found.0)
+behind_migrate manifest migrated rows (ExplainCode code) is_manifest is_migrated found = absurd (apart (codes "migrate") (codes "explain") refl found.0)
+behind_migrate manifest migrated rows (Explain a) is_manifest is_migrated found = absurd (apart (codes "migrate") (codes "explain") refl found.0)
+behind_migrate manifest migrated rows (Show filter a b) is_manifest is_migrated found = absurd (apart (codes "migrate") (codes "show") refl found.0)
+behind_migrate manifest migrated rows (Summarise a b) is_manifest is_migrated found = absurd (apart (codes "migrate") (codes "show") refl found.0)
+behind_migrate manifest migrated rows (Draw a b c) is_manifest is_migrated found = absurd (apart (codes "migrate") (codes "show") refl found.0)
+
+behind_explain : (word : Text) (rows : List Row) (plan : Plan) → first_of (codes "WORD") rows ≡ Some word → HasFoundBehind (codes "explain") rows plan → IsExplanation word plan
+behind_explain word rows (Asm a b) is found = absurd (apart (codes "explain") (codes "asm") refl found.0)
+behind_explain word rows (Migrate a b) is found = absurd (apart (codes "explain") (codes "migrate") refl found.0)
+behind_explain word rows (Dis a) is found = absurd (apart (codes "explain") (codes "dis") refl found.0)
+behind_explain word rows (Check a) is found = absurd (apart (codes "explain") (codes "check") refl found.0)
+behind_explain word rows (Run workers watch a b) is found = absurd (apart (codes "explain") (codes "run") refl found.0)
+behind_explain word rows (Replay a b) is found = absurd (apart (codes "explain") (codes "replay") refl found.0)
+behind_explain word rows (ExplainCode code) is found = subst (λ (w : Text). code_named w ≡ Some code) (same_text found.1.0 word _ found.1.1 is) found.1.2
+behind_explain word rows (Explain a) is found = let same : string_bytes a ≡ word = same_text (string_bytes a) word _ found.1 is in (subst (λ (w : Text). code_named w ≡ None) same found.2, same)
+behind_explain word rows (Show filter a b) is found = absurd (apart (codes "explain") (codes "show") refl found.0)
+behind_explain word rows (Summarise a b) is found = absurd (apart (codes "explain") (codes "show") refl found.0)
+behind_explain word rows (Draw a b c) is found = absurd (apart (codes "explain") (codes "show") refl found.0)
 
 -- the plan of the line is what it asks for
 pub asm_plan : (words : List Text) (text program : Text) (plan : Plan) → words ≡ asm_line text program → IsPlain text → IsPlain program → HasFound (subcommand_of camr_command words) plan → IsAsm text program plan
@@ -182,6 +234,12 @@ check_plan words manifest plan line plain found =
     let rows = rows_after check_rules [] (manifest ∷ []) in
     let here : HasFound (Some (codes "check", rows)) plan = subst (λ f. HasFound f plan) (ap (subcommand_of camr_command) line ∙ enters_check (manifest ∷ [])) found in
     behind_check manifest rows plan (manifest_found manifest plain) here
+
+pub explain_plan : (words : List Text) (word : Text) (plan : Plan) → words ≡ explain_line word → IsPlain word → HasFound (subcommand_of camr_command words) plan → IsExplanation word plan
+explain_plan words word plan line plain found =
+    let rows = rows_after explain_rules [] (word ∷ []) in
+    let here : HasFound (Some (codes "explain", rows)) plan = subst (λ f. HasFound f plan) (ap (subcommand_of camr_command) line ∙ enters_explain (word ∷ [])) found in
+    behind_explain word rows plan (word_found word plain) here
 
 pub replay_plan : (words : List Text) (manifest trace : Text) (plan : Plan) → words ≡ replay_line manifest trace → IsPlain manifest → IsPlain trace → HasFound (subcommand_of camr_command words) plan → IsReplay manifest trace plan
 replay_plan words manifest trace plan line plain_manifest plain_trace found =

@@ -1,11 +1,11 @@
 -- What the getters of `clap`'s matches give, by their rows.
-use Rattle.std.proofs.Common.{◌≡◌, ◌∙◌, ℕ, List, Option, Some, None, MatchOption, codes, sym, subst, ap}
-use Rattle.std.specs.Prelude.{option_map, unwrap_or}
+use Rattle.std.proofs.Common.{◌≡◌, ◌∙◌, ℕ, Bool, true, false, List, Option, Some, None, MatchOption, codes, sym, subst, ap}
+use Rattle.std.specs.Prelude.{MatchBool, option_map, unwrap_or}
 use Rattle.std.specs.Borrow.{Bor}
 use Rattle.clap.specs.Words.{Row, Text, first_of, first_value, rows_of}
 use Rattle.clap.specs.declared.parser.matches.Found.{Found}
 use Rattle.clap.proofs.WalkLemmas.{first_value-rows}
-use Rattle.command_line.specs.FoundPlan.{ReadsWatch, ReadsWorkers}
+use Rattle.command_line.specs.FoundPlan.{AsksSummary, ReadsWatch, ReadsWorkers}
 use Rattle.command_line.specs.RunLine.{IsLawfulNumber, Spells, SpellsNoLawfulNumber, watch_word}
 use Rattle.command_line.specs.declared.plans.Watch.{Watch}
 
@@ -32,3 +32,13 @@ pub watch_read : (rows : List Row) (word : Text) (o : Option Watch) → first_of
     → MatchOption o ((watch : Watch) → word ≡ watch_word watch → ⊥) (λ watch. word ≡ watch_word watch) → ReadsWatch rows o
 watch_read rows word (Some watch) is read = is ∙ ap Some read
 watch_read rows word None is none = λ watch found. none watch (ap (λ (x : Option Text). unwrap_or x word) (sym is ∙ found))
+
+-- nothing that `get_str` gives
+pub nothing_given : (f : Found) (id : Text) (o : Option (Bor (List ℕ))) → option_map (λ s. s.now) o ≡ first_value f id → o ≡ None → first_of id (rows_of f) ≡ None
+nothing_given f id o given is = sym (first_value-rows f id) ∙ (sym given ∙ ap (option_map (λ s. s.now)) is)
+
+-- a flag is given where its word is `true`
+pub flag_read : (rows : List Row) (word : Text) (b : Bool) → first_of (codes "summary") rows ≡ Some word
+    → MatchBool b (word ≡ codes "true") (word ≡ codes "true" → ⊥) → MatchBool b (AsksSummary rows) (AsksSummary rows → ⊥)
+flag_read rows word true is same = is ∙ ap Some same
+flag_read rows word false is differs = λ asked. differs (ap (λ (x : Option Text). unwrap_or x word) (sym is ∙ asked))

@@ -7,4 +7,5 @@ pub mod Given
 pub mod Planned
 pub mod PlanLines
 pub mod FileWords
+pub mod ShowWords
 pub mod SpelledOut

@@ -10,9 +10,9 @@ use Rattle.command_line.specs.RunCommand.{camr_command}
 use Rattle.command_line.specs.RunLine.{IsPlain, IsRun, RunLine, SpellsNoLawfulNumber}
 use Rattle.command_line.specs.declared.plans.Plan.{Plan}
 use Rattle.command_line.specs.declared.plans.Watch.TheVariants.{Never}
-use Rattle.command_line.specs.declared.plans.Plan.TheVariants.{Asm, Migrate, Dis, Check, Run, Replay}
+use Rattle.command_line.specs.declared.plans.Plan.TheVariants.{Asm, Migrate, Dis, Check, Run, Replay, ExplainCode, Explain, Show, Summarise, Draw}
 use Rattle.command_line.proofs.Numbers.{refused_number}
-use Rattle.command_line.proofs.Planned.{asm_not_run, check_not_run, dis_not_run, migrate_not_run, replay_not_run}
+use Rattle.command_line.proofs.Planned.{apart}
 use Rattle.command_line.proofs.Readings.{line_reading, one_to_sixteen}
 
 module _ (words : List Text) (number manifest scenario : Text) (line : RunLine words number manifest scenario)
@@ -28,11 +28,16 @@ module _ (words : List Text) (number manifest scenario : Text) (line : RunLine w
     where
       run_found : (plan : Plan) (rows : List Row) → HasFoundBehind (codes "run") rows plan → HasFoundIn rows plan
       run_found (Run workers watch a b) rows found = found.1
-      run_found (Asm text program) rows found = absurd (asm_not_run (sym found.0))
-      run_found (Migrate manifest migrated) rows found = absurd (migrate_not_run (sym found.0))
-      run_found (Dis program) rows found = absurd (dis_not_run (sym found.0))
-      run_found (Check path) rows found = absurd (check_not_run (sym found.0))
-      run_found (Replay manifest trace) rows found = absurd (replay_not_run (sym found.0))
+      run_found (Asm text program) rows found = absurd (apart (codes "run") (codes "asm") refl found.0)
+      run_found (Migrate manifest migrated) rows found = absurd (apart (codes "run") (codes "migrate") refl found.0)
+      run_found (Dis program) rows found = absurd (apart (codes "run") (codes "dis") refl found.0)
+      run_found (Check path) rows found = absurd (apart (codes "run") (codes "check") refl found.0)
+      run_found (Replay manifest trace) rows found = absurd (apart (codes "run") (codes "replay") refl found.0)
+      run_found (ExplainCode code) rows found = absurd (apart (codes "run") (codes "explain") refl found.0)
+      run_found (Explain path) rows found = absurd (apart (codes "run") (codes "explain") refl found.0)
+      run_found (Show filter manifest trace) rows found = absurd (apart (codes "run") (codes "show") refl found.0)
+      run_found (Summarise manifest trace) rows found = absurd (apart (codes "run") (codes "show") refl found.0)
+      run_found (Draw manifest trace picture) rows found = absurd (apart (codes "run") (codes "show") refl found.0)
 
       go : (plan : Plan) (rows : List Row) → HasFoundIn rows plan → first_of (codes "workers") rows ≡ Some number → first_of (codes "watch") rows ≡ Some (codes "never")
           → first_of (codes "MANIFEST") rows ≡ Some manifest → first_of (codes "SCENARIO") rows ≡ Some scenario → IsRun number (codes "never") manifest scenario plan

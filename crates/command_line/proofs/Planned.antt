@@ -1,5 +1,8 @@
 -- From the rows that `clap` found behind `run` to the plan.
-use Rattle.std.proofs.Common.{◌≡◌, ◌∙◌, List, [], Option, Some, None, refl, sym, subst, ap, ap₂, codes, get_or, arith}
+use Rattle.std.proofs.Common.{◌≡◌, ◌∙◌, List, [], Option, Some, None, false, refl, sym, subst, ap, ap₂, codes}
+use Rattle.std.specs.Str.{bytes_eq}
+use Rattle.std.proofs.lemmas.Slice.Eq.{bytes_eq-Decides}
+use Rattle.std.proofs.lemmas.Bool.Decides.{not_from_Decides}
 use Rattle.std.specs.Prelude.{Box, option_map, unwrap_or}
 use Rattle.std.specs.Box.{box_value}
 use Rattle.clap.specs.Words.{Row, Text, rows_of, subcommand_name_of, subcommand_rows, subcommand_rows_of, found_of}
@@ -8,7 +11,7 @@ use Rattle.clap.specs.declared.parser.matches.ArgMatches.TheViews.{out-ArgMatche
 use Rattle.clap.specs.declared.parser.matches.SubCommand.{SubCommand}
 use Rattle.command_line.specs.FoundPlan.{HasFound, PlansBehind, PlansFound, PlansRows}
 use Rattle.command_line.specs.declared.plans.Plan.{Plan}
-use Rattle.command_line.specs.declared.plans.Plan.TheVariants.{Asm, Migrate, Dis, Check, Run, Replay}
+use Rattle.command_line.specs.declared.plans.Plan.TheVariants.{Asm, Migrate, Dis, Check, Run, Replay, ExplainCode, Explain, Show, Summarise, Draw}
 
 abbrev pub rows_in : Option (Text × List Row) → Option (List Row)
 rows_in = option_map (λ (p : Text × List Row). p.1)
@@ -30,58 +33,9 @@ pub entered_is : (m : ArgMatches) (name : Text) (rows : List Row) → Some name 
     → Some rows ≡ rows_in (subcommand_rows_of m) → subcommand_rows_of m ≡ Some (name, rows)
 entered_is m name rows named found = both_in (out-ArgMatches m).subcommand name rows named found
 
--- the words that name a subcommand differ
-first_apart : (a b : Text) → (get_or a 0 0 ≡ get_or b 0 0 → ⊥) → a ≡ b → ⊥
-first_apart a b apart e = apart (ap (λ (t : Text). get_or t 0 0) e)
-
-pub migrate_not_asm : codes "migrate" ≡ codes "asm" → ⊥
-migrate_not_asm = first_apart (codes "migrate") (codes "asm") (λ bad. omega (arith, bad))
-
-pub migrate_not_dis : codes "migrate" ≡ codes "dis" → ⊥
-migrate_not_dis = first_apart (codes "migrate") (codes "dis") (λ bad. omega (arith, bad))
-
-pub migrate_not_check : codes "migrate" ≡ codes "check" → ⊥
-migrate_not_check = first_apart (codes "migrate") (codes "check") (λ bad. omega (arith, bad))
-
-pub migrate_not_run : codes "migrate" ≡ codes "run" → ⊥
-migrate_not_run = first_apart (codes "migrate") (codes "run") (λ bad. omega (arith, bad))
-
-pub migrate_not_replay : codes "migrate" ≡ codes "replay" → ⊥
-migrate_not_replay = first_apart (codes "migrate") (codes "replay") (λ bad. omega (arith, bad))
-
-pub asm_not_run : codes "asm" ≡ codes "run" → ⊥
-asm_not_run = first_apart (codes "asm") (codes "run") (λ bad. omega (arith, bad))
-
-pub dis_not_run : codes "dis" ≡ codes "run" → ⊥
-dis_not_run = first_apart (codes "dis") (codes "run") (λ bad. omega (arith, bad))
-
-pub check_not_run : codes "check" ≡ codes "run" → ⊥
-check_not_run = first_apart (codes "check") (codes "run") (λ bad. omega (arith, bad))
-
-pub asm_not_dis : codes "asm" ≡ codes "dis" → ⊥
-asm_not_dis = first_apart (codes "asm") (codes "dis") (λ bad. omega (arith, bad))
-
-pub asm_not_check : codes "asm" ≡ codes "check" → ⊥
-asm_not_check = first_apart (codes "asm") (codes "check") (λ bad. omega (arith, bad))
-
-pub dis_not_check : codes "dis" ≡ codes "check" → ⊥
-dis_not_check = first_apart (codes "dis") (codes "check") (λ bad. omega (arith, bad))
-
--- those that begin alike differ in their second letter
-second_apart : (a b : Text) → (get_or a 1 0 ≡ get_or b 1 0 → ⊥) → a ≡ b → ⊥
-second_apart a b apart e = apart (ap (λ (t : Text). get_or t 1 0) e)
-
-pub replay_not_run : codes "replay" ≡ codes "run" → ⊥
-replay_not_run = second_apart (codes "replay") (codes "run") (λ bad. omega (arith, bad))
-
-pub asm_not_replay : codes "asm" ≡ codes "replay" → ⊥
-asm_not_replay = first_apart (codes "asm") (codes "replay") (λ bad. omega (arith, bad))
-
-pub dis_not_replay : codes "dis" ≡ codes "replay" → ⊥
-dis_not_replay = first_apart (codes "dis") (codes "replay") (λ bad. omega (arith, bad))
-
-pub check_not_replay : codes "check" ≡ codes "replay" → ⊥
-check_not_replay = first_apart (codes "check") (codes "replay") (λ bad. omega (arith, bad))
+-- words that differ
+pub apart : (a b : Text) → bytes_eq a b ≡ false → a ≡ b → ⊥
+apart a b differs same = not_from_Decides (bytes_eq a b) (bytes_eq-Decides a b) differs same
 
 pub plan_in : (found : Option (Text × List Row)) (rows : List Row) (planned : Option Plan) → found ≡ Some (codes "run", rows)
     → PlansRows rows planned → PlansFound found planned
@@ -91,6 +45,11 @@ plan_in found rows (Some (Migrate manifest migrated)) is h = absurd h.0.same
 plan_in found rows (Some (Dis program)) is h = absurd h.0.same
 plan_in found rows (Some (Check path)) is h = absurd h.0.same
 plan_in found rows (Some (Replay manifest trace)) is h = absurd h.0.same
+plan_in found rows (Some (ExplainCode code)) is h = absurd h.0.same
+plan_in found rows (Some (Explain path)) is h = absurd h.0.same
+plan_in found rows (Some (Show filter manifest trace)) is h = absurd h.0.same
+plan_in found rows (Some (Summarise manifest trace)) is h = absurd h.0.same
+plan_in found rows (Some (Draw manifest trace picture)) is h = absurd h.0.same
 plan_in found rows None is h = λ other is_other.
     let same : rows ≡ other = ap (λ f. unwrap_or (rows_in f) rows) (sym is ∙ is_other) in
     subst (λ r. PlansRows r None) same h

@@ -2,8 +2,8 @@
 use Rattle.std.proofs.Common.{◌≡◌, List, [], ◌∷◌, ◌++◌, Some, true, false, codes, pos, refl, ◌∙◌, ap}
 use Rattle.clap.specs.Words.{Row, Text, first_of, subcommand_of}
 use Rattle.clap.specs.ValueTests.{accepts}
-use Rattle.clap.specs.Walk.{Walk, idle, nothing_held, reacted, finished, value}
-use Rattle.clap.specs.Faults.{defaults_fault, fault_of, react_fault, settle_fault, step_fault}
+use Rattle.clap.specs.Walk.{Walk, idle, nothing_held, reacted, finished, settled, value}
+use Rattle.clap.specs.Faults.{check_fault, defaults_fault, fault_of, react_fault, settle_fault, step_fault}
 use Rattle.clap.specs.Kinds.{Kinds, or_else}
 use Rattle.clap.specs.declared.error.kind.ErrorKind.TheVariants as kind
 use Rattle.clap.specs.declared.builder.value_parser.ValueParser.{ValueParser}
@@ -71,6 +71,20 @@ module _ (n : Text) where
 
   refused_behind : accepts false one_to_sixteen n ≡ false → step_fault run_shape 1 (numbered_walk n start).held value ≡ kind.ValueValidation ∷ []
   refused_behind e = rw e refl
+
+  module _ (m : Text) where
+    taken_between : accepts false one_to_sixteen n ≡ true → step_fault run_shape 2 (numbered_walk n (path_walk start m)).held value ≡ []
+    taken_between e = rw e refl
+
+    refused_between : accepts false one_to_sixteen n ≡ false → step_fault run_shape 2 (numbered_walk n (path_walk start m)).held value ≡ kind.ValueValidation ∷ []
+    refused_between e = rw e refl
+
+    module _ (s : Text) where
+      taken_at_end : accepts false one_to_sixteen n ≡ true → settle_fault run_rules false (numbered_walk n (path_walk (path_walk start m) s)).held ≡ []
+      taken_at_end e = rw e refl
+
+      refused_at_end : accepts false one_to_sixteen n ≡ false → settle_fault run_rules false (numbered_walk n (path_walk (path_walk start m) s)).held ≡ kind.ValueValidation ∷ []
+      refused_at_end e = rw e refl
 
 module _ (n m s : Text) (plain_m : IsPlain m) (plain_s : IsPlain s) where
   read_unnumbered : Reading (codes "run" ∷ m ∷ s ∷ []) (codes "1") m s
@@ -145,7 +159,8 @@ module _ (n m s : Text) (plain_m : IsPlain m) (plain_s : IsPlain s) where
         let w3 = path_walk w2 s in
         reading _ n m s _ w3
         (trace_path start.held 1 m _ _ w3 plain_m (trace_workers w1.held 2 n _ _ w3 plain_n (trace_path w2.held 2 s [] [] w3 plain_s (trace_nil w3))))
-        (λ e. rw e refl) (λ e. rw e refl)
+        (λ e. ap (λ (k : Kinds). end_fault (or_else (step_fault run_shape 1 start.held value) (or_else (settle_fault run_rules false w1.held) (or_else k []))) w3) (taken_between n m e))
+        (λ e. ap (λ (k : Kinds). end_fault (or_else (step_fault run_shape 1 start.held value) (or_else (settle_fault run_rules false w1.held) (or_else k []))) w3) (refused_between n m e))
         (record { workers = refl; watch_is = refl; manifest_is = refl; scenario_is = refl })
 
     read_behind : Reading (codes "run" ∷ m ∷ s ∷ codes "--workers" ∷ n ∷ []) n m s
@@ -156,7 +171,8 @@ module _ (n m s : Text) (plain_m : IsPlain m) (plain_s : IsPlain s) where
         let w3 = numbered_walk n w2 in
         reading _ n m s _ w3
         (trace_path start.held 1 m _ _ w3 plain_m (trace_path w1.held 2 s _ _ w3 plain_s (trace_workers w2.held 3 n [] [] w3 plain_n (trace_nil w3))))
-        (λ e. rw e refl) (λ e. rw e refl)
+        (λ e. ap (λ (k : Kinds). or_else k (or_else (defaults_fault (settled run_rules w3.held).rows run_rules) (check_fault run_shape (finished run_rules w3.held) false))) (taken_at_end n m s e))
+        (λ e. ap (λ (k : Kinds). or_else k (or_else (defaults_fault (settled run_rules w3.held).rows run_rules) (check_fault run_shape (finished run_rules w3.held) false))) (refused_at_end n m s e))
         (record { workers = refl; watch_is = refl; manifest_is = refl; scenario_is = refl })
 
 pub line_reading : (words : List Text) (number manifest scenario : Text) → RunLine words number manifest scenario

@@ -1,8 +1,7 @@
 -- Words that are spelled out already.
 use Rattle.std.proofs.Common.{◌≡◌, List, [], ◌∷◌, ◌++◌, codes, map, refl}
-use Rattle.std.specs.Prelude.{if◌then◌else◌, Bool}
-use Rattle.std.specs.Str.{bytes_eq}
 use Rattle.clap.specs.Words.{Text}
+use Rattle.command_line.specs.FileLines.{picture_line, summary_line}
 use Rattle.command_line.specs.RunLine.{IsPlain, RunLine, spelled_out}
 use Rattle.command_line.specs.RunLine.RunLine.{unnumbered, before, between, behind, joined_before, joined_between, joined_behind}
 
@@ -25,3 +24,9 @@ one_out word path is plain = λ i. is i ∷ plain_out path plain i ∷ []
 
 pub two_out : (word path other : Text) → spelled_out word ≡ word → IsPlain path → IsPlain other → map spelled_out (word ∷ path ∷ other ∷ []) ≡ word ∷ path ∷ other ∷ []
 two_out word path other is plain plain_too = λ i. is i ∷ plain_out path plain i ∷ plain_out other plain_too i ∷ []
+
+pub summary_out : (manifest trace : Text) → IsPlain manifest → IsPlain trace → map spelled_out (summary_line manifest trace) ≡ summary_line manifest trace
+summary_out manifest trace pm pt = λ i. codes "show" ∷ codes "--summary" ∷ plain_out manifest pm i ∷ plain_out trace pt i ∷ []
+
+pub picture_out : (picture manifest trace : Text) → IsPlain picture → IsPlain manifest → IsPlain trace → map spelled_out (picture_line picture manifest trace) ≡ picture_line picture manifest trace
+picture_out picture manifest trace pp pm pt = λ i. codes "show" ∷ codes "--svg" ∷ plain_out picture pp i ∷ plain_out manifest pm i ∷ plain_out trace pt i ∷ []

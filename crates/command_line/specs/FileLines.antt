@@ -1,9 +1,11 @@
--- The lines that ask for an assembly, for a program's text, for a check, for a migration and for a replay: a word, and the paths
--- of the files.
-use Rattle.std.specs.Prelude.{◌≡◌, List, [], ◌∷◌, codes, string_bytes}
+-- The lines that ask for an assembly, for a program's text, for a check, for an explanation, for a migration, for a replay and for
+-- what a trace shows: a word, and the paths of the files.
+use Rattle.std.specs.Prelude.{◌≡◌, List, [], ◌∷◌, None, Some, codes, string_bytes}
 use Rattle.clap.specs.Words.{Text}
 use Rattle.command_line.specs.declared.plans.Plan.{Plan}
-use Rattle.command_line.specs.declared.plans.Plan.TheVariants.{Asm, Dis, Check, Migrate, Replay}
+use Rattle.command_line.specs.declared.plans.Plan.TheVariants.{Asm, Dis, Check, Migrate, Replay, ExplainCode, Explain, Show, Summarise, Draw}
+use Rattle.refusal_codes.specs.Names.{code_named}
+use Rattle.trace_filter.specs.declared.Filter.{Filter}
 
 abbrev pub asm_line : Text → Text → List Text
 asm_line text program = codes "asm" ∷ text ∷ program ∷ []
@@ -44,3 +46,40 @@ IsMigrate manifest migrated plan = ⊥
 abbrev pub IsReplay : Text → Text → Plan → Type 0
 IsReplay manifest trace (Replay a b) = (string_bytes a ≡ manifest) × (string_bytes b ≡ trace)
 IsReplay manifest trace plan = ⊥
+
+abbrev pub explain_line : Text → List Text
+explain_line word = codes "explain" ∷ word ∷ []
+
+abbrev pub show_line : Text → Text → List Text
+show_line manifest trace = codes "show" ∷ manifest ∷ trace ∷ []
+
+abbrev pub summary_line : Text → Text → List Text
+summary_line manifest trace = codes "show" ∷ codes "--summary" ∷ manifest ∷ trace ∷ []
+
+abbrev pub picture_line : Text → Text → Text → List Text
+picture_line picture manifest trace = codes "show" ∷ codes "--svg" ∷ picture ∷ manifest ∷ trace ∷ []
+
+-- the plan explains the code that the word is, and where it is none, the manifest of that path
+abbrev pub IsExplanation : Text → Plan → Type 0
+IsExplanation word (ExplainCode code) = code_named word ≡ Some code
+IsExplanation word (Explain path) = (code_named word ≡ None) × (string_bytes path ≡ word)
+IsExplanation word plan = ⊥
+
+-- all events are wanted
+abbrev pub everything : Filter
+everything = record { ccb = None; queue = None; run = None; freeze = None; from = None; to = None }
+
+-- the plan is to tell all events of this trace over this manifest
+abbrev pub IsShow : Text → Text → Plan → Type 0
+IsShow manifest trace (Show filter a b) = (filter ≡ everything) × (string_bytes a ≡ manifest) × (string_bytes b ≡ trace)
+IsShow manifest trace plan = ⊥
+
+-- the plan is to count them
+abbrev pub IsSummary : Text → Text → Plan → Type 0
+IsSummary manifest trace (Summarise a b) = (string_bytes a ≡ manifest) × (string_bytes b ≡ trace)
+IsSummary manifest trace plan = ⊥
+
+-- the plan is to draw them into this file
+abbrev pub IsPicture : Text → Text → Text → Plan → Type 0
+IsPicture picture manifest trace (Draw a b c) = (string_bytes a ≡ manifest) × (string_bytes b ≡ trace) × (string_bytes c ≡ picture)
+IsPicture picture manifest trace plan = ⊥

@@ -3,9 +3,12 @@ use Rattle.std.specs.Prelude.{◌≡◌, ℕ, List, Option, Some, None, codes, s
 use Rattle.clap.specs.Words.{Row, Text, first_of}
 use Rattle.command_line.specs.RunLine.{HasLawfulNumber, IsLawfulNumber, IsRun, Spells, watch_word}
 use Rattle.command_line.specs.RunLine.{SpellsNoLawfulNumber}
+use Rattle.command_line.specs.FileLines.{everything}
 use Rattle.command_line.specs.declared.plans.Plan.{Plan}
 use Rattle.command_line.specs.declared.plans.Watch.{Watch}
-use Rattle.command_line.specs.declared.plans.Plan.TheVariants.{Asm, Migrate, Dis, Check, Run, Replay}
+use Rattle.command_line.specs.declared.plans.Plan.TheVariants.{Asm, Migrate, Dis, Check, Run, Replay, ExplainCode, Explain, Show, Summarise, Draw}
+use Rattle.refusal_codes.specs.Names.{code_named}
+use Rattle.trace_filter.specs.declared.Filter.{Filter}
 
 -- the plan has what `clap` found behind `run` under the arguments' names
 pub record HasFoundIn (rows : List Row) (plan : Plan) : Type 0 where
@@ -18,6 +21,31 @@ pub record HasFoundIn (rows : List Row) (plan : Plan) : Type 0 where
   pub manifest_found : first_of (codes "MANIFEST") rows ≡ Some manifest
   pub scenario_found : first_of (codes "SCENARIO") rows ≡ Some scenario
   pub same : IsRun number when manifest scenario plan
+
+-- the number that `clap` found under that name, in decimal digits alone
+abbrev pub FindsNumber : Text → List Row → Option ℕ → Type 0
+FindsNumber name rows None = first_of name rows ≡ None
+FindsNumber name rows (Some n) = (word : Text) × (first_of name rows ≡ Some word) × Spells word n
+
+-- the filter has the numbers that `clap` found
+pub record HasFilter (rows : List Row) (filter : Filter) : Type 0 where
+  pub ccb : FindsNumber (codes "ccb") rows filter.ccb
+  pub queue : FindsNumber (codes "queue") rows filter.queue
+  pub run : FindsNumber (codes "run") rows filter.run
+  pub freeze : FindsNumber (codes "freeze") rows filter.freeze
+  pub from : FindsNumber (codes "from") rows filter.from
+  pub to : FindsNumber (codes "to") rows filter.to
+
+-- `clap` found a manifest and a trace
+abbrev pub HasBoth : List Row → Text → Text → Type 0
+HasBoth rows manifest trace = (first_of (codes "MANIFEST") rows ≡ Some manifest) × (first_of (codes "TRACE") rows ≡ Some trace)
+
+-- it found what stands in place of the account: a flag is found as the word `true`
+abbrev pub AsksSummary : List Row → Type 0
+AsksSummary rows = first_of (codes "summary") rows ≡ Some (codes "true")
+
+abbrev pub AsksPicture : List Row → Text → Type 0
+AsksPicture rows picture = first_of (codes "svg") rows ≡ Some picture
 
 -- the plan is what was asked for by that word, with what `clap` found behind it
 abbrev pub HasFoundBehind : Text → List Row → Plan → Type 0
@@ -32,6 +60,19 @@ HasFoundBehind name rows (Check path) =
     (name ≡ codes "check") × (first_of (codes "MANIFEST") rows ≡ Some (string_bytes path))
 HasFoundBehind name rows (Replay manifest trace) =
     (name ≡ codes "replay") × (first_of (codes "MANIFEST") rows ≡ Some (string_bytes manifest)) × (first_of (codes "TRACE") rows ≡ Some (string_bytes trace))
+HasFoundBehind name rows (ExplainCode code) =
+    (name ≡ codes "explain") × ((word : Text) × (first_of (codes "WORD") rows ≡ Some word) × (code_named word ≡ Some code))
+HasFoundBehind name rows (Explain path) =
+    (name ≡ codes "explain") × (first_of (codes "WORD") rows ≡ Some (string_bytes path)) × (code_named (string_bytes path) ≡ None)
+HasFoundBehind name rows (Show filter manifest trace) =
+    (name ≡ codes "show") × HasBoth rows (string_bytes manifest) (string_bytes trace) × HasFilter rows filter
+    × (AsksSummary rows → ⊥) × (first_of (codes "svg") rows ≡ None)
+HasFoundBehind name rows (Summarise manifest trace) =
+    (name ≡ codes "show") × HasBoth rows (string_bytes manifest) (string_bytes trace) × HasFilter rows everything × AsksSummary rows
+    × (first_of (codes "svg") rows ≡ None)
+HasFoundBehind name rows (Draw manifest trace picture) =
+    (name ≡ codes "show") × HasBoth rows (string_bytes manifest) (string_bytes trace) × HasFilter rows everything
+    × (AsksSummary rows → ⊥) × AsksPicture rows (string_bytes picture)
 
 -- the words asked for something, and the plan is that
 abbrev pub HasFound : Option (Text × List Row) → Plan → Type 0

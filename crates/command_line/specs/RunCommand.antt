@@ -5,6 +5,7 @@ use Rattle.clap.specs.Words.{with_subcommand}
 use Rattle.clap.specs.declared.builder.arg.Arg.{Arg}
 use Rattle.clap.specs.declared.builder.command.Command.{Command}
 use Rattle.clap.specs.declared.builder.command.Command.TheViews.{out-Command}
+use Rattle.clap.specs.declared.builder.action.ArgAction.TheVariants as action
 use Rattle.clap.specs.declared.builder.value_parser.ValueParser.TheVariants as value_parser
 
 -- the option `--workers N`, a number from 1 to 16, which is 1 where it is not given
@@ -53,6 +54,41 @@ migrate_command = with_rule (with_rule (new_app (codes "migrate")) (path_rule (c
 abbrev pub replay_command : App
 replay_command = with_rule (with_rule (new_app (codes "replay")) (path_rule (codes "MANIFEST"))) (path_rule (codes "TRACE"))
 
+-- `explain` with its code or its manifest
+abbrev pub explain_command : App
+explain_command = with_rule (new_app (codes "explain")) (path_rule (codes "WORD"))
+
+-- an option of one word, which may be left out
+abbrev pub option_rule : Text → Rule
+option_rule name = record (new_rule name) {
+  long = Some name;
+  value_names = 1;
+}
+
+-- an option without a word
+abbrev pub flag_rule : Text → Rule
+flag_rule name = record (new_rule name) {
+  long = Some name;
+  action = Some action.SetTrue;
+}
+
+-- `show` with the options that are about something with a number
+abbrev pub numbered_command : App
+numbered_command = with_rule (with_rule (with_rule (with_rule (new_app (codes "show"))
+    (option_rule (codes "ccb"))) (option_rule (codes "queue"))) (option_rule (codes "run"))) (option_rule (codes "freeze"))
+
+-- with those that are about times
+abbrev pub timed_command : App
+timed_command = with_rule (with_rule numbered_command (option_rule (codes "from"))) (option_rule (codes "to"))
+
+-- with the two that stand in place of the account
+abbrev pub optional_command : App
+optional_command = with_rule (with_rule timed_command (flag_rule (codes "summary"))) (option_rule (codes "svg"))
+
+-- with its two paths in their order
+abbrev pub show_command : App
+show_command = with_rule (with_rule optional_command (path_rule (codes "MANIFEST"))) (path_rule (codes "TRACE"))
+
 -- the program, whose words begin behind its own name; where there are none it shows its help
 abbrev pub bare_command : App
 bare_command = let a = new_app (codes "camr") in record a {
@@ -60,6 +96,7 @@ bare_command = let a = new_app (codes "camr") in record a {
     no_binary_name = true;
     arg_required_else_help = true;
     subcommand_required = true;
+    has_version = true;
   };
 }
 
@@ -71,9 +108,9 @@ texts_command = with_subcommand (with_subcommand bare_command asm_command.top) d
 abbrev pub programs_command : App
 programs_command = with_subcommand texts_command check_command.top
 
--- with `migrate` too
+-- with `explain` and `migrate` too
 abbrev pub manifests_command : App
-manifests_command = with_subcommand programs_command migrate_command.top
+manifests_command = with_subcommand (with_subcommand programs_command explain_command.top) migrate_command.top
 
 -- with `run` too
 abbrev pub runs_command : App
@@ -81,7 +118,7 @@ runs_command = with_subcommand manifests_command run_command.top
 
 -- the whole command line
 abbrev pub camr_command : App
-camr_command = with_subcommand runs_command replay_command.top
+camr_command = with_subcommand (with_subcommand runs_command replay_command.top) show_command.top
 
 -- ---- what is made for `clap`
 

@@ -3,6 +3,8 @@
 #![tactic(auto)]
 
 mod plans;
+mod show_usage;
+mod showing;
 mod usage;
 mod words;
 

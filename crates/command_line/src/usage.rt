@@ -1,60 +1,59 @@
 // The command line as `clap` is given it: its subcommands with their options and paths, and what help says of
-// them.
+// them. It relies on `show_usage` for those of `show`.
 
 ghost use Rattle.std.specs.Prelude.{◌≡◌, IfOk};
 ghost use Rattle.command_line.specs.RunCommand.{IsArgument, IsCommand, camr_command};
-ghost use Rattle.command_line.specs.RunCommand.{asm_command, check_command, dis_command, manifests_command, migrate_command, programs_command, texts_command};
-ghost use Rattle.command_line.specs.RunCommand.{path_rule, replay_command, run_command, runs_command, watch_rule, workers_rule};
+ghost use Rattle.command_line.specs.RunCommand.{asm_command, bare_command, check_command, dis_command, explain_command, manifests_command, migrate_command};
+ghost use Rattle.command_line.specs.RunCommand.{path_rule, programs_command, replay_command, run_command, runs_command, show_command, texts_command};
+ghost use Rattle.command_line.specs.RunCommand.{watch_rule, workers_rule};
 
+use crate::show_usage::show_command;
 use clap::{Arg, Command, value_parser};
 use std::alloc::{AllocError, Global};
+
+/// What `--version` prints behind the program's name: its version, and the profile of its policies.
+const VERSION: &str = "0.1.0, policy profile 2";
+
+/// What help has at its end.
+const EXAMPLE: &str = "\
+Example:
+  camr run examples/first/manifest.toml examples/first/scenario.txt";
 
 /// The whole command line.
 pub fn camr_command<'a>(alloc: Global) -> Result<Command<'a>, AllocError>
     ensures { IfOk result (IsCommand camr_command) }
 {
-    let run = run_command(alloc)?;
-    let check = check_command(alloc)?;
-    let migrate = migrate_command(alloc)?;
     let replay = replay_command(alloc)?;
-    runs_command(alloc, check, migrate, run)?.subcommand(replay)
+    let show = show_command(alloc)?;
+    runs_command(alloc)?.subcommand(replay)?.subcommand(show)
 }
 
-// The command with all but `replay`.
-fn runs_command<'a>(
-    alloc: Global,
-    check: Command<'a>,
-    migrate: Command<'a>,
-    run: Command<'a>,
-) -> Result<Command<'a>, AllocError>
-    requires check { IsCommand check_command check }
-    requires migrate { IsCommand migrate_command migrate }
-    requires run { IsCommand run_command run }
+// The command without those that read a trace.
+fn runs_command<'a>(alloc: Global) -> Result<Command<'a>, AllocError>
     ensures { IfOk result (IsCommand runs_command) }
 {
-    manifests_command(alloc, check, migrate)?.subcommand(run)
+    let run = run_command(alloc)?;
+    manifests_command(alloc)?.subcommand(run)
 }
 
 // The command with all that is for programs and manifests alone.
-fn manifests_command<'a>(
-    alloc: Global,
-    check: Command<'a>,
-    migrate: Command<'a>,
-) -> Result<Command<'a>, AllocError>
-    requires check { IsCommand check_command check }
-    requires migrate { IsCommand migrate_command migrate }
+fn manifests_command<'a>(alloc: Global) -> Result<Command<'a>, AllocError>
     ensures { IfOk result (IsCommand manifests_command) }
 {
-    programs_command(alloc, check)?.subcommand(migrate)
+    let explain = explain_command(alloc)?;
+    let migrate = migrate_command(alloc)?;
+    programs_command(alloc)?
+        .subcommand(explain)?
+        .subcommand(migrate)
 }
 
 // The command with all that is for programs alone.
-fn programs_command<'a>(alloc: Global, check: Command<'a>) -> Result<Command<'a>, AllocError>
-    requires { IsCommand check_command check }
+fn programs_command<'a>(alloc: Global) -> Result<Command<'a>, AllocError>
     ensures { IfOk result (IsCommand programs_command) }
 {
     let asm = asm_command(alloc)?;
     let dis = dis_command(alloc)?;
+    let check = check_command(alloc)?;
     texts_command(alloc, asm, dis)?.subcommand(check)
 }
 
@@ -68,14 +67,21 @@ fn texts_command<'a>(
     requires dis { IsCommand dis_command dis }
     ensures { IfOk result (IsCommand texts_command) }
 {
+    bare_command(alloc)?.subcommand(asm)?.subcommand(dis)
+}
+
+// The command without subcommands.
+fn bare_command<'a>(alloc: Global) -> Result<Command<'a>, AllocError>
+    ensures { IfOk result (IsCommand bare_command) }
+{
     Command::new(alloc, "camr")
         .about("A CAM transport whose error recovery is written as BPF programs")
+        .version(VERSION)
+        .after_help(EXAMPLE)
         .no_binary_name(true)
         .subcommand_required(true)
         .arg_required_else_help(true)
-        .bin_name("camr")?
-        .subcommand(asm)?
-        .subcommand(dis)
+        .bin_name("camr")
 }
 
 fn asm_command<'a>(alloc: Global) -> Result<Command<'a>, AllocError>
@@ -109,6 +115,19 @@ fn check_command<'a>(alloc: Global) -> Result<Command<'a>, AllocError>
     Command::new(alloc, "check")
         .about("Verifies the programs of a manifest and prints their budgets")
         .arg(manifest)
+}
+
+fn explain_command<'a>(alloc: Global) -> Result<Command<'a>, AllocError>
+    ensures { IfOk result (IsCommand explain_command) }
+{
+    let word = path(
+        alloc,
+        "WORD",
+        "A code, as `V8`, or a manifest; `./V8` is a file of that name",
+    );
+    Command::new(alloc, "explain")
+        .about("Tells what a code means, or why a manifest is refused")
+        .arg(word)
 }
 
 fn migrate_command<'a>(alloc: Global) -> Result<Command<'a>, AllocError>
@@ -176,7 +195,8 @@ fn watch<'a>(alloc: Global) -> Arg<'a>
         .help("Tells sums on standard error: `terminal`, where that is one, or `lines`, always")
 }
 
-fn path<'a>(alloc: Global, name: &'a str, help: &'a str) -> Arg<'a>
+/// A path that has to be there.
+pub(crate) fn path<'a>(alloc: Global, name: &'a str, help: &'a str) -> Arg<'a>
     ensures { IsArgument (path_rule name.entry.now) result }
 {
     Arg::new(alloc, name).required(true).help(help)

@@ -1,30 +1,34 @@
-// The words after the program's name, read as a plan. It relies on `usage` for what `clap` is given of them, and
-// on `clap` for the rest but the form of a number.
+// The words after the program's name, read as a plan. It relies on `usage` for what `clap` is given of them, on `showing` for
+// those behind `show`, and on `clap` for the rest but the form of a number.
 
 ghost use Rattle.std.specs.Prelude.{◌≡◌, IfOk, MatchOption, codes, map, string_bytes};
 ghost use Rattle.clap.specs.Words.{FailsBy, Text, fault_of, found_of, kind_of, rows_of};
 ghost use Rattle.clap.specs.Words.{subcommand_of, subcommand_rows_of};
 ghost use Rattle.command_line.specs.FoundPlan.{HasFound, PlansBehind, PlansFound, PlansRows};
 ghost use Rattle.command_line.specs.FoundPlan.{ReadsWatch, ReadsWorkers};
-ghost use Rattle.command_line.specs.FileLines.{IsAsm, IsCheck, IsDis, IsMigrate, IsReplay};
-ghost use Rattle.command_line.specs.FileLines.{asm_line, check_line, dis_line, migrate_line, replay_line};
+ghost use Rattle.command_line.specs.FileLines.{IsAsm, IsCheck, IsDis, IsExplanation, IsMigrate, IsPicture, IsReplay, IsShow, IsSummary};
+ghost use Rattle.command_line.specs.FileLines.{asm_line, check_line, dis_line, explain_line, migrate_line, picture_line, replay_line, show_line};
+ghost use Rattle.command_line.specs.FileLines.{summary_line};
 ghost use Rattle.command_line.specs.RunCommand.{camr_command};
 ghost use Rattle.command_line.specs.RunLine.{GivesRun, HasLawfulNumber, IsLawfulNumber, IsPlain};
 ghost use Rattle.command_line.specs.RunLine.{RunLine, Spells, SpellsNoLawfulNumber, spelled_out, watch_word};
 ghost use Rattle.command_line.specs.UsageFault.{IsValueFault};
 
 use crate::plans::{MAX_WORKERS, MIN_WORKERS, Plan, Watch};
+use crate::showing::{show_fault, show_plan};
 use crate::usage::{camr_command, run_command};
 use clap::error::ErrorKind;
 use clap::{ArgMatches, Error};
+use refusal_codes::Code;
 use std::alloc::{AllocError, Global};
 
 /// Why the words are no plan: a mistake in them, or a request for help. Its text is for the user, and
 /// `exit_code` is the status to end with.
 pub type UsageFault = Error;
 
-/// Reads the words after the program's name. A line that asks for an assembly, for a program's text, for a check, for a
-/// migration or for a replay gives that or an error. A line that asks for a run gives that run, or an error where its number is none from 1 to 16 in
+/// Reads the words after the program's name. A line that asks for an assembly, for a program's text, for a check, for an
+/// explanation, for a migration, for a replay or for what a trace shows gives that or an error; a word behind `explain` that is
+/// a code is that code. A line that asks for a run gives that run, or an error where its number is none from 1 to 16 in
 /// decimal digits alone or memory is refused. `--watch` by itself stands for `--watch=terminal`. Whatever the words are, a run has 1 to
 /// 16 workers, tells its sums when the word that `clap` found says, and has the paths that it found in their places.
 pub fn plan(alloc: Global, words: &[String]) -> Result<Plan, UsageFault>
@@ -49,6 +53,18 @@ pub fn plan(alloc: Global, words: &[String]) -> Result<Plan, UsageFault>
     ensures replays { (manifest trace : Text)
         → map string_bytes words.now ≡ replay_line manifest trace → IsPlain manifest → IsPlain trace
         → IfOk result (IsReplay manifest trace) }
+    ensures explains { (word : Text)
+        → map string_bytes words.now ≡ explain_line word → IsPlain word
+        → IfOk result (IsExplanation word) }
+    ensures shows { (manifest trace : Text)
+        → map string_bytes words.now ≡ show_line manifest trace → IsPlain manifest → IsPlain trace
+        → IfOk result (IsShow manifest trace) }
+    ensures summarises { (manifest trace : Text)
+        → map string_bytes words.now ≡ summary_line manifest trace → IsPlain manifest → IsPlain trace
+        → IfOk result (IsSummary manifest trace) }
+    ensures draws { (picture manifest trace : Text)
+        → map string_bytes words.now ≡ picture_line picture manifest trace → IsPlain picture → IsPlain manifest → IsPlain trace
+        → IfOk result (IsPicture picture manifest trace) }
 {
     let spelled = spelled_out(alloc, words)?;
     let matches = matches(alloc, &spelled)?;
@@ -117,6 +133,8 @@ fn planned(alloc: Global, matches: &ArgMatches) -> Result<Option<Plan>, AllocErr
         Some(("check", check)) => check_plan(alloc, check),
         Some(("migrate", migrate)) => migrate_plan(alloc, migrate),
         Some(("replay", replay)) => replay_plan(alloc, replay),
+        Some(("explain", explain)) => explain_plan(alloc, explain),
+        Some(("show", show)) => show_plan(alloc, show),
         Some(("run", run)) => run_plan(alloc, run),
         _ => Ok(None),
     }
@@ -155,6 +173,19 @@ fn check_plan(alloc: Global, check: &ArgMatches) -> Result<Option<Plan>, AllocEr
         return Ok(None);
     };
     Ok(Some(Plan::Check(String::from_str(alloc, manifest)?)))
+}
+
+// The plan of what clap found behind `explain`.
+fn explain_plan(alloc: Global, explain: &ArgMatches) -> Result<Option<Plan>, AllocError>
+    ensures { IfOk result (PlansBehind (codes "explain") (rows_of (found_of explain.now))) }
+{
+    let Some(word) = explain.get_str("WORD") else {
+        return Ok(None);
+    };
+    match Code::of(word) {
+        Some(code) => Ok(Some(Plan::ExplainCode(code))),
+        None => Ok(Some(Plan::Explain(String::from_str(alloc, word)?))),
+    }
 }
 
 // The plan of what clap found behind `migrate`.
@@ -253,24 +284,32 @@ fn watch_in(word: &str) -> Option<Watch>
     }
 }
 
-// What is wrong with an option's word: clap has refused each other that is no number from 1 to 16.
+// What is wrong with the words that clap let through.
 fn no_plan(alloc: Global, matches: &ArgMatches) -> Error
     ensures { IsValueFault result }
 {
-    let (workers, watch) = match matches.subcommand() {
-        Some((_, run)) => (
+    let fault = match matches.subcommand() {
+        Some(("show", show)) => show_fault(alloc, show),
+        Some((_, run)) => option_fault(
+            alloc,
             run.get_str("workers").unwrap_or(""),
             run.get_str("watch").unwrap_or(""),
         ),
-        None => ("", ""),
-    };
-    let fault = match workers_in(workers) {
-        None => number_fault(alloc, workers),
-        Some(_) => watch_fault(alloc, watch),
+        None => option_fault(alloc, "", ""),
     };
     match fault {
         Ok(fault) => fault,
         Err(error) => Error::from(error),
+    }
+}
+
+// What is wrong with the word of an option of `run`: clap has refused each other that is no number from 1 to 16.
+fn option_fault(alloc: Global, workers: &str, watch: &str) -> Result<Error, AllocError>
+    ensures { IfOk result (λ e. kind_of e ≡ ErrorKind.ValueValidation) }
+{
+    match workers_in(workers) {
+        None => number_fault(alloc, workers),
+        Some(_) => watch_fault(alloc, watch),
     }
 }
 

@@ -12,7 +12,7 @@ use Rattle.calls.specs.declared.trace.Trace.{Trace}
 use Rattle.trace.specs.TraceText.{trace_text}
 use Rattle.world.specs.TotalsOf.{TotalsOf}
 use Rattle.command_line.specs.declared.plans.Plan.{Plan}
-use Rattle.command_line.specs.declared.plans.Plan.TheVariants.{Asm, Dis, Check, Migrate, Run, Replay}
+use Rattle.command_line.specs.declared.plans.Plan.TheVariants.{Asm, Dis, Check, Migrate, Run, Replay, ExplainCode, Explain, Show, Summarise, Draw}
 
 -- the bytes are the text of a program, spell one, or are a manifest
 abbrev pub IsText : List ℕ → Type 0
@@ -41,7 +41,7 @@ IsFaultyManifest bytes = (fault : ManifestFault) × HasFault bytes fault
 abbrev pub IsFaultyMigration : List ℕ → Type 0
 IsFaultyMigration bytes = (fault : ManifestFault) × HasMigrationFault bytes fault
 
--- a plan's first file is what the plan asks for
+-- a plan's first file is what the plan asks for; for a code nothing is read
 abbrev pub IsAsAsked : Plan → List ℕ → Type 0
 IsAsAsked (Asm text program) bytes = IsText bytes
 IsAsAsked (Dis program) bytes = IsProgram bytes
@@ -49,6 +49,11 @@ IsAsAsked (Check manifest) bytes = IsManifest bytes
 IsAsAsked (Migrate manifest migrated) bytes = IsMigratable bytes
 IsAsAsked (Run workers watch manifest scenario) bytes = IsManifest bytes
 IsAsAsked (Replay manifest trace) bytes = IsManifest bytes
+IsAsAsked (ExplainCode code) bytes = Unit {0}
+IsAsAsked (Explain manifest) bytes = IsManifest bytes
+IsAsAsked (Show filter manifest trace) bytes = IsManifest bytes
+IsAsAsked (Summarise manifest trace) bytes = IsManifest bytes
+IsAsAsked (Draw manifest trace picture) bytes = IsManifest bytes
 
 -- it has a fault; where a scenario or a trace is read too, the fault may be there
 abbrev pub IsFaulty : Plan → List ℕ → Type 0
@@ -58,6 +63,11 @@ IsFaulty (Check manifest) bytes = IsFaultyManifest bytes
 IsFaulty (Migrate manifest migrated) bytes = IsFaultyMigration bytes
 IsFaulty (Run workers watch manifest scenario) bytes = Unit {0}
 IsFaulty (Replay manifest trace) bytes = Unit {0}
+IsFaulty (ExplainCode code) bytes = Unit {0}
+IsFaulty (Explain manifest) bytes = IsFaultyManifest bytes
+IsFaulty (Show filter manifest trace) bytes = Unit {0}
+IsFaulty (Summarise manifest trace) bytes = Unit {0}
+IsFaulty (Draw manifest trace picture) bytes = Unit {0}
 
 -- The one text is a manifest, and the other the trace of a history of an engine of its setup, whose last line has its sums.
 abbrev pub IsAcceptedTrace : List ℕ → List ℕ → Type 0
@@ -67,4 +77,7 @@ IsAcceptedTrace manifest text =
 -- what a plan's second file is, beside the first, where the plan was carried out
 abbrev pub IsAccepted : Plan → List ℕ → List ℕ → Type 0
 IsAccepted (Replay manifest trace) first second = IsAcceptedTrace first second
+IsAccepted (Show filter manifest trace) first second = IsAcceptedTrace first second
+IsAccepted (Summarise manifest trace) first second = IsAcceptedTrace first second
+IsAccepted (Draw manifest trace picture) first second = IsAcceptedTrace first second
 IsAccepted plan first second = Unit {0}

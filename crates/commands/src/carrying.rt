@@ -1,16 +1,20 @@
-// A plan, carried out over the bytes of its files. It relies on the crates that read a manifest, a scenario and a trace,
-// on `scenario_host` and `replay`, and on `trace` and `verdicts` for what goes out.
+// A plan, carried out over the bytes of its files. It relies on `tracing` for what is told of a trace, on `explaining` for what is told
+// of a manifest or a code, on the crates that read programs, a manifest and a scenario, on `scenario_host`, and on `trace` and
+// `verdicts` for what goes out.
 
-ghost use Rattle.std.specs.Prelude.{◌≡◌, ◌≤◌, true, Contains, Some, IfOk, IfErr, IsErrAnd, IsUtf8, MatchResult, length, slice_get, string_bytes};
+ghost use Rattle.std.specs.Prelude.{◌≡◌, ◌≤◌, true, Contains, Some, IfOk, IfErr, IsErrAnd, IsUtf8, length, slice_get, string_bytes};
 ghost use Rattle.command_line.specs.Files.{input_paths, reads_text};
 ghost use Rattle.manifest.specs.Migration.{IsMigrated};
 ghost use Rattle.trace.specs.HasText.{AllHaveText};
 ghost use Rattle.workers.specs.declared.serving.TheConstants.{MAX_WORKERS};
 ghost use Rattle.commands.specs.Faults.{status_of};
-ghost use Rattle.commands.specs.Told.{IsText, IsProgram, IsManifest, IsMigratable, IsFaultyText, IsFaultyProgram, IsFaultyManifest, IsFaultyMigration, IsAsAsked, IsAccepted, IsAcceptedTrace, IsFaulty};
+ghost use Rattle.commands.specs.Told.{IsText, IsProgram, IsManifest, IsMigratable, IsFaultyText, IsFaultyProgram, IsFaultyManifest, IsFaultyMigration, IsAsAsked, IsAccepted, IsFaulty};
 
+use crate::explaining::print_explanation;
 use crate::fault::Fault;
+use crate::files::{status, text};
 use crate::handing::Handing;
+use crate::tracing::{Told, print_traced};
 use crate::verdicts;
 use bpf_asm::{assemble, disassemble};
 use bpf_decode::{decode, encode};
@@ -18,7 +22,6 @@ use calls::Trace;
 use command_line::Plan;
 use manifest::Manifest;
 use notices::Notices;
-use replay::replay;
 use std::alloc::Global;
 use std::io;
 use std::io::Write;
@@ -27,7 +30,7 @@ use std::thread::Threads;
 use workers::MAX_WORKERS;
 
 /// Carries a plan out over the bytes of its input files, in the order of the line, and answers the status:
-/// 0 done; 1 refused; 2 for a file that is to be text and is not UTF-8, for want of memory, or where a writer fails. What is to
+/// 0 done; 1 refused, or explained why; 2 for a file that is to be text and is not UTF-8, for want of memory, or where a writer fails. What is to
 /// go out is written on `out`, and one line for a fault on `err`; where there is a fault, nothing goes out. Where `out` fails for want
 /// of memory that line is written too; some may be out then. How far a run or a replay is, is told where that is wanted.
 pub fn carry<N: Notices + Sync, R: Threads + Wait + Sync, W: Write, E: Write>(
@@ -44,9 +47,9 @@ pub fn carry<N: Notices + Sync, R: Threads + Wait + Sync, W: Write, E: Write>(
     ensures no_text { reads_text plan.now ≡ true → (input : _) → Contains inputs.now input → ¬ (IsUtf8 input.items) → result ≡ 2 }
     // Done only where the first file is what the plan asks for.
     ensures done { result ≡ 0 → (input : _) → slice_get inputs.now 0 ≡ Some input → IsAsAsked plan.now input.items }
-    // A replay is done only where the second file is the trace of a history of an engine of the first.
+    // A replay, and what a trace shows, is done only where the second file is the trace of a history of an engine of the first.
     ensures accepted { result ≡ 0 → (first second : _) → slice_get inputs.now 0 ≡ Some first → slice_get inputs.now 1 ≡ Some second → IsAccepted plan.now first.items second.items }
-    // Refused only where it has a fault, or a scenario or a trace behind it has one.
+    // Refused only where it has a fault, or a scenario or a trace behind it has one; a manifest that is to be explained is refused too.
     ensures refused { result ≡ 1 → (input : _) → slice_get inputs.now 0 ≡ Some input → IsFaulty plan.now input.items }
 {
     match plan {
@@ -71,36 +74,22 @@ pub fn carry<N: Notices + Sync, R: Threads + Wait + Sync, W: Write, E: Write>(
             let workers = usize::from(*workers).clamp(1, MAX_WORKERS);
             print_run(rt, alloc, workers, manifest, scenario, notices, out, err)
         }
-        Plan::Replay(manifest, trace) => {
+        Plan::Replay(..) => print_traced(alloc, Told::Verdict, plan, inputs, notices, out, err),
+        Plan::Show(filter, ..) => {
+            let told = Told::Account(*filter);
+            print_traced(alloc, told, plan, inputs, notices, out, err)
+        }
+        Plan::Summarise(..) => print_traced(alloc, Told::Summary, plan, inputs, notices, out, err),
+        Plan::Draw(..) => print_traced(alloc, Told::Picture, plan, inputs, notices, out, err),
+        Plan::ExplainCode(code) => status(refusal_codes::print(*code, out), err),
+        Plan::Explain(manifest) => {
             let manifest = (manifest.as_str(), inputs[0].as_slice());
-            let trace = (trace.as_str(), inputs[1].as_slice());
-            print_replay(alloc, manifest, trace, notices, out, err)
+            print_explanation(alloc, manifest, out, err)
         }
         Plan::Migrate(manifest, _) => {
             let manifest = (manifest.as_str(), inputs[0].as_slice());
             print_migrated(alloc, manifest, out, err)
         }
-    }
-}
-
-// What is to go out went out, or a writer failed. That it failed for want of memory is told.
-fn status<E: Write>(written: io::Result<()>, err: &mut E) -> u8
-    ensures { MatchResult written (λ _. result ≡ 0) (λ _. result ≡ 2) }
-{
-    match written {
-        Ok(()) => 0,
-        Err(error) => unwritten(error, err),
-    }
-}
-
-// The writer failed so.
-fn unwritten<E: Write>(error: io::Error, err: &mut E) -> u8
-    ensures { result ≡ 2 }
-{
-    if error.kind() == io::ErrorKind::OutOfMemory {
-        Fault::OutOfMemory.report(err)
-    } else {
-        2
     }
 }
 
@@ -214,52 +203,4 @@ fn run<'a, N: Notices + Sync, R: Threads + Wait + Sync>(
     let manifest = manifest::read(alloc, manifest)?;
     let steps = scenario::read(alloc, scenario)?;
     Ok(scenario_host::run(rt, alloc, manifest.config, &steps, workers, notices)?)
-}
-
-// Prints that a trace is accepted, over a manifest, each a path and its bytes, and answers the status.
-fn print_replay<N: Notices, W: Write, E: Write>(
-    alloc: Global,
-    manifest: (&str, &[u8]),
-    trace: (&str, &[u8]),
-    notices: &N,
-    out: &mut W,
-    err: &mut E,
-) -> u8
-    ensures status { result ≤ 2 }
-    ensures manifest { ¬ (IsUtf8 manifest.entry.1.now) → result ≡ 2 }
-    ensures trace { ¬ (IsUtf8 trace.entry.1.now) → result ≡ 2 }
-    ensures done { result ≡ 0 → IsAcceptedTrace manifest.entry.1.now trace.entry.1.now }
-{
-    match replayed(alloc, manifest, trace, notices) {
-        Ok(()) => status(out.write_all(b"accepted\n"), err),
-        Err(fault) => fault.report(err),
-    }
-}
-
-// Whether a trace is accepted, over a manifest, each a path and its bytes.
-fn replayed<'a, N: Notices>(
-    alloc: Global,
-    manifest: (&'a str, &[u8]),
-    trace: (&'a str, &[u8]),
-    notices: &N,
-) -> Result<(), Fault<'a>>
-    ensures manifest { ¬ (IsUtf8 manifest.entry.1.now) → IsErrAnd result (λ e. status_of e ≡ 2) }
-    ensures trace { ¬ (IsUtf8 trace.entry.1.now) → IsErrAnd result (λ e. status_of e ≡ 2) }
-    ensures done { IfOk result (λ _. IsAcceptedTrace manifest.entry.1.now trace.entry.1.now) }
-{
-    let manifest = text(manifest)?;
-    let trace = text(trace)?;
-    let manifest = manifest::read(alloc, manifest)?;
-    let trace = trace::read(alloc, trace)?;
-    Ok(replay(alloc, &manifest.config, &trace, notices)?)
-}
-
-fn text<'a, 'b>(file: (&'a str, &'b [u8])) -> Result<&'b str, Fault<'a>>
-    ensures { MatchResult result (λ t. (t.now ≡ file.entry.1.now) × IsUtf8 file.entry.1.now)
-        (λ e. (status_of e ≡ 2) × ¬ (IsUtf8 file.entry.1.now)) }
-{
-    match str::from_utf8(file.1) {
-        Ok(text) => Ok(text),
-        Err(_) => Err(Fault::File(file.0)),
-    }
 }

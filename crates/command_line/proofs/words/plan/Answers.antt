@@ -8,9 +8,10 @@ use Rattle.command_line.specs.RunCommand.{camr_command}
 use Rattle.command_line.specs.RunLine.{GivesRun, SpellsNoLawfulNumber, spelled_out}
 use Rattle.command_line.specs.UsageFault.{IsValueFault}
 use Rattle.command_line.specs.declared.plans.Plan.{Plan}
-use Rattle.command_line.proofs.FileWords.{asm_plan, check_plan, dis_plan, migrate_plan, replay_plan}
+use Rattle.command_line.proofs.FileWords.{asm_plan, check_plan, dis_plan, explain_plan, migrate_plan, replay_plan}
 use Rattle.command_line.proofs.PlanLines.{line_fault, line_plan, line_refuses}
-use Rattle.command_line.proofs.SpelledOut.{one_out, run_out, two_out}
+use Rattle.command_line.proofs.SpelledOut.{one_out, picture_out, run_out, summary_out, two_out}
+use Rattle.command_line.proofs.ShowWords.{picture_plan, show_plan, summary_plan}
 use Rattle.command_line.proofs.words.plan.Goals as goal
 
 -- an error that is handed on
@@ -100,3 +101,31 @@ returns-in-Some-clause-migrates c manifest migrated line plain_manifest plain_mi
     let same = same_words _ words _ (lent _ c.deref.result.now _ c.deref.ensures.value c.in_ok-spelled.ensures) line (two_out (codes "migrate") manifest migrated refl plain_manifest plain_migrated) ∙ sym line in
     let found = found_so _ words _ (Some c.in-Some.plan) same c.in_ok-matches.ensures.rows (subst (λ o. PlansFound (subcommand_rows_of c.in_ok-matches.matches) o) c.in-Some.is c.in_ok-plan.ensures) in
     migrate_plan words manifest migrated c.in-Some.plan line plain_manifest plain_migrated found.0
+
+pub returns-in-Some-clause-explains : goal.returns-in-Some-clause-explains
+returns-in-Some-clause-explains c word line plain =
+    let words = map string_bytes c.args.words.now in
+    let same = same_words _ words _ (lent _ c.deref.result.now _ c.deref.ensures.value c.in_ok-spelled.ensures) line (one_out (codes "explain") word refl plain) ∙ sym line in
+    let found = found_so _ words _ (Some c.in-Some.plan) same c.in_ok-matches.ensures.rows (subst (λ o. PlansFound (subcommand_rows_of c.in_ok-matches.matches) o) c.in-Some.is c.in_ok-plan.ensures) in
+    explain_plan words word c.in-Some.plan line plain found.0
+
+pub returns-in-Some-clause-shows : goal.returns-in-Some-clause-shows
+returns-in-Some-clause-shows c manifest trace line plain_manifest plain_trace =
+    let words = map string_bytes c.args.words.now in
+    let same = same_words _ words _ (lent _ c.deref.result.now _ c.deref.ensures.value c.in_ok-spelled.ensures) line (two_out (codes "show") manifest trace refl plain_manifest plain_trace) ∙ sym line in
+    let found = found_so _ words _ (Some c.in-Some.plan) same c.in_ok-matches.ensures.rows (subst (λ o. PlansFound (subcommand_rows_of c.in_ok-matches.matches) o) c.in-Some.is c.in_ok-plan.ensures) in
+    show_plan words manifest trace c.in-Some.plan line plain_manifest plain_trace found.0
+
+pub returns-in-Some-clause-summarises : goal.returns-in-Some-clause-summarises
+returns-in-Some-clause-summarises c manifest trace line plain_manifest plain_trace =
+    let words = map string_bytes c.args.words.now in
+    let same = same_words _ words _ (lent _ c.deref.result.now _ c.deref.ensures.value c.in_ok-spelled.ensures) line (summary_out manifest trace plain_manifest plain_trace) ∙ sym line in
+    let found = found_so _ words _ (Some c.in-Some.plan) same c.in_ok-matches.ensures.rows (subst (λ o. PlansFound (subcommand_rows_of c.in_ok-matches.matches) o) c.in-Some.is c.in_ok-plan.ensures) in
+    summary_plan words manifest trace c.in-Some.plan line plain_manifest plain_trace found.0
+
+pub returns-in-Some-clause-draws : goal.returns-in-Some-clause-draws
+returns-in-Some-clause-draws c picture manifest trace line plain_picture plain_manifest plain_trace =
+    let words = map string_bytes c.args.words.now in
+    let same = same_words _ words _ (lent _ c.deref.result.now _ c.deref.ensures.value c.in_ok-spelled.ensures) line (picture_out picture manifest trace plain_picture plain_manifest plain_trace) ∙ sym line in
+    let found = found_so _ words _ (Some c.in-Some.plan) same c.in_ok-matches.ensures.rows (subst (λ o. PlansFound (subcommand_rows_of c.in_ok-matches.matches) o) c.in-Some.is c.in_ok-plan.ensures) in
+    picture_plan words picture manifest trace c.in-Some.plan line plain_picture plain_manifest plain_trace found.0

@@ -3,8 +3,8 @@ use Rattle.std.specs.Prelude.{IsUtf8}
 use Rattle.std.specs.Global.{Global}
 use Rattle.command_line.specs.Files.{input_paths}
 use Rattle.command_line.specs.declared.plans.Plan.{Plan}
-use Rattle.commands.specs.Told.{IsAccepted, IsAcceptedTrace, IsAsAsked, IsFaulty, IsFaultyManifest, IsFaultyMigration, IsFaultyText, IsManifest, IsMigratable}
-use Rattle.commands.proofs.Telling.{first_is, one_of_two, over_manifest, second_is}
+use Rattle.commands.specs.Told.{IsAccepted, IsAsAsked, IsFaulty, IsFaultyManifest, IsFaultyMigration, IsFaultyText, IsManifest, IsMigratable}
+use Rattle.commands.proofs.Telling.{first_is, one_of_two}
 use Rattle.commands.proofs.carrying.carry.Goals as goal
 
 pub returns-in-Err-check-clause-refused : goal.returns-in-Err-check-clause-refused
@@ -27,36 +27,12 @@ returns-in-Run-clause-done g c = λ is input there.
     let same : c.as_slice-in-Run.result.now ≡ input.items = c.as_slice-in-Run.ensures.value ∙ ap (λ (bytes : Vec ℕ Global). bytes.items) read in
     subst (λ (plan : Plan). IsAsAsked plan input.items) (sym c.in-Run.is) (subst (λ (bytes : List ℕ). IsManifest bytes) same (c.print_run.ensures.done is))
 
-pub returns-in-Replay-clause-done : goal.returns-in-Replay-clause-done
-returns-in-Replay-clause-done g c = λ is input there.
-    let read = first_is c.args.inputs.now c.index-inputs-0-in-Replay.result input c.index-inputs-0-in-Replay.is there in
-    let same : c.as_slice-in-Replay.result.now ≡ input.items = c.as_slice-in-Replay.ensures.value ∙ ap (λ (bytes : Vec ℕ Global). bytes.items) read in
-    let manifest = over_manifest c.as_slice-in-Replay.result.now c.as_slice-in-Replay-2.result.now (c.print_replay.ensures.done is) in
-    subst (λ (plan : Plan). IsAsAsked plan input.items) (sym c.in-Replay.is) (subst (λ (bytes : List ℕ). IsManifest bytes) same manifest)
-
-pub returns-in-Replay-clause-accepted : goal.returns-in-Replay-clause-accepted
-returns-in-Replay-clause-accepted g c = λ is first second one other.
-    let read = first_is c.args.inputs.now c.index-inputs-0-in-Replay.result first c.index-inputs-0-in-Replay.is one in
-    let too = second_is c.args.inputs.now c.index-inputs-1-in-Replay.result second c.index-inputs-1-in-Replay.is other in
-    let manifest : c.as_slice-in-Replay.result.now ≡ first.items = c.as_slice-in-Replay.ensures.value ∙ ap (λ (bytes : Vec ℕ Global). bytes.items) read in
-    let trace : c.as_slice-in-Replay-2.result.now ≡ second.items = c.as_slice-in-Replay-2.ensures.value ∙ ap (λ (bytes : Vec ℕ Global). bytes.items) too in
-    subst (λ (plan : Plan). IsAccepted plan first.items second.items) (sym c.in-Replay.is)
-    (subst (λ (bytes : List ℕ). IsAcceptedTrace first.items bytes) trace (subst (λ (bytes : List ℕ). IsAcceptedTrace bytes c.as_slice-in-Replay-2.result.now) manifest (c.print_replay.ensures.done is)))
-
 pub returns-in-Run-clause-no_text : goal.returns-in-Run-clause-no_text
 returns-in-Run-clause-no_text g c = λ reads input there not_text.
     let two : length c.args.inputs.now ≡ 2 = c.requires ∙ ap (λ (plan : Plan). length (input_paths plan)) c.in-Run.is in
     elim (one_of_two c.args.inputs.now c.index-inputs-0-in-Run.result c.index-inputs-1.result input two c.index-inputs-0-in-Run.is c.index-inputs-1.is there) [
       | inl first ↦ c.print_run.ensures.manifest (λ text. not_text (subst (λ (bytes : List ℕ). IsUtf8 bytes) (c.as_slice-in-Run.ensures.value ∙ ap (λ (bytes : Vec ℕ Global). bytes.items) first) text))
       | inr second ↦ c.print_run.ensures.scenario (λ text. not_text (subst (λ (bytes : List ℕ). IsUtf8 bytes) (c.as_slice-in-Run-2.ensures.value ∙ ap (λ (bytes : Vec ℕ Global). bytes.items) second) text))
-    ]
-
-pub returns-in-Replay-clause-no_text : goal.returns-in-Replay-clause-no_text
-returns-in-Replay-clause-no_text g c = λ reads input there not_text.
-    let two : length c.args.inputs.now ≡ 2 = c.requires ∙ ap (λ (plan : Plan). length (input_paths plan)) c.in-Replay.is in
-    elim (one_of_two c.args.inputs.now c.index-inputs-0-in-Replay.result c.index-inputs-1-in-Replay.result input two c.index-inputs-0-in-Replay.is c.index-inputs-1-in-Replay.is there) [
-      | inl first ↦ c.print_replay.ensures.manifest (λ text. not_text (subst (λ (bytes : List ℕ). IsUtf8 bytes) (c.as_slice-in-Replay.ensures.value ∙ ap (λ (bytes : Vec ℕ Global). bytes.items) first) text))
-      | inr second ↦ c.print_replay.ensures.trace (λ text. not_text (subst (λ (bytes : List ℕ). IsUtf8 bytes) (c.as_slice-in-Replay-2.ensures.value ∙ ap (λ (bytes : Vec ℕ Global). bytes.items) second) text))
     ]
 
 pub returns-in-Migrate-clause-done : goal.returns-in-Migrate-clause-done
@@ -70,3 +46,47 @@ returns-in-Migrate-clause-refused g c = λ is input there.
     let read = first_is c.args.inputs.now c.index-inputs-0-in-Migrate.result input c.index-inputs-0-in-Migrate.is there in
     let same : c.as_slice-in-Migrate.result.now ≡ input.items = c.as_slice-in-Migrate.ensures.value ∙ ap (λ (bytes : Vec ℕ Global). bytes.items) read in
     subst (λ (plan : Plan). IsFaulty plan input.items) (sym c.in-Migrate.is) (subst (λ (bytes : List ℕ). IsFaultyMigration bytes) same (c.print_migrated.ensures.refused is))
+
+pub returns-in-Replay-clause-done : goal.returns-in-Replay-clause-done
+returns-in-Replay-clause-done g c = λ is input there.
+    subst (λ (plan : Plan). IsAsAsked plan input.items) (sym c.in-Replay.is) (c.print_traced.ensures.manifest is input there)
+
+pub returns-in-Replay-clause-accepted : goal.returns-in-Replay-clause-accepted
+returns-in-Replay-clause-accepted g c = λ is first second one other.
+    subst (λ (plan : Plan). IsAccepted plan first.items second.items) (sym c.in-Replay.is) (c.print_traced.ensures.done is first second one other)
+
+pub returns-in-Show-clause-done : goal.returns-in-Show-clause-done
+returns-in-Show-clause-done g c = λ is input there.
+    subst (λ (plan : Plan). IsAsAsked plan input.items) (sym c.in-Show.is) (c.print_traced-in-Show.ensures.manifest is input there)
+
+pub returns-in-Show-clause-accepted : goal.returns-in-Show-clause-accepted
+returns-in-Show-clause-accepted g c = λ is first second one other.
+    subst (λ (plan : Plan). IsAccepted plan first.items second.items) (sym c.in-Show.is) (c.print_traced-in-Show.ensures.done is first second one other)
+
+pub returns-in-Summarise-clause-done : goal.returns-in-Summarise-clause-done
+returns-in-Summarise-clause-done g c = λ is input there.
+    subst (λ (plan : Plan). IsAsAsked plan input.items) (sym c.in-Summarise.is) (c.print_traced-in-Summarise.ensures.manifest is input there)
+
+pub returns-in-Summarise-clause-accepted : goal.returns-in-Summarise-clause-accepted
+returns-in-Summarise-clause-accepted g c = λ is first second one other.
+    subst (λ (plan : Plan). IsAccepted plan first.items second.items) (sym c.in-Summarise.is) (c.print_traced-in-Summarise.ensures.done is first second one other)
+
+pub returns-in-Draw-clause-done : goal.returns-in-Draw-clause-done
+returns-in-Draw-clause-done g c = λ is input there.
+    subst (λ (plan : Plan). IsAsAsked plan input.items) (sym c.in-Draw.is) (c.print_traced-in-Draw.ensures.manifest is input there)
+
+pub returns-in-Draw-clause-accepted : goal.returns-in-Draw-clause-accepted
+returns-in-Draw-clause-accepted g c = λ is first second one other.
+    subst (λ (plan : Plan). IsAccepted plan first.items second.items) (sym c.in-Draw.is) (c.print_traced-in-Draw.ensures.done is first second one other)
+
+pub returns-in-Explain-clause-done : goal.returns-in-Explain-clause-done
+returns-in-Explain-clause-done g c = λ is input there.
+    let read = first_is c.args.inputs.now c.index-inputs-0-in-Explain.result input c.index-inputs-0-in-Explain.is there in
+    let same : c.as_slice-in-Explain.result.now ≡ input.items = c.as_slice-in-Explain.ensures.value ∙ ap (λ (bytes : Vec ℕ Global). bytes.items) read in
+    subst (λ (plan : Plan). IsAsAsked plan input.items) (sym c.in-Explain.is) (subst (λ (bytes : List ℕ). IsManifest bytes) same (c.print_explanation.ensures.done is))
+
+pub returns-in-Explain-clause-refused : goal.returns-in-Explain-clause-refused
+returns-in-Explain-clause-refused g c = λ is input there.
+    let read = first_is c.args.inputs.now c.index-inputs-0-in-Explain.result input c.index-inputs-0-in-Explain.is there in
+    let same : c.as_slice-in-Explain.result.now ≡ input.items = c.as_slice-in-Explain.ensures.value ∙ ap (λ (bytes : Vec ℕ Global). bytes.items) read in
+    subst (λ (plan : Plan). IsFaulty plan input.items) (sym c.in-Explain.is) (subst (λ (bytes : List ℕ). IsFaultyManifest bytes) same (c.print_explanation.ensures.refused is))

@@ -36,13 +36,19 @@ try_program() {
     cd "$top/crates/camr" && rt try --seconds 3600 "$@"
 }
 
-# Succeeds where a word behind the command is a path: it is no option, nor the value of one.
+# Succeeds where a word behind the command is a path: it is no option, nor the value of one, nor a code.
 is_path() {
     case $command in
-    check | dis | replay | run) ;;
+    check | dis | explain | replay | run | show) ;;
     *) return 1 ;;
     esac
-    [ "$place" -gt 1 ] && [ "$before" != --workers ] && [ "$1" != -- ] || return 1
+    [ "$place" -gt 1 ] && [ "$1" != -- ] || return 1
+    case $before in
+    --workers | --ccb | --queue | --run | --freeze | --from | --to) return 1 ;;
+    esac
+    case $command-$1 in
+    explain-[A-Z][0-9] | explain-[A-Z][0-9][0-9]) return 1 ;;
+    esac
     case $1 in
     -*) [ "$options" = ended ] ;;
     esac
@@ -58,10 +64,14 @@ take_input() {
 
 # unproved WORD..: answers as the proved program does, and with its status.
 unproved() {
-    if [ "${1-}" = asm ]; then
-        echo 'camr: asm wants the proved program' >&2
-        return 2
-    fi
+    for word; do
+        case $1-$word in
+        asm-* | migrate-* | show---svg | show---svg=*)
+            echo "camr: $1 with a file to be written wants the proved program" >&2
+            return 2
+            ;;
+        esac
+    done
     echo 'camr: nothing is proved here: the program is compiled from its sources as they stand, which takes a minute or two' >&2
     work=$(mktemp -d) || return 2
     trap 'rm -rf "$work"; exit 2' HUP INT TERM

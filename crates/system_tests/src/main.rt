@@ -1,9 +1,10 @@
 // The tests of the whole program, as data: it reads the cases of the files that its words name, carries each out
-// as `camr` would, those of runs once more over their manifest as `camr migrate` makes it, and prints each case that comes out otherwise, and how many passed. It relies on `test_cases` for
-// cases, and on `command_line` and `commands`, which are all of `camr` but its files. How a case is written stands in
-// data/README.
+// as `camr` would, those of runs once more over their manifest as `camr migrate` makes it, and then the smallest text of each
+// code. It prints each case that comes out otherwise, and how many passed. It relies on `test_cases` for cases, on `refusal_codes` for
+// codes, and on `command_line` and `commands`, which are all of `camr` but its files. How a case is written stands in data/README.
 #![tactic(auto)]
 
+mod explained;
 mod migrating;
 mod report;
 mod running;
@@ -45,6 +46,7 @@ fn test_all<R: Env + Files + AllocGlobal + Threads + Wait + Sync, W: Write>(
         let text = fs::read_to_string(rt, path).context(path)?;
         test_file(rt, path, text.as_str(), &mut tally, out).context(path)?;
     }
+    explained::test_all(rt, &mut tally, out)?;
     Ok(tally)
 }
 

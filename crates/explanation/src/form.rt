@@ -10,7 +10,7 @@ use manifest_layout::{Entry, Layout, Span};
 use std::alloc::{AllocError, Global};
 use strsim::levenshtein;
 use toml::Value;
-use toml_parser::{Scalar, quoted, starts_string, unquoted};
+use toml_parser::{ParseError, Scalar, quoted, starts_string, unquoted};
 
 /// How far a name may be from one that is meant, in letters that differ.
 const NEAR: usize = 3;
@@ -214,7 +214,7 @@ fn written(text: &str, part: Span) -> &str {
 // Whether a value is of the type that a key has.
 fn is_of_form(alloc: Global, wants: Wants, value: &str) -> Result<bool, AllocError> {
     Ok(match wants {
-        Wants::Number { .. } => number_in(alloc, value).is_some(),
+        Wants::Number { .. } => number_in(alloc, value)?.is_some(),
         Wants::Text => starts_string(value),
         Wants::Code => is_code(alloc, value)?,
         Wants::Tables => value.starts_with('['),
@@ -222,10 +222,11 @@ fn is_of_form(alloc: Global, wants: Wants, value: &str) -> Result<bool, AllocErr
 }
 
 // The whole number that is written so.
-fn number_in(alloc: Global, value: &str) -> Option<i64> {
+fn number_in(alloc: Global, value: &str) -> Result<Option<i64>, AllocError> {
     match unquoted(alloc, value) {
-        Ok((Scalar::Integer(number), _)) => Some(number),
-        _ => None,
+        Ok((Scalar::Integer(number), _)) => Ok(Some(number)),
+        Err(ParseError::OutOfMemory) => Err(AllocError),
+        _ => Ok(None),
     }
 }
 
@@ -275,7 +276,7 @@ fn print_range(
     out: &mut String,
 ) -> Result<(), AllocError> {
     let controllers = match layout.entry(0, "controllers") {
-        Some(entry) => number_in(alloc, written(text, entry.value)),
+        Some(entry) => number_in(alloc, written(text, entry.value))?,
         None => None,
     };
     for entry in &layout.entries {
@@ -285,7 +286,7 @@ fn print_range(
         let Some((least, most)) = range_of(key, controllers) else {
             continue;
         };
-        match number_in(alloc, written(text, entry.value)) {
+        match number_in(alloc, written(text, entry.value))? {
             Some(number) if number < least || most < number => {
                 excerpt::print(out, path, text, entry.value)?;
                 return writeln!(

@@ -10,6 +10,7 @@ use call_shape::{Onward, ShapeFault};
 use checked_path::{Log, path_to};
 use helpers::HelperLimits;
 use manifest_layout::Span;
+use or_memory::OrMemory;
 use register_kinds::Cause;
 use std::alloc::{AllocError, Global};
 use verifier::{Refusal, verify_before};
@@ -30,11 +31,12 @@ pub struct Told<'a> {
 
 /// What the verifier's pass shows of a program.
 pub fn log_of(alloc: Global, program: &Program, limits: &HelperLimits) -> Result<Log, AllocError> {
-    let (log, _judged) = verify_before(alloc, program, limits, Log::new(alloc));
-    if log.lacks_memory() {
-        return Err(AllocError);
+    let (log, judged) = verify_before(alloc, program, limits, Log::new(alloc));
+    match judged {
+        Err(OrMemory::OutOfMemory) => Err(AllocError),
+        _ if log.lacks_memory() => Err(AllocError),
+        _ => Ok(log),
     }
-    Ok(log)
 }
 
 /// Writes why the program is refused.

@@ -2,8 +2,10 @@
 // more: room for the record is taken first, and nothing is undone. It relies on `parts` for what an event needs and does, and
 // on `world` for what is recorded.
 
-ghost use Rattle.std.specs.Prelude.{◌≡◌, ◌↔◌, IsTrue, ◌+◌, ◌≤◌, ◌++◌, ◌∷◌, [], length, false, IfOk, IfErr, OnErr};
+ghost use Rattle.std.specs.Prelude.{◌≡◌, ◌↔◌, IsTrue, ◌+◌, ◌≤◌, ◌++◌, ◌∷◌, [], length, false, IsNone, IfSome, IfOk, IfErr, OnErr};
 ghost use Rattle.engine_config.specs.Configured.{AreProgramsOf};
+ghost use Rattle.freeze_ledger.specs.Deadlines.{some_timer};
+ghost use Rattle.transport.specs.Freezing.{IsNextDue};
 ghost use Rattle.runs.specs.Admits.{IsOutWith};
 ghost use Rattle.runs.specs.RunsState.{no_runs};
 ghost use Rattle.world.specs.World.{opening, version_of};
@@ -166,6 +168,23 @@ impl Engine {
         ensures { IfOk result (λ programs. AreProgramsOf self.now.setup programs.items) }
     {
         self.config.programs(alloc)
+    }
+
+    /// The records of the calls so far, in their order.
+    pub fn records(&self) -> &ChunkedList<Record>
+        ensures items { result.now.items ≡ self.now.history }
+        ensures run { IsRun self.now }
+    {
+        &self.history
+    }
+
+    /// When the timer is due that goes first, in milliseconds of the clock; `None` exactly where no timer holds a freeze: before
+    /// that reading, no freeze goes by its timer.
+    pub fn next_due(&self) -> Option<u64>
+        ensures first { IfSome result (IsNextDue self.now.world.transport.freezes) }
+        ensures none { IsNone result ↔ (some_timer self.now.world.transport.freezes ≡ false) }
+    {
+        self.parts.transport.next_due()
     }
 
     /// The sums so far.

@@ -1,9 +1,10 @@
--- What the taking of a freeze answers and leaves.
-use Rattle.std.specs.Prelude.{◌≡◌, ◌+◌, true, false, [], ◌∷◌, ◌++◌, Option, Some, None}
+-- What the taking of a freeze answers and leaves, and when a timer goes next.
+use Rattle.std.specs.Prelude.{◌≡◌, ℕ, ◌+◌, true, false, List, [], ◌∷◌, ◌++◌, Option, Some, None}
 use Rattle.freeze_ledger.specs.declared.freeze.Freeze.{Freeze}
 use Rattle.freeze_ledger.specs.declared.freeze.Holder.{Holder}
 use Rattle.freeze_ledger.specs.declared.place.Place.{Place}
 use Rattle.freeze_ledger.specs.Freezes.{meets_limit}
+use Rattle.freeze_ledger.specs.Deadlines.{IsFirstDeadline}
 use Rattle.world.specs.World.{Transport}
 
 -- the next freeze of the place for this holder, where it meets no limit, and none where it does
@@ -17,3 +18,7 @@ IsTaken state place holder (Some freeze) =
 abbrev pub took : Transport → Option Freeze → Transport
 took state None = state
 took state (Some freeze) = record state { freezes = state.freezes ++ freeze ∷ []; greatest_freeze = freeze.number }
+
+-- of all timers that hold these freezes, the one that goes first is due then
+abbrev pub IsNextDue : List Freeze → ℕ → Type 0
+IsNextDue freezes due = (number : ℕ) × IsFirstDeadline freezes due number

@@ -2,7 +2,7 @@
 // of the freezes that guests, runs and timers hold. It relies on `ccb_list` for the CCBs, on `queue_list` for the queues,
 // and on `freeze_ledger` for the freezes.
 
-ghost use Rattle.std.specs.Prelude.{◌≡◌, ℕ, ◌+◌, ◌<◌, ◌≤◌, ◌++◌, [], ◌∷◌, ◌==◌, ◌↔◌, not, true, false, length, map, filter, count_by, slice_index, slice_set, All, Contains, IsTrue, IsSome, None, Some, IfOk, IfSome, IfNone, OnOk, OnErr};
+ghost use Rattle.std.specs.Prelude.{◌≡◌, ℕ, ◌+◌, ◌<◌, ◌≤◌, ◌++◌, [], ◌∷◌, ◌==◌, ◌↔◌, not, true, false, length, map, filter, count_by, slice_index, slice_set, All, Contains, IsTrue, IsSome, IsNone, IsErrAnd, None, Some, IfOk, IfSome, IfNone, OnOk, OnErr};
 ghost use Rattle.std.specs.Option.{is_some};
 ghost use Rattle.ccb.specs.Ccb.{completed, requeued};
 ghost use Rattle.dev_queue.specs.State.{empty_queue};
@@ -10,6 +10,7 @@ ghost use Rattle.freeze_ledger.specs.declared.freeze.Holder.TheVariants.{Guest, 
 ghost use Rattle.freeze_ledger.specs.declared.place.Place.TheVariants.{Controller, Device};
 ghost use Rattle.freeze_ledger.specs.declared.ledger.TheConstants.{MAX_FREEZES};
 ghost use Rattle.freeze_ledger.specs.Freezes.{entry_of, frozen, handed_over, holders_of, not_due_at, without};
+ghost use Rattle.freeze_ledger.specs.Deadlines.{some_timer};
 ghost use Rattle.freeze_ledger.specs.Places.{index_of, places_of};
 ghost use Rattle.world.specs.declared.ccb_state.CcbState.TheVariants.{Waiting, Active as IsActive, InRecovery};
 ghost use Rattle.world.specs.World.{Setup, World, queue_count, queue_setup, LiveCcb as WorldCcb};
@@ -17,12 +18,13 @@ ghost use Rattle.world.specs.Capacities.{most_controllers, most_queues, most_ccb
 ghost use Rattle.world.specs.Lookups.{is_waiting, is_active, ccb_of, with_ccb};
 ghost use Rattle.calls.specs.declared.call.Call.TheVariants.{Submit, Dispatch, GuestFreeze, GuestRelease, Clock};
 ghost use Rattle.calls.specs.declared.call_answer.CallAnswer.TheVariants as answers;
+ghost use Rattle.calls.specs.declared.call_refusal.CallRefusal.TheVariants.{Unknown};
 ghost use Rattle.calls.specs.Answered.{ccb_answer, freeze_answer, removed_answer};
 ghost use Rattle.world.specs.Event.{replies};
 ghost use Rattle.world.specs.FreezeSteps.{is_guest};
 ghost use Rattle.world.specs.Step.{step_call};
 ghost use Rattle.world.specs.QueueInfo.{queue_info};
-ghost use Rattle.transport.specs.Freezing.{IsTaken, took};
+ghost use Rattle.transport.specs.Freezing.{IsNextDue, IsTaken, took};
 ghost use Rattle.transport.specs.Listed.{IsPlaceOf};
 
 use crate::ccb_list::CcbList;
@@ -130,6 +132,7 @@ impl Transport {
         requires { controller < most_controllers }
         ensures step { (setup : Setup) (world : World) → queue_count setup ≡ length self.old.openings → (queue_setup setup queue.0).controller ≡ controller →
             step_call setup (record world { transport = self.old }) (Dispatch queue) ≡ Some (replies (ccb_answer result), record world { transport = self.new }) }
+        ensures unknown { length self.old.openings ≤ queue.0 → IsErrAnd result (λ refusal. refusal ≡ Unknown) × (self.new ≡ self.old) }
         ensures freezes { self.new.freezes ≡ self.old.freezes }
     {
         if queue.0 as usize >= self.queues.len() {
@@ -390,6 +393,16 @@ impl Transport {
         ensures { result ≡ self.now.clock }
     {
         self.clock
+    }
+
+    /// When the timer is due that goes first, in milliseconds of the clock; `None` exactly where no timer holds a freeze. It reads
+    /// one deadline.
+    pub fn next_due(&self) -> Option<u64>
+        ensures first { IfSome result (IsNextDue self.now.freezes) }
+        ensures none { IsNone result ↔ (some_timer self.now.freezes ≡ false) }
+    {
+        let (due, _) = self.ledger.first_deadline()?;
+        Some(due)
     }
 
     /// Reads the clock, in milliseconds: the freezes go whose timers are due at or before the reading, and no others; it

@@ -1,8 +1,10 @@
-use Rattle.std.proofs.Common.{◌≡◌, ◌<◌, length, Some, None, refl, ap, sym, subst, ◌∙◌, arith}
+use Rattle.std.proofs.Common.{◌≡◌, ◌<◌, ◌≤◌, length, map, Some, None, refl, ap, sym, subst, ◌∙◌, arith}
 use Rattle.std.specs.Result.{result_err}
+use Rattle.std.proofs.lemmas.List.{length-map}
 use Rattle.ccb.specs.declared.CcbId.{CcbId}
 use Rattle.ccb.specs.declared.ccb.Ccb.{Ccb}
 use Rattle.ccb.specs.Ccb.{started}
+use Rattle.dev_queue.specs.State.{QueueState}
 use Rattle.dev_queue.specs.Faults.{start_fault}
 use Rattle.world.specs.declared.ccb_state.CcbState.{CcbState}
 use Rattle.world.specs.World.{queue_count, LiveCcb}
@@ -57,6 +59,9 @@ returns-in-Some c = record {
       (dispatch_reply c.self.inside.ledger c.self.inside.clock setup world c.self.inside.ccbs c.change.new.self c.self.inside.queues c.start.new.self c.args.queue.0 c.count.result c.count-2.result c.in-Ok.number c.at.result.now c.start-in-Ok.new.self.ccb c.self.invariant.table known
       (subst (λ (s : Transport). queue_count setup ≡ length s.openings) (sym c.self.view_is) count)
       c.count.ensures.entries (rw under c.count-2.ensures.entries) fault d after.seen_is);
+  unknown = λ beyond.
+      let there : length (map (λ (q : QueueState). q.openings) c.self.inside.queues) ≤ c.args.queue.0 = subst (λ (s : Transport). length s.openings ≤ c.args.queue.0) (sym c.self.view_is) beyond in
+      absurd (omega (arith, there, length-map c.self.inside.queues (λ (q : QueueState). q.openings), c.if-queue-len.false, c.len.ensures));
   freezes = ap (λ (s : Transport). s.freezes) c.self.view_is;
 }
 

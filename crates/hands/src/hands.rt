@@ -1,6 +1,6 @@
 // The runs and the tokens of a host. It relies on `answers` for who answers, and on `told` for what was replied.
 
-ghost use Rattle.std.specs.Prelude.{◌≡◌, ℕ, ◌<◌, ◌≢◌, [], length, All, IfSome, IfNone, IfOk, IfErr, slice_index_or, vec_capacity};
+ghost use Rattle.std.specs.Prelude.{◌≡◌, ℕ, ◌<◌, ◌≤◌, ◌≢◌, [], length, All, IfSome, IfNone, IfOk, IfErr, slice_index_or, vec_capacity};
 ghost use Rattle.std.specs.List.{remove};
 ghost use Rattle.freeze_ledger.specs.declared.freeze.Freeze.{Freeze};
 ghost use Rattle.engine_core.specs.RunState.{RunState};
@@ -86,6 +86,15 @@ impl Hands {
             runs: Vec::new(alloc),
             tokens: Vec::new(alloc),
         }
+    }
+
+    /// The least number of the runs that are there.
+    pub fn first_run(&self) -> Option<u32>
+        ensures least { IfSome result (λ number. All (λ run. number ≤ run.number) self.now.runs) }
+        ensures there { IfSome result (λ number. ¬ (All (λ run. run.number ≢ number) self.now.runs)) }
+        ensures none { IfNone result (self.now.runs ≡ []) }
+    {
+        self.runs.iter().map(|run| run.number()).min()
     }
 
     /// Takes out the run of that number; `None`, which changes nothing, exactly where it is not there.

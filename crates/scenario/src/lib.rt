@@ -5,5 +5,5 @@
 mod reading;
 mod steps;
 
-pub use reading::{FaultyLine, ScenarioError, read};
+pub use reading::{FaultyLine, ScenarioError, command_of, is_skipped, read};
 pub use steps::{Command, Step};

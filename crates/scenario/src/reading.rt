@@ -60,15 +60,15 @@ fn keep(steps: &mut Vec<Step>, number: usize, line: &str) -> Result<(), Scenario
     }
 }
 
-// Whether the line says nothing.
-fn is_skipped(line: &str) -> bool
+/// Whether the line says nothing: it is empty, or begins with `#`.
+pub fn is_skipped(line: &str) -> bool
     ensures { result ≡ is_skipped line.now }
 {
     line.is_empty() || line.starts_with('#')
 }
 
-// A line is `drain`, or the line of a call.
-fn command_of(line: &str) -> Option<Command>
+/// The command of a line, which is `drain` or the line of a call, and stands without its line feed. None where it is that of no command.
+pub fn command_of(line: &str) -> Option<Command>
     ensures { Reads command_text line.now result }
 {
     if line == "drain" {

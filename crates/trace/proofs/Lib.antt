@@ -7,3 +7,4 @@ pub mod Answered
 pub mod LastLine
 pub mod SoFar
 pub mod FirstFaulty
+pub mod Grown

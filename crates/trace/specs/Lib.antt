@@ -7,3 +7,4 @@ pub mod Printed
 pub mod Reading
 pub mod FaultText
 pub mod OneFaultyLine
+pub mod Growing

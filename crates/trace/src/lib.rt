@@ -5,6 +5,7 @@
 mod entry;
 mod fault;
 mod fitting;
+mod growing;
 pub mod laws;
 mod page;
 mod printer;
@@ -14,6 +15,9 @@ mod sums;
 mod version;
 
 pub use fault::{PrintFault, TraceError, TraceFault};
-pub use printer::print;
+pub use growing::Growing;
+pub use printer::{print, print_entry};
 pub use reader::read;
 pub use sink::{Sink, WriteFailed};
+pub use sums::print_totals;
+pub use version::header;

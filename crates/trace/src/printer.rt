@@ -56,7 +56,8 @@ fn print_records<S: Sink>(trace: &Trace, page: &mut Page, out: &mut S) -> Result
     Ok(())
 }
 
-fn print_record(entry: &Record, text: &mut Text)
+/// Puts the line of a record that has one.
+pub(crate) fn print_record(entry: &Record, text: &mut Text)
     requires room { length text.old + RECORD ≤ ROOM }
     requires spelled { IsSome (line_of entry.now) }
     ensures text { IsPut (with_newline (line_of entry.now)) text.old text.new }
@@ -68,8 +69,8 @@ fn print_record(entry: &Record, text: &mut Text)
     }
 }
 
-// A record's line without its line feed.
-fn print_entry(entry: &Record, text: &mut Text) -> Result<(), NoText>
+/// Puts a record's line without its line feed, where it has one.
+pub fn print_entry(entry: &Record, text: &mut Text) -> Result<(), NoText>
     requires room { length text.old + ENTRY ≤ ROOM }
     ensures text { Puts (line_of entry.now) text.old result text.new }
     ensures few { length text.new ≤ length text.old + ENTRY }

@@ -25,7 +25,7 @@ const SUMS: Slots<Kind> = Slots {
 const SUMS_LENGTH: usize = 54;
 
 /// Puts the last line, which always has a text.
-pub(crate) fn print_totals(totals: Totals, text: &mut Text)
+pub fn print_totals(totals: Totals, text: &mut Text)
     requires room { length text.old + RECORD ≤ ROOM }
     ensures text { IsPut (totals_text totals) text.old text.new }
     ensures few { length text.new ≤ length text.old + RECORD }

@@ -10,7 +10,7 @@ use freeze_ledger::Place;
 use helpers::HelperSet;
 
 /// The first line, with its line feed.
-pub(crate) fn header(version: Version) -> &'static str
+pub fn header(version: Version) -> &'static str
     ensures { result.now ≡ header version }
 {
     match version {

@@ -1,0 +1,143 @@
+-- A text goes on behind what waited: pages, texts one behind the other, and records by their places.
+use Rattle.std.proofs.Common.{◌≡◌, ℕ, ◌+◌, ◌-◌, ◌<◌, Option, Some, None, Result, Ok, Err, List, [], ◌∷◌, ◌++◌, length, take, drop, get_or, refl, sym, ap, ◌∙◌, append_assoc, append-nil, subst, arith}
+use Rattle.std.proofs.lemmas.List.{get_or-drop, length-drop, take_all}
+use Rattle.std.specs.Fmt.{option_append}
+use Rattle.std.specs.Io.KnownBytes.{Appends}
+use Rattle.std.proofs.KnownBytes.{Appends-trans, Appends-nil}
+use Rattle.call_lines.specs.Written.{IsPut}
+use Rattle.call_lines.proofs.Tests.{same_text, parts_of}
+use Rattle.calls.specs.declared.record.Record.{Record}
+use Rattle.calls.specs.declared.trace.Version.{Version}
+use Rattle.trace.specs.declared.page.Page.{Page}
+use Rattle.trace.specs.Growing.{Goes, GoesOn, IsFront}
+use Rattle.trace.specs.Pages.{Passed, IsCut}
+use Rattle.trace.specs.TraceText.{record_text, records_text}
+use Rattle.trace.proofs.Printing.{append_nothing, append_three, first_of_all, no_records, nothing_append, one_more}
+
+-- where a write failed, no more than a front of what waited and of the text is out
+abbrev pub Fronts : Option (List ℕ) → List ℕ → Option (List ℕ) → Option (List ℕ) → Type 0
+Fronts text before old new = (more : List ℕ) → text ≡ Some more → IsFront (before ++ more) old new
+
+-- ---- pages
+
+pub goes_passed : (text : Option (List ℕ)) (before page : Page) (old new : Option (List ℕ)) (failed fails : ℕ) → Passed text before old failed page new fails → Goes text before.text old page.text new
+goes_passed text before page old new failed fails passed = record { more = passed.more; is = passed.is; handed = passed.handed; whole = passed.whole; told = passed.told }
+
+pub fronts_cut : (text : Option (List ℕ)) (before : Page) (old new : Option (List ℕ)) (failed fails written : ℕ) → IsCut text before old failed written new fails → Fronts text before.text old new
+fronts_cut text before old new failed fails written cut = λ more is.
+    let begun = cut.front more is in
+    record { handed = begun.handed; rest = begun.rest; whole = begun.whole; told = begun.told }
+
+-- ---- texts
+
+pub goes_none : (waiting : List ℕ) (old : Option (List ℕ)) → Goes (Some []) waiting old waiting old
+goes_none waiting old = record { more = []; is = refl; handed = []; whole = append-nil waiting; told = Appends-nil old }
+
+pub goes_put : (text : Option (List ℕ)) (before waiting : List ℕ) (old : Option (List ℕ)) → IsPut text before waiting → Goes text before old waiting old
+goes_put None before waiting old put = absurd cc
+goes_put (Some more) before waiting old put = record { more = more; is = refl; handed = []; whole = same_text (before ++ more) waiting put; told = Appends-nil old }
+
+pub goes_both : (a b : Option (List ℕ)) (before mid waiting : List ℕ) (old between new : Option (List ℕ)) → Goes a before old mid between → Goes b mid between waiting new → Goes (option_append a b) before old waiting new
+goes_both a b before mid waiting old between new first second = record {
+  more = first.more ++ second.more;
+  is = rw (first.is, second.is) refl;
+  handed = first.handed ++ second.handed;
+  whole = sym (append_assoc before first.more second.more)
+      ∙ ap (λ (t : List ℕ). t ++ second.more) first.whole
+      ∙ append_assoc first.handed mid second.more
+      ∙ ap (λ (t : List ℕ). first.handed ++ t) second.whole
+      ∙ sym (append_assoc first.handed second.handed waiting);
+  told = Appends-trans old between new first.handed second.handed first.told second.told;
+}
+
+-- a text went on, and then a write failed
+pub fronts_behind : (a b : Option (List ℕ)) (before mid : List ℕ) (old between new : Option (List ℕ)) → Goes a before old mid between → Fronts b mid between new → Fronts (option_append a b) before old new
+fronts_behind a b before mid old between new first second = λ more is.
+    let parts = parts_of a b more is in
+    let one : first.more ≡ parts.0 = same_text first.more parts.0 (sym first.is ∙ parts.2) in
+    let behind = second parts.1 parts.3 in
+    record {
+      handed = first.handed ++ behind.handed;
+      rest = behind.rest;
+      whole = ap (λ (t : List ℕ). before ++ t) (parts.4 ∙ ap (λ (t : List ℕ). t ++ parts.1) (sym one))
+          ∙ sym (append_assoc before first.more parts.1)
+          ∙ ap (λ (t : List ℕ). t ++ parts.1) first.whole
+          ∙ append_assoc first.handed mid parts.1
+          ∙ ap (λ (t : List ℕ). first.handed ++ t) behind.whole
+          ∙ sym (append_assoc first.handed behind.handed behind.rest);
+      told = Appends-trans old between new first.handed behind.handed first.told behind.told;
+    }
+
+-- a write failed, and more was to come
+pub fronts_before : (a b : Option (List ℕ)) (before : List ℕ) (old new : Option (List ℕ)) → Fronts a before old new → Fronts (option_append a b) before old new
+fronts_before a b before old new first = λ more is.
+    let parts = parts_of a b more is in
+    let begun = first parts.0 parts.2 in
+    record {
+      handed = begun.handed;
+      rest = begun.rest ++ parts.1;
+      whole = ap (λ (t : List ℕ). before ++ t) parts.4
+          ∙ sym (append_assoc before parts.0 parts.1)
+          ∙ ap (λ (t : List ℕ). t ++ parts.1) begun.whole
+          ∙ append_assoc begun.handed begun.rest parts.1;
+      told = begun.told;
+    }
+
+-- a text that is put where there was no room before
+pub goes_behind_room : (text : Option (List ℕ)) (before mid waiting : List ℕ) (old new : Option (List ℕ)) → Goes (Some []) before old mid new → IsPut text mid waiting → Goes text before old waiting new
+goes_behind_room text before mid waiting old new room put =
+    subst (λ (t : Option (List ℕ)). Goes t before old waiting new) (nothing_append text) (goes_both (Some []) text before mid waiting old new new room (goes_put text mid waiting new put))
+
+pub fronts_no_room : (text : Option (List ℕ)) (before : List ℕ) (old new : Option (List ℕ)) → Fronts (Some []) before old new → Fronts text before old new
+fronts_no_room text before old new room =
+    subst (λ (t : Option (List ℕ)). Fronts t before old new) (nothing_append text) (fronts_before (Some []) text before old new room)
+
+-- a text went on, and all of it is handed on, or a write failed
+pub goes_handed : (text : Option (List ℕ)) (before mid waiting : List ℕ) (old between new : Option (List ℕ)) → Goes text before old mid between → Goes (Some []) mid between waiting new → Goes text before old waiting new
+goes_handed text before mid waiting old between new first second =
+    subst (λ (t : Option (List ℕ)). Goes t before old waiting new) (append_nothing text) (goes_both text (Some []) before mid waiting old between new first second)
+
+pub fronts_handed : (text : Option (List ℕ)) (before mid : List ℕ) (old between new : Option (List ℕ)) → Goes text before old mid between → Fronts (Some []) mid between new → Fronts text before old new
+fronts_handed text before mid old between new first second =
+    subst (λ (t : Option (List ℕ)). Fronts t before old new) (append_nothing text) (fronts_behind text (Some []) before mid old between new first second)
+
+pub goes_on_handed : {T E : Type 0} (text : Option (List ℕ)) (r : Result T E) (before mid waiting : List ℕ) (old between new : Option (List ℕ)) → Goes text before old mid between
+    → GoesOn (Some []) mid between r waiting new → GoesOn text before old r waiting new
+goes_on_handed text (Ok done) before mid waiting old between new first second = goes_handed text before mid waiting old between new first second
+goes_on_handed text (Err fault) before mid waiting old between new first second = fronts_handed text before mid old between new first second
+
+-- ---- records by their places
+
+-- the record at a place among those that are new
+pub news_there : (records : List Record) (from printed all place : ℕ) (entry : Record) → from ≡ printed → all ≡ length records → place < all - from → entry ≡ get_or records (from + place) entry
+    → (place < length (drop printed records)) × (entry ≡ get_or (drop printed records) place entry)
+news_there records from printed all place entry same many within is = (
+  omega (arith, length-drop printed records),
+  subst (λ (n : ℕ). entry ≡ get_or records (n + place) entry) same is ∙ sym (get_or-drop printed records place entry),
+)
+
+module _ (version : Version) (records : List Record) where
+  pub no_news : (waiting : List ℕ) (old : Option (List ℕ)) → Goes (records_text version (take 0 records)) waiting old waiting old
+  no_news waiting old = subst (λ (t : Option (List ℕ)). Goes t waiting old waiting old) (sym (no_records version)) (goes_none waiting old)
+
+  -- the record at this place went on
+  pub one_more_goes : (place : ℕ) (entry : Record) (before mid waiting : List ℕ) (old between new : Option (List ℕ)) → place < length records → entry ≡ get_or records place entry
+      → Goes (records_text version (take place records)) before old mid between → Goes (record_text version entry) mid between waiting new
+      → Goes (records_text version (take (place + 1) records)) before old waiting new
+  one_more_goes place entry before mid waiting old between new within is first second =
+      subst (λ (t : Option (List ℕ)). Goes t before old waiting new) (sym (one_more version records place entry within is))
+      (goes_both (records_text version (take place records)) (record_text version entry) before mid waiting old between new first second)
+
+  -- a write failed at it
+  pub one_more_fails : (place : ℕ) (entry : Record) (before mid : List ℕ) (old between new : Option (List ℕ)) → place < length records → entry ≡ get_or records place entry
+      → Goes (records_text version (take place records)) before old mid between → Fronts (record_text version entry) mid between new
+      → Fronts (records_text version records) before old new
+  one_more_fails place entry before mid old between new within is first second =
+      let here = fronts_behind (records_text version (take place records)) (record_text version entry) before mid old between new first second in
+      subst (λ (t : Option (List ℕ)). Fronts t before old new)
+      (ap (λ (t : Option (List ℕ)). option_append t (records_text version (drop (place + 1) records))) (sym (one_more version records place entry within is)) ∙ sym (first_of_all version records (place + 1)))
+      (fronts_before (option_append (records_text version (take place records)) (record_text version entry)) (records_text version (drop (place + 1) records)) before old new here)
+
+  pub all_gone : (place : ℕ) (before waiting : List ℕ) (old new : Option (List ℕ)) → place ≡ length records → Goes (records_text version (take place records)) before old waiting new → Goes (records_text version records) before old waiting new
+  all_gone place before waiting old new is gone =
+      subst (λ (entries : List Record). Goes (records_text version entries) before old waiting new) (take_all place records (omega arith)) gone

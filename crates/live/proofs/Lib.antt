@@ -1,0 +1,4 @@
+pub mod Growing
+pub mod Told
+pub mod Spelled
+pub mod Opening

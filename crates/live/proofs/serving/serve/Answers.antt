@@ -1,0 +1,17 @@
+use Rattle.std.proofs.Common.{ap, subst, sym}
+use Rattle.engine_core.specs.EngineState.{EngineState}
+use Rattle.trace.specs.Growing.{GrowingState}
+use Rattle.world.specs.World.{Setup}
+use Rattle.live.specs.Telling.{IsTold, Serves}
+use Rattle.live.proofs.Opening.{begun_unopened, told_first}
+use Rattle.live.proofs.serving.serve.Goals as goal
+
+pub returns-in-Err : goal.returns-in-Err
+returns-in-Err g c = begun_unopened c.args.config (g.S.Sink.bytes c.args.out.now)
+
+pub returns : goal.returns
+returns g c =
+    let engine = c.in-Ok.engine in
+    let base = g.S.Sink.bytes c.args.out.now in
+    let told = subst (λ (printed : GrowingState). IsTold engine.history printed base base) (sym c.of-printed.ensures) (told_first engine c.args.config c.of.result base c.in-Ok.ensures.opened) in
+    subst (λ (setup : Setup). Serves setup base c.serve_all-served.result (g.S.Sink.bytes c.serve_all-served.new.out)) (ap (λ (e : EngineState). e.setup) c.in-Ok.ensures.opened) (c.serve_all-served.ensures base told)

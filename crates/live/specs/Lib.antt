@@ -1,0 +1,4 @@
+pub mod Drafts
+pub mod Growth
+pub mod Telling
+pub mod Requests

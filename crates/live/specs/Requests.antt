@@ -1,0 +1,19 @@
+-- How a request is spelled: as a command of a scenario, as the line of a call, or by a word of its own.
+use Rattle.std.specs.Prelude.{ℕ, Option, Some, List, codes}
+use Rattle.std.specs.Fmt.{option_append}
+use Rattle.call_lines.specs.Calls.{one}
+use Rattle.call_lines.specs.Lines.{line_text}
+use Rattle.call_lines.specs.Texts.{number_text}
+use Rattle.call_lines.specs.declared.value.Value.TheVariants as values
+use Rattle.call_lines.specs.declared.word.Word.TheVariants as words
+use Rattle.scenario.specs.Commands.{command_text}
+use Rattle.live.specs.declared.request.Request.{Request}
+use Rattle.live.specs.declared.request.Request.TheVariants.{Command, Step, Drive, Park, Resume, Totals}
+
+abbrev pub request_text : Request → Option (List ℕ)
+request_text (Command command) = command_text command
+request_text (Step run) = option_append (Some (codes "step ")) (number_text run)
+request_text (Drive run) = option_append (Some (codes "drive ")) (number_text run)
+request_text (Park run) = line_text words.Park (one (values.Number run))
+request_text (Resume run) = line_text words.Resume (one (values.Number run))
+request_text Totals = Some (codes "totals")

@@ -1,0 +1,27 @@
+// Where bytes come from, and what a clock reads meanwhile. It relies on nothing.
+
+/// What came.
+#[derive(Clone, Copy, Debug, PartialEq, Eq)]
+pub enum Came {
+    /// Bytes.
+    Bytes,
+    /// Nothing, until the clock read that, in milliseconds.
+    Due(u64),
+    /// The end: no bytes come any more.
+    End,
+    /// The input cannot be read.
+    Failed,
+}
+
+/// Bytes that come piece by piece, and a clock, if there is one.
+pub trait Input {
+    /// Waits for bytes, which then stand in place of those that came before, and not longer than until the clock reads `until`, in
+    /// milliseconds, if there is a clock and that is given.
+    fn wait(&mut self, until: Option<u64>) -> Came;
+
+    /// The bytes that came last.
+    fn bytes(&self) -> &[u8];
+
+    /// What the clock reads, in milliseconds since the beginning; `None` where there is no clock.
+    fn now(&self) -> Option<u64>;
+}

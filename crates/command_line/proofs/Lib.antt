@@ -6,6 +6,9 @@ pub mod Numbers
 pub mod Given
 pub mod Planned
 pub mod PlanLines
+pub mod PathFaults
+pub mod Clear
 pub mod FileWords
 pub mod ShowWords
 pub mod SpelledOut
+pub mod LiveWords

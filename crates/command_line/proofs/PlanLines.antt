@@ -10,7 +10,7 @@ use Rattle.command_line.specs.RunCommand.{camr_command}
 use Rattle.command_line.specs.RunLine.{IsPlain, IsRun, RunLine, SpellsNoLawfulNumber}
 use Rattle.command_line.specs.declared.plans.Plan.{Plan}
 use Rattle.command_line.specs.declared.plans.Watch.TheVariants.{Never}
-use Rattle.command_line.specs.declared.plans.Plan.TheVariants.{Asm, Migrate, Dis, Check, Run, Replay, ExplainCode, Explain, Show, Summarise, Draw}
+use Rattle.command_line.specs.declared.plans.Plan.TheVariants.{Asm, Migrate, Dis, Check, Run, Live, Replay, ExplainCode, Explain, Show, Summarise, Draw}
 use Rattle.command_line.proofs.Numbers.{refused_number}
 use Rattle.command_line.proofs.Planned.{apart}
 use Rattle.command_line.proofs.Readings.{line_reading, one_to_sixteen}
@@ -32,6 +32,7 @@ module _ (words : List Text) (number manifest scenario : Text) (line : RunLine w
       run_found (Migrate manifest migrated) rows found = absurd (apart (codes "run") (codes "migrate") refl found.0)
       run_found (Dis program) rows found = absurd (apart (codes "run") (codes "dis") refl found.0)
       run_found (Check path) rows found = absurd (apart (codes "run") (codes "check") refl found.0)
+      run_found (Live manner manifest) rows found = absurd (apart (codes "run") (codes "live") refl found.0)
       run_found (Replay manifest trace) rows found = absurd (apart (codes "run") (codes "replay") refl found.0)
       run_found (ExplainCode code) rows found = absurd (apart (codes "run") (codes "explain") refl found.0)
       run_found (Explain path) rows found = absurd (apart (codes "run") (codes "explain") refl found.0)
@@ -51,7 +52,7 @@ module _ (words : List Text) (number manifest scenario : Text) (line : RunLine w
   pub line_refuses : PlansFound (subcommand_of camr_command words) None → SpellsNoLawfulNumber number
   line_refuses nothing =
       let read = line_reading words number manifest scenario line plain_n plain_m plain_s in
-      nothing read.rows read.enters number manifest scenario Never read.says.workers read.says.watch_is read.says.manifest_is read.says.scenario_is
+      nothing.0 read.rows read.enters number manifest scenario Never read.says.workers read.says.watch_is read.says.manifest_is read.says.scenario_is
 
   pub line_fault : (e : Error) → HasKind (fault_of camr_command words) e
       → (kind_of e ≡ kind.OutOfMemory) ⊎ ((kind_of e ≡ kind.ValueValidation) × SpellsNoLawfulNumber number)

@@ -9,12 +9,15 @@ use Rattle.clap.specs.Words.{Row, Text, rows_of, subcommand_name_of, subcommand_
 use Rattle.clap.specs.declared.parser.matches.ArgMatches.{ArgMatches}
 use Rattle.clap.specs.declared.parser.matches.ArgMatches.TheViews.{out-ArgMatches, out-SubCommand}
 use Rattle.clap.specs.declared.parser.matches.SubCommand.{SubCommand}
-use Rattle.command_line.specs.FoundPlan.{HasFound, PlansBehind, PlansFound, PlansRows}
+use Rattle.command_line.specs.FoundPlan.{HasFound, LacksOne, PlansBehind, PlansFound, PlansRows, paths_of}
 use Rattle.command_line.specs.declared.plans.Plan.{Plan}
-use Rattle.command_line.specs.declared.plans.Plan.TheVariants.{Asm, Migrate, Dis, Check, Run, Replay, ExplainCode, Explain, Show, Summarise, Draw}
+use Rattle.command_line.specs.declared.plans.Plan.TheVariants.{Asm, Migrate, Dis, Check, Run, Live, Replay, ExplainCode, Explain, Show, Summarise, Draw}
 
 abbrev pub rows_in : Option (Text × List Row) → Option (List Row)
 rows_in = option_map (λ (p : Text × List Row). p.1)
+
+abbrev pub names_in : Option (Text × List Row) → Option Text
+names_in = option_map (λ (p : Text × List Row). p.0)
 
 module _ {Z : Type 0} where
   abbrev name_in : Option (Box SubCommand Z) → Option Text
@@ -44,18 +47,29 @@ plan_in found rows (Some (Asm text program)) is h = absurd h.0.same
 plan_in found rows (Some (Migrate manifest migrated)) is h = absurd h.0.same
 plan_in found rows (Some (Dis program)) is h = absurd h.0.same
 plan_in found rows (Some (Check path)) is h = absurd h.0.same
+plan_in found rows (Some (Live manner manifest)) is h = absurd h.0.same
 plan_in found rows (Some (Replay manifest trace)) is h = absurd h.0.same
 plan_in found rows (Some (ExplainCode code)) is h = absurd h.0.same
 plan_in found rows (Some (Explain path)) is h = absurd h.0.same
 plan_in found rows (Some (Show filter manifest trace)) is h = absurd h.0.same
 plan_in found rows (Some (Summarise manifest trace)) is h = absurd h.0.same
 plan_in found rows (Some (Draw manifest trace picture)) is h = absurd h.0.same
-plan_in found rows None is h = λ other is_other.
-    let same : rows ≡ other = ap (λ f. unwrap_or (rows_in f) rows) (sym is ∙ is_other) in
-    subst (λ r. PlansRows r None) same h
+plan_in found rows None is h = (
+  λ other is_other.
+      let same : rows ≡ other = ap (λ f. unwrap_or (rows_in f) rows) (sym is ∙ is_other) in
+      subst (λ r. PlansRows r None) same h,
+  λ name other is_other.
+      let named : codes "run" ≡ name = ap (λ f. unwrap_or (names_in f) []) (sym is ∙ is_other) in
+      subst (λ (n : Text). LacksOne (paths_of n) other) named tt,
+)
 
 pub other_in : (found : Option (Text × List Row)) (name : Text) (rows : List Row) (planned : Option Plan) → (name ≡ codes "run" → ⊥)
     → found ≡ Some (name, rows) → PlansBehind name rows planned → PlansFound found planned
 other_in found name rows (Some plan) apart is h = (subst (λ f. HasFound f plan) (sym is) h.0, h.1)
-other_in found name rows None apart is h = λ other is_other.
-    absurd (apart (ap (λ f. unwrap_or (option_map (λ (p : Text × List Row). p.0) f) []) (sym is ∙ is_other)))
+other_in found name rows None apart is h = (
+  λ other is_other. absurd (apart (ap (λ f. unwrap_or (names_in f) []) (sym is ∙ is_other))),
+  λ also other is_other.
+      let named : name ≡ also = ap (λ f. unwrap_or (names_in f) []) (sym is ∙ is_other) in
+      let same : rows ≡ other = ap (λ f. unwrap_or (rows_in f) rows) (sym is ∙ is_other) in
+      subst (λ (n : Text). LacksOne (paths_of n) other) named (subst (λ (r : List Row). LacksOne (paths_of name) r) same h),
+)

@@ -25,7 +25,7 @@ stays_stopped c names h waiting position trailing name seen (x ∷ rest) =
     stays_stopped c names h waiting position trailing name (seen ++ x ∷ []) rest
     ∙ ap (stopped_at h waiting position trailing name) (append_assoc seen (x ∷ []) rest)
 
-stopped_faultless : (s : Shape) (names : Names) (h : Held) (waiting : Waiting) (position : ℕ) (trailing : Bool) (name : Text) (seen rest : List Text)
+pub stopped_faultless : (s : Shape) (names : Names) (h : Held) (waiting : Waiting) (position : ℕ) (trailing : Bool) (name : Text) (seen rest : List Text)
     → walk_fault s names (stopped_at h waiting position trailing name seen) rest ≡ []
 unfolding walked walk_fault
 stopped_faultless s names h waiting position trailing name seen [] = refl
@@ -57,13 +57,13 @@ walk_faultless : (rest : List Text) → walk_fault top top_names (walk_from noth
 unfolding walked walk_fault
 walk_faultless rest = stopped_faultless top top_names nothing_held idle 1 false (codes "run") [] rest
 
-abbrev whole_fault : Kinds → Walk → Kinds
+abbrev pub whole_fault : Kinds → Walk → Kinds
 whole_fault f w = or_else f (or_else (entered_fault (built camr_command) w.stopped)
     (or_else (settle_fault top.rules top.args_override_self w.held)
     (or_else (defaults_fault (settled top.rules w.held).rows top.rules)
     (check_fault top (finished top.rules w.held) (is_some (entered (built camr_command) w.stopped))))))
 
-or_else_none : (ks : Kinds) → or_else ks [] ≡ ks
+pub or_else_none : (ks : Kinds) → or_else ks [] ≡ ks
 or_else_none [] = refl
 or_else_none (k ∷ ks) = refl
 

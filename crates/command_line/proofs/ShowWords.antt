@@ -9,7 +9,7 @@ use Rattle.command_line.specs.FoundPlan.{FindsNumber, HasFilter, HasFound, HasFo
 use Rattle.command_line.specs.RunCommand.{camr_command}
 use Rattle.command_line.specs.RunLine.{IsPlain}
 use Rattle.command_line.specs.declared.plans.Plan.{Plan}
-use Rattle.command_line.specs.declared.plans.Plan.TheVariants.{Asm, Migrate, Dis, Check, Run, Replay, ExplainCode, Explain, Show, Summarise, Draw}
+use Rattle.command_line.specs.declared.plans.Plan.TheVariants.{Asm, Migrate, Dis, Check, Run, Live, Replay, ExplainCode, Explain, Show, Summarise, Draw}
 use Rattle.trace_filter.specs.declared.Filter.{Filter}
 use Rattle.command_line.proofs.FileWords.{path_walk, rules_of, same_text}
 use Rattle.command_line.proofs.PlainWords.{walk_at, walked_path, walked_value}
@@ -64,6 +64,7 @@ behind_show manifest trace rows (Migrate a b) says found = absurd (apart (codes 
 behind_show manifest trace rows (Dis a) says found = absurd (apart (codes "show") (codes "dis") refl found.0)
 behind_show manifest trace rows (Check a) says found = absurd (apart (codes "show") (codes "check") refl found.0)
 behind_show manifest trace rows (Run workers watch a b) says found = absurd (apart (codes "show") (codes "run") refl found.0)
+behind_show manifest trace rows (Live manner a) says found = absurd (apart (codes "show") (codes "live") refl found.0)
 behind_show manifest trace rows (Replay a b) says found = absurd (apart (codes "show") (codes "replay") refl found.0)
 behind_show manifest trace rows (ExplainCode code) says found = absurd (apart (codes "show") (codes "explain") refl found.0)
 behind_show manifest trace rows (Explain a) says found = absurd (apart (codes "show") (codes "explain") refl found.0)
@@ -77,6 +78,7 @@ behind_summary manifest trace rows (Migrate a b) says found = absurd (apart (cod
 behind_summary manifest trace rows (Dis a) says found = absurd (apart (codes "show") (codes "dis") refl found.0)
 behind_summary manifest trace rows (Check a) says found = absurd (apart (codes "show") (codes "check") refl found.0)
 behind_summary manifest trace rows (Run workers watch a b) says found = absurd (apart (codes "show") (codes "run") refl found.0)
+behind_summary manifest trace rows (Live manner a) says found = absurd (apart (codes "show") (codes "live") refl found.0)
 behind_summary manifest trace rows (Replay a b) says found = absurd (apart (codes "show") (codes "replay") refl found.0)
 behind_summary manifest trace rows (ExplainCode code) says found = absurd (apart (codes "show") (codes "explain") refl found.0)
 behind_summary manifest trace rows (Explain a) says found = absurd (apart (codes "show") (codes "explain") refl found.0)
@@ -90,6 +92,7 @@ behind_picture picture manifest trace rows (Migrate a b) says found = absurd (ap
 behind_picture picture manifest trace rows (Dis a) says found = absurd (apart (codes "show") (codes "dis") refl found.0)
 behind_picture picture manifest trace rows (Check a) says found = absurd (apart (codes "show") (codes "check") refl found.0)
 behind_picture picture manifest trace rows (Run workers watch a b) says found = absurd (apart (codes "show") (codes "run") refl found.0)
+behind_picture picture manifest trace rows (Live manner a) says found = absurd (apart (codes "show") (codes "live") refl found.0)
 behind_picture picture manifest trace rows (Replay a b) says found = absurd (apart (codes "show") (codes "replay") refl found.0)
 behind_picture picture manifest trace rows (ExplainCode code) says found = absurd (apart (codes "show") (codes "explain") refl found.0)
 behind_picture picture manifest trace rows (Explain a) says found = absurd (apart (codes "show") (codes "explain") refl found.0)

@@ -1,9 +1,9 @@
--- The lines that ask for an assembly, for a program's text, for a check, for an explanation, for a migration, for a replay and for
--- what a trace shows: a word, and the paths of the files.
-use Rattle.std.specs.Prelude.{◌≡◌, List, [], ◌∷◌, None, Some, codes, string_bytes}
+-- The lines that ask for an assembly, for a program's text, for a check, for an explanation, for a migration, for a live engine, for a
+-- replay and for what a trace shows: a word, and the paths of the files.
+use Rattle.std.specs.Prelude.{◌≡◌, Bool, List, [], ◌∷◌, None, Some, codes, if◌then◌else◌, string_bytes}
 use Rattle.clap.specs.Words.{Text}
 use Rattle.command_line.specs.declared.plans.Plan.{Plan}
-use Rattle.command_line.specs.declared.plans.Plan.TheVariants.{Asm, Dis, Check, Migrate, Replay, ExplainCode, Explain, Show, Summarise, Draw}
+use Rattle.command_line.specs.declared.plans.Plan.TheVariants.{Asm, Dis, Check, Migrate, Live, Replay, ExplainCode, Explain, Show, Summarise, Draw}
 use Rattle.refusal_codes.specs.Names.{code_named}
 use Rattle.trace_filter.specs.declared.Filter.{Filter}
 
@@ -46,6 +46,18 @@ IsMigrate manifest migrated plan = ⊥
 abbrev pub IsReplay : Text → Text → Plan → Type 0
 IsReplay manifest trace (Replay a b) = (string_bytes a ≡ manifest) × (string_bytes b ≡ trace)
 IsReplay manifest trace plan = ⊥
+
+-- `live` with the flags that are given, and the manifest behind them
+abbrev pub flagged : Bool → Text → List Text → List Text
+flagged is_given flag words = if is_given then flag ∷ words else words
+
+abbrev pub live_line : Bool → Bool → Text → List Text
+live_line is_clocked is_stepped manifest = codes "live" ∷ flagged is_clocked (codes "--clock") (flagged is_stepped (codes "--step") (manifest ∷ []))
+
+-- the plan is to serve what is asked of this manifest's queues, so
+abbrev pub IsLive : Bool → Bool → Text → Plan → Type 0
+IsLive is_clocked is_stepped manifest (Live manner a) = (manner.is_clocked ≡ is_clocked) × (manner.is_stepped ≡ is_stepped) × (string_bytes a ≡ manifest)
+IsLive is_clocked is_stepped manifest plan = ⊥
 
 abbrev pub explain_line : Text → List Text
 explain_line word = codes "explain" ∷ word ∷ []

@@ -1,7 +1,7 @@
 -- The files that a plan reads, and the one that it writes.
 use Rattle.std.specs.Prelude.{ℕ, Bool, true, false, List, [], ◌∷◌, Option, Some, None, string_bytes}
 use Rattle.command_line.specs.declared.plans.Plan.{Plan}
-use Rattle.command_line.specs.declared.plans.Plan.TheVariants.{Asm, Migrate, Dis, Check, Run, Replay, ExplainCode, Explain, Show, Summarise, Draw}
+use Rattle.command_line.specs.declared.plans.Plan.TheVariants.{Asm, Migrate, Dis, Check, Run, Live, Replay, ExplainCode, Explain, Show, Summarise, Draw}
 
 -- the paths of those that are read, in the order of the line
 abbrev pub input_paths : Plan → List (List ℕ)
@@ -10,6 +10,7 @@ input_paths (Migrate manifest migrated) = string_bytes manifest ∷ []
 input_paths (Dis program) = string_bytes program ∷ []
 input_paths (Check manifest) = string_bytes manifest ∷ []
 input_paths (Run workers watch manifest scenario) = string_bytes manifest ∷ string_bytes scenario ∷ []
+input_paths (Live manner manifest) = string_bytes manifest ∷ []
 input_paths (Replay manifest trace) = string_bytes manifest ∷ string_bytes trace ∷ []
 input_paths (ExplainCode code) = []
 input_paths (Explain manifest) = string_bytes manifest ∷ []
@@ -24,6 +25,7 @@ reads_text (Migrate manifest migrated) = true
 reads_text (Dis program) = false
 reads_text (Check manifest) = true
 reads_text (Run workers watch manifest scenario) = true
+reads_text (Live manner manifest) = true
 reads_text (Replay manifest trace) = true
 reads_text (ExplainCode code) = false
 reads_text (Explain manifest) = true
@@ -38,6 +40,7 @@ output_path (Migrate manifest migrated) = Some (string_bytes migrated)
 output_path (Dis program) = None
 output_path (Check manifest) = None
 output_path (Run workers watch manifest scenario) = None
+output_path (Live manner manifest) = None
 output_path (Replay manifest trace) = None
 output_path (ExplainCode code) = None
 output_path (Explain manifest) = None

@@ -1,12 +1,13 @@
 -- The plan of what `clap` found.
-use Rattle.std.specs.Prelude.{◌≡◌, ℕ, List, Option, Some, None, codes, string_bytes}
+use Rattle.std.specs.Prelude.{◌≡◌, ℕ, List, [], ◌∷◌, MatchBool, Option, Some, None, codes, if◌then◌else◌, string_bytes}
+use Rattle.std.specs.Str.{bytes_eq}
 use Rattle.clap.specs.Words.{Row, Text, first_of}
 use Rattle.command_line.specs.RunLine.{HasLawfulNumber, IsLawfulNumber, IsRun, Spells, watch_word}
 use Rattle.command_line.specs.RunLine.{SpellsNoLawfulNumber}
 use Rattle.command_line.specs.FileLines.{everything}
 use Rattle.command_line.specs.declared.plans.Plan.{Plan}
 use Rattle.command_line.specs.declared.plans.Watch.{Watch}
-use Rattle.command_line.specs.declared.plans.Plan.TheVariants.{Asm, Migrate, Dis, Check, Run, Replay, ExplainCode, Explain, Show, Summarise, Draw}
+use Rattle.command_line.specs.declared.plans.Plan.TheVariants.{Asm, Migrate, Dis, Check, Run, Live, Replay, ExplainCode, Explain, Show, Summarise, Draw}
 use Rattle.refusal_codes.specs.Names.{code_named}
 use Rattle.trace_filter.specs.declared.Filter.{Filter}
 
@@ -47,6 +48,10 @@ AsksSummary rows = first_of (codes "summary") rows ≡ Some (codes "true")
 abbrev pub AsksPicture : List Row → Text → Type 0
 AsksPicture rows picture = first_of (codes "svg") rows ≡ Some picture
 
+-- a flag is given
+abbrev pub IsGiven : Text → List Row → Type 0
+IsGiven name rows = first_of name rows ≡ Some (codes "true")
+
 -- the plan is what was asked for by that word, with what `clap` found behind it
 abbrev pub HasFoundBehind : Text → List Row → Plan → Type 0
 HasFoundBehind name rows (Run workers watch a b) = (name ≡ codes "run") × HasFoundIn rows (Run workers watch a b)
@@ -58,6 +63,10 @@ HasFoundBehind name rows (Dis program) =
     (name ≡ codes "dis") × (first_of (codes "FILE") rows ≡ Some (string_bytes program))
 HasFoundBehind name rows (Check path) =
     (name ≡ codes "check") × (first_of (codes "MANIFEST") rows ≡ Some (string_bytes path))
+HasFoundBehind name rows (Live manner manifest) =
+    (name ≡ codes "live") × (first_of (codes "MANIFEST") rows ≡ Some (string_bytes manifest))
+    × MatchBool manner.is_clocked (IsGiven (codes "clock") rows) (IsGiven (codes "clock") rows → ⊥)
+    × MatchBool manner.is_stepped (IsGiven (codes "step") rows) (IsGiven (codes "step") rows → ⊥)
 HasFoundBehind name rows (Replay manifest trace) =
     (name ≡ codes "replay") × (first_of (codes "MANIFEST") rows ≡ Some (string_bytes manifest)) × (first_of (codes "TRACE") rows ≡ Some (string_bytes trace))
 HasFoundBehind name rows (ExplainCode code) =
@@ -101,12 +110,34 @@ PlansRows rows None = (number manifest scenario : Text) (watch : Watch)
     → first_of (codes "SCENARIO") rows ≡ Some scenario
     → SpellsNoLawfulNumber number
 
--- what those rows ask for behind another word
+-- what has to be found behind a word, where nothing else is tested
+abbrev pub paths_of : Text → Option (List Text)
+paths_of name =
+    if bytes_eq name (codes "asm") then Some (codes "IN" ∷ codes "OUT" ∷ [])
+    else (if bytes_eq name (codes "migrate") then Some (codes "IN" ∷ codes "OUT" ∷ [])
+    else (if bytes_eq name (codes "dis") then Some (codes "FILE" ∷ [])
+    else (if bytes_eq name (codes "check") then Some (codes "MANIFEST" ∷ [])
+    else (if bytes_eq name (codes "live") then Some (codes "MANIFEST" ∷ [])
+    else (if bytes_eq name (codes "replay") then Some (codes "MANIFEST" ∷ codes "TRACE" ∷ [])
+    else (if bytes_eq name (codes "explain") then Some (codes "WORD" ∷ [])
+    else None))))))
+
+abbrev pub AreFound : List Text → List Row → Type 0
+AreFound [] rows = Unit {0}
+AreFound (id ∷ ids) rows = ((word : Text) × (first_of id rows ≡ Some word)) × AreFound ids rows
+
+-- one of these is not found, where these alone are looked for
+abbrev pub LacksOne : Option (List Text) → List Row → Type 0
+LacksOne None rows = Unit {0}
+LacksOne (Some ids) rows = AreFound ids rows → ⊥
+
+-- what those rows ask for behind another word, and none only where a path is missing
 abbrev pub PlansBehind : Text → List Row → Option Plan → Type 0
 PlansBehind name rows (Some plan) = HasFoundBehind name rows plan × HasLawfulNumber plan
-PlansBehind name rows None = Unit {0}
+PlansBehind name rows None = LacksOne (paths_of name) rows
 
 -- the same of the subcommand that `clap` found
 abbrev pub PlansFound : Option (Text × List Row) → Option Plan → Type 0
 PlansFound found (Some plan) = HasFound found plan × HasLawfulNumber plan
-PlansFound found None = (rows : List Row) → found ≡ Some (codes "run", rows) → PlansRows rows None
+PlansFound found None = ((rows : List Row) → found ≡ Some (codes "run", rows) → PlansRows rows None)
+    × ((name : Text) (rows : List Row) → found ≡ Some (name, rows) → LacksOne (paths_of name) rows)

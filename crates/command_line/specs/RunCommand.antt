@@ -89,6 +89,10 @@ optional_command = with_rule (with_rule timed_command (flag_rule (codes "summary
 abbrev pub show_command : App
 show_command = with_rule (with_rule optional_command (path_rule (codes "MANIFEST"))) (path_rule (codes "TRACE"))
 
+-- `live` with its two flags and its manifest
+abbrev pub live_command : App
+live_command = with_rule (with_rule (with_rule (new_app (codes "live")) (flag_rule (codes "clock"))) (flag_rule (codes "step"))) (path_rule (codes "MANIFEST"))
+
 -- the program, whose words begin behind its own name; where there are none it shows its help
 abbrev pub bare_command : App
 bare_command = let a = new_app (codes "camr") in record a {
@@ -112,9 +116,9 @@ programs_command = with_subcommand texts_command check_command.top
 abbrev pub manifests_command : App
 manifests_command = with_subcommand (with_subcommand programs_command explain_command.top) migrate_command.top
 
--- with `run` too
+-- with `run` and `live` too
 abbrev pub runs_command : App
-runs_command = with_subcommand manifests_command run_command.top
+runs_command = with_subcommand (with_subcommand manifests_command run_command.top) live_command.top
 
 -- the whole command line
 abbrev pub camr_command : App

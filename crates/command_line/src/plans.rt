@@ -22,6 +22,15 @@ pub enum Watch {
     Lines,
 }
 
+/// How a live engine is asked.
+#[derive(Clone, Copy, Debug, PartialEq, Eq)]
+pub struct Manner {
+    /// Its clock is the machine's.
+    pub is_clocked: bool,
+    /// A run goes to its next stop only where a line asks for that.
+    pub is_stepped: bool,
+}
+
 /// What is to be done, with the paths of the files in the order of the line.
 #[derive(Debug, Drop)]
 pub enum Plan {
@@ -35,6 +44,8 @@ pub enum Plan {
     Check(String),
     /// Runs a scenario over a manifest's queues: the number of workers, 1 to 16, when sums are told, the manifest, the scenario.
     Run(u8, Watch, String, String),
+    /// Carries out what standard input asks of a manifest's queues, line by line: how, and the manifest.
+    Live(Manner, String),
     /// Replays a trace over a manifest's queues: the manifest, the trace.
     Replay(String, String),
     /// Tells what a code means.
@@ -56,8 +67,12 @@ impl Plan {
     {
         match self {
             Plan::ExplainCode(_) => 0,
-            Plan::Asm(..) | Plan::Migrate(..) | Plan::Dis(_) | Plan::Check(_) | Plan::Explain(_) =>
-                1,
+            Plan::Asm(..)
+            | Plan::Migrate(..)
+            | Plan::Dis(_)
+            | Plan::Check(_)
+            | Plan::Live(..)
+            | Plan::Explain(_) => 1,
             Plan::Run(..)
             | Plan::Replay(..)
             | Plan::Show(..)
@@ -79,6 +94,7 @@ impl Plan {
                 | Plan::Check(first)
                 | Plan::Explain(first)
                 | Plan::Run(_, _, first, _)
+                | Plan::Live(_, first)
                 | Plan::Replay(first, _)
                 | Plan::Show(_, first, _)
                 | Plan::Summarise(first, _)
@@ -108,6 +124,7 @@ impl Plan {
             Plan::Dis(_)
             | Plan::Check(_)
             | Plan::Run(..)
+            | Plan::Live(..)
             | Plan::Replay(..)
             | Plan::ExplainCode(_)
             | Plan::Explain(_)
@@ -126,6 +143,7 @@ impl Plan {
             | Plan::Migrate(..)
             | Plan::Dis(_)
             | Plan::Check(_)
+            | Plan::Live(..)
             | Plan::Replay(..)
             | Plan::ExplainCode(_)
             | Plan::Explain(_)

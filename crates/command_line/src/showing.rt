@@ -59,7 +59,8 @@ fn asks_summary(show: &ArgMatches) -> bool
     }
 }
 
-fn is_true(word: &str) -> bool
+/// Whether a flag is given that was found as that word.
+pub(crate) fn is_true(word: &str) -> bool
     ensures { MatchBool result (word.now ≡ codes "true") (word.now ≡ codes "true" → ⊥) }
 {
     match word {

@@ -7,6 +7,7 @@ ghost use Rattle.command_line.specs.RunCommand.{asm_command, bare_command, check
 ghost use Rattle.command_line.specs.RunCommand.{path_rule, programs_command, replay_command, run_command, runs_command, show_command, texts_command};
 ghost use Rattle.command_line.specs.RunCommand.{watch_rule, workers_rule};
 
+use crate::living::live_command;
 use crate::show_usage::show_command;
 use clap::{Arg, Command, value_parser};
 use std::alloc::{AllocError, Global};
@@ -33,7 +34,8 @@ fn runs_command<'a>(alloc: Global) -> Result<Command<'a>, AllocError>
     ensures { IfOk result (IsCommand runs_command) }
 {
     let run = run_command(alloc)?;
-    manifests_command(alloc)?.subcommand(run)
+    let live = live_command(alloc)?;
+    manifests_command(alloc)?.subcommand(run)?.subcommand(live)
 }
 
 // The command with all that is for programs and manifests alone.

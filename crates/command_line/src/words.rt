@@ -1,19 +1,20 @@
 // The words after the program's name, read as a plan. It relies on `usage` for what `clap` is given of them, on `showing` for
 // those behind `show`, and on `clap` for the rest but the form of a number.
 
-ghost use Rattle.std.specs.Prelude.{◌≡◌, IfOk, MatchOption, codes, map, string_bytes};
+ghost use Rattle.std.specs.Prelude.{◌≡◌, Bool, IfOk, MatchOption, codes, map, string_bytes};
 ghost use Rattle.clap.specs.Words.{FailsBy, Text, fault_of, found_of, kind_of, rows_of};
 ghost use Rattle.clap.specs.Words.{subcommand_of, subcommand_rows_of};
 ghost use Rattle.command_line.specs.FoundPlan.{HasFound, PlansBehind, PlansFound, PlansRows};
 ghost use Rattle.command_line.specs.FoundPlan.{ReadsWatch, ReadsWorkers};
-ghost use Rattle.command_line.specs.FileLines.{IsAsm, IsCheck, IsDis, IsExplanation, IsMigrate, IsPicture, IsReplay, IsShow, IsSummary};
-ghost use Rattle.command_line.specs.FileLines.{asm_line, check_line, dis_line, explain_line, migrate_line, picture_line, replay_line, show_line};
+ghost use Rattle.command_line.specs.FileLines.{IsAsm, IsCheck, IsDis, IsExplanation, IsLive, IsMigrate, IsPicture, IsReplay, IsShow, IsSummary};
+ghost use Rattle.command_line.specs.FileLines.{asm_line, check_line, dis_line, explain_line, live_line, migrate_line, picture_line, replay_line, show_line};
 ghost use Rattle.command_line.specs.FileLines.{summary_line};
 ghost use Rattle.command_line.specs.RunCommand.{camr_command};
 ghost use Rattle.command_line.specs.RunLine.{GivesRun, HasLawfulNumber, IsLawfulNumber, IsPlain};
 ghost use Rattle.command_line.specs.RunLine.{RunLine, Spells, SpellsNoLawfulNumber, spelled_out, watch_word};
-ghost use Rattle.command_line.specs.UsageFault.{IsValueFault};
+ghost use Rattle.command_line.specs.UsageFault.{Gives, IsValueFault};
 
+use crate::living::live_plan;
 use crate::plans::{MAX_WORKERS, MIN_WORKERS, Plan, Watch};
 use crate::showing::{show_fault, show_plan};
 use crate::usage::{camr_command, run_command};
@@ -27,7 +28,8 @@ use std::alloc::{AllocError, Global};
 pub type UsageFault = Error;
 
 /// Reads the words after the program's name. A line that asks for an assembly, for a program's text, for a check, for an
-/// explanation, for a migration, for a replay or for what a trace shows gives that or an error; a word behind `explain` that is
+/// explanation, for a migration, for a live engine or for a replay gives that, or an error where memory is refused; one that asks for what a
+/// trace shows gives that or an error; a word behind `explain` that is
 /// a code is that code. A line that asks for a run gives that run, or an error where its number is none from 1 to 16 in
 /// decimal digits alone or memory is refused. `--watch` by itself stands for `--watch=terminal`. Whatever the words are, a run has 1 to
 /// 16 workers, tells its sums when the word that `clap` found says, and has the paths that it found in their places.
@@ -40,22 +42,25 @@ pub fn plan(alloc: Global, words: &[String]) -> Result<Plan, UsageFault>
         → GivesRun number manifest scenario result }
     ensures assembles { (text program : Text)
         → map string_bytes words.now ≡ asm_line text program → IsPlain text → IsPlain program
-        → IfOk result (IsAsm text program) }
+        → Gives (IsAsm text program) result }
     ensures disassembles { (program : Text)
         → map string_bytes words.now ≡ dis_line program → IsPlain program
-        → IfOk result (IsDis program) }
+        → Gives (IsDis program) result }
     ensures checks { (manifest : Text)
         → map string_bytes words.now ≡ check_line manifest → IsPlain manifest
-        → IfOk result (IsCheck manifest) }
+        → Gives (IsCheck manifest) result }
     ensures migrates { (manifest migrated : Text)
         → map string_bytes words.now ≡ migrate_line manifest migrated → IsPlain manifest → IsPlain migrated
-        → IfOk result (IsMigrate manifest migrated) }
+        → Gives (IsMigrate manifest migrated) result }
+    ensures lives { (is_clocked is_stepped : Bool) (manifest : Text)
+        → map string_bytes words.now ≡ live_line is_clocked is_stepped manifest → IsPlain manifest
+        → Gives (IsLive is_clocked is_stepped manifest) result }
     ensures replays { (manifest trace : Text)
         → map string_bytes words.now ≡ replay_line manifest trace → IsPlain manifest → IsPlain trace
-        → IfOk result (IsReplay manifest trace) }
+        → Gives (IsReplay manifest trace) result }
     ensures explains { (word : Text)
         → map string_bytes words.now ≡ explain_line word → IsPlain word
-        → IfOk result (IsExplanation word) }
+        → Gives (IsExplanation word) result }
     ensures shows { (manifest trace : Text)
         → map string_bytes words.now ≡ show_line manifest trace → IsPlain manifest → IsPlain trace
         → IfOk result (IsShow manifest trace) }
@@ -136,6 +141,7 @@ fn planned(alloc: Global, matches: &ArgMatches) -> Result<Option<Plan>, AllocErr
         Some(("explain", explain)) => explain_plan(alloc, explain),
         Some(("show", show)) => show_plan(alloc, show),
         Some(("run", run)) => run_plan(alloc, run),
+        Some(("live", live)) => live_plan(alloc, live),
         _ => Ok(None),
     }
 }

@@ -1,6 +1,6 @@
 use Rattle.std.proofs.Common.{Some, ap, codes, refl, sym, ◌∙◌}
 use Rattle.clap.specs.Words.{Text, found_of}
-use Rattle.command_line.proofs.Given.{text_given}
+use Rattle.command_line.proofs.Given.{no_text, text_given}
 use Rattle.command_line.proofs.words.dis_plan.Goals as goal
 
 pub returns : goal.returns
@@ -12,3 +12,6 @@ returns c = (
   ),
   tt,
 )
+
+pub returns-in_default : goal.returns-in_default
+returns-in_default c = λ found. no_text (found_of c.args.dis.now) (codes "FILE") c.get_str.result found.0.0 c.get_str.ensures c.in_default.is found.0.1

@@ -1,7 +1,7 @@
 use Rattle.std.proofs.Common.{◌∙◌, Some, ap, codes, refl, sym}
 use Rattle.clap.specs.Words.{Text, found_of}
 use Rattle.refusal_codes.specs.Names.{code_named}
-use Rattle.command_line.proofs.Given.{text_given}
+use Rattle.command_line.proofs.Given.{no_text, text_given}
 use Rattle.command_line.proofs.words.explain_plan.Goals as goal
 
 pub returns-in-Some-of : goal.returns-in-Some-of
@@ -27,3 +27,6 @@ returns-in_ok-from_str-in-None c =
       ),
       tt,
     )
+
+pub returns-in_default : goal.returns-in_default
+returns-in_default c = λ found. no_text (found_of c.args.explain.now) (codes "WORD") c.get_str.result found.0.0 c.get_str.ensures c.in_default.is found.0.1

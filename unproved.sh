@@ -39,7 +39,7 @@ try_program() {
 # Succeeds where a word behind the command is a path: it is no option, nor the value of one, nor a code.
 is_path() {
     case $command in
-    check | dis | explain | replay | run | show) ;;
+    check | dis | explain | live | replay | run | show) ;;
     *) return 1 ;;
     esac
     [ "$place" -gt 1 ] && [ "$1" != -- ] || return 1

@@ -2,20 +2,24 @@
 // on `command_line` for the words and on `commands` for all the rest.
 #![tactic(auto)]
 
+mod clocked;
+mod reading;
 mod replacing;
 mod telling;
 
 ghost use Rattle.std.specs.Prelude.{◌≡◌, length, IfOk};
 ghost use Rattle.command_line.specs.Files.{input_paths};
 
+use crate::clocked::Clocked;
+use crate::reading::Reading;
 use crate::replacing::replace;
 use crate::telling::Telling;
-use command_line::{Plan, not_utf8, plan};
-use commands::{Fault, carry, report_usage};
+use command_line::{Manner, Plan, not_utf8, plan};
+use commands::{Fault, Handing, carry, report_usage, serve};
 use notices::Notices;
 use std::io::{BufWriter, Stderr, Write};
 use std::process::ExitCode;
-use std::rt::{Clock, Env, Files};
+use std::rt::{Env, Files, Runtime};
 use std::sync::Wait;
 use std::thread::Threads;
 use std::{env, fs, io};
@@ -32,7 +36,7 @@ fn main(rt: HostRuntime) -> ExitCode {
 }
 
 // Does what the words say, and answers the status to end with.
-fn status<R: Clock + Env + Files + AllocGlobal + Threads + Wait + Sync, W: Write, E: Write>(
+fn status<R: Runtime + AllocGlobal + Threads + Wait + Sync, W: Write, E: Write>(
     rt: &R,
     told: Stderr,
     out: &mut W,
@@ -56,16 +60,17 @@ fn status<R: Clock + Env + Files + AllocGlobal + Threads + Wait + Sync, W: Write
 }
 
 // Carries the plan out. What goes out goes into the plan's file, if it has one, where all went well.
-fn carry_out<N: Notices + Sync, R: Files + AllocGlobal + Threads + Wait + Sync, W: Write, E: Write>(
-    rt: &R,
-    plan: &Plan,
-    inputs: &[Vec<u8>],
-    notices: &N,
-    out: &mut W,
-    err: &mut E,
-) -> u8
+fn carry_out<
+    R: Runtime + AllocGlobal + Threads + Wait + Sync,
+    N: Notices + Sync,
+    W: Write,
+    E: Write,
+>(rt: &R, plan: &Plan, inputs: &[Vec<u8>], notices: &N, out: &mut W, err: &mut E) -> u8
     requires { length inputs.now ≡ length (input_paths plan.now) }
 {
+    if let Plan::Live(manner, manifest) = plan {
+        return serve_line_by_line(rt, *manner, (manifest.as_str(), inputs[0].as_slice()), err);
+    }
     let Some(path) = plan.output() else {
         return carry(rt, rt.alloc(), plan, inputs, notices, out, err);
     };
@@ -77,6 +82,41 @@ fn carry_out<N: Notices + Sync, R: Files + AllocGlobal + Threads + Wait + Sync, 
     match replace(rt, path, &bytes) {
         Ok(()) => 0,
         Err(error) => unread(&error, path).report(err),
+    }
+}
+
+// Serves what standard input asks of the engine of a manifest, a path and its bytes. What goes out is not kept for a whole buffer.
+fn serve_line_by_line<R: Runtime + AllocGlobal, E: Write>(
+    rt: &R,
+    manner: Manner,
+    manifest: (&str, &[u8]),
+    err: &mut E,
+) -> u8 {
+    let mut out = io::writer(rt);
+    let mut out = Handing::new(&mut out);
+    let mut input = match Reading::of(rt.alloc(), rt.reader()) {
+        Ok(input) => input,
+        Err(_) => return Fault::OutOfMemory.report(err),
+    };
+    if manner.is_clocked {
+        let mut input = Clocked::of(rt, input);
+        serve(
+            rt.alloc(),
+            manifest,
+            manner.is_stepped,
+            &mut input,
+            &mut out,
+            err,
+        )
+    } else {
+        serve(
+            rt.alloc(),
+            manifest,
+            manner.is_stepped,
+            &mut input,
+            &mut out,
+            err,
+        )
     }
 }
 

@@ -35,6 +35,7 @@ impl<'a, C: Clock> Telling<'a, C> {
             | Plan::Migrate(..)
             | Plan::Dis(_)
             | Plan::Check(_)
+            | Plan::Live(..)
             | Plan::ExplainCode(_)
             | Plan::Explain(_) => false,
         };

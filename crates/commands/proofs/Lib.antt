@@ -1,3 +1,4 @@
 pub mod Telling
 pub mod Explained
 pub mod Interrupted
+pub mod Served

@@ -1,5 +1,6 @@
 -- What the status of a plan tells of the first file that it reads.
-use Rattle.std.specs.Prelude.{◌≡◌, ℕ, List, Some}
+use Rattle.std.specs.Prelude.{◌≡◌, ℕ, List, Option, Some}
+use Rattle.std.specs.Io.KnownBytes.{Appends}
 use Rattle.bpf_decode.specs.Spells.{Spells}
 use Rattle.bpf_decode.specs.FirstFault.{HasFault as HasDecodeFault}
 use Rattle.bpf_decode.specs.declared.fault.DecodeFault.{DecodeFault}
@@ -10,9 +11,10 @@ use Rattle.manifest.specs.Meaning.{Means, HasFault}
 use Rattle.manifest.specs.Migration.{HasMigrationFault, IsMigrated}
 use Rattle.calls.specs.declared.trace.Trace.{Trace}
 use Rattle.trace.specs.TraceText.{trace_text}
+use Rattle.world.specs.World.{Setup}
 use Rattle.world.specs.TotalsOf.{TotalsOf}
 use Rattle.command_line.specs.declared.plans.Plan.{Plan}
-use Rattle.command_line.specs.declared.plans.Plan.TheVariants.{Asm, Dis, Check, Migrate, Run, Replay, ExplainCode, Explain, Show, Summarise, Draw}
+use Rattle.command_line.specs.declared.plans.Plan.TheVariants.{Asm, Dis, Check, Migrate, Run, Live, Replay, ExplainCode, Explain, Show, Summarise, Draw}
 
 -- the bytes are the text of a program, spell one, or are a manifest
 abbrev pub IsText : List ℕ → Type 0
@@ -48,6 +50,7 @@ IsAsAsked (Dis program) bytes = IsProgram bytes
 IsAsAsked (Check manifest) bytes = IsManifest bytes
 IsAsAsked (Migrate manifest migrated) bytes = IsMigratable bytes
 IsAsAsked (Run workers watch manifest scenario) bytes = IsManifest bytes
+IsAsAsked (Live manner manifest) bytes = IsManifest bytes
 IsAsAsked (Replay manifest trace) bytes = IsManifest bytes
 IsAsAsked (ExplainCode code) bytes = Unit {0}
 IsAsAsked (Explain manifest) bytes = IsManifest bytes
@@ -62,6 +65,7 @@ IsFaulty (Dis program) bytes = IsFaultyProgram bytes
 IsFaulty (Check manifest) bytes = IsFaultyManifest bytes
 IsFaulty (Migrate manifest migrated) bytes = IsFaultyMigration bytes
 IsFaulty (Run workers watch manifest scenario) bytes = Unit {0}
+IsFaulty (Live manner manifest) bytes = IsFaultyManifest bytes
 IsFaulty (Replay manifest trace) bytes = Unit {0}
 IsFaulty (ExplainCode code) bytes = Unit {0}
 IsFaulty (Explain manifest) bytes = IsFaultyManifest bytes
@@ -73,6 +77,14 @@ IsFaulty (Draw manifest trace picture) bytes = Unit {0}
 abbrev pub IsAcceptedTrace : List ℕ → List ℕ → Type 0
 IsAcceptedTrace manifest text =
     (setup : _) × (programs : _) × (trace : Trace) × Means manifest setup programs × (trace_text trace ≡ Some text) × TotalsOf setup trace.records.items trace.totals
+
+-- The text is a manifest of this setup.
+abbrev pub IsServing : List ℕ → Setup → Type 0
+IsServing manifest setup = (programs : _) × Means manifest setup programs
+
+-- What went out is the trace of a history of an engine of that manifest, with its sums.
+abbrev pub IsServed : List ℕ → Option (List ℕ) → Option (List ℕ) → Type 0
+IsServed manifest old new = (text : List ℕ) × Appends old new text × IsAcceptedTrace manifest text
 
 -- what a plan's second file is, beside the first, where the plan was carried out
 abbrev pub IsAccepted : Plan → List ℕ → List ℕ → Type 0

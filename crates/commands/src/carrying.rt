@@ -14,6 +14,7 @@ use crate::explaining::print_explanation;
 use crate::fault::Fault;
 use crate::files::{status, text};
 use crate::handing::Handing;
+use crate::serving::serve_nothing;
 use crate::tracing::{Told, print_traced};
 use crate::verdicts;
 use bpf_asm::{assemble, disassemble};
@@ -73,6 +74,11 @@ pub fn carry<N: Notices + Sync, R: Threads + Wait + Sync, W: Write, E: Write>(
             let scenario = (scenario.as_str(), inputs[1].as_slice());
             let workers = usize::from(*workers).clamp(1, MAX_WORKERS);
             print_run(rt, alloc, workers, manifest, scenario, notices, out, err)
+        }
+        // of a live engine, what it does where nothing is asked
+        Plan::Live(manner, manifest) => {
+            let manifest = (manifest.as_str(), inputs[0].as_slice());
+            serve_nothing(alloc, manifest, manner.is_stepped, out, err)
         }
         Plan::Replay(..) => print_traced(alloc, Told::Verdict, plan, inputs, notices, out, err),
         Plan::Show(filter, ..) => {

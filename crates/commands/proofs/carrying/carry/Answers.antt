@@ -90,3 +90,15 @@ returns-in-Explain-clause-refused g c = λ is input there.
     let read = first_is c.args.inputs.now c.index-inputs-0-in-Explain.result input c.index-inputs-0-in-Explain.is there in
     let same : c.as_slice-in-Explain.result.now ≡ input.items = c.as_slice-in-Explain.ensures.value ∙ ap (λ (bytes : Vec ℕ Global). bytes.items) read in
     subst (λ (plan : Plan). IsFaulty plan input.items) (sym c.in-Explain.is) (subst (λ (bytes : List ℕ). IsFaultyManifest bytes) same (c.print_explanation.ensures.refused is))
+
+pub returns-in-Live-clause-done : goal.returns-in-Live-clause-done
+returns-in-Live-clause-done g c = λ is input there.
+    let read = first_is c.args.inputs.now c.index-inputs-0-in-Live.result input c.index-inputs-0-in-Live.is there in
+    let same : c.as_slice-in-Live.result.now ≡ input.items = c.as_slice-in-Live.ensures.value ∙ ap (λ (bytes : Vec ℕ Global). bytes.items) read in
+    subst (λ (plan : Plan). IsAsAsked plan input.items) (sym c.in-Live.is) (subst (λ (bytes : List ℕ). IsManifest bytes) same (c.serve_nothing.ensures.done is))
+
+pub returns-in-Live-clause-refused : goal.returns-in-Live-clause-refused
+returns-in-Live-clause-refused g c = λ is input there.
+    let read = first_is c.args.inputs.now c.index-inputs-0-in-Live.result input c.index-inputs-0-in-Live.is there in
+    let same : c.as_slice-in-Live.result.now ≡ input.items = c.as_slice-in-Live.ensures.value ∙ ap (λ (bytes : Vec ℕ Global). bytes.items) read in
+    subst (λ (plan : Plan). IsFaulty plan input.items) (sym c.in-Live.is) (subst (λ (bytes : List ℕ). IsFaultyManifest bytes) same (c.serve_nothing.ensures.refused is))

@@ -1,0 +1,147 @@
+// A manifest's engine that is asked over a pipe. It relies on `live` for what its lines ask and what goes out, and on `manifest` for the
+// engine's configuration.
+
+ghost use Rattle.std.specs.Prelude.{◌≡◌, ◌≢◌, ◌≤◌, IfErr, IfOk, IsErrAnd, IsUtf8};
+ghost use Rattle.std.specs.Io.KnownBytes.{Keeps};
+ghost use Rattle.live.specs.Telling.{IsBegun, IsOut};
+ghost use Rattle.manifest.specs.Meaning.{AreShort, Means};
+ghost use Rattle.commands.specs.Faults.{status_of};
+ghost use Rattle.commands.specs.Told.{IsFaultyManifest, IsManifest, IsServed, IsServing};
+
+use crate::fault::Fault;
+use crate::files::text;
+use crate::handing::Handing;
+use calls::Totals;
+use engine_config::Config;
+use live::{Came, Input, LineFault, LiveFault, Reports};
+use manifest::Manifest;
+use notices::Notice;
+use std::alloc::Global;
+use std::io::Write;
+use trace::Sink;
+
+/// How the input is called where it cannot be read.
+const INPUT: &str = "standard input";
+
+/// Carries out what the lines of an input ask of an engine of a manifest, a path and its bytes, until the input ends, and answers the status:
+/// 0 at its end; 1 where the manifest is refused, before anything goes out; 2 for want of memory, or where the input or a sink fails. The
+/// engine's trace goes out line by line. A line that is not carried out is told on `err`, and changes nothing.
+pub fn serve<I: Input, S: Sink, E: Write>(
+    alloc: Global,
+    manifest: (&str, &[u8]),
+    is_stepped: bool,
+    input: &mut I,
+    out: &mut S,
+    err: &mut E,
+) -> u8
+    ensures status { result ≤ 2 }
+    ensures no_text { ¬ (IsUtf8 manifest.entry.1.now) → result ≡ 2 }
+    ensures done { result ≡ 0 → IsManifest manifest.entry.1.now }
+    // All that went out is a trace that a replay over the manifest accepts.
+    ensures accepted { result ≡ 0 → IsServed manifest.entry.1.now (S.bytes out.old) (S.bytes out.new) }
+    ensures refused { result ≡ 1 → IsFaultyManifest manifest.entry.1.now }
+    ensures nothing { result ≡ 1 → Keeps (S.bytes out.old) (S.bytes out.new) }
+{
+    match read(alloc, manifest) {
+        Ok(manifest) => serve_on(alloc, manifest.config, is_stepped, input, out, err),
+        Err(fault) => fault.report(err),
+    }
+}
+
+/// The same where nothing is asked.
+pub(crate) fn serve_nothing<W: Write, E: Write>(
+    alloc: Global,
+    manifest: (&str, &[u8]),
+    is_stepped: bool,
+    out: &mut W,
+    err: &mut E,
+) -> u8
+    ensures status { result ≤ 2 }
+    ensures no_text { ¬ (IsUtf8 manifest.entry.1.now) → result ≡ 2 }
+    ensures done { result ≡ 0 → IsManifest manifest.entry.1.now }
+    ensures refused { result ≡ 1 → IsFaultyManifest manifest.entry.1.now }
+{
+    let mut handing = Handing::new(out);
+    serve(alloc, manifest, is_stepped, &mut Nothing, &mut handing, err)
+}
+
+// The manifest, a path and its bytes.
+fn read<'a>(alloc: Global, file: (&'a str, &[u8])) -> Result<Manifest, Fault<'a>>
+    ensures no_text { ¬ (IsUtf8 file.entry.1.now) → IsErrAnd result (λ e. status_of e ≡ 2) }
+    ensures manifest { IfOk result (λ manifest. IsServing file.entry.1.now manifest.config) }
+    ensures short { IfOk result (λ manifest. AreShort manifest.config.queues) }
+    ensures fault { IfErr result (λ e. status_of e ≡ 1 → IsFaultyManifest file.entry.1.now) }
+{
+    Ok(manifest::read(alloc, text(file)?)?)
+}
+
+// The same of an engine of this configuration.
+fn serve_on<I: Input, S: Sink, E: Write>(
+    alloc: Global,
+    config: Config,
+    is_stepped: bool,
+    input: &mut I,
+    out: &mut S,
+    err: &mut E,
+) -> u8
+    requires { AreShort config.queues }
+    ensures status { (result ≢ 1) × (result ≤ 2) }
+    ensures whole { result ≡ 0 → IsOut config (S.bytes out.old) (S.bytes out.new) }
+    ensures begun { result ≡ 2 → IsBegun config (S.bytes out.old) (S.bytes out.new) }
+{
+    let mut telling = Telling { err: &mut *err };
+    match live::serve(alloc, config, is_stepped, input, out, &mut telling) {
+        Ok(()) => 0,
+        Err(fault) => report(fault, err),
+    }
+}
+
+// Tells why a live engine stopped, but where the writer failed, and answers the status.
+fn report<E: Write>(fault: LiveFault, err: &mut E) -> u8
+    ensures { result ≡ 2 }
+{
+    match fault {
+        LiveFault::OutOfMemory => Fault::OutOfMemory.report(err),
+        LiveFault::Unread => Fault::File(INPUT).report(err),
+        LiveFault::Unsettled => Fault::Unsettled.report(err),
+        LiveFault::Unwritten => 2,
+    }
+}
+
+// A writer that is told what is no part of the trace.
+#[derive(Drop)]
+struct Telling<'a, E: Write> {
+    err: &'a mut E,
+}
+
+impl<E: Write> Reports for Telling<'_, E> {
+    fn refused(&mut self, fault: LineFault, line: usize) {
+        let fault = match fault {
+            LineFault::Form => Fault::Line(line),
+            LineFault::NotHeld => Fault::NotHeld(line),
+        };
+        let _ = fault.report(self.err);
+    }
+
+    fn sums(&mut self, totals: Totals) {
+        let _ = writeln!(self.err, "camr: {}", Notice::Sums(totals));
+    }
+}
+
+// An input that is at its end.
+#[derive(Clone, Copy, Debug)]
+struct Nothing;
+
+impl Input for Nothing {
+    fn wait(&mut self, _until: Option<u64>) -> Came {
+        Came::End
+    }
+
+    fn bytes(&self) -> &[u8] {
+        &[]
+    }
+
+    fn now(&self) -> Option<u64> {
+        None
+    }
+}

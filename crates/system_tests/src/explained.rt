@@ -192,6 +192,7 @@ fn carried_out<R: Threads + Wait + Sync>(
         line: 0,
         words,
         files,
+        input: Vec::new(alloc),
         wanted,
     };
     running::run(rt, alloc, &case)

@@ -1,11 +1,13 @@
 // The tests of the whole program, as data: it reads the cases of the files that its words name, carries each out
-// as `camr` would, those of runs once more over their manifest as `camr migrate` makes it, and then the smallest text of each
-// code. It prints each case that comes out otherwise, and how many passed. It relies on `test_cases` for cases, on `refusal_codes` for
+// as `camr` would, those of runs once more over their manifest as `camr migrate` makes it, and as `camr live` is asked, and then the smallest text of
+// each code. It prints each case that comes out otherwise, and how many passed. It relies on `test_cases` for cases, on `refusal_codes` for
 // codes, and on `command_line` and `commands`, which are all of `camr` but its files. How a case is written stands in data/README.
 #![tactic(auto)]
 
 mod explained;
+mod living;
 mod migrating;
+mod pieces;
 mod report;
 mod running;
 mod tally;
@@ -61,6 +63,9 @@ fn test_file<R: AllocGlobal + Threads + Wait + Sync, W: Write>(
         test(rt, path, case, tally, out)?;
         if let Some(migrated) = migrating::migrated(rt, rt.alloc(), case)? {
             test(rt, path, &migrated, tally, out)?;
+        }
+        if let Some(live) = living::live(rt, rt.alloc(), case)? {
+            test(rt, path, &live, tally, out)?;
         }
     }
     Ok(())

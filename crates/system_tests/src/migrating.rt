@@ -43,6 +43,7 @@ pub fn migrated<'a, R: Threads + Wait + Sync>(
         line: case.line,
         words: copied(alloc, &case.words)?,
         files,
+        input: case.input.as_slice().to_vec(alloc)?,
         wanted: Outcome {
             out,
             err: case.wanted.err.as_slice().to_vec(alloc)?,
@@ -57,7 +58,8 @@ fn is_about_controllers(trace: &[u8]) -> bool {
         .any(|line| line.starts_with(b"cfreeze "))
 }
 
-fn copied(alloc: Global, words: &[Vec<u8>]) -> Result<Vec<Vec<u8>>, AllocError> {
+/// Copies of words.
+pub(crate) fn copied(alloc: Global, words: &[Vec<u8>]) -> Result<Vec<Vec<u8>>, AllocError> {
     let mut copies = Vec::new(alloc);
     for word in words {
         copies.push(word.as_slice().to_vec(alloc)?)?;

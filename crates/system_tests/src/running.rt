@@ -3,8 +3,9 @@
 ghost use Rattle.std.specs.Prelude.{◌≡◌, IfOk, length};
 ghost use Rattle.command_line.specs.Files.{input_paths};
 
+use crate::pieces::Pieces;
 use command_line::{Plan, not_utf8, plan};
-use commands::{Fault, carry, report_usage};
+use commands::{Fault, Handing, carry, report_usage, serve};
 use notices::Silent;
 use std::alloc::{AllocError, Global};
 use std::sync::Wait;
@@ -22,7 +23,7 @@ pub fn run<R: Threads + Wait + Sync>(
     let status = match words_of(alloc, case)? {
         Some(words) => match plan(alloc, words.as_slice()) {
             Ok(plan) => match read_inputs(alloc, &plan, case) {
-                Ok(inputs) => carry(rt, alloc, &plan, &inputs, &Silent, &mut out, &mut err),
+                Ok(inputs) => carry_out(rt, alloc, &plan, &inputs, case, &mut out, &mut err),
                 Err(fault) => fault.report(&mut err),
             },
             Err(fault) => report_usage(&fault, &mut out, &mut err),
@@ -30,6 +31,36 @@ pub fn run<R: Threads + Wait + Sync>(
         None => report_usage(&not_utf8(alloc), &mut out, &mut err),
     };
     Ok(Outcome { out, err, status })
+}
+
+// Carries the plan out; what a live engine is asked is what comes on standard input.
+fn carry_out<R: Threads + Wait + Sync>(
+    rt: &R,
+    alloc: Global,
+    plan: &Plan,
+    inputs: &[Vec<u8>],
+    case: &Case<'_>,
+    out: &mut Vec<u8>,
+    err: &mut Vec<u8>,
+) -> u8
+    requires { length inputs.now ≡ length (input_paths plan.now) }
+{
+    match plan {
+        Plan::Live(manner, manifest) => {
+            let manifest = (manifest.as_str(), inputs[0].as_slice());
+            let mut input = Pieces::of(&case.input, manner.is_clocked);
+            let mut out = Handing::new(out);
+            serve(
+                alloc,
+                manifest,
+                manner.is_stepped,
+                &mut input,
+                &mut out,
+                err,
+            )
+        }
+        _ => carry(rt, alloc, plan, inputs, &Silent, out, err),
+    }
 }
 
 /// The words as text, and none where one is not UTF-8.

@@ -11,6 +11,8 @@ pub struct Case<'a> {
     /// The words after the program's name, which need not be UTF-8.
     pub words: Vec<Vec<u8>>,
     pub files: Vec<File<'a>>,
+    /// What comes on standard input.
+    pub input: Vec<u8>,
     pub wanted: Outcome,
 }
 

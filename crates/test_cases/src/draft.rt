@@ -10,6 +10,8 @@ use std::alloc::{AllocError, Global};
 pub enum Part<'a> {
     /// In the input file of that name.
     File(&'a str),
+    /// What comes on standard input.
+    Input,
     /// On standard output.
     Out,
     /// On standard error.
@@ -23,6 +25,7 @@ pub struct Draft<'a> {
     line: usize,
     words: Option<Vec<Vec<u8>>>,
     files: Vec<File<'a>>,
+    input: Option<Vec<u8>>,
     out: Option<Vec<u8>>,
     err: Option<Vec<u8>>,
 }
@@ -35,6 +38,7 @@ impl<'a> Draft<'a> {
             line,
             words: None,
             files: Vec::new(alloc),
+            input: None,
             out: None,
             err: None,
         }
@@ -53,6 +57,10 @@ impl<'a> Draft<'a> {
     pub fn set(&mut self, part: Part<'a>, bytes: Vec<u8>) -> Result<(), LineFault> {
         match part {
             Part::File(name) => self.add_file(name, bytes),
+            Part::Input if self.input.is_none() => {
+                self.input = Some(bytes);
+                Ok(())
+            }
             Part::Out if self.out.is_none() => {
                 self.out = Some(bytes);
                 Ok(())
@@ -61,7 +69,7 @@ impl<'a> Draft<'a> {
                 self.err = Some(bytes);
                 Ok(())
             }
-            Part::Out | Part::Err => Err(LineFault::Form),
+            Part::Input | Part::Out | Part::Err => Err(LineFault::Form),
         }
     }
 
@@ -82,6 +90,7 @@ impl<'a> Draft<'a> {
             line,
             words,
             files,
+            input,
             out,
             err,
         } = self;
@@ -96,6 +105,7 @@ impl<'a> Draft<'a> {
             line,
             words,
             files,
+            input: input.unwrap_or(Vec::new(alloc)),
             wanted,
         })
     }

@@ -76,6 +76,7 @@ impl<'a> Reader<'a> {
             "case" => self.begin_case(rest, number),
             "words" => self.take_words(rest),
             "file" => self.begin_file(rest),
+            "in" => self.begin_text(Part::Input, rest),
             "out" => self.begin_text(Part::Out, rest),
             "err" => self.begin_text(Part::Err, rest),
             "status" => self.end_case(rest),

@@ -1,0 +1,16 @@
+// An engine with its guests' tokens, and a run, as a host holds them that is written in another language: a function for each
+// call, with a result that has a number and a text. It relies on `engine_core` for what each call does, and knows no pointers.
+#![tactic(auto)]
+
+mod call_result;
+mod engine_handle;
+mod run_calls;
+mod run_handle;
+mod texts;
+mod trace_lines;
+
+pub use call_result::CallResult;
+pub use engine_handle::EngineHandle;
+pub use run_handle::{HeldRun, RunHandle};
+pub use texts::put_front;
+pub use trace_lines::PutLines;

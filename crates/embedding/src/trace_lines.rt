@@ -1,0 +1,104 @@
+// The trace of an engine as text, in whole lines, from a record on. It relies on `trace` for lines.
+
+ghost use Rattle.std.specs.Prelude.{◌≡◌, ◌+◌, ◌++◌, ◌≤◌, Some, IfSome, IfNone, length, take};
+ghost use Rattle.std.specs.Fmt.{with_newline};
+ghost use Rattle.trace.specs.TraceText.{line_of};
+
+use crate::call_result::CallResult;
+use crate::engine_handle::EngineHandle;
+use call_lines::{NoText, Text};
+use calls::Record;
+use chunked_list::ChunkedList;
+use trace::{header, print_entry, print_totals};
+
+/// What of a trace was put into a place.
+#[derive(Clone, Copy, Debug, PartialEq, Eq)]
+pub struct PutLines {
+    /// How many bytes.
+    pub written: usize,
+    /// The record from which to go on.
+    pub next: u64,
+}
+
+// Puts a text behind so many bytes of a place, where it finds room: how many bytes stand there then.
+fn put_behind(text: &[u8], place: &mut [u8], written: usize) -> Option<usize>
+    requires { written ≤ length place.old }
+    ensures put { IfSome result (λ count. (count ≡ written + length text.now) × (count ≤ length place.new) × (take count place.new ≡ take written place.old ++ text.now)) }
+    ensures same { IfNone result (place.new ≡ place.old) }
+{
+    if place.len() - written < text.len() {
+        return None;
+    }
+    let count = written + text.len();
+    place[written..count].copy_from_slice(text);
+    Some(count)
+}
+
+// The line of a record, with its line feed.
+fn line(entry: &Record) -> Option<Text>
+    ensures { IfSome result (λ text. Some text ≡ with_newline (line_of entry.now)) }
+{
+    let mut text = Text::none();
+    match print_entry(entry, &mut text) {
+        Ok(()) => {
+            text.push(b'\n');
+            Some(text)
+        }
+        Err(NoText) => None,
+    }
+}
+
+impl EngineHandle {
+    /// Puts whole lines of the trace into a place, as many as find room: those of the records from this number on, and before
+    /// that of record 0 the first line of a trace.
+    pub fn put_lines(&self, from: u64, place: &mut [u8], put: &mut PutLines) -> CallResult
+        ensures room { put.new.written ≤ length place.new }
+    {
+        let records = self.engine.records();
+        put.written = 0;
+        put.next = from;
+        if from == 0 {
+            match put_behind(header(self.version).as_bytes(), place, 0) {
+                Some(count) => put.written = count,
+                None => return CallResult::NoRoom,
+            }
+        }
+        put_records(records, place, put)
+    }
+
+    /// Puts the last line of a trace into a place: the sums so far.
+    pub fn put_end(&self, place: &mut [u8], put: &mut PutLines) -> CallResult
+        ensures room { put.new.written ≤ length place.new }
+    {
+        put.written = 0;
+        let mut line = Text::none();
+        print_totals(self.engine.totals(), &mut line);
+        match put_behind(line.as_slice(), place, 0) {
+            Some(count) => {
+                put.written = count;
+                CallResult::Done
+            }
+            None => CallResult::NoRoom,
+        }
+    }
+}
+
+// Puts the lines of the records from the next on, as many as find room.
+fn put_records(records: &ChunkedList<Record>, place: &mut [u8], put: &mut PutLines) -> CallResult
+    requires { put.old.written ≤ length place.old }
+    ensures room { put.new.written ≤ length place.new }
+{
+    let all = records.len() as u64;
+    for number in put.next..all {
+        let Some(line) = line(&records[number as usize]) else {
+            return CallResult::NoText;
+        };
+        match put_behind(line.as_slice(), place, put.written) {
+            Some(count) => put.written = count,
+            None if put.written == 0 => return CallResult::NoRoom,
+            None => return CallResult::Done,
+        }
+        put.next = number + 1;
+    }
+    CallResult::Done
+}

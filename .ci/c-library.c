@@ -1,0 +1,175 @@
+/* Tries each call of include/camr_engine.h, nulls and lengths too, and ends with the number of the line where one answers otherwise. */
+#define CAMR_ENGINE_HEAP
+#include "camr_engine.h"
+
+#include <stdio.h>
+#include <string.h>
+
+#define WANT(fact) do { if (!(fact)) { fprintf(stderr, "c-library.c:%d: not so: %s\n", __LINE__, #fact); exit(1); } } while (0)
+
+static const char manifest[] =
+    "version = 2\n"
+    "controllers = 1\n"
+    "[[queue]]\n"
+    "openings = 1\n"
+    "controller = 0\n"
+    "program = \"p1\"\n"
+    "[[program]]\n"
+    "name = \"p1\"\n"
+    "asm = \"\"\"\n"
+    "jeq r2, 0, requeue\n"
+    "mov64 r1, r2\n"
+    "call 2\n"
+    "requeue:\n"
+    "mov64 r1, 1\n"
+    "call 4\n"
+    "mov64 r0, 7\n"
+    "exit\n"
+    "\"\"\"\n";
+
+static const char trace[] =
+    "camr-trace 2\n"
+    "submit 0 0 1 = ccb 1\n"
+    "dispatch 0 = ccb 1\n"
+    "complete 1 0b 00 - = run 1 freeze 1\n"
+    "advance 1 3 helper 2 = 0\n"
+    "advance 1 2 helper 4 = 0\n"
+    "advance 1 2 exit = 7\n";
+
+static camr_engine *opened(void)
+{
+    camr_engine *engine;
+    WANT(camr_open(manifest, sizeof manifest - 1, &engine, NULL, 0) == CAMR_DONE && engine != NULL);
+    return engine;
+}
+
+static camr_run *failed(camr_engine *engine)
+{
+    uint32_t ccb;
+    camr_run *run;
+    WANT(camr_submit(engine, 0, 0, 1, &ccb) == CAMR_DONE && camr_dispatch(engine, 0, &ccb) == CAMR_DONE);
+    WANT(camr_complete(engine, ccb, CAMR_CMD_TIMEOUT, 0, NULL, 0, &run) == CAMR_DONE && run != NULL);
+    return run;
+}
+
+static void recovers(void)
+{
+    camr_engine *engine = opened();
+    camr_run *run = failed(engine);
+    uint32_t number, freeze;
+    uint64_t r0, next;
+    bool ended;
+    char place[512];
+    size_t written;
+    camr_totals_t totals;
+    WANT(camr_run_numbers(run, &number, &freeze) == CAMR_DONE && number == 1 && freeze == 1);
+    WANT(camr_advance(engine, run, &r0, &ended) == CAMR_NOT_STRETCHED && !ended);
+    WANT(camr_stretch(run) == CAMR_DONE && camr_stretch(run) == CAMR_DONE);
+    WANT(camr_advance(engine, run, &r0, &ended) == CAMR_DONE && !ended && r0 == 0);
+    WANT(camr_drive(engine, run, &r0, &ended) == CAMR_DONE && ended && r0 == 7);
+    WANT(camr_stretch(run) == CAMR_SPENT && camr_park(engine, run) == CAMR_SPENT);
+    camr_run_free(run);
+    WANT(camr_totals(engine, &totals) == CAMR_DONE && totals.history == 6 && totals.frozen == 0 && totals.active == 0 && totals.runs == 0);
+    WANT(camr_trace(engine, 0, place, sizeof place, &written, &next) == CAMR_DONE && next == 6);
+    WANT(written == sizeof trace - 1 && memcmp(place, trace, written) == 0);
+    WANT(camr_trace(engine, 6, place, sizeof place, &written, &next) == CAMR_DONE && written == 0 && next == 6);
+    WANT(camr_trace(engine, UINT64_MAX, place, sizeof place, &written, &next) == CAMR_DONE && written == 0);
+    WANT(camr_trace(engine, 1, place, 18, &written, &next) == CAMR_NO_ROOM && written == 0 && next == 1);
+    WANT(camr_trace(engine, 0, NULL, 0, &written, &next) == CAMR_NO_ROOM);
+    WANT(camr_trace_end(engine, place, sizeof place, &written) == CAMR_DONE);
+    WANT(written == 12 && memcmp(place, "end 6 0 0 0\n", 12) == 0);
+    camr_close(engine);
+}
+
+static void refuses(void)
+{
+    camr_engine *engine = opened();
+    uint32_t it, ccb;
+    camr_run *run;
+    WANT(camr_submit(engine, 1, 0, 0, &it) == CAMR_UNKNOWN && it == 0);
+    WANT(camr_dispatch(engine, 0, &it) == CAMR_NOTHING_WAITS);
+    WANT(camr_clock(engine, (uint64_t)1 << 63, &it) == CAMR_LIMIT);
+    WANT(camr_clock(engine, 9, &it) == CAMR_DONE && it == 0 && camr_clock(engine, 8, &it) == CAMR_GOES_BACK);
+    WANT(camr_submit(engine, 0, 0, 0, &ccb) == CAMR_DONE && camr_dispatch(engine, 0, &ccb) == CAMR_DONE);
+    WANT(camr_submit(engine, 0, 0, 0, &it) == CAMR_DONE && it == 2);
+    WANT(camr_dispatch(engine, 0, &ccb) == CAMR_NO_OPENING);
+    WANT(camr_complete(engine, 2, CAMR_REQ_CMP, 0, NULL, 0, &run) == CAMR_NOT_ACTIVE && run == NULL);
+    WANT(camr_complete(engine, 3, CAMR_REQ_CMP, 0, NULL, 0, &run) == CAMR_UNKNOWN);
+    WANT(camr_complete(engine, 1, 0, 0, NULL, 0, &run) == CAMR_NO_COMPLETION);
+    WANT(camr_complete(engine, 1, 0xff, 0, NULL, 0, &run) == CAMR_NO_COMPLETION);
+    WANT(camr_complete(engine, 1, CAMR_SCSI_STATUS_ERROR, 2, manifest, 65, &run) == CAMR_NO_COMPLETION);
+    WANT(camr_complete(engine, 1, CAMR_REQ_CMP, 0, NULL, 0, &run) == CAMR_DONE && run == NULL);
+    camr_close(engine);
+}
+
+static void freezes(void)
+{
+    camr_engine *engine = opened();
+    uint32_t ccb, one, two, left;
+    bool is_due;
+    uint64_t reading;
+    WANT(camr_submit(engine, 0, 0, 0, &ccb) == CAMR_DONE);
+    WANT(camr_guest_freeze(engine, 0, 5, &one) == CAMR_DONE && one == 1);
+    WANT(camr_guest_freeze_controller(engine, 0, 5, &two) == CAMR_DONE && two == 2);
+    WANT(camr_guest_freeze(engine, 9, 5, &left) == CAMR_UNKNOWN && left == 0);
+    WANT(camr_dispatch(engine, 0, &ccb) == CAMR_FROZEN);
+    WANT(camr_guest_release(engine, 1, &left) == CAMR_DONE && left == 0);
+    WANT(camr_guest_release(engine, 1, &left) == CAMR_NO_TOKEN);
+    WANT(camr_dispatch(engine, 0, &ccb) == CAMR_CONTROLLER_FROZEN);
+    WANT(camr_next_due(engine, &is_due, &reading) == CAMR_DONE && !is_due);
+    camr_close(engine);
+}
+
+static void parks(void)
+{
+    camr_engine *engine = opened(), *other = opened();
+    camr_run *run = failed(engine), *again, *none;
+    uint64_t r0;
+    bool ended;
+    WANT(camr_stretch(run) == CAMR_DONE && camr_advance(other, run, &r0, &ended) == CAMR_NOT_OUT);
+    WANT(camr_park(other, run) == CAMR_NOT_OUT && camr_park(engine, run) == CAMR_DONE);
+    WANT(camr_stretch(run) == CAMR_SPENT && camr_drive(engine, run, &r0, &ended) == CAMR_SPENT && !ended);
+    camr_run_free(run);
+    WANT(camr_resume(engine, 2, &none) == CAMR_UNKNOWN && none == NULL);
+    WANT(camr_resume(engine, 1, &again) == CAMR_DONE && again != NULL);
+    WANT(camr_stretch(again) == CAMR_DONE);
+    camr_close(other);
+    camr_close(engine);
+    camr_run_free(again);
+}
+
+static void nulls_and_faults(void)
+{
+    camr_engine *engine = opened(), *none;
+    camr_run *run;
+    char fault[8];
+    uint32_t it;
+    uint64_t r0;
+    size_t written;
+    bool ended;
+    WANT(camr_open(manifest, 1, NULL, NULL, 0) == CAMR_NULL && camr_open(NULL, 1, &none, NULL, 0) == CAMR_NULL && none == NULL);
+    WANT(camr_open(manifest, (size_t)PTRDIFF_MAX + 1, &none, NULL, 0) == CAMR_TOO_LONG);
+    WANT(camr_open("version = 3", 11, &none, fault, sizeof fault) == CAMR_FAULTY && none == NULL && strcmp(fault, "M2") == 0);
+    WANT(camr_open("version = 3", 11, &none, fault, 1) == CAMR_FAULTY && fault[0] == '\0');
+    WANT(camr_open("\xff", 1, &none, NULL, 0) == CAMR_NOT_UTF8 && camr_open(NULL, 0, &none, NULL, 0) == CAMR_FAULTY);
+    WANT(camr_submit(NULL, 0, 0, 0, &it) == CAMR_NULL && camr_submit(engine, 0, 0, 0, NULL) == CAMR_NULL);
+    WANT(camr_complete(engine, 1, CAMR_REQ_CMP, 0, NULL, 1, &run) == CAMR_NULL && run == NULL);
+    WANT(camr_stretch(NULL) == CAMR_NULL && camr_advance(engine, NULL, &r0, &ended) == CAMR_NULL);
+    WANT(camr_trace(engine, 0, NULL, 9, &written, &r0) == CAMR_NULL);
+    for (camr_result result = 0; result <= CAMR_TOO_LONG; result++)
+        WANT(camr_result_text(result, fault, sizeof fault, &written) == CAMR_DONE && written >= 4);
+    WANT(camr_result_text(22, fault, sizeof fault, &written) == CAMR_UNKNOWN && written == 0);
+    camr_run_free(NULL);
+    camr_close(NULL);
+    camr_close(engine);
+}
+
+int main(void)
+{
+    recovers();
+    refuses();
+    freezes();
+    parks();
+    nulls_and_faults();
+    return 0;
+}

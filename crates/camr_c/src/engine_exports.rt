@@ -1,0 +1,161 @@
+// The calls of an engine that name no run. It relies on `embedding` for each.
+
+ghost use Rattle.std.specs.Prelude.{◌≡◌, ◌<◌, ◌≤◌, IsSome, None, length};
+
+use crate::engine_slot::EngineSlot;
+use crate::loose::Loose;
+use ccb::QueueId;
+use embedding::CallResult;
+use freeze_ledger::Place;
+use opening::{OpenFault, open, put_fault};
+use std::alloc::Global;
+
+/// The sums of an engine, as C has them.
+#[repr(C)]
+pub struct Sums {
+    pub history: u64,
+    pub frozen: u32,
+    pub active: u32,
+    pub runs: u32,
+}
+
+/// Opens an engine of a manifest's text. Where it is faulty, the front of its fault's text is put.
+#[unsafe(no_mangle)]
+pub extern "C" fn camr_raw_open(
+    alloc: Global,
+    manifest: &[u8],
+    engine: &mut EngineSlot,
+    fault: &mut [u8],
+    written: &mut usize,
+) -> u32
+    ensures opened { result ≡ 0 → IsSome engine.new.held }
+    ensures few { result < 22 }
+    ensures text { written.new ≤ length fault.new }
+{
+    *written = 0;
+    let result = match open(alloc, manifest) {
+        Ok(handle) => {
+            engine.fill(Loose::of(handle));
+            return 0;
+        }
+        Err(OpenFault::OutOfMemory) => CallResult::OutOfMemory,
+        Err(OpenFault::NotUtf8) => CallResult::NotUtf8,
+        Err(OpenFault::Manifest(its)) => {
+            *written = put_fault(alloc, &its, fault);
+            CallResult::Faulty
+        }
+    };
+    result.number()
+}
+
+/// Ends an engine: all that is still frozen is forfeited.
+#[unsafe(no_mangle)]
+pub extern "C" fn camr_raw_close(alloc: Global, engine: &mut EngineSlot)
+    requires { IsSome engine.old.held }
+    ensures { engine.new.held ≡ None }
+{
+    drop(engine.empty(alloc).into_box());
+}
+
+#[unsafe(no_mangle)]
+pub extern "C" fn camr_raw_submit(
+    engine: &mut EngineSlot,
+    queue: u32,
+    priority: u32,
+    retries: u32,
+    ccb: &mut u32,
+) -> u32
+    requires { IsSome engine.old.held }
+    ensures open { IsSome engine.new.held }
+    ensures few { result < 22 }
+{
+    engine.held().submit(queue, priority, retries, ccb).number()
+}
+
+#[unsafe(no_mangle)]
+pub extern "C" fn camr_raw_dispatch(engine: &mut EngineSlot, queue: u32, ccb: &mut u32) -> u32
+    requires { IsSome engine.old.held }
+    ensures open { IsSome engine.new.held }
+    ensures few { result < 22 }
+{
+    engine.held().dispatch(queue, ccb).number()
+}
+
+#[unsafe(no_mangle)]
+pub extern "C" fn camr_raw_clock(engine: &mut EngineSlot, reading: u64, removed: &mut u32) -> u32
+    requires { IsSome engine.old.held }
+    ensures open { IsSome engine.new.held }
+    ensures few { result < 22 }
+{
+    engine.held().clock(reading, removed).number()
+}
+
+/// Whether a timer holds a freeze, and when the first is due.
+#[unsafe(no_mangle)]
+pub extern "C" fn camr_raw_next_due(engine: &mut EngineSlot, reading: &mut u64) -> bool
+    requires { IsSome engine.old.held }
+    ensures open { IsSome engine.new.held }
+{
+    match engine.held().next_due() {
+        Some(due) => {
+            *reading = due;
+            true
+        }
+        None => false,
+    }
+}
+
+#[unsafe(no_mangle)]
+pub extern "C" fn camr_raw_guest_freeze(
+    engine: &mut EngineSlot,
+    queue: u32,
+    guest: u32,
+    freeze: &mut u32,
+) -> u32
+    requires { IsSome engine.old.held }
+    ensures open { IsSome engine.new.held }
+    ensures few { result < 22 }
+{
+    let place = Place::Device(QueueId(queue));
+    engine.held().guest_freeze(place, guest, freeze).number()
+}
+
+#[unsafe(no_mangle)]
+pub extern "C" fn camr_raw_guest_freeze_controller(
+    engine: &mut EngineSlot,
+    controller: u32,
+    guest: u32,
+    freeze: &mut u32,
+) -> u32
+    requires { IsSome engine.old.held }
+    ensures open { IsSome engine.new.held }
+    ensures few { result < 22 }
+{
+    let place = Place::Controller(controller);
+    engine.held().guest_freeze(place, guest, freeze).number()
+}
+
+#[unsafe(no_mangle)]
+pub extern "C" fn camr_raw_guest_release(
+    engine: &mut EngineSlot,
+    freeze: u32,
+    left: &mut u32,
+) -> u32
+    requires { IsSome engine.old.held }
+    ensures open { IsSome engine.new.held }
+    ensures few { result < 22 }
+{
+    engine.held().guest_release(freeze, left).number()
+}
+
+#[unsafe(no_mangle)]
+pub extern "C" fn camr_raw_totals(engine: &mut EngineSlot, sums: &mut Sums)
+    requires { IsSome engine.old.held }
+    ensures open { IsSome engine.new.held }
+{
+    let totals = engine.held().totals();
+    sums.history = totals.history;
+    sums.frozen = totals.frozen;
+    sums.active = totals.active;
+    sums.runs = totals.runs;
+}

@@ -1,0 +1,146 @@
+// The calls that start runs, take them further, park and resume them. It relies on `embedding` for each.
+
+ghost use Rattle.std.specs.Prelude.{◌≡◌, ◌<◌, IsSome, None, true};
+
+use crate::engine_slot::EngineSlot;
+use crate::loose::Loose;
+use crate::run_slot::RunSlot;
+use ccb::{CamStatus, CcbId, Completion};
+use embedding::CallResult;
+use std::alloc::Global;
+
+// The completion that a device reports, of its numbers.
+fn reported(ccb: u32, status: u8, scsi: u8, sense: &[u8]) -> Option<Completion> {
+    let status = CamStatus::from_code(status)?;
+    Completion::new(CcbId(ccb), status, scsi, sense)
+}
+
+/// Takes a completion. Where a run starts it goes into the run's slot, and `started` tells so.
+#[unsafe(no_mangle)]
+pub extern "C" fn camr_raw_complete(
+    alloc: Global,
+    engine: &mut EngineSlot,
+    ccb: u32,
+    status: u8,
+    scsi: u8,
+    sense: &[u8],
+    run: &mut RunSlot,
+    started: &mut bool,
+) -> u32
+    requires { IsSome engine.old.held }
+    ensures open { IsSome engine.new.held }
+    ensures few { result < 22 }
+    ensures started { started.new ≡ true → IsSome run.new.held }
+{
+    *started = false;
+    let Some(completion) = reported(ccb, status, scsi, sense) else {
+        return CallResult::NoCompletion.number();
+    };
+    match engine.held().complete(alloc, completion) {
+        Ok(Some(handle)) => {
+            run.fill(Loose::of(handle));
+            *started = true;
+            CallResult::Done.number()
+        }
+        Ok(None) => CallResult::Done.number(),
+        Err(result) => result.number(),
+    }
+}
+
+/// Takes a run to its next stop. It asks no engine.
+#[unsafe(no_mangle)]
+pub extern "C" fn camr_raw_stretch(run: &mut RunSlot) -> u32
+    requires { IsSome run.old.held }
+    ensures held { IsSome run.new.held }
+    ensures few { result < 22 }
+{
+    run.held().stretch().number()
+}
+
+#[unsafe(no_mangle)]
+pub extern "C" fn camr_raw_advance(
+    engine: &mut EngineSlot,
+    run: &mut RunSlot,
+    r0: &mut u64,
+    ended: &mut bool,
+) -> u32
+    requires engine { IsSome engine.old.held }
+    requires run { IsSome run.old.held }
+    ensures open { IsSome engine.new.held }
+    ensures held { IsSome run.new.held }
+    ensures few { result < 22 }
+{
+    engine.held().advance(run.held(), r0, ended).number()
+}
+
+#[unsafe(no_mangle)]
+pub extern "C" fn camr_raw_drive(
+    engine: &mut EngineSlot,
+    run: &mut RunSlot,
+    r0: &mut u64,
+    ended: &mut bool,
+) -> u32
+    requires engine { IsSome engine.old.held }
+    requires run { IsSome run.old.held }
+    ensures open { IsSome engine.new.held }
+    ensures held { IsSome run.new.held }
+    ensures few { result < 22 }
+{
+    engine.held().drive(run.held(), r0, ended).number()
+}
+
+#[unsafe(no_mangle)]
+pub extern "C" fn camr_raw_park(engine: &mut EngineSlot, run: &mut RunSlot) -> u32
+    requires engine { IsSome engine.old.held }
+    requires run { IsSome run.old.held }
+    ensures open { IsSome engine.new.held }
+    ensures held { IsSome run.new.held }
+    ensures few { result < 22 }
+{
+    engine.held().park(run.held()).number()
+}
+
+/// Lets the run of that number go on, which goes into the run's slot, and `resumed` tells so.
+#[unsafe(no_mangle)]
+pub extern "C" fn camr_raw_resume(
+    alloc: Global,
+    engine: &mut EngineSlot,
+    number: u32,
+    run: &mut RunSlot,
+    resumed: &mut bool,
+) -> u32
+    requires { IsSome engine.old.held }
+    ensures open { IsSome engine.new.held }
+    ensures resumed { resumed.new ≡ true → IsSome run.new.held }
+    ensures few { result < 22 }
+{
+    *resumed = false;
+    match engine.held().resume(alloc, number) {
+        Ok(handle) => {
+            run.fill(Loose::of(handle));
+            *resumed = true;
+            CallResult::Done.number()
+        }
+        Err(result) => result.number(),
+    }
+}
+
+/// The run's number, and that of the freeze that it was started with.
+#[unsafe(no_mangle)]
+pub extern "C" fn camr_raw_run_numbers(run: &mut RunSlot, number: &mut u32, freeze: &mut u32)
+    requires { IsSome run.old.held }
+    ensures { IsSome run.new.held }
+{
+    let held = run.held();
+    *number = held.number;
+    *freeze = held.freeze;
+}
+
+/// Ends a run's handle. A run that is out is forfeited.
+#[unsafe(no_mangle)]
+pub extern "C" fn camr_raw_run_free(alloc: Global, run: &mut RunSlot)
+    requires { IsSome run.old.held }
+    ensures { run.new.held ≡ None }
+{
+    drop(run.empty(alloc).into_box());
+}

@@ -1,0 +1,51 @@
+// The trace of an engine as text. It relies on `embedding` for lines.
+
+ghost use Rattle.std.specs.Prelude.{◌<◌, ◌≤◌, IsSome, length};
+
+use crate::engine_slot::EngineSlot;
+use embedding::PutLines;
+
+/// Puts whole lines of the trace: those of the records from this number on, behind the first line where that is 0.
+#[unsafe(no_mangle)]
+pub extern "C" fn camr_raw_trace(
+    engine: &mut EngineSlot,
+    from: u64,
+    place: &mut [u8],
+    written: &mut usize,
+    next: &mut u64,
+) -> u32
+    requires { IsSome engine.old.held }
+    ensures open { IsSome engine.new.held }
+    ensures few { result < 22 }
+    ensures text { written.new ≤ length place.new }
+{
+    let mut put = PutLines {
+        written: 0,
+        next: from,
+    };
+    let result = engine.held().put_lines(from, place, &mut put);
+    *written = put.written;
+    *next = put.next;
+    result.number()
+}
+
+/// Puts the last line of the trace: the sums so far.
+#[unsafe(no_mangle)]
+pub extern "C" fn camr_raw_trace_end(
+    engine: &mut EngineSlot,
+    place: &mut [u8],
+    written: &mut usize,
+) -> u32
+    requires { IsSome engine.old.held }
+    ensures open { IsSome engine.new.held }
+    ensures few { result < 22 }
+    ensures text { written.new ≤ length place.new }
+{
+    let mut put = PutLines {
+        written: 0,
+        next: 0,
+    };
+    let result = engine.held().put_end(place, &mut put);
+    *written = put.written;
+    result.number()
+}

@@ -1,0 +1,416 @@
+/*
+ * camr_engine.h: the recovery engine of camr for a transport written in C or C++.
+ *
+ * An engine holds device queues with their CCBs, the freezes of queues and controllers, the recovery runs that failed CCBs
+ * started, and the whole history of the calls made on it, of which each answered call is one record more. What each call means
+ * is told in docs/CALLS.md and docs/DEFINITIONS.md; the engine is proved against that. Behind this header is a static library,
+ * libcamr_c.a, which `tools/build-c-library` proves and builds.
+ *
+ * RESULTS. A call answers a camr_result. CAMR_DONE: it was carried out, and is recorded. CAMR_UNKNOWN to CAMR_CONTROLLER_FROZEN:
+ * it was refused, and the refusal is recorded. Every other result: the engine is as before, and nothing is recorded. What is
+ * written through a pointer is 0, false or NULL unless the result is CAMR_DONE, where nothing else is said. No call ends the
+ * process, and none waits.
+ *
+ * HANDLES. A camr_engine comes from camr_open and goes with camr_close. A camr_run comes from camr_complete or camr_resume and
+ * goes with camr_run_free, always, also when it has ended or is parked. Handles are this library's: nobody looks behind them. A
+ * guest's freeze is a number, for which the engine keeps the one token that gives it back.
+ *
+ * THREADS. The library starts no thread and takes no lock: the host brings its own. A handle is used by one call at a time. The
+ * calls that are given an engine want the engine's lock. camr_stretch and camr_run_numbers are given a run alone and need none:
+ * the private instructions of many runs go side by side, each on a thread of its own. A handle may go from thread to thread where
+ * a lock, the start or the end of a thread, or a sequentially consistent atomic orders that.
+ *
+ * WHAT IS PROMISED BY THE HOST, and not seen by the library:
+ *   - a handle is one that was given and is not freed, and is used by one call at a time, as told above;
+ *   - a pointer that is not NULL leads to as many bytes as its length tells, or to one value of its type, that nobody else reads
+ *     or writes during the call, and pointers given to one call lead to places apart;
+ *   - an engine's runs are freed before it is closed, or forfeited by that: a run of an engine that is closed may still be freed,
+ *     and nothing else;
+ *   - no call is made from a signal's handler, nor in the forked child of a process with threads;
+ *   - the host defines the three functions of the heap that are declared at the end, and links memcpy, memmove and memset. The library
+ *     asks for no other function.
+ * A null pointer is told by CAMR_NULL, and a length that no object has by CAMR_TOO_LONG.
+ *
+ * It is C11 and C++11. What begins with camr_raw_ is what the library exports: hosts in other languages may call that, under the
+ * promises told there.
+ */
+#ifndef CAMR_ENGINE_H
+#define CAMR_ENGINE_H
+
+#include <stdbool.h>
+#include <stddef.h>
+#include <stdint.h>
+#ifdef CAMR_ENGINE_HEAP
+#include <stdlib.h>
+#endif
+
+#ifdef __cplusplus
+extern "C" {
+#endif
+
+/* What a call answers. It crosses as uint32_t; the numbers stay. */
+typedef uint32_t camr_result;
+
+enum {
+    CAMR_DONE = 0,
+    CAMR_OUT_OF_MEMORY = 1,       /* memory was refused */
+    CAMR_UNKNOWN = 2,             /* C1, recorded: no such queue, controller, CCB or parked run */
+    CAMR_LIMIT = 3,               /* C2, recorded: a limit is reached */
+    CAMR_NOT_ACTIVE = 4,          /* C3, recorded: the CCB is not active */
+    CAMR_GOES_BACK = 5,           /* C5, recorded: the clock would go back */
+    CAMR_FROZEN = 6,              /* Q2, recorded: the queue is frozen */
+    CAMR_NO_OPENING = 7,          /* Q3, recorded: as many of its CCBs are active as the queue has openings */
+    CAMR_NOTHING_WAITS = 8,       /* Q4, recorded: no CCB of the queue waits */
+    CAMR_CONTROLLER_FROZEN = 9,   /* Q5, recorded: the controller is frozen that the queue is under */
+    CAMR_NOT_OUT = 10,            /* C4: the run is not out in this engine */
+    CAMR_NOT_HELD = 11,           /* C6: no guest's freeze is the token's; no host of this library sees it */
+    CAMR_NO_TOKEN = 12,           /* the engine's handle keeps no token of that number */
+    CAMR_NO_COMPLETION = 13,      /* no device reports such a completion */
+    CAMR_SPENT = 14,              /* the run has ended or is parked */
+    CAMR_NOT_STRETCHED = 15,      /* the run was not taken to its next stop */
+    CAMR_NOT_UTF8 = 16,           /* the manifest is not UTF-8 */
+    CAMR_FAULTY = 17,             /* the manifest is faulty: the fault's text tells how */
+    CAMR_NO_ROOM = 18,            /* not one line more finds room */
+    CAMR_NO_TEXT = 19,            /* a record has no text: none of an engine's records is such */
+    CAMR_NULL = 20,               /* a pointer is null */
+    CAMR_TOO_LONG = 21            /* a length is greater than any object's */
+};
+
+/* CAM statuses that a device may report. */
+enum {
+    CAMR_REQ_CMP = 0x01,          /* without an error: it needs no recovery */
+    CAMR_REQ_ABORTED = 0x02,
+    CAMR_BUSY = 0x05,
+    CAMR_SEL_TIMEOUT = 0x0a,
+    CAMR_CMD_TIMEOUT = 0x0b,
+    CAMR_SCSI_STATUS_ERROR = 0x0c,
+    CAMR_SCSI_BUS_RESET = 0x0e,
+    CAMR_BDR_SENT = 0x17,
+    CAMR_REQUEUE_REQ = 0x1b
+};
+
+/* An engine, and a run that is or was out. */
+typedef struct camr_engine camr_engine;
+typedef struct camr_run camr_run;
+
+/* The sums of an engine. */
+typedef struct camr_totals_t {
+    uint64_t history;             /* how many records there are */
+    uint32_t frozen;              /* how many freezes are held, at most 1,024 */
+    uint32_t active;              /* how many CCBs are active, at most 4,096 */
+    uint32_t runs;                /* how many runs are live, at most 256 */
+} camr_totals_t;
+
+/* ---- what the library exports --------------------------------------------------------------------------------------------
+ *
+ * `engine` and `run` lead to the variable in which the host keeps the handle. It has to hold one, but where a call gives one.
+ * Only camr_raw_open, camr_raw_complete, camr_raw_resume, camr_raw_close and camr_raw_run_free write the variable. No pointer is
+ * null, no length is above PTRDIFF_MAX, and a bool is 0 or 1. */
+uint32_t camr_raw_open(const uint8_t *manifest, size_t length, camr_engine **engine, uint8_t *fault, size_t fault_length,
+                       size_t *written);
+void camr_raw_close(camr_engine **engine);
+uint32_t camr_raw_submit(camr_engine **engine, uint32_t queue, uint32_t priority, uint32_t retries, uint32_t *ccb);
+uint32_t camr_raw_dispatch(camr_engine **engine, uint32_t queue, uint32_t *ccb);
+uint32_t camr_raw_complete(camr_engine **engine, uint32_t ccb, uint8_t status, uint8_t scsi, const uint8_t *sense,
+                           size_t sense_length, camr_run **run, bool *started);
+uint32_t camr_raw_clock(camr_engine **engine, uint64_t reading, uint32_t *removed);
+bool camr_raw_next_due(camr_engine **engine, uint64_t *reading);
+uint32_t camr_raw_guest_freeze(camr_engine **engine, uint32_t queue, uint32_t guest, uint32_t *freeze);
+uint32_t camr_raw_guest_freeze_controller(camr_engine **engine, uint32_t controller, uint32_t guest, uint32_t *freeze);
+uint32_t camr_raw_guest_release(camr_engine **engine, uint32_t freeze, uint32_t *left);
+uint32_t camr_raw_park(camr_engine **engine, camr_run **run);
+uint32_t camr_raw_resume(camr_engine **engine, uint32_t number, camr_run **run, bool *resumed);
+uint32_t camr_raw_stretch(camr_run **run);
+uint32_t camr_raw_advance(camr_engine **engine, camr_run **run, uint64_t *r0, bool *ended);
+uint32_t camr_raw_drive(camr_engine **engine, camr_run **run, uint64_t *r0, bool *ended);
+void camr_raw_run_numbers(camr_run **run, uint32_t *number, uint32_t *freeze);
+void camr_raw_run_free(camr_run **run);
+void camr_raw_totals(camr_engine **engine, camr_totals_t *sums);
+uint32_t camr_raw_trace(camr_engine **engine, uint64_t from, uint8_t *place, size_t length, size_t *written, uint64_t *next);
+uint32_t camr_raw_trace_end(camr_engine **engine, uint8_t *place, size_t length, size_t *written);
+bool camr_raw_result_text(uint32_t result, uint8_t *place, size_t length, size_t *written);
+
+/* Whether there may be so many bytes at a place. */
+static inline camr_result camr_place_(const void *place, size_t length)
+{
+    if (place == NULL && length != 0) return CAMR_NULL;
+    return length > (size_t)PTRDIFF_MAX ? CAMR_TOO_LONG : CAMR_DONE;
+}
+
+/* ---- an engine ------------------------------------------------------------------------------------------------------------ */
+
+/*
+ * Opens an engine of a manifest's text, of so many bytes, with an empty history. It goes to *engine, and is the host's until
+ * camr_close. CAMR_NOT_UTF8, CAMR_FAULTY, CAMR_OUT_OF_MEMORY, CAMR_NULL, CAMR_TOO_LONG: *engine is NULL, and nothing is left.
+ * With CAMR_FAULTY the front of the fault's text, which begins with its code, is put into `fault`, which has so many bytes and
+ * may be NULL where it has none; it ends with a 0 always, where it has any.
+ */
+static inline camr_result camr_open(const char *manifest, size_t length, camr_engine **engine, char *fault, size_t fault_length)
+{
+    uint8_t none = 0;
+    size_t written = 0;
+    if (engine == NULL) return CAMR_NULL;
+    *engine = NULL;
+    camr_result place = camr_place_(manifest, length);
+    if (place != CAMR_DONE) return place;
+    place = camr_place_(fault, fault_length);
+    if (place != CAMR_DONE) return place;
+    camr_engine *opened = NULL;
+    camr_result result = camr_raw_open(length != 0 ? (const uint8_t *)manifest : &none, length, &opened,
+                                       fault_length != 0 ? (uint8_t *)fault : &none, fault_length != 0 ? fault_length - 1 : 0,
+                                       &written);
+    if (fault_length != 0) fault[written] = '\0';
+    if (result == CAMR_DONE) *engine = opened;
+    return result;
+}
+
+/* Ends an engine. NULL is none. Runs that are out, and guests' freezes, are forfeited: of these runs nothing may be asked any
+ * more, and their handles are freed as always. */
+static inline void camr_close(camr_engine *engine)
+{
+    if (engine != NULL) camr_raw_close(&engine);
+}
+
+/* Submits a CCB to a queue: its number, from 1. The lowest priority number starts first; it may be tried again so many times.
+ * CAMR_UNKNOWN, CAMR_LIMIT, CAMR_OUT_OF_MEMORY, CAMR_NULL. */
+static inline camr_result camr_submit(camr_engine *engine, uint32_t queue, uint32_t priority, uint32_t retries, uint32_t *ccb)
+{
+    if (engine == NULL || ccb == NULL) return CAMR_NULL;
+    *ccb = 0;
+    return camr_raw_submit(&engine, queue, priority, retries, ccb);
+}
+
+/* Starts the CCB of a queue that goes first: its number. The device has it from now on, until camr_complete.
+ * CAMR_UNKNOWN, CAMR_FROZEN, CAMR_NO_OPENING, CAMR_NOTHING_WAITS, CAMR_CONTROLLER_FROZEN, CAMR_OUT_OF_MEMORY, CAMR_NULL. */
+static inline camr_result camr_dispatch(camr_engine *engine, uint32_t queue, uint32_t *ccb)
+{
+    if (engine == NULL || ccb == NULL) return CAMR_NULL;
+    *ccb = 0;
+    return camr_raw_dispatch(&engine, queue, ccb);
+}
+
+/*
+ * Tells that a device is done with an active CCB: its CAM status, its SCSI status byte, and up to 64 sense bytes, which may be
+ * NULL where there are none. With CAMR_REQ_CMP the CCB is finished and gone, and *run is NULL. With any other status its queue is
+ * frozen once more, and a run of the queue's program starts, which goes to *run and is the host's until camr_run_free.
+ * CAMR_NO_COMPLETION: another status, or more sense bytes. CAMR_UNKNOWN, CAMR_NOT_ACTIVE, CAMR_LIMIT, CAMR_OUT_OF_MEMORY,
+ * CAMR_NULL, CAMR_TOO_LONG: *run is NULL.
+ */
+static inline camr_result camr_complete(camr_engine *engine, uint32_t ccb, uint8_t status, uint8_t scsi, const void *sense,
+                                        size_t sense_length, camr_run **run)
+{
+    uint8_t none = 0;
+    bool started = false;
+    camr_run *its = NULL;
+    if (engine == NULL || run == NULL) return CAMR_NULL;
+    *run = NULL;
+    camr_result place = camr_place_(sense, sense_length);
+    if (place != CAMR_DONE) return place;
+    camr_result result = camr_raw_complete(&engine, ccb, status, scsi, sense_length != 0 ? (const uint8_t *)sense : &none,
+                                           sense_length, &its, &started);
+    if (started) *run = its;
+    return result;
+}
+
+/* Reads the clock, in milliseconds: how many freezes went since their timers were due. Only this lets timers go.
+ * CAMR_LIMIT, CAMR_GOES_BACK, CAMR_OUT_OF_MEMORY, CAMR_NULL. */
+static inline camr_result camr_clock(camr_engine *engine, uint64_t reading, uint32_t *removed)
+{
+    if (engine == NULL || removed == NULL) return CAMR_NULL;
+    *removed = 0;
+    return camr_raw_clock(&engine, reading, removed);
+}
+
+/* Whether a timer holds a freeze, and when the first is due, in milliseconds: no earlier reading of the clock lets one go. It is
+ * not recorded. CAMR_NULL. */
+static inline camr_result camr_next_due(camr_engine *engine, bool *is_due, uint64_t *reading)
+{
+    if (engine == NULL || is_due == NULL || reading == NULL) return CAMR_NULL;
+    *reading = 0;
+    *is_due = camr_raw_next_due(&engine, reading);
+    return CAMR_DONE;
+}
+
+/* Freezes a queue, or a controller, for a guest, by a number that the guest chose: the freeze's number, from 1, which is never
+ * given again. The engine keeps its token until camr_guest_release. CAMR_UNKNOWN, CAMR_LIMIT, CAMR_OUT_OF_MEMORY, CAMR_NULL. */
+static inline camr_result camr_guest_freeze(camr_engine *engine, uint32_t queue, uint32_t guest, uint32_t *freeze)
+{
+    if (engine == NULL || freeze == NULL) return CAMR_NULL;
+    *freeze = 0;
+    return camr_raw_guest_freeze(&engine, queue, guest, freeze);
+}
+
+static inline camr_result camr_guest_freeze_controller(camr_engine *engine, uint32_t controller, uint32_t guest, uint32_t *freeze)
+{
+    if (engine == NULL || freeze == NULL) return CAMR_NULL;
+    *freeze = 0;
+    return camr_raw_guest_freeze_controller(&engine, controller, guest, freeze);
+}
+
+/* Gives a guest's freeze back: how many freezes its queue or controller has then. CAMR_NO_TOKEN: this engine keeps no token of
+ * that number, as of a run's freeze, or one that was given back. CAMR_OUT_OF_MEMORY: the freeze and its token are still there.
+ * CAMR_NOT_HELD, CAMR_NULL. */
+static inline camr_result camr_guest_release(camr_engine *engine, uint32_t freeze, uint32_t *left)
+{
+    if (engine == NULL || left == NULL) return CAMR_NULL;
+    *left = 0;
+    return camr_raw_guest_release(&engine, freeze, left);
+}
+
+/* The sums so far. It is not recorded. CAMR_NULL. */
+static inline camr_result camr_totals(camr_engine *engine, camr_totals_t *totals)
+{
+    if (engine == NULL || totals == NULL) return CAMR_NULL;
+    camr_raw_totals(&engine, totals);
+    return CAMR_DONE;
+}
+
+/*
+ * Puts whole lines of the trace into a buffer, as many as find room: those of the records from this number on, from 0, and
+ * before that of record 0 the first line of a trace. *written is how many bytes, and *next the record from which to go on: where
+ * it is the number of records, there is no more. CAMR_NO_ROOM: no line finds room; one has at most 700 bytes. CAMR_NO_TEXT,
+ * CAMR_NULL, CAMR_TOO_LONG.
+ */
+static inline camr_result camr_trace(camr_engine *engine, uint64_t from, char *buffer, size_t length, size_t *written,
+                                     uint64_t *next)
+{
+    uint8_t none = 0;
+    if (engine == NULL || written == NULL || next == NULL) return CAMR_NULL;
+    *written = 0;
+    *next = from;
+    camr_result place = camr_place_(buffer, length);
+    if (place != CAMR_DONE) return place;
+    return camr_raw_trace(&engine, from, length != 0 ? (uint8_t *)buffer : &none, length, written, next);
+}
+
+/* Puts the last line of the trace, the sums so far, into a buffer: a trace that `camr replay` accepts is the lines of all records
+ * and this one. CAMR_NO_ROOM, CAMR_NULL, CAMR_TOO_LONG. */
+static inline camr_result camr_trace_end(camr_engine *engine, char *buffer, size_t length, size_t *written)
+{
+    uint8_t none = 0;
+    if (engine == NULL || written == NULL) return CAMR_NULL;
+    *written = 0;
+    camr_result place = camr_place_(buffer, length);
+    if (place != CAMR_DONE) return place;
+    return camr_raw_trace_end(&engine, length != 0 ? (uint8_t *)buffer : &none, length, written);
+}
+
+/* ---- a run ---------------------------------------------------------------------------------------------------------------- */
+
+/* Takes a run to its next stop, if it is not there: it executes its private instructions, of its program's budget at most. It
+ * asks no engine, wants no lock, and takes no memory. CAMR_SPENT, CAMR_NULL. */
+static inline camr_result camr_stretch(camr_run *run)
+{
+    return run == NULL ? (camr_result)CAMR_NULL : camr_raw_stretch(&run);
+}
+
+/* Presents a run at its stop to its engine, which takes it over: R0 behind the stop, and whether the run has ended. It goes on
+ * from there, or is spent. CAMR_NOT_STRETCHED. CAMR_SPENT. CAMR_NOT_OUT: it is a run of another engine. CAMR_OUT_OF_MEMORY. With
+ * these two it is back behind its last stop, and is stretched again. CAMR_NULL. */
+static inline camr_result camr_advance(camr_engine *engine, camr_run *run, uint64_t *r0, bool *ended)
+{
+    if (engine == NULL || run == NULL || r0 == NULL || ended == NULL) return CAMR_NULL;
+    *r0 = 0;
+    *ended = false;
+    return camr_raw_advance(&engine, &run, r0, ended);
+}
+
+/* Stretches and advances a run until it has ended. What a result stops it at is as camr_stretch and camr_advance tell: what went
+ * before is recorded. A run ends within its program's budget, so *ended is true where the result is CAMR_DONE. */
+static inline camr_result camr_drive(camr_engine *engine, camr_run *run, uint64_t *r0, bool *ended)
+{
+    if (engine == NULL || run == NULL || r0 == NULL || ended == NULL) return CAMR_NULL;
+    *r0 = 0;
+    *ended = false;
+    return camr_raw_drive(&engine, &run, r0, ended);
+}
+
+/* Parks a run: it takes no step, and keeps its freezes, until camr_resume is given its number. The handle is spent. What it did
+ * since its last stop is forgotten. It takes no memory. CAMR_NOT_OUT: it is as it was. CAMR_SPENT, CAMR_NULL. */
+static inline camr_result camr_park(camr_engine *engine, camr_run *run)
+{
+    if (engine == NULL || run == NULL) return CAMR_NULL;
+    return camr_raw_park(&engine, &run);
+}
+
+/* Lets the parked run of that number go on. It goes to *run, and is the host's until camr_run_free. CAMR_UNKNOWN,
+ * CAMR_OUT_OF_MEMORY, CAMR_NULL: *run is NULL. */
+static inline camr_result camr_resume(camr_engine *engine, uint32_t number, camr_run **run)
+{
+    bool resumed = false;
+    camr_run *its = NULL;
+    if (engine == NULL || run == NULL) return CAMR_NULL;
+    *run = NULL;
+    camr_result result = camr_raw_resume(&engine, number, &its, &resumed);
+    if (resumed) *run = its;
+    return result;
+}
+
+/* The run's number, from 1, and that of the freeze that it was started with: 0 where it took none, and where it was resumed. It
+ * asks no engine. CAMR_NULL. */
+static inline camr_result camr_run_numbers(camr_run *run, uint32_t *number, uint32_t *freeze)
+{
+    if (run == NULL || number == NULL || freeze == NULL) return CAMR_NULL;
+    camr_raw_run_numbers(&run, number, freeze);
+    return CAMR_DONE;
+}
+
+/* Ends a run's handle, which asks no engine. NULL is none. A run that has neither ended nor been parked is forfeited: it stays
+ * among the live runs of its engine with its freezes, and nobody can take it further. */
+static inline void camr_run_free(camr_run *run)
+{
+    if (run != NULL) camr_raw_run_free(&run);
+}
+
+/* ---- texts, and the heap ---------------------------------------------------------------------------------------------------- */
+
+/* Puts the front of a result's text into a buffer, as much as finds room: *written is how many bytes. CAMR_UNKNOWN: there is no
+ * such result. CAMR_NULL, CAMR_TOO_LONG. */
+static inline camr_result camr_result_text(camr_result result, char *buffer, size_t length, size_t *written)
+{
+    uint8_t none = 0;
+    if (written == NULL) return CAMR_NULL;
+    *written = 0;
+    camr_result place = camr_place_(buffer, length);
+    if (place != CAMR_DONE) return place;
+    return camr_raw_result_text(result, length != 0 ? (uint8_t *)buffer : &none, length, written) ? CAMR_DONE : CAMR_UNKNOWN;
+}
+
+/*
+ * The heap that the library asks, which the host defines: a block of n bytes, or one of a bytes where n is 0, on an address that a
+ * divides; the block at p made one of n bytes, which may move; and the block given back. `kept` is how many bytes stand in it.
+ * Where there is no memory, `ok` is false, p leads to any byte, and a block to be made another size is as it was. A block's address
+ * is a multiple of 16. In one file of a host that has malloc, this is enough:
+ *
+ *     #define CAMR_ENGINE_HEAP
+ *     #include "camr_engine.h"
+ */
+struct rattle_tried {
+    bool ok;
+    void *p;
+};
+struct rattle_tried rattle_alloc(size_t n, size_t a);
+struct rattle_tried rattle_realloc(void *p, size_t kept, size_t n, size_t a);
+void rattle_dealloc(void *p);
+
+#ifdef CAMR_ENGINE_HEAP
+static inline struct rattle_tried camr_tried_(void *p)
+{
+    static char no_block;
+    struct rattle_tried tried = {p != NULL, p != NULL ? p : (void *)&no_block};
+    return tried;
+}
+struct rattle_tried rattle_alloc(size_t n, size_t a) { return camr_tried_(malloc(n != 0 ? n : a)); }
+struct rattle_tried rattle_realloc(void *p, size_t kept, size_t n, size_t a)
+{
+    (void)kept;
+    return camr_tried_(realloc(p, n != 0 ? n : a));
+}
+void rattle_dealloc(void *p) { free(p); }
+#endif
+
+#ifdef __cplusplus
+}
+#endif
+
+#endif

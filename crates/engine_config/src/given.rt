@@ -6,9 +6,7 @@ ghost use Rattle.engine_config.specs.Configured.{controllers_of, queue_seen, que
 
 use accepted::Accepted;
 use std::sync::Arc;
-
-/// How many controllers there may be.
-pub const MAX_CONTROLLERS: u8 = 8;
+use world::MAX_CONTROLLERS;
 
 /// The device queues, in the order of their numbers.
 #[derive(Debug, Drop)]

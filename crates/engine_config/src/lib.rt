@@ -6,4 +6,4 @@ mod config;
 mod given;
 
 pub use config::{Config, MAX_QUEUES, MAX_TABLES, MAX_WORDS};
-pub use given::MAX_CONTROLLERS;
+pub use world::MAX_CONTROLLERS;

@@ -9,4 +9,4 @@ mod queue_list;
 mod transport;
 
 pub use live_ccb::LiveCcb;
-pub use transport::{MAX_CONTROLLERS, Transport};
+pub use transport::Transport;

@@ -36,10 +36,7 @@ use freeze_ledger::{FreezeToken, Holder, Holders, Ledger, Place};
 use std::alloc::{AllocError, Global};
 use std::marker::Model;
 use timer_events::expire_due;
-use world::{CcbState, QueueInfo};
-
-/// How many controllers there may be.
-pub const MAX_CONTROLLERS: u32 = 8;
+use world::{CcbState, MAX_CONTROLLERS, QueueInfo};
 
 /// The last clock reading that there is, in milliseconds: 2^62.
 const LAST_READING: u64 = 4_611_686_018_427_387_904;
@@ -89,7 +86,7 @@ impl Transport {
         Ok(Transport {
             ccbs: CcbList::with_room(alloc)?,
             queues: queues_of(alloc, openings)?,
-            ledger: Ledger::with_room(alloc, openings.len() as u32, MAX_CONTROLLERS)?,
+            ledger: Ledger::with_room(alloc, openings.len() as u32, u32::from(MAX_CONTROLLERS))?,
             clock: 0,
         })
     }

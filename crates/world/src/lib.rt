@@ -9,3 +9,6 @@ mod queue_info;
 
 pub use ccb_state::CcbState;
 pub use queue_info::QueueInfo;
+
+/// How many controllers there may be.
+pub const MAX_CONTROLLERS: u8 = 8;

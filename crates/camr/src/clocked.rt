@@ -1,50 +1,58 @@
-// Standard input with the machine's clock. It relies on `reading` for the input.
+// Standard input with the machine's clock: another thread reads, so that this one can wait for what is due meanwhile. It relies on
+// `feed` for what is between the two, and on `stopwatch` for the clock.
 
-use crate::reading::Reading;
+use crate::feed::{Feed, Feeder, Handed, take};
+use crate::reading::PIECE;
+use crate::stopwatch::Stopwatch;
 use live::{Came, Input};
-use std::io::Read;
+use std::alloc::{AllocError, Global};
 use std::rt::Clock;
-use std::time::Duration;
+use std::sync::{Arc, Wait};
 
-/// A reader with a clock, which reads 0 at the beginning.
+/// The side that takes what is read, with a clock which reads 0 at the beginning.
 #[derive(Drop)]
-pub struct Clocked<'a, C: Clock, R: Read + Drop> {
-    clock: &'a C,
-    begun: Duration,
-    reading: Reading<R>,
+pub struct Clocked<'a, R: Wait + Clock> {
+    rt: &'a R,
+    clock: Stopwatch<'a, R>,
+    feed: Arc<Feed>,
+    bytes: Vec<u8>,
+    len: usize,
 }
 
-impl<'a, C: Clock, R: Read + Drop> Clocked<'a, C, R> {
-    /// This reader, and the clock from now on.
-    pub fn of(clock: &'a C, reading: Reading<R>) -> Self {
-        Clocked {
-            clock,
-            begun: clock.monotonic().unwrap_or(Duration::from_millis(0)),
-            reading,
-        }
+impl<'a, R: Wait + Clock> Clocked<'a, R> {
+    /// The clock from now on, and what the other thread reads with.
+    pub fn of(alloc: Global, rt: &'a R) -> Result<(Self, Feeder), AllocError> {
+        let feed = Arc::new(alloc, Feed::of(alloc)?)?;
+        let feeder = Feeder::of(alloc, &feed)?;
+        let clocked = Clocked {
+            rt,
+            clock: Stopwatch::of(rt),
+            feed,
+            bytes: vec![in alloc; 0; PIECE]?,
+            len: 0,
+        };
+        Ok((clocked, feeder))
     }
 }
 
-impl<C: Clock, R: Read + Drop> Input for Clocked<'_, C, R> {
-    // It waits for bytes alone, also where a timer is due before they come.
+impl<R: Wait + Clock> Input for Clocked<'_, R> {
     fn wait(&mut self, until: Option<u64>) -> Came {
-        self.reading.wait(until)
+        match take(self.rt, &self.clock, &self.feed, until, &mut self.bytes) {
+            Handed::Nothing => Came::Due(self.now().or(until).unwrap_or(0)),
+            Handed::Bytes(len) => {
+                self.len = len;
+                Came::Bytes
+            }
+            Handed::End => Came::End,
+            Handed::Failed => Came::Failed,
+        }
     }
 
     fn bytes(&self) -> &[u8] {
-        self.reading.bytes()
+        self.bytes.get(..self.len).unwrap_or(&[])
     }
 
     fn now(&self) -> Option<u64> {
-        match self.clock.monotonic() {
-            Ok(now) => Some(milliseconds(now.saturating_sub(self.begun))),
-            Err(_) => None,
-        }
+        self.clock.now()
     }
-}
-
-fn milliseconds(time: Duration) -> u64 {
-    time.as_secs()
-        .saturating_mul(1000)
-        .saturating_add(u64::from(time.subsec_millis()))
 }

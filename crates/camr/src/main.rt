@@ -3,45 +3,54 @@
 #![tactic(auto)]
 
 mod clocked;
+mod feed;
 mod reading;
 mod replacing;
+mod stopwatch;
 mod telling;
 
 ghost use Rattle.std.specs.Prelude.{◌≡◌, length, IfOk};
 ghost use Rattle.command_line.specs.Files.{input_paths};
 
 use crate::clocked::Clocked;
+use crate::feed::Feeder;
 use crate::reading::Reading;
 use crate::replacing::replace;
 use crate::telling::Telling;
 use command_line::{Manner, Plan, not_utf8, plan};
 use commands::{Fault, Handing, carry, report_usage, serve};
+use live::Input;
 use notices::Notices;
 use std::io::{BufWriter, Stderr, Write};
 use std::process::ExitCode;
 use std::rt::{Env, Files, Runtime};
 use std::sync::Wait;
 use std::thread::Threads;
-use std::{env, fs, io};
+use std::{env, fs, io, thread};
 
 fn main(rt: HostRuntime) -> ExitCode {
     let mut err = rt.stderr();
+    let begin = move |feeder: Feeder| {
+        thread::spawn(&rt, move || feeder.read_all(&rt, rt.reader())).is_ok()
+    };
     ExitCode::from(match BufWriter::new(rt.alloc(), io::writer(&rt)) {
         Ok(mut out) => {
-            let status = status(&rt, err, &mut out, &mut err);
+            let status = status(&rt, err, &mut out, &mut err, begin);
             if out.flush().is_ok() { status } else { 2 }
         }
         Err(_) => Fault::OutOfMemory.report(&mut err),
     })
 }
 
-// Does what the words say, and answers the status to end with.
-fn status<R: Runtime + AllocGlobal + Threads + Wait + Sync, W: Write, E: Write>(
-    rt: &R,
-    told: Stderr,
-    out: &mut W,
-    err: &mut E,
-) -> u8 {
+// Does what the words say, and answers the status to end with. `begin` starts a thread that reads standard input.
+fn status<
+    R: Runtime + AllocGlobal + Threads + Wait + Sync,
+    W: Write,
+    E: Write,
+    B: FnOnce(Feeder) -> bool,
+>(rt: &R, told: Stderr, out: &mut W, err: &mut E, begin: B) -> u8
+    requires { (feeder : _) → B.pre begin feeder }
+{
     let words = match words(rt) {
         Ok(words) => words,
         Err(error) if error.kind() == io::ErrorKind::OutOfMemory => {
@@ -52,7 +61,13 @@ fn status<R: Runtime + AllocGlobal + Threads + Wait + Sync, W: Write, E: Write>(
     };
     match plan(rt.alloc(), words.as_slice()) {
         Ok(plan) => match read_inputs(rt, &plan) {
-            Ok(inputs) => carry_out(rt, &plan, &inputs, &Telling::new(rt, told, &plan), out, err),
+            Ok(inputs) => match &plan {
+                Plan::Live(manner, manifest) => {
+                    let manifest = (manifest.as_str(), inputs[0].as_slice());
+                    serve_line_by_line(rt, *manner, manifest, err, begin)
+                }
+                _ => carry_out(rt, &plan, &inputs, &Telling::new(rt, told, &plan), out, err),
+            },
             Err(fault) => fault.report(err),
         },
         Err(fault) => report_usage(&fault, out, err),
@@ -68,9 +83,6 @@ fn carry_out<
 >(rt: &R, plan: &Plan, inputs: &[Vec<u8>], notices: &N, out: &mut W, err: &mut E) -> u8
     requires { length inputs.now ≡ length (input_paths plan.now) }
 {
-    if let Plan::Live(manner, manifest) = plan {
-        return serve_line_by_line(rt, *manner, (manifest.as_str(), inputs[0].as_slice()), err);
-    }
     let Some(path) = plan.output() else {
         return carry(rt, rt.alloc(), plan, inputs, notices, out, err);
     };
@@ -86,38 +98,47 @@ fn carry_out<
 }
 
 // Serves what standard input asks of the engine of a manifest, a path and its bytes. What goes out is not kept for a whole buffer.
-fn serve_line_by_line<R: Runtime + AllocGlobal, E: Write>(
+// Where there is a clock, another thread reads.
+fn serve_line_by_line<
+    R: Runtime + AllocGlobal + Wait,
+    E: Write,
+    B: FnOnce(Feeder) -> bool,
+>(rt: &R, manner: Manner, manifest: (&str, &[u8]), err: &mut E, begin: B) -> u8
+    requires { (feeder : _) → B.pre begin feeder }
+{
+    if !manner.is_clocked {
+        return match Reading::of(rt.alloc(), rt.reader()) {
+            Ok(mut input) => serve_input(rt, manner, manifest, &mut input, err),
+            Err(_) => Fault::OutOfMemory.report(err),
+        };
+    }
+    let Ok((mut input, feeder)) = Clocked::of(rt.alloc(), rt) else {
+        return Fault::OutOfMemory.report(err);
+    };
+    if !begin(feeder) {
+        return Fault::OutOfMemory.report(err);
+    }
+    serve_input(rt, manner, manifest, &mut input, err)
+}
+
+// Serves what this input asks.
+fn serve_input<R: Runtime + AllocGlobal, I: Input, E: Write>(
     rt: &R,
     manner: Manner,
     manifest: (&str, &[u8]),
+    input: &mut I,
     err: &mut E,
 ) -> u8 {
     let mut out = io::writer(rt);
     let mut out = Handing::new(&mut out);
-    let mut input = match Reading::of(rt.alloc(), rt.reader()) {
-        Ok(input) => input,
-        Err(_) => return Fault::OutOfMemory.report(err),
-    };
-    if manner.is_clocked {
-        let mut input = Clocked::of(rt, input);
-        serve(
-            rt.alloc(),
-            manifest,
-            manner.is_stepped,
-            &mut input,
-            &mut out,
-            err,
-        )
-    } else {
-        serve(
-            rt.alloc(),
-            manifest,
-            manner.is_stepped,
-            &mut input,
-            &mut out,
-            err,
-        )
-    }
+    serve(
+        rt.alloc(),
+        manifest,
+        manner.is_stepped,
+        input,
+        &mut out,
+        err,
+    )
 }
 
 // The words after the program's name.

@@ -1,11 +1,12 @@
-// Who is told on standard error how far a run or a replay is. It relies on `notices` for what there is to tell.
+// Who is told on standard error how far a run or a replay is. It relies on `notices` for what there is to tell, and on `stopwatch` for
+// when.
 
+use crate::stopwatch::Stopwatch;
 use command_line::{Plan, Watch};
 use notices::{Notice, Notices};
 use std::io::{IsTerminal, Stderr, Write};
 use std::rt::Clock;
 use std::sync::atomic::{AtomicU64, Ordering};
-use std::time::Duration;
 
 /// How long it is silent, in milliseconds: at first, and after each notice.
 const SILENCE: u64 = 500;
@@ -13,7 +14,7 @@ const SILENCE: u64 = 500;
 /// Tells on standard error, at most twice a second, where that is wanted.
 #[derive(Drop)]
 pub struct Telling<'a, C: Clock> {
-    clock: &'a C,
+    clock: Stopwatch<'a, C>,
     err: Stderr,
     is_on: bool,
     // when the next notice may be, in milliseconds of the clock
@@ -39,23 +40,13 @@ impl<'a, C: Clock> Telling<'a, C> {
             | Plan::ExplainCode(_)
             | Plan::Explain(_) => false,
         };
-        let due = match clock.monotonic() {
-            Ok(now) => milliseconds(now).saturating_add(SILENCE),
-            Err(_) => 0,
-        };
         Telling {
-            clock,
+            clock: Stopwatch::of(clock),
             err,
             is_on,
-            due: AtomicU64::new(due),
+            due: AtomicU64::new(SILENCE),
         }
     }
-}
-
-fn milliseconds(time: Duration) -> u64 {
-    time.as_secs()
-        .saturating_mul(1000)
-        .saturating_add(u64::from(time.subsec_millis()))
 }
 
 impl<'a, C: Clock> Notices for Telling<'a, C> {
@@ -64,10 +55,9 @@ impl<'a, C: Clock> Notices for Telling<'a, C> {
         if !self.is_on {
             return false;
         }
-        let Ok(now) = self.clock.monotonic() else {
+        let Some(now) = self.clock.now() else {
             return false;
         };
-        let now = milliseconds(now);
         let due = self.due.load(Ordering::Relaxed);
         due <= now
             && self

@@ -15,6 +15,7 @@ pub fn join(description: &mut Description, other: &Description) -> bool
     ensures first { IsTrue result → Covers description.old description.new }
     ensures second { IsTrue result → Covers other.now description.new }
     ensures agree { Agree description.old other.now → IsTrue result × JoinsTo description.old other.now description.new }
+    ensures disagree { IsTrue result → Agree description.old other.now }
     ensures depth { IsTrue result → length description.new.stack ≡ length description.old.stack }
 {
     if agrees(description, other) {

@@ -2,8 +2,9 @@
 // from which they are served. It relies on `hands` for the guests' tokens, on `engine_lock` for the engine's replies, and on
 // `workers` for serving.
 
-ghost use Rattle.std.specs.Prelude.{◌≡◌, ◌+◌, ◌≤◌, [], All, length, vec_capacity};
+ghost use Rattle.std.specs.Prelude.{◌≡◌, ◌+◌, ◌≤◌, [], All, IfErr, None, length, vec_capacity};
 ghost use Rattle.inbox.specs.Views.{IsOf};
+ghost use Rattle.scenario_host.specs.Faults.{IsOfStep, IsOfSteps, line_of};
 ghost use Rattle.workers.specs.declared.serving.TheConstants.{MAX_WORKERS};
 ghost use Rattle.scenario_host.specs.declared.host.RunFault.TheVariants.{OutOfMemory};
 
@@ -70,14 +71,19 @@ impl<'a, B: Object + Send + Sync, N: Notices + Sync> Host<'a, B, N> {
         &mut self,
         rt: &R,
         steps: &[Step],
-    ) -> Result<(), RunFault> {
+    ) -> Result<(), RunFault>
+        ensures { IfErr result (IsOfSteps steps.now) }
+    {
         for step in steps {
             self.carry_out(rt, step)?;
         }
         self.drain(rt)
     }
 
-    fn carry_out<R: Threads + Wait + Sync>(&mut self, rt: &R, step: &Step) -> Result<(), RunFault> {
+    #[tactic(auto, using(crate::proofs::Faults::none_of_step))]
+    fn carry_out<R: Threads + Wait + Sync>(&mut self, rt: &R, step: &Step) -> Result<(), RunFault>
+        ensures { IfErr result (IsOfStep step.now) }
+    {
         match step.command {
             Command::Submit {
                 queue,
@@ -106,7 +112,9 @@ impl<'a, B: Object + Send + Sync, N: Notices + Sync> Host<'a, B, N> {
     }
 
     // A refusal is recorded, and the scenario goes on. Where memory is refused the host stops: what comes back is in its hands.
-    fn ask<R: Threads + Wait + Sync>(&mut self, rt: &R, event: Event<'_>) -> Result<(), RunFault> {
+    fn ask<R: Threads + Wait + Sync>(&mut self, rt: &R, event: Event<'_>) -> Result<(), RunFault>
+        ensures { IfErr result (λ fault. line_of fault ≡ None) }
+    {
         let mut asked = Asked {
             rt,
             shared: &self.shared,
@@ -127,7 +135,9 @@ impl<'a, B: Object + Send + Sync, N: Notices + Sync> Host<'a, B, N> {
         &mut self,
         rt: &R,
         completion: Completion,
-    ) -> Result<(), RunFault> {
+    ) -> Result<(), RunFault>
+        ensures { IfErr result (λ fault. line_of fault ≡ None) }
+    {
         let Err(completion) = self.inbox.put(rt, &mut self.put, completion) else {
             return Ok(());
         };
@@ -140,7 +150,9 @@ impl<'a, B: Object + Send + Sync, N: Notices + Sync> Host<'a, B, N> {
 
     // Serves until the inbox is empty. What a worker keeps it keeps for want of memory, and where there is none for serving the
     // inbox is left as it was. The runs that are kept are parked.
-    fn drain<R: Threads + Wait + Sync>(&mut self, rt: &R) -> Result<(), RunFault> {
+    fn drain<R: Threads + Wait + Sync>(&mut self, rt: &R) -> Result<(), RunFault>
+        ensures { IfErr result (λ fault. line_of fault ≡ None) }
+    {
         let none = Vec::new(*self.seats.allocator());
         let seats = mem::replace(&mut self.seats, none);
         let gate = Watching {

@@ -1,7 +1,8 @@
 // A run of a scenario from the opening of its engine to the end. It relies on `host` for what the steps ask for.
 
-ghost use Rattle.std.specs.Prelude.{◌≡◌, ◌≤◌, ◌+◌, [], All, IfOk, length, vec_capacity};
+ghost use Rattle.std.specs.Prelude.{◌≡◌, ◌≤◌, ◌+◌, [], All, IfErr, IfOk, None, length, vec_capacity};
 ghost use Rattle.inbox.specs.Views.{IsOf};
+ghost use Rattle.scenario_host.specs.Faults.{IsOfSteps, line_of};
 ghost use Rattle.scenario_host.specs.Traces.{IsTraceOf};
 ghost use Rattle.workers.specs.declared.serving.TheConstants.{MAX_WORKERS};
 
@@ -21,6 +22,7 @@ use workers::Seat;
 /// Runs the steps in their order on an engine of this configuration, and serves the completions that are left then, by 1 to 16
 /// workers. Tokens that are out at the end are forfeited. With one worker the trace is determined; with more, completions that
 /// wait together are served in any order. While workers serve, the engine's sums are told where they are wanted.
+#[tactic(auto, using(crate::proofs::Faults::none_of_steps))]
 pub fn run<N: Notices + Sync, R: Threads + Wait + Sync>(
     rt: &R,
     alloc: Global,
@@ -30,7 +32,9 @@ pub fn run<N: Notices + Sync, R: Threads + Wait + Sync>(
     notices: &N,
 ) -> Result<Trace, RunFault>
     requires { (1 ≤ workers) × (workers ≤ MAX_WORKERS) }
-    ensures { IfOk result (λ trace. IsTraceOf config trace.version trace.records.items trace.totals) }
+    ensures trace { IfOk result (λ trace. IsTraceOf config trace.version trace.records.items trace.totals) }
+    // N2 is told at the line of a release
+    ensures fault { IfErr result (IsOfSteps steps.now) }
 {
     let engine = match Engine::open(alloc, config) {
         Ok(engine) => engine,
@@ -43,6 +47,7 @@ pub fn run<N: Notices + Sync, R: Threads + Wait + Sync>(
 }
 
 // The same on this engine.
+#[tactic(auto, using(crate::proofs::Faults::none_of_steps))]
 fn run_on<B: Object + Send + Sync, N: Notices + Sync, R: Threads + Wait + Sync>(
     rt: &R,
     alloc: Global,
@@ -56,7 +61,8 @@ fn run_on<B: Object + Send + Sync, N: Notices + Sync, R: Threads + Wait + Sync>(
     requires begun { opened.engine.history ≡ B.begun }
     requires name { (opened.calls.name ≡ B.name) × (opened.calls.parts ≡ B.parts) }
     requires table { opened.monitor ≡ B.table }
-    ensures { IfOk result (λ trace. IsTraceOf B.setup trace.version trace.records.items trace.totals) }
+    ensures trace { IfOk result (λ trace. IsTraceOf B.setup trace.version trace.records.items trace.totals) }
+    ensures fault { IfErr result (IsOfSteps steps.now) }
 {
     let mut host = open(rt, alloc, opened.named::<B>(), workers, notices)?;
     match host.carry_out_all(rt, steps) {
@@ -77,6 +83,7 @@ fn open<'a, B: Object, N: Notices, R: Wait>(
     notices: &'a N,
 ) -> Result<Host<'a, B, N>, RunFault>
     requires { (1 ≤ workers) × (workers ≤ MAX_WORKERS) }
+    ensures { IfErr result (λ fault. line_of fault ≡ None) }
 {
     let Ok(caller) = shared.caller(rt) else {
         return Err(RunFault::Unsettled);
@@ -173,7 +180,8 @@ fn seated<B: Object, R: Wait>(
 
 // Ends the host: the whole history of its engine.
 fn close<B: Object, N: Notices, R: Wait>(rt: &R, host: Host<'_, B, N>) -> Result<Trace, RunFault>
-    ensures { IfOk result (λ trace. IsTraceOf B.setup trace.version trace.records.items trace.totals) }
+    ensures trace { IfOk result (λ trace. IsTraceOf B.setup trace.version trace.records.items trace.totals) }
+    ensures fault { IfErr result (λ fault. line_of fault ≡ None) }
 {
     let Host {
         shared,

@@ -1,4 +1,4 @@
-// What no command shows: the shapes and budgets of programs with local calls, which no policy may have yet.
+// What no command shows: the shapes and budgets of programs that are no policies, as R0 is not known at their ends.
 
 use super::policies::mov;
 use bpf_insn::{Callee, Distance, Insn, Operand, Program, Reg};

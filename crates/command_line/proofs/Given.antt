@@ -1,5 +1,5 @@
 -- What the getters of `clap`'s matches give, by their rows.
-use Rattle.std.proofs.Common.{◌≡◌, ◌∙◌, ℕ, Bool, true, false, List, Option, Some, None, MatchOption, codes, sym, subst, ap}
+use Rattle.std.proofs.Common.{◌≡◌, ◌∙◌, ℕ, Bool, true, false, List, Option, Some, None, MatchOption, codes, refl, sym, subst, ap}
 use Rattle.std.specs.Prelude.{MatchBool, option_map, unwrap_or}
 use Rattle.std.specs.Borrow.{Bor}
 use Rattle.clap.specs.Words.{Row, Text, first_of, first_value, rows_of}
@@ -13,6 +13,13 @@ use Rattle.command_line.specs.declared.plans.Watch.{Watch}
 pub text_given : (f : Found) (id : Text) (o : Option (Bor (List ℕ))) (t : Bor (List ℕ)) → option_map (λ s. s.now) o ≡ first_value f id → o ≡ Some t
     → first_of id (rows_of f) ≡ Some t.now
 text_given f id o t given is = sym (first_value-rows f id) ∙ (sym given ∙ ap (option_map (λ s. s.now)) is)
+
+pub none_given : (f : Found) (id : Text) (o : Option (Bor (List ℕ))) → option_map (λ s. s.now) o ≡ first_value f id → first_of id (rows_of f) ≡ None → o ≡ None
+none_given f id o given none = go o (given ∙ (first_value-rows f id ∙ none))
+  where
+    go : (o : Option (Bor (List ℕ))) → option_map (λ (s : Bor (List ℕ)). s.now) o ≡ None → o ≡ None
+    go None is = refl
+    go (Some t) is = let bad : Some t.now ≡ None = is in cc
 
 pub no_text : (f : Found) (id : Text) (o : Option (Bor (List ℕ))) (t : Text) → option_map (λ s. s.now) o ≡ first_value f id → o ≡ None
     → first_of id (rows_of f) ≡ Some t → ⊥

@@ -1,14 +1,12 @@
 pub mod PlainWords
-pub mod RunWords
+pub mod CommandWords
 pub mod Traces
 pub mod Readings
 pub mod Numbers
 pub mod Given
 pub mod Planned
 pub mod PlanLines
-pub mod PathFaults
 pub mod Clear
-pub mod FileWords
-pub mod ShowWords
+pub mod AskedRows
+pub mod AskedLines
 pub mod SpelledOut
-pub mod LiveWords

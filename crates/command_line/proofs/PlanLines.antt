@@ -52,7 +52,7 @@ module _ (words : List Text) (number manifest scenario : Text) (line : RunLine w
   pub line_refuses : PlansFound (subcommand_of camr_command words) None → SpellsNoLawfulNumber number
   line_refuses nothing =
       let read = line_reading words number manifest scenario line plain_n plain_m plain_s in
-      nothing.0 read.rows read.enters number manifest scenario Never read.says.workers read.says.watch_is read.says.manifest_is read.says.scenario_is
+      nothing (codes "run") read.rows read.enters number manifest scenario Never read.says.workers read.says.watch_is read.says.manifest_is read.says.scenario_is
 
   pub line_fault : (e : Error) → HasKind (fault_of camr_command words) e
       → (kind_of e ≡ kind.OutOfMemory) ⊎ ((kind_of e ≡ kind.ValueValidation) × SpellsNoLawfulNumber number)

@@ -1,5 +1,5 @@
--- From the rows that `clap` found behind `run` to the plan.
-use Rattle.std.proofs.Common.{◌≡◌, ◌∙◌, List, [], Option, Some, None, false, refl, sym, subst, ap, ap₂, codes}
+-- From the rows that `clap` found behind a word to the plan.
+use Rattle.std.proofs.Common.{◌≡◌, ◌∙◌, List, [], Option, Some, None, false, sym, subst, ap, ap₂}
 use Rattle.std.specs.Str.{bytes_eq}
 use Rattle.std.proofs.lemmas.Slice.Eq.{bytes_eq-Decides}
 use Rattle.std.proofs.lemmas.Bool.Decides.{not_from_Decides}
@@ -9,9 +9,8 @@ use Rattle.clap.specs.Words.{Row, Text, rows_of, subcommand_name_of, subcommand_
 use Rattle.clap.specs.declared.parser.matches.ArgMatches.{ArgMatches}
 use Rattle.clap.specs.declared.parser.matches.ArgMatches.TheViews.{out-ArgMatches, out-SubCommand}
 use Rattle.clap.specs.declared.parser.matches.SubCommand.{SubCommand}
-use Rattle.command_line.specs.FoundPlan.{HasFound, LacksOne, PlansBehind, PlansFound, PlansRows, paths_of}
+use Rattle.command_line.specs.FoundPlan.{HasFound, MakesNone, PlansBehind, PlansFound}
 use Rattle.command_line.specs.declared.plans.Plan.{Plan}
-use Rattle.command_line.specs.declared.plans.Plan.TheVariants.{Asm, Migrate, Dis, Check, Run, Live, Replay, ExplainCode, Explain, Show, Summarise, Draw}
 
 abbrev pub rows_in : Option (Text × List Row) → Option (List Row)
 rows_in = option_map (λ (p : Text × List Row). p.1)
@@ -40,36 +39,11 @@ entered_is m name rows named found = both_in (out-ArgMatches m).subcommand name 
 pub apart : (a b : Text) → bytes_eq a b ≡ false → a ≡ b → ⊥
 apart a b differs same = not_from_Decides (bytes_eq a b) (bytes_eq-Decides a b) differs same
 
-pub plan_in : (found : Option (Text × List Row)) (rows : List Row) (planned : Option Plan) → found ≡ Some (codes "run", rows)
-    → PlansRows rows planned → PlansFound found planned
-plan_in found rows (Some (Run workers watch a b)) is h = (subst (λ f. HasFound f (Run workers watch a b)) (sym is) (refl, h.0), h.1)
-plan_in found rows (Some (Asm text program)) is h = absurd h.0.same
-plan_in found rows (Some (Migrate manifest migrated)) is h = absurd h.0.same
-plan_in found rows (Some (Dis program)) is h = absurd h.0.same
-plan_in found rows (Some (Check path)) is h = absurd h.0.same
-plan_in found rows (Some (Live manner manifest)) is h = absurd h.0.same
-plan_in found rows (Some (Replay manifest trace)) is h = absurd h.0.same
-plan_in found rows (Some (ExplainCode code)) is h = absurd h.0.same
-plan_in found rows (Some (Explain path)) is h = absurd h.0.same
-plan_in found rows (Some (Show filter manifest trace)) is h = absurd h.0.same
-plan_in found rows (Some (Summarise manifest trace)) is h = absurd h.0.same
-plan_in found rows (Some (Draw manifest trace picture)) is h = absurd h.0.same
-plan_in found rows None is h = (
-  λ other is_other.
-      let same : rows ≡ other = ap (λ f. unwrap_or (rows_in f) rows) (sym is ∙ is_other) in
-      subst (λ r. PlansRows r None) same h,
-  λ name other is_other.
-      let named : codes "run" ≡ name = ap (λ f. unwrap_or (names_in f) []) (sym is ∙ is_other) in
-      subst (λ (n : Text). LacksOne (paths_of n) other) named tt,
-)
-
-pub other_in : (found : Option (Text × List Row)) (name : Text) (rows : List Row) (planned : Option Plan) → (name ≡ codes "run" → ⊥)
-    → found ≡ Some (name, rows) → PlansBehind name rows planned → PlansFound found planned
-other_in found name rows (Some plan) apart is h = (subst (λ f. HasFound f plan) (sym is) h.0, h.1)
-other_in found name rows None apart is h = (
-  λ other is_other. absurd (apart (ap (λ f. unwrap_or (names_in f) []) (sym is ∙ is_other))),
-  λ also other is_other.
-      let named : name ≡ also = ap (λ f. unwrap_or (names_in f) []) (sym is ∙ is_other) in
-      let same : rows ≡ other = ap (λ f. unwrap_or (rows_in f) rows) (sym is ∙ is_other) in
-      subst (λ (n : Text). LacksOne (paths_of n) other) named (subst (λ (r : List Row). LacksOne (paths_of name) r) same h),
-)
+-- what a plan is by the rows that were found, it is by the matches
+pub plan_in : (found : Option (Text × List Row)) (name : Text) (rows : List Row) (planned : Option Plan) → found ≡ Some (name, rows)
+    → PlansBehind name rows planned → PlansFound found planned
+plan_in found name rows (Some plan) is h = (subst (λ f. HasFound f plan) (sym is) h.0, h.1)
+plan_in found name rows None is h = λ also other is_other.
+    let named : name ≡ also = ap (λ f. unwrap_or (names_in f) []) (sym is ∙ is_other) in
+    let same : rows ≡ other = ap (λ f. unwrap_or (rows_in f) rows) (sym is ∙ is_other) in
+    subst (λ (n : Text). MakesNone n other) named (subst (λ (r : List Row). MakesNone name r) same h)

@@ -2,7 +2,7 @@
 use Rattle.std.proofs.Common.{◌≡◌, List, [], ◌∷◌, ◌++◌, Some, true, false, codes, pos, refl, ◌∙◌, ap}
 use Rattle.clap.specs.Words.{Row, Text, first_of, subcommand_of}
 use Rattle.clap.specs.ValueTests.{accepts}
-use Rattle.clap.specs.Walk.{Walk, idle, nothing_held, reacted, finished, settled, value}
+use Rattle.clap.specs.Walk.{Walk, idle, nothing_held, reacted, finished, settled, value, walked}
 use Rattle.clap.specs.Faults.{check_fault, defaults_fault, fault_of, react_fault, settle_fault, step_fault}
 use Rattle.clap.specs.Kinds.{Kinds, or_else}
 use Rattle.clap.specs.declared.error.kind.ErrorKind.TheVariants as kind
@@ -12,8 +12,8 @@ use Rattle.command_line.specs.RunCommand.{camr_command}
 use Rattle.command_line.specs.RunLine.{IsPlain, RunLine}
 use Rattle.command_line.specs.RunLine.RunLine.{unnumbered, before, between, behind, joined_before, joined_between, joined_behind}
 use Rattle.command_line.proofs.PlainWords.{walk_at}
-use Rattle.command_line.proofs.RunWords.{enters_run, fault_is, run_shape}
-use Rattle.command_line.proofs.Traces.{Trace, built_workers, end_fault, number_walk, path_walk, run_rules, trace_joined, trace_nil, trace_path, trace_workers, traced_fault, traced_rows}
+use Rattle.command_line.proofs.CommandWords.{IsWordOf, command_enters, command_fault}
+use Rattle.command_line.proofs.Traces.{Trace, built_workers, end_fault as ended, number_walk, path_walk as over_path, run_rules, run_shape, start, trace_joined, trace_nil, trace_path, trace_workers, traced_fault, traced_rows}
 
 abbrev pub one_to_sixteen : ValueParser
 one_to_sixteen = value_parser.Signed (pos 1) (pos 16)
@@ -33,20 +33,27 @@ pub record Reading (words : List Text) (number manifest scenario : Text) : Type 
   pub fails : accepts false one_to_sixteen number ≡ false → fault_of camr_command words ≡ kind.ValueValidation ∷ []
   pub says : Says rows number manifest scenario
 
-abbrev start : Walk
-start = walk_at nothing_held idle 1
+abbrev end_fault : Kinds → Walk → Kinds
+end_fault = ended run_shape
+
+abbrev path_walk : Walk → Text → Walk
+path_walk = over_path run_shape
+
+run_word : IsWordOf (codes "run") run_shape
+unfolding walked
+run_word = record { stops = refl; faultless = refl; found = refl; named = refl }
 
 -- a reading of the words behind `run`, by their trace
-reading : (rest : List Text) (number manifest scenario : Text) (f : Kinds) (end : Walk) → Trace start rest f end
+reading : (rest : List Text) (number manifest scenario : Text) (f : Kinds) (end : Walk) → Trace run_shape start rest f end
     → (accepts false one_to_sixteen number ≡ true → end_fault f end ≡ [])
     → (accepts false one_to_sixteen number ≡ false → end_fault f end ≡ kind.ValueValidation ∷ [])
     → Says (finished run_rules end.held) number manifest scenario
     → Reading (codes "run" ∷ rest) number manifest scenario
 reading rest number manifest scenario f end trace passes fails says = record {
   rows = finished run_rules end.held;
-  enters = enters_run rest ∙ ap (λ (rows : List Row). Some (codes "run", rows)) (traced_rows rest f end trace);
-  passes = λ e. fault_is rest ∙ (traced_fault rest f end trace ∙ passes e);
-  fails = λ e. fault_is rest ∙ (traced_fault rest f end trace ∙ fails e);
+  enters = command_enters (codes "run") run_shape run_word rest ∙ ap (λ (rows : List Row). Some (codes "run", rows)) (traced_rows run_shape rest f end trace);
+  passes = λ e. command_fault (codes "run") run_shape run_word rest ∙ (traced_fault run_shape rest f end trace ∙ passes e);
+  fails = λ e. command_fault (codes "run") run_shape run_word rest ∙ (traced_fault run_shape rest f end trace ∙ fails e);
   says = says;
 }
 

@@ -100,15 +100,23 @@ abbrev pub ReadsWatch : List Row → Option Watch → Type 0
 ReadsWatch rows (Some watch) = first_of (codes "watch") rows ≡ Some (watch_word watch)
 ReadsWatch rows None = (watch : Watch) → first_of (codes "watch") rows ≡ Some (watch_word watch) → ⊥
 
--- the plan that those rows ask for, and none only where a part of one is missing
-abbrev pub PlansRows : List Row → Option Plan → Type 0
-PlansRows rows (Some plan) = HasFoundIn rows plan × HasLawfulNumber plan
-PlansRows rows None = (number manifest scenario : Text) (watch : Watch)
+-- a part of the run is missing from those rows
+abbrev pub MakesNoRun : List Row → Type 0
+MakesNoRun rows = (number manifest scenario : Text) (watch : Watch)
     → first_of (codes "workers") rows ≡ Some number
     → first_of (codes "watch") rows ≡ Some (watch_word watch)
     → first_of (codes "MANIFEST") rows ≡ Some manifest
     → first_of (codes "SCENARIO") rows ≡ Some scenario
     → SpellsNoLawfulNumber number
+
+abbrev pub AreFound : List Text → List Row → Type 0
+AreFound [] rows = Unit {0}
+AreFound (id ∷ ids) rows = ((word : Text) × (first_of id rows ≡ Some word)) × AreFound ids rows
+
+-- behind `show` both paths are found, no number, and not both that stand in place of the account
+abbrev pub MakesAccount : List Row → Type 0
+MakesAccount rows = AreFound (codes "MANIFEST" ∷ codes "TRACE" ∷ []) rows × HasFilter rows everything
+    × (AsksSummary rows → first_of (codes "svg") rows ≡ None)
 
 -- what has to be found behind a word, where nothing else is tested
 abbrev pub paths_of : Text → Option (List Text)
@@ -122,22 +130,25 @@ paths_of name =
     else (if bytes_eq name (codes "explain") then Some (codes "WORD" ∷ [])
     else None))))))
 
-abbrev pub AreFound : List Text → List Row → Type 0
-AreFound [] rows = Unit {0}
-AreFound (id ∷ ids) rows = ((word : Text) × (first_of id rows ≡ Some word)) × AreFound ids rows
+-- these are found, where it is known which have to be
+abbrev pub AllFound : Option (List Text) → List Row → Type 0
+AllFound None rows = ⊥
+AllFound (Some ids) rows = AreFound ids rows
 
--- one of these is not found, where these alone are looked for
-abbrev pub LacksOne : Option (List Text) → List Row → Type 0
-LacksOne None rows = Unit {0}
-LacksOne (Some ids) rows = AreFound ids rows → ⊥
+-- those rows are enough for a plan behind that word
+abbrev pub Suffices : Text → List Row → Type 0
+Suffices name rows = MatchBool (bytes_eq name (codes "show")) (MakesAccount rows) (AllFound (paths_of name) rows)
 
--- what those rows ask for behind another word, and none only where a path is missing
+-- they are none behind it
+abbrev pub MakesNone : Text → List Row → Type 0
+MakesNone name rows = MatchBool (bytes_eq name (codes "run")) (MakesNoRun rows) (Suffices name rows → ⊥)
+
+-- what those rows ask for behind that word, and none only where they are no plan
 abbrev pub PlansBehind : Text → List Row → Option Plan → Type 0
 PlansBehind name rows (Some plan) = HasFoundBehind name rows plan × HasLawfulNumber plan
-PlansBehind name rows None = LacksOne (paths_of name) rows
+PlansBehind name rows None = MakesNone name rows
 
 -- the same of the subcommand that `clap` found
 abbrev pub PlansFound : Option (Text × List Row) → Option Plan → Type 0
 PlansFound found (Some plan) = HasFound found plan × HasLawfulNumber plan
-PlansFound found None = ((rows : List Row) → found ≡ Some (codes "run", rows) → PlansRows rows None)
-    × ((name : Text) (rows : List Row) → found ≡ Some (name, rows) → LacksOne (paths_of name) rows)
+PlansFound found None = (name : Text) (rows : List Row) → found ≡ Some (name, rows) → MakesNone name rows

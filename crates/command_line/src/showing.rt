@@ -1,7 +1,7 @@
 // The words behind `show`, read as a plan. It relies on `show_usage` for what `clap` is given of them.
 
-ghost use Rattle.std.specs.Prelude.{◌≡◌, ◌≤◌, ◌↔◌, IsTrue, MatchBool, IfOk, IfSome, codes};
-ghost use Rattle.clap.specs.Words.{found_of, kind_of, rows_of};
+ghost use Rattle.std.specs.Prelude.{◌≡◌, ◌≤◌, ◌↔◌, IsTrue, MatchBool, MatchOption, None, IfOk, IfSome, codes};
+ghost use Rattle.clap.specs.Words.{first_of, found_of, kind_of, rows_of};
 ghost use Rattle.command_line.specs.FileLines.{everything};
 ghost use Rattle.command_line.specs.FoundPlan.{AsksSummary, FindsNumber, HasFilter, PlansBehind};
 ghost use Rattle.command_line.specs.RunLine.{Spells};
@@ -82,7 +82,7 @@ fn is_everything(filter: &Filter) -> bool
 
 // Which events are asked for, and none where a number is none.
 fn filter_given(show: &ArgMatches) -> Option<Filter>
-    ensures { IfSome result (HasFilter (rows_of (found_of show.now))) }
+    ensures { MatchOption result (HasFilter (rows_of (found_of show.now)) everything → ⊥) (HasFilter (rows_of (found_of show.now))) }
 {
     let ccb = given(show, "ccb", LAST_NUMBER)?;
     let queue = given(show, "queue", LAST_QUEUE)?;
@@ -102,7 +102,8 @@ fn filter_given(show: &ArgMatches) -> Option<Filter>
 
 // The number under that name, if there is one; none where a word there spells none up to the greatest.
 fn given(show: &ArgMatches, name: &str, greatest: u64) -> Option<Option<u64>>
-    ensures found { IfSome result (FindsNumber name.now (rows_of (found_of show.now))) }
+    ensures found { MatchOption result (first_of name.now (rows_of (found_of show.now)) ≡ None → ⊥)
+        (FindsNumber name.now (rows_of (found_of show.now))) }
     ensures bounded { IfSome result (λ number. IfSome number (λ n. n ≤ greatest)) }
 {
     match show.get_str(name) {

@@ -1,14 +1,11 @@
 // The words after the program's name, read as a plan. It relies on `usage` for what `clap` is given of them, on `showing` for
 // those behind `show`, and on `clap` for the rest but the form of a number.
 
-ghost use Rattle.std.specs.Prelude.{◌≡◌, Bool, IfOk, MatchOption, codes, map, string_bytes};
+ghost use Rattle.std.specs.Prelude.{◌≡◌, IfOk, MatchOption, codes, map, string_bytes};
 ghost use Rattle.clap.specs.Words.{FailsBy, Text, fault_of, found_of, kind_of, rows_of};
 ghost use Rattle.clap.specs.Words.{subcommand_of, subcommand_rows_of};
-ghost use Rattle.command_line.specs.FoundPlan.{HasFound, PlansBehind, PlansFound, PlansRows};
-ghost use Rattle.command_line.specs.FoundPlan.{ReadsWatch, ReadsWorkers};
-ghost use Rattle.command_line.specs.FileLines.{IsAsm, IsCheck, IsDis, IsExplanation, IsLive, IsMigrate, IsPicture, IsReplay, IsShow, IsSummary};
-ghost use Rattle.command_line.specs.FileLines.{asm_line, check_line, dis_line, explain_line, live_line, migrate_line, picture_line, replay_line, show_line};
-ghost use Rattle.command_line.specs.FileLines.{summary_line};
+ghost use Rattle.command_line.specs.FoundPlan.{HasFound, PlansBehind, PlansFound, ReadsWatch, ReadsWorkers};
+ghost use Rattle.command_line.specs.FileLines.{ArePlain, Asked, IsAsked, line_of};
 ghost use Rattle.command_line.specs.RunCommand.{camr_command};
 ghost use Rattle.command_line.specs.RunLine.{GivesRun, HasLawfulNumber, IsLawfulNumber, IsPlain};
 ghost use Rattle.command_line.specs.RunLine.{RunLine, Spells, SpellsNoLawfulNumber, spelled_out, watch_word};
@@ -27,12 +24,10 @@ use std::alloc::{AllocError, Global};
 /// `exit_code` is the status to end with.
 pub type UsageFault = Error;
 
-/// Reads the words after the program's name. A line that asks for an assembly, for a program's text, for a check, for an
-/// explanation, for a migration, for a live engine or for a replay gives that, or an error where memory is refused; one that asks for what a
-/// trace shows gives that or an error; a word behind `explain` that is
-/// a code is that code. A line that asks for a run gives that run, or an error where its number is none from 1 to 16 in
-/// decimal digits alone or memory is refused. `--watch` by itself stands for `--watch=terminal`. Whatever the words are, a run has 1 to
-/// 16 workers, tells its sums when the word that `clap` found says, and has the paths that it found in their places.
+/// Reads the words after the program's name. A line that asks for a run gives that run, or an error where its number is none from
+/// 1 to 16 in decimal digits alone or memory is refused; one that asks for anything else gives that, or an error where memory is
+/// refused. A word behind `explain` that is a code is that code. `--watch` by itself stands for `--watch=terminal`. Whatever the words
+/// are, a run has 1 to 16 workers, tells its sums when the word that `clap` found says, and has the paths that it found in their places.
 pub fn plan(alloc: Global, words: &[String]) -> Result<Plan, UsageFault>
     ensures found { IfOk result (HasFound (subcommand_of camr_command (map spelled_out (map string_bytes words.now)))) }
     ensures bounded { IfOk result HasLawfulNumber }
@@ -40,36 +35,9 @@ pub fn plan(alloc: Global, words: &[String]) -> Result<Plan, UsageFault>
         → RunLine (map string_bytes words.now) number manifest scenario
         → IsPlain number → IsPlain manifest → IsPlain scenario
         → GivesRun number manifest scenario result }
-    ensures assembles { (text program : Text)
-        → map string_bytes words.now ≡ asm_line text program → IsPlain text → IsPlain program
-        → Gives (IsAsm text program) result }
-    ensures disassembles { (program : Text)
-        → map string_bytes words.now ≡ dis_line program → IsPlain program
-        → Gives (IsDis program) result }
-    ensures checks { (manifest : Text)
-        → map string_bytes words.now ≡ check_line manifest → IsPlain manifest
-        → Gives (IsCheck manifest) result }
-    ensures migrates { (manifest migrated : Text)
-        → map string_bytes words.now ≡ migrate_line manifest migrated → IsPlain manifest → IsPlain migrated
-        → Gives (IsMigrate manifest migrated) result }
-    ensures lives { (is_clocked is_stepped : Bool) (manifest : Text)
-        → map string_bytes words.now ≡ live_line is_clocked is_stepped manifest → IsPlain manifest
-        → Gives (IsLive is_clocked is_stepped manifest) result }
-    ensures replays { (manifest trace : Text)
-        → map string_bytes words.now ≡ replay_line manifest trace → IsPlain manifest → IsPlain trace
-        → Gives (IsReplay manifest trace) result }
-    ensures explains { (word : Text)
-        → map string_bytes words.now ≡ explain_line word → IsPlain word
-        → Gives (IsExplanation word) result }
-    ensures shows { (manifest trace : Text)
-        → map string_bytes words.now ≡ show_line manifest trace → IsPlain manifest → IsPlain trace
-        → IfOk result (IsShow manifest trace) }
-    ensures summarises { (manifest trace : Text)
-        → map string_bytes words.now ≡ summary_line manifest trace → IsPlain manifest → IsPlain trace
-        → IfOk result (IsSummary manifest trace) }
-    ensures draws { (picture manifest trace : Text)
-        → map string_bytes words.now ≡ picture_line picture manifest trace → IsPlain picture → IsPlain manifest → IsPlain trace
-        → IfOk result (IsPicture picture manifest trace) }
+    ensures gives { (asked : Asked)
+        → map string_bytes words.now ≡ line_of asked → ArePlain asked
+        → Gives (IsAsked asked) result }
 {
     let spelled = spelled_out(alloc, words)?;
     let matches = matches(alloc, &spelled)?;
@@ -133,15 +101,25 @@ fn planned(alloc: Global, matches: &ArgMatches) -> Result<Option<Plan>, AllocErr
     ensures { IfOk result (PlansFound (subcommand_rows_of matches.now)) }
 {
     match matches.subcommand() {
-        Some(("asm", asm)) => asm_plan(alloc, asm),
-        Some(("dis", dis)) => dis_plan(alloc, dis),
-        Some(("check", check)) => check_plan(alloc, check),
-        Some(("migrate", migrate)) => migrate_plan(alloc, migrate),
-        Some(("replay", replay)) => replay_plan(alloc, replay),
-        Some(("explain", explain)) => explain_plan(alloc, explain),
-        Some(("show", show)) => show_plan(alloc, show),
-        Some(("run", run)) => run_plan(alloc, run),
-        Some(("live", live)) => live_plan(alloc, live),
+        Some((name, found)) => plan_behind(alloc, name, found),
+        None => Ok(None),
+    }
+}
+
+// The plan of what clap found behind a word.
+fn plan_behind(alloc: Global, name: &str, found: &ArgMatches) -> Result<Option<Plan>, AllocError>
+    ensures { IfOk result (PlansBehind name.now (rows_of (found_of found.now))) }
+{
+    match name {
+        "asm" => asm_plan(alloc, found),
+        "dis" => dis_plan(alloc, found),
+        "check" => check_plan(alloc, found),
+        "migrate" => migrate_plan(alloc, found),
+        "replay" => replay_plan(alloc, found),
+        "explain" => explain_plan(alloc, found),
+        "show" => show_plan(alloc, found),
+        "run" => run_plan(alloc, found),
+        "live" => live_plan(alloc, found),
         _ => Ok(None),
     }
 }
@@ -226,7 +204,7 @@ fn replay_plan(alloc: Global, replay: &ArgMatches) -> Result<Option<Plan>, Alloc
 
 // The plan of what clap found behind `run`.
 fn run_plan(alloc: Global, run: &ArgMatches) -> Result<Option<Plan>, AllocError>
-    ensures { IfOk result (PlansRows (rows_of (found_of run.now))) }
+    ensures { IfOk result (PlansBehind (codes "run") (rows_of (found_of run.now))) }
 {
     let Some(workers) = workers_given(run) else {
         return Ok(None);

@@ -1,13 +1,18 @@
-use Rattle.std.proofs.Common.{◌≡◌, ◌∙◌, Bool, true, false, Some, ap, codes, refl, rules, subst, sym}
+use Rattle.std.proofs.Common.{◌≡◌, ◌∙◌, Bool, true, false, None, Some, ap, codes, refl, rules, subst, sym}
 use Rattle.std.specs.Prelude.{IsTrue, MatchBool}
 use Rattle.clap.specs.Words.{Text, found_of, rows_of}
 use Rattle.command_line.specs.FoundPlan.{AsksSummary, HasFilter}
 use Rattle.trace_filter.specs.declared.Filter.{Filter}
-use Rattle.command_line.proofs.Given.{nothing_given, text_given}
+use Rattle.command_line.proofs.AskedRows.{tells_all}
+use Rattle.command_line.proofs.Given.{no_text, none_given, nothing_given, text_given}
 use Rattle.command_line.proofs.showing.show_plan.Goals as goal
+use Rattle.command_line.proofs.showing.show_plan.Goals.{in_default-2-via-in-None+then-asks_summary+else-is_everything, in_default-2-via-in-Some+then-this, in_default-2-via-in-Some+else-this+else-this-2}
 
 is_true : {b : Bool} → b ≡ true → IsTrue b
 is_true e = e
+
+clash : {b : Bool} → b ≡ true → b ≡ false → ⊥
+clash holds fails = let bad : true ≡ false = sym holds ∙ fails in cc
 
 pub returns-in-None-false-default : goal.returns-in-None-false-default
 returns-in-None-false-default c =
@@ -43,3 +48,23 @@ returns-in_ok-picture-in-Some-false-true c =
     let given : c.get_str-3.result ≡ Some c.in-Some-false-true.picture = search rules in
     let picture = text_given f (codes "svg") c.get_str-3.result _ c.get_str-3.ensures given ∙ ap (λ (t : Text). Some t) (sym c.in_ok-picture-in-Some-false-true.ensures.ok) in
     ((refl, (manifest, trace), filter, asked, picture), tt)
+
+pub returns-in_default : goal.returns-in_default
+returns-in_default c = λ makes. no_text (found_of c.args.show.now) (codes "MANIFEST") c.get_str.result makes.0.0.0 c.get_str.ensures c.in_default.is makes.0.0.1
+
+pub returns-in_default-get_str : goal.returns-in_default-get_str
+returns-in_default-get_str c = λ makes. no_text (found_of c.args.show.now) (codes "TRACE") c.get_str-2.result makes.0.1.0.0 c.get_str-2.ensures c.in_default-get_str.is makes.0.1.0.1
+
+pub returns-in_default-2 : goal.returns-in_default-2
+returns-in_default-2 c = λ makes.
+    let rows = rows_of (found_of c.args.show.now) in
+    let all : c.is_everything.result ≡ true = c.is_everything.ensures.1 (tells_all rows c.in-Some-filter_given.filter c.in-Some-filter_given.ensures makes.1) in
+    elim c.in_default-2.branch [
+      | in_default-2-via-in-None+then-asks_summary+else-is_everything w ↦ let bad : c.is_everything.result ≡ false = search rules in clash all bad
+      | in_default-2-via-in-Some+then-this w ↦
+          let flag : c.asks_summary.result ≡ true = search rules in
+          let asked : AsksSummary rows = subst (λ (b : Bool). MatchBool b (AsksSummary rows) (AsksSummary rows → ⊥)) flag c.asks_summary.ensures in
+          let none : c.get_str-3.result ≡ None = none_given (found_of c.args.show.now) (codes "svg") c.get_str-3.result c.get_str-3.ensures (makes.2 asked) in
+          search rules
+      | in_default-2-via-in-Some+else-this+else-this-2 w ↦ let bad : c.is_everything.result ≡ false = search rules in clash all bad
+    ]

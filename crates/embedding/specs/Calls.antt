@@ -1,8 +1,8 @@
 -- What a result says of a call: it is recorded, carried out or refused, or nothing changed.
-use Rattle.std.specs.Prelude.{◌≡◌, ℕ, Option, Some, None, List, ◌++◌, MatchOption, Result, Ok, Err}
+use Rattle.std.specs.Prelude.{◌≡◌, ℕ, Bool, true, false, Option, Some, None, List, ◌++◌, MatchOption, Result, Ok, Err}
 use Rattle.std.specs.Global.{Box}
 use Rattle.calls.specs.declared.call.Call.{Call}
-use Rattle.calls.specs.declared.call.Call.TheVariants as its
+use Rattle.calls.specs.declared.call.Call.TheVariants.{Park}
 use Rattle.calls.specs.declared.call_answer.CallAnswer.{CallAnswer}
 use Rattle.calls.specs.declared.call_answer.CallAnswer.TheVariants as answers
 use Rattle.calls.specs.declared.record.Record.{Record}
@@ -11,7 +11,8 @@ use Rattle.engine_core.specs.Answers.{stopped_at}
 use Rattle.engine_core.specs.EngineState.{EngineState, Records}
 use Rattle.engine_core.specs.RunState.{RunState, StoppedState, before_stop}
 use Rattle.embedding.specs.declared.call_result.CallResult.{CallResult}
-use Rattle.embedding.specs.declared.call_result.CallResult.TheVariants.{Done}
+use Rattle.embedding.specs.declared.call_result.CallResult.TheVariants.{Done, NotOut, NotStretched}
+use Rattle.embedding.specs.declared.call_result.CallResult.TheVariants as results
 use Rattle.embedding.specs.declared.run_handle.HeldRun.{HeldRun}
 use Rattle.embedding.specs.declared.run_handle.HeldRun.TheVariants.{Out, Stopped, Spent}
 use Rattle.embedding.specs.declared.run_handle.RunHandle.{RunHandle}
@@ -45,6 +46,29 @@ IsResumed (Err result) old new call = IsFaulted result old new call
 -- what the run at a stop tells, with R0 behind it
 abbrev pub advance_of : StoppedState → ℕ → Record
 advance_of stopped r0 = Advance stopped.number stopped.segment.steps (stopped_at stopped.segment.stop) r0
+
+-- what becomes of a run that was taken over at its stop: it is spent where it has ended, else the same run goes on
+abbrev pub GoesOrIsSpent : Bool → StoppedState → HeldRun → Type 0
+GoesOrIsSpent true stopped held = held ≡ Spent
+GoesOrIsSpent false stopped held = (again : RunState) × (held ≡ Out again) × (again.number ≡ stopped.number)
+
+-- an advance with this result, of a run at its stop: done, it is one record more, and with every other result the engine is as
+-- before, and the run where its stretch began
+abbrev pub IsTakenOver : CallResult → StoppedState → HeldRun → EngineState → EngineState → ℕ → Bool → Type 0
+IsTakenOver Done stopped held old new r0 ended = Records old new (advance_of stopped r0) × GoesOrIsSpent ended stopped held
+IsTakenOver result stopped held old new r0 ended = (new ≡ old) × (held ≡ Out (before_stop stopped))
+
+-- an advance with this result, of a run that was held so, and how it is held then
+abbrev pub IsAdvanced : CallResult → HeldRun → HeldRun → EngineState → EngineState → ℕ → Bool → Type 0
+IsAdvanced result (Stopped stopped) held old new r0 ended = IsTakenOver result stopped held old new r0 ended
+IsAdvanced result (Out run) held old new r0 ended = (result ≡ NotStretched) × (held ≡ Out run) × (new ≡ old)
+IsAdvanced result Spent held old new r0 ended = (result ≡ results.Spent) × (held ≡ Spent) × (new ≡ old)
+
+-- a park with this result, of the run that was out, if one was, and how it is held then
+abbrev pub IsParked : CallResult → Option RunState → HeldRun → EngineState → EngineState → Type 0
+IsParked result None held old new = (result ≡ results.Spent) × (held ≡ Spent) × (new ≡ old)
+IsParked Done (Some run) held old new = Records old new (Called answers.Ok (Park run.number)) × (held ≡ Spent)
+IsParked result (Some run) held old new = (result ≡ NotOut) × (held ≡ Out run) × (new ≡ old)
 
 -- as many records more as there were advances
 pub record GoesOn (old new : EngineState) : Type 0 where

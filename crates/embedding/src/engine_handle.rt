@@ -1,9 +1,11 @@
 // An engine with the tokens of its guests' freezes, which are found by their freezes' numbers. It relies on `engine_core` for each
 // call.
 
-ghost use Rattle.std.specs.Prelude.{◌≡◌, ℕ, ◌<◌, ◌≢◌, ◌++◌, ◌∷◌, [], length, All, IfSome, IfNone, slice_index_or};
+ghost use Rattle.std.specs.Prelude.{◌≡◌, ◌↔◌, ℕ, ◌<◌, ◌≢◌, ◌++◌, ◌∷◌, [], false, length, All, IfSome, IfNone, IsNone, slice_index_or};
 ghost use Rattle.std.specs.List.{remove};
 ghost use Rattle.freeze_ledger.specs.declared.freeze.Freeze.{Freeze};
+ghost use Rattle.freeze_ledger.specs.Deadlines.{some_timer};
+ghost use Rattle.transport.specs.Freezing.{IsNextDue};
 ghost use Rattle.calls.specs.declared.call.Call.TheVariants.{Submit, Dispatch, GuestFreeze, GuestRelease, Clock};
 ghost use Rattle.calls.specs.declared.call_answer.CallAnswer.TheVariants as answers;
 ghost use Rattle.world.specs.TotalsOf.{totals_in};
@@ -156,8 +158,11 @@ impl EngineHandle {
         self.engine.totals()
     }
 
-    /// When the timer is due that goes first, in milliseconds of the clock.
-    pub fn next_due(&self) -> Option<u64> {
+    /// When the timer is due that goes first, in milliseconds of the clock; `None` exactly where no timer holds a freeze.
+    pub fn next_due(&self) -> Option<u64>
+        ensures first { IfSome result (IsNextDue self.now.engine.world.transport.freezes) }
+        ensures none { IsNone result ↔ (some_timer self.now.engine.world.transport.freezes ≡ false) }
+    {
         self.engine.next_due()
     }
 }

@@ -1,13 +1,10 @@
 // The calls of an engine that start, take further, park and resume runs, each with the run in its host's handle. It relies on
 // `engine_core` for each call.
 
-ghost use Rattle.std.specs.Prelude.{◌≡◌, ◌≢◌, true};
-ghost use Rattle.calls.specs.declared.call.Call.TheVariants.{Complete, Park, Resume};
-ghost use Rattle.calls.specs.declared.call_answer.CallAnswer.TheVariants as answers;
-ghost use Rattle.calls.specs.declared.record.Record.TheVariants.{Called};
-ghost use Rattle.engine_core.specs.EngineState.{Records};
-ghost use Rattle.engine_core.specs.RunState.{RunState, StoppedState};
-ghost use Rattle.embedding.specs.Calls.{IsCompleted, IsResumed, GoesOn, advance_of};
+ghost use Rattle.std.specs.Prelude.{◌≡◌, true};
+ghost use Rattle.calls.specs.declared.call.Call.TheVariants.{Complete, Resume};
+ghost use Rattle.embedding.specs.Calls.{IsAdvanced, IsCompleted, IsParked, IsResumed, GoesOn};
+ghost use Rattle.embedding.specs.Held.{is_same_run, out_of};
 
 use crate::call_result::CallResult;
 use crate::engine_handle::EngineHandle;
@@ -46,10 +43,10 @@ impl EngineHandle {
     /// and is spent. Where it is not out in this engine it is back where it was.
     #[tactic(auto, using(crate::proofs::Going::goes_one, crate::proofs::Going::goes_none))]
     pub fn advance(&mut self, run: &mut RunHandle, r0: &mut u64, ended: &mut bool) -> CallResult
-        ensures recorded { result ≡ CallResult.Done → (stopped : StoppedState) × (run.old.held ≡ HeldRun.Stopped stopped) × Records self.old.engine self.new.engine (advance_of stopped r0.new) }
-        ensures same { result ≢ CallResult.Done → self.new.engine ≡ self.old.engine }
+        ensures recorded { IsAdvanced result run.old.held run.new.held self.old.engine self.new.engine r0.new ended.new }
         ensures goes { GoesOn self.old.engine self.new.engine }
         ensures ended { result ≡ CallResult.Done → ended.new ≡ true → run.new.held ≡ HeldRun.Spent }
+        ensures same { is_same_run run.old run.new }
         ensures tokens { self.new.tokens ≡ self.old.tokens }
     {
         match run.held.take() {
@@ -83,6 +80,8 @@ impl EngineHandle {
     #[tactic(auto, using(crate::proofs::Going::goes_then, crate::proofs::Going::goes_none))]
     pub fn drive(&mut self, run: &mut RunHandle, r0: &mut u64, ended: &mut bool) -> CallResult
         ensures recorded { GoesOn self.old.engine self.new.engine }
+        ensures ended { result ≡ CallResult.Done → ended.new ≡ true → run.new.held ≡ HeldRun.Spent }
+        ensures same { is_same_run run.old run.new }
         ensures tokens { self.new.tokens ≡ self.old.tokens }
     {
         *ended = false;
@@ -102,21 +101,19 @@ impl EngineHandle {
     /// Parks a run: it takes no step until it is resumed, and is spent here. What it did since its last stop is forgotten. Where
     /// it is not out in this engine it is back where it was.
     pub fn park(&mut self, run: &mut RunHandle) -> CallResult
-        ensures recorded { result ≡ CallResult.Done → (run.new.held ≡ HeldRun.Spent) × ((its : RunState) × Records self.old.engine self.new.engine (Called answers.Ok (Park its.number))) }
-        ensures same { result ≢ CallResult.Done → self.new.engine ≡ self.old.engine }
+        ensures recorded { IsParked result (out_of run.old.held) run.new.held self.old.engine self.new.engine }
+        ensures same { is_same_run run.old run.new }
         ensures tokens { self.new.tokens ≡ self.old.tokens }
     {
-        let out = match run.held.take() {
-            HeldRun::Out(out) => out,
-            HeldRun::Stopped(stopped) => stopped.back(),
-            HeldRun::Spent => return CallResult::Spent,
-        };
-        match self.engine.park(out) {
-            Ok(()) => CallResult::Done,
-            Err(back) => {
-                run.held.put(HeldRun::Out(back));
-                CallResult::NotOut
-            }
+        match run.held.take().out() {
+            Some(out) => match self.engine.park(out) {
+                Ok(()) => CallResult::Done,
+                Err(back) => {
+                    run.held.put(HeldRun::Out(back));
+                    CallResult::NotOut
+                }
+            },
+            None => CallResult::Spent,
         }
     }
 

@@ -1,7 +1,7 @@
 // A run as a host holds it: out, at its next stop, or spent. It relies on `engine_core` for runs.
 
 ghost use Rattle.std.specs.Prelude.{◌≡◌};
-ghost use Rattle.embedding.specs.Held.{is_same_run};
+ghost use Rattle.embedding.specs.Held.{is_same_run, out_of, IsStretched};
 
 use crate::call_result::CallResult;
 use engine_core::{Run, Stopped};
@@ -41,6 +41,17 @@ impl HeldRun {
     {
         mem::replace(self, HeldRun::Spent)
     }
+
+    /// The run that is out: of one at its stop, where its stretch began. What it did since then is forgotten.
+    pub(crate) fn out(self) -> Option<Run>
+        ensures { result ≡ out_of self }
+    {
+        match self {
+            HeldRun::Out(run) => Some(run),
+            HeldRun::Stopped(stopped) => Some(stopped.back()),
+            HeldRun::Spent => None,
+        }
+    }
 }
 
 /// A run with its number and that of the freeze that it was started with. Where it is dropped the run is forfeited: its engine
@@ -78,7 +89,7 @@ impl RunHandle {
     /// know, and takes no memory.
     pub fn stretch(&mut self) -> CallResult
         ensures same { is_same_run self.old self.new }
-        ensures spent { result ≡ CallResult.Spent → self.old.held ≡ HeldRun.Spent }
+        ensures stretched { IsStretched result self.old.held self.new.held }
     {
         match self.held.take() {
             HeldRun::Out(run) => {

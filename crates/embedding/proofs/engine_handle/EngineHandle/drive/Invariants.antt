@@ -1,6 +1,12 @@
-use Rattle.std.proofs.Common.{◌≡◌}
+use Rattle.std.proofs.Common.{◌≡◌, false}
 use Rattle.embedding.specs.Calls.{GoesOn}
+use Rattle.embedding.specs.Held.{is_same_run}
 use Rattle.embedding.proofs.engine_handle.EngineHandle.drive.Given as goal
 
 abbrev pub invariant-loop : goal.invariant-loop
-invariant-loop l = GoesOn l.fn.self.engine l.self.engine × (l.self.tokens ≡ l.fn.self.tokens)
+invariant-loop l = record {
+  goes : GoesOn l.fn.self.engine l.self.engine;
+  goes_on : l.ended ≡ false;
+  same : is_same_run l.fn.run l.run;
+  tokens : l.self.tokens ≡ l.fn.self.tokens;
+}

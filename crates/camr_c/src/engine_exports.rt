@@ -1,6 +1,11 @@
 // The calls of an engine that name no run. It relies on `embedding` for each.
 
 ghost use Rattle.std.specs.Prelude.{◌≡◌, ◌<◌, ◌≤◌, IsSome, None, length};
+ghost use Rattle.freeze_ledger.specs.declared.place.Place.TheVariants.{Device, Controller};
+ghost use Rattle.calls.specs.declared.call.Call.TheVariants.{Submit, Dispatch, Clock};
+ghost use Rattle.calls.specs.declared.call_answer.CallAnswer.TheVariants as answers;
+ghost use Rattle.world.specs.TotalsOf.{totals_in};
+ghost use Rattle.camr_c.specs.Exports.{Called, Frozen, Released, Stays, TellsDue, sums_of};
 
 use crate::engine_slot::EngineSlot;
 use crate::loose::Loose;
@@ -66,7 +71,8 @@ pub extern "C" fn camr_raw_submit(
     ccb: &mut u32,
 ) -> u32
     requires { IsSome engine.old.held }
-    ensures open { IsSome engine.new.held }
+    ensures did { Called result engine.old engine.new (answers.Ccb (record { 0 = ccb.new }))
+        (Submit (record { 0 = queue }) priority retries) }
     ensures few { result < 22 }
 {
     engine.held().submit(queue, priority, retries, ccb).number()
@@ -75,7 +81,7 @@ pub extern "C" fn camr_raw_submit(
 #[unsafe(no_mangle)]
 pub extern "C" fn camr_raw_dispatch(engine: &mut EngineSlot, queue: u32, ccb: &mut u32) -> u32
     requires { IsSome engine.old.held }
-    ensures open { IsSome engine.new.held }
+    ensures did { Called result engine.old engine.new (answers.Ccb (record { 0 = ccb.new })) (Dispatch (record { 0 = queue })) }
     ensures few { result < 22 }
 {
     engine.held().dispatch(queue, ccb).number()
@@ -84,7 +90,7 @@ pub extern "C" fn camr_raw_dispatch(engine: &mut EngineSlot, queue: u32, ccb: &m
 #[unsafe(no_mangle)]
 pub extern "C" fn camr_raw_clock(engine: &mut EngineSlot, reading: u64, removed: &mut u32) -> u32
     requires { IsSome engine.old.held }
-    ensures open { IsSome engine.new.held }
+    ensures did { Called result engine.old engine.new (answers.Removed removed.new) (Clock reading) }
     ensures few { result < 22 }
 {
     engine.held().clock(reading, removed).number()
@@ -94,7 +100,7 @@ pub extern "C" fn camr_raw_clock(engine: &mut EngineSlot, reading: u64, removed:
 #[unsafe(no_mangle)]
 pub extern "C" fn camr_raw_next_due(engine: &mut EngineSlot, reading: &mut u64) -> bool
     requires { IsSome engine.old.held }
-    ensures open { IsSome engine.new.held }
+    ensures did { Stays engine.old.held engine.new.held (λ its. TellsDue its.engine.world.transport.freezes result reading.new) }
 {
     match engine.held().next_due() {
         Some(due) => {
@@ -113,7 +119,7 @@ pub extern "C" fn camr_raw_guest_freeze(
     freeze: &mut u32,
 ) -> u32
     requires { IsSome engine.old.held }
-    ensures open { IsSome engine.new.held }
+    ensures did { Frozen result engine.old engine.new freeze.new (Device (record { 0 = queue })) guest }
     ensures few { result < 22 }
 {
     let place = Place::Device(QueueId(queue));
@@ -128,7 +134,7 @@ pub extern "C" fn camr_raw_guest_freeze_controller(
     freeze: &mut u32,
 ) -> u32
     requires { IsSome engine.old.held }
-    ensures open { IsSome engine.new.held }
+    ensures did { Frozen result engine.old engine.new freeze.new (Controller controller) guest }
     ensures few { result < 22 }
 {
     let place = Place::Controller(controller);
@@ -142,7 +148,7 @@ pub extern "C" fn camr_raw_guest_release(
     left: &mut u32,
 ) -> u32
     requires { IsSome engine.old.held }
-    ensures open { IsSome engine.new.held }
+    ensures did { Released result engine.old engine.new left.new freeze }
     ensures few { result < 22 }
 {
     engine.held().guest_release(freeze, left).number()
@@ -151,7 +157,7 @@ pub extern "C" fn camr_raw_guest_release(
 #[unsafe(no_mangle)]
 pub extern "C" fn camr_raw_totals(engine: &mut EngineSlot, sums: &mut Sums)
     requires { IsSome engine.old.held }
-    ensures open { IsSome engine.new.held }
+    ensures did { Stays engine.old.held engine.new.held (λ its. sums.new ≡ sums_of (totals_in its.engine.history its.engine.world)) }
 {
     let totals = engine.held().totals();
     sums.history = totals.history;

@@ -1,6 +1,12 @@
 // The calls that start runs, take them further, park and resume them. It relies on `embedding` for each.
 
-ghost use Rattle.std.specs.Prelude.{◌≡◌, ◌<◌, IsSome, None, true};
+ghost use Rattle.std.specs.Prelude.{◌≡◌, ◌<◌, IsSome, None, Option, true};
+ghost use Rattle.ccb.specs.Completion.{Outcome};
+ghost use Rattle.embedding.specs.declared.call_result.CallResult.TheVariants.{Done};
+ghost use Rattle.embedding.specs.declared.run_handle.HeldRun.TheVariants as runs;
+ghost use Rattle.embedding.specs.Calls.{IsAdvanced, IsParked, GoesOn};
+ghost use Rattle.embedding.specs.Held.{is_same_run, out_of, IsStretched};
+ghost use Rattle.camr_c.specs.Exports.{Did, Turns, Stays, CalledWith, IsReported, Completed, Resumed};
 
 use crate::engine_slot::EngineSlot;
 use crate::loose::Loose;
@@ -10,7 +16,9 @@ use embedding::CallResult;
 use std::alloc::Global;
 
 // The completion that a device reports, of its numbers.
-fn reported(ccb: u32, status: u8, scsi: u8, sense: &[u8]) -> Option<Completion> {
+fn reported(ccb: u32, status: u8, scsi: u8, sense: &[u8]) -> Option<Completion>
+    ensures { IsReported ccb status scsi sense.now result }
+{
     let status = CamStatus::from_code(status)?;
     Completion::new(CcbId(ccb), status, scsi, sense)
 }
@@ -28,9 +36,9 @@ pub extern "C" fn camr_raw_complete(
     started: &mut bool,
 ) -> u32
     requires { IsSome engine.old.held }
-    ensures open { IsSome engine.new.held }
+    ensures did { (report : Option Outcome) × IsReported ccb status scsi sense.now report
+        × Turns engine.old.held engine.new.held (λ before after. Completed report before after result started.new run.new.held) }
     ensures few { result < 22 }
-    ensures started { started.new ≡ true → IsSome run.new.held }
 {
     *started = false;
     let Some(completion) = reported(ccb, status, scsi, sense) else {
@@ -51,7 +59,8 @@ pub extern "C" fn camr_raw_complete(
 #[unsafe(no_mangle)]
 pub extern "C" fn camr_raw_stretch(run: &mut RunSlot) -> u32
     requires { IsSome run.old.held }
-    ensures held { IsSome run.new.held }
+    ensures did { Did result (λ its. Turns run.old.held run.new.held (λ was is.
+        IsStretched its was.held is.held × is_same_run was is)) }
     ensures few { result < 22 }
 {
     run.held().stretch().number()
@@ -66,8 +75,8 @@ pub extern "C" fn camr_raw_advance(
 ) -> u32
     requires engine { IsSome engine.old.held }
     requires run { IsSome run.old.held }
-    ensures open { IsSome engine.new.held }
-    ensures held { IsSome run.new.held }
+    ensures did { CalledWith result engine.old engine.new run.old run.new (λ its before after was is.
+        IsAdvanced its was is before after r0.new ended.new) }
     ensures few { result < 22 }
 {
     engine.held().advance(run.held(), r0, ended).number()
@@ -82,8 +91,8 @@ pub extern "C" fn camr_raw_drive(
 ) -> u32
     requires engine { IsSome engine.old.held }
     requires run { IsSome run.old.held }
-    ensures open { IsSome engine.new.held }
-    ensures held { IsSome run.new.held }
+    ensures did { CalledWith result engine.old engine.new run.old run.new (λ its before after was is.
+        GoesOn before after × (its ≡ Done → ended.new ≡ true → is ≡ runs.Spent)) }
     ensures few { result < 22 }
 {
     engine.held().drive(run.held(), r0, ended).number()
@@ -93,8 +102,8 @@ pub extern "C" fn camr_raw_drive(
 pub extern "C" fn camr_raw_park(engine: &mut EngineSlot, run: &mut RunSlot) -> u32
     requires engine { IsSome engine.old.held }
     requires run { IsSome run.old.held }
-    ensures open { IsSome engine.new.held }
-    ensures held { IsSome run.new.held }
+    ensures did { CalledWith result engine.old engine.new run.old run.new (λ its before after was is.
+        IsParked its (out_of was) is before after) }
     ensures few { result < 22 }
 {
     engine.held().park(run.held()).number()
@@ -110,8 +119,7 @@ pub extern "C" fn camr_raw_resume(
     resumed: &mut bool,
 ) -> u32
     requires { IsSome engine.old.held }
-    ensures open { IsSome engine.new.held }
-    ensures resumed { resumed.new ≡ true → IsSome run.new.held }
+    ensures did { Turns engine.old.held engine.new.held (λ before after. Resumed number before after result resumed.new run.new.held) }
     ensures few { result < 22 }
 {
     *resumed = false;
@@ -129,7 +137,7 @@ pub extern "C" fn camr_raw_resume(
 #[unsafe(no_mangle)]
 pub extern "C" fn camr_raw_run_numbers(run: &mut RunSlot, number: &mut u32, freeze: &mut u32)
     requires { IsSome run.old.held }
-    ensures { IsSome run.new.held }
+    ensures { Stays run.old.held run.new.held (λ its. (number.new ≡ its.number) × (freeze.new ≡ its.freeze)) }
 {
     let held = run.held();
     *number = held.number;

@@ -1,0 +1,129 @@
+-- What an export did: to the values behind its slots, and with the result that its number stands for.
+use Rattle.std.specs.Prelude.{◌≡◌, ◌≢◌, ◌<◌, ◌++◌, ◌∷◌, ℕ, Bool, true, false, List, [], Option, None, Some, SomeIff, Result, Ok, Err, All, length}
+use Rattle.std.specs.List.{remove}
+use Rattle.std.specs.Global.{Box}
+use Rattle.ccb.specs.declared.cam_status.CamStatus.{CamStatus}
+use Rattle.ccb.specs.Completion.{Outcome, IsCompletion}
+use Rattle.ccb.specs.Status.{IsDecodedFrom}
+use Rattle.freeze_ledger.specs.declared.freeze.Freeze.{Freeze}
+use Rattle.freeze_ledger.specs.declared.place.Place.{Place}
+use Rattle.freeze_ledger.specs.Deadlines.{some_timer}
+use Rattle.transport.specs.Freezing.{IsNextDue}
+use Rattle.calls.specs.declared.call.Call.{Call}
+use Rattle.calls.specs.declared.call.Call.TheVariants.{Complete, GuestFreeze, GuestRelease, Resume}
+use Rattle.calls.specs.declared.call_answer.CallAnswer.{CallAnswer}
+use Rattle.calls.specs.declared.call_answer.CallAnswer.TheVariants as answers
+use Rattle.calls.specs.declared.totals.Totals.{Totals}
+use Rattle.engine_core.specs.EngineState.{EngineState}
+use Rattle.embedding.specs.declared.call_result.CallResult.{CallResult}
+use Rattle.embedding.specs.declared.call_result.CallResult.TheVariants.{Done, NoCompletion, NoToken}
+use Rattle.embedding.specs.declared.engine_handle.EngineHandle.{EngineHandle}
+use Rattle.embedding.specs.declared.run_handle.HeldRun.{HeldRun}
+use Rattle.embedding.specs.declared.run_handle.RunHandle.{RunHandle}
+use Rattle.embedding.specs.Calls.{IsCalled, IsCompleted, IsResumed}
+use Rattle.embedding.specs.Held.{is_same_run}
+use Rattle.embedding.specs.Results.{number_of}
+use Rattle.camr_c.specs.declared.engine_exports.Sums.{Sums}
+use Rattle.camr_c.specs.declared.engine_slot.EngineSlot.{EngineSlot}
+use Rattle.camr_c.specs.declared.run_slot.RunSlot.{RunSlot}
+
+-- ---- the shared forms
+
+-- the number is that of a result, of which this holds
+abbrev pub Did : ℕ → (CallResult → Type 0) → Type 0
+Did number Told = (its : CallResult) × (number ≡ number_of its) × Told its
+
+-- there was a value, there is one, and this holds of the two
+abbrev pub Turns : {X : Type 0} → Option X → Option X → (X → X → Type 0) → Type 0
+Turns None new Told = ⊥
+Turns (Some before) None Told = ⊥
+Turns (Some before) (Some after) Told = Told before after
+
+-- there was a value, which is still there, and this holds of it
+abbrev pub Stays : {X : Type 0} → Option X → Option X → (X → Type 0) → Type 0
+Stays None new Told = ⊥
+Stays (Some it) new Told = (new ≡ Some it) × Told it
+
+-- ---- calls that name no run
+
+-- a call of the engine, which keeps its guests' tokens
+abbrev pub Called : ℕ → EngineSlot → EngineSlot → CallAnswer → Call → Type 0
+Called number old new answer call =
+    Did number (λ its. Turns old.held new.held (λ before after.
+    IsCalled its before.engine after.engine answer call × (after.tokens ≡ before.tokens)))
+
+-- with the freeze its token is kept, and else the tokens are those that they were
+abbrev pub KeepsToken : CallResult → List Freeze → List Freeze → ℕ → Type 0
+KeepsToken its old new freeze =
+    (its ≡ Done → (token : Freeze) × (token.number ≡ freeze) × (new ≡ old ++ token ∷ [])) × (its ≢ Done → new ≡ old)
+
+-- a guest freezes a place
+abbrev pub Frozen : ℕ → EngineSlot → EngineSlot → ℕ → Place → ℕ → Type 0
+Frozen number old new freeze place guest =
+    Did number (λ its. Turns old.held new.held (λ before after.
+    IsCalled its before.engine after.engine (answers.Freeze freeze) (GuestFreeze place guest)
+    × KeepsToken its before.tokens.items after.tokens.items freeze))
+
+-- with the freeze its token is gone, and where no token is told none has this number
+abbrev pub GivesToken : CallResult → List Freeze → List Freeze → ℕ → Type 0
+GivesToken its old new freeze =
+    (its ≡ Done → (place : ℕ) × (place < length old) × (new ≡ remove old place))
+    × (its ≡ NoToken → (new ≡ old) × All (λ token. token.number ≢ freeze) old)
+
+-- a guest's freeze is given back
+abbrev pub Released : ℕ → EngineSlot → EngineSlot → ℕ → ℕ → Type 0
+Released number old new left freeze =
+    Did number (λ its. Turns old.held new.held (λ before after.
+    IsCalled its before.engine after.engine (answers.Left left) (GuestRelease freeze)
+    × GivesToken its before.tokens.items after.tokens.items freeze))
+
+-- whether a timer holds one of these freezes, and when the first is due
+abbrev pub TellsDue : List Freeze → Bool → ℕ → Type 0
+TellsDue freezes true due = IsNextDue freezes due
+TellsDue freezes false due = some_timer freezes ≡ false
+
+-- the sums as C has them
+abbrev pub sums_of : Totals → Sums
+sums_of totals = record { history = totals.history; frozen = totals.frozen; active = totals.active; runs = totals.runs }
+
+-- ---- calls with a run
+
+-- a call of the engine with a run, which keeps the guests' tokens and the run's numbers
+abbrev pub CalledWith : ℕ → EngineSlot → EngineSlot → RunSlot → RunSlot
+    → (CallResult → EngineState → EngineState → HeldRun → HeldRun → Type 0) → Type 0
+CalledWith number old new run again Told =
+    Did number (λ its. Turns old.held new.held (λ before after. Turns run.held again.held (λ was is.
+    Told its before.engine after.engine was.held is.held × is_same_run was is × (after.tokens ≡ before.tokens))))
+
+-- what a device reports by these numbers: a completion, where the code is a status's and there may be such a one
+abbrev pub ReportOf : Option CamStatus → ℕ → ℕ → List ℕ → Option Outcome → Type 0
+ReportOf None ccb scsi sense report = report ≡ None
+ReportOf (Some status) ccb scsi sense report =
+    let outcome : Outcome = record { ccb = record { 0 = ccb }; status = status; scsi = scsi; sense = sense } in
+    SomeIff report (IsCompletion outcome) outcome
+
+abbrev pub IsReported : ℕ → ℕ → ℕ → List ℕ → Option Outcome → Type 0
+IsReported ccb code scsi sense report = (status : Option CamStatus) × IsDecodedFrom code status × ReportOf status ccb scsi sense report
+
+-- the number of a completion's result, whether a run started, and what the run's slot holds then
+abbrev pub Starts : Result (Option (Box RunHandle)) CallResult → ℕ → Bool → Option RunHandle → Type 0
+Starts (Ok None) number started run = (number ≡ number_of Done) × (started ≡ false)
+Starts (Ok (Some handle)) number started run = (number ≡ number_of Done) × (started ≡ true) × (run ≡ Some handle.value)
+Starts (Err its) number started run = (number ≡ number_of its) × (started ≡ false)
+
+-- what was reported is answered so; where nothing was, the engine is as before
+abbrev pub Completed : Option Outcome → EngineHandle → EngineHandle → ℕ → Bool → Option RunHandle → Type 0
+Completed None before after number started run = (number ≡ number_of NoCompletion) × (started ≡ false) × (after ≡ before)
+Completed (Some completion) before after number started run =
+    (answer : Result (Option (Box RunHandle)) CallResult) × IsCompleted answer before.engine after.engine (Complete completion)
+    × Starts answer number started run × (after.tokens ≡ before.tokens)
+
+-- the number of a resume's result, whether the run is out again, and what the run's slot holds then
+abbrev pub GoesOut : Result (Box RunHandle) CallResult → ℕ → Bool → Option RunHandle → Type 0
+GoesOut (Ok handle) number resumed run = (number ≡ number_of Done) × (resumed ≡ true) × (run ≡ Some handle.value)
+GoesOut (Err its) number resumed run = (number ≡ number_of its) × (resumed ≡ false)
+
+abbrev pub Resumed : ℕ → EngineHandle → EngineHandle → ℕ → Bool → Option RunHandle → Type 0
+Resumed parked before after number resumed run =
+    (answer : Result (Box RunHandle) CallResult) × IsResumed answer before.engine after.engine (Resume parked)
+    × GoesOut answer number resumed run × (after.tokens ≡ before.tokens)

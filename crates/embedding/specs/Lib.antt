@@ -1,3 +1,5 @@
 pub mod Results
 pub mod Calls
 pub mod Held
+pub mod Lines
+pub mod Tokens

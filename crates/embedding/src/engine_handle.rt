@@ -1,15 +1,14 @@
 // An engine with the tokens of its guests' freezes, which are found by their freezes' numbers. It relies on `engine_core` for each
 // call.
 
-ghost use Rattle.std.specs.Prelude.{◌≡◌, ◌↔◌, ℕ, ◌<◌, ◌≢◌, ◌++◌, ◌∷◌, [], false, length, All, IfSome, IfNone, IsNone, slice_index_or};
-ghost use Rattle.std.specs.List.{remove};
-ghost use Rattle.freeze_ledger.specs.declared.freeze.Freeze.{Freeze};
+ghost use Rattle.std.specs.Prelude.{◌≡◌, ◌↔◌, ◌≢◌, [], false, All, IfSome, IfNone, IsNone};
 ghost use Rattle.freeze_ledger.specs.Deadlines.{some_timer};
 ghost use Rattle.transport.specs.Freezing.{IsNextDue};
 ghost use Rattle.calls.specs.declared.call.Call.TheVariants.{Submit, Dispatch, GuestFreeze, GuestRelease, Clock};
 ghost use Rattle.calls.specs.declared.call_answer.CallAnswer.TheVariants as answers;
 ghost use Rattle.world.specs.TotalsOf.{totals_in};
 ghost use Rattle.embedding.specs.Calls.{IsCalled};
+ghost use Rattle.embedding.specs.Tokens.{HasTokenAt, KeepsToken, GivesToken};
 
 use crate::call_result::CallResult;
 use calls::Version;
@@ -42,7 +41,7 @@ impl Drop for EngineHandle {
 
 // Where the token of that freeze is.
 fn place_of(tokens: &[FreezeToken], freeze: u32) -> Option<usize>
-    ensures found { IfSome result (λ place. (place < length tokens.now) × ((other : Freeze) → (slice_index_or tokens.now place other).number ≡ freeze)) }
+    ensures found { IfSome result (HasTokenAt tokens.now freeze) }
     ensures none { IfNone result (All (λ token. token.number ≢ freeze) tokens.now) }
 {
     tokens.iter().position(|token| token.number() == freeze)
@@ -51,6 +50,7 @@ fn place_of(tokens: &[FreezeToken], freeze: u32) -> Option<usize>
 impl EngineHandle {
     /// The engine, of which no guest holds a freeze.
     pub fn new(alloc: Global, version: Version, engine: Engine) -> Self
+        ensures version { result.version ≡ version }
         ensures engine { result.engine ≡ engine }
         ensures tokens { result.tokens.items ≡ [] }
     {
@@ -106,8 +106,7 @@ impl EngineHandle {
     /// Freezes a place for a guest: the freeze's number, for which its token is kept here.
     pub fn guest_freeze(&mut self, place: Place, guest: u32, freeze: &mut u32) -> CallResult
         ensures recorded { IsCalled result self.old.engine self.new.engine (answers.Freeze freeze.new) (GuestFreeze place guest) }
-        ensures kept { result ≡ CallResult.Done → (token : Freeze) × (token.number ≡ freeze.new) × (self.new.tokens.items ≡ self.old.tokens.items ++ token ∷ []) }
-        ensures same { result ≢ CallResult.Done → self.new.tokens.items ≡ self.old.tokens.items }
+        ensures tokens { KeepsToken result self.old.tokens.items self.new.tokens.items freeze.new }
     {
         if self.tokens.reserve(1).is_err() {
             return CallResult::OutOfMemory;
@@ -132,8 +131,7 @@ impl EngineHandle {
     /// result it is still here.
     pub fn guest_release(&mut self, freeze: u32, left: &mut u32) -> CallResult
         ensures recorded { IsCalled result self.old.engine self.new.engine (answers.Left left.new) (GuestRelease freeze) }
-        ensures given { result ≡ CallResult.Done → (place : ℕ) × (place < length self.old.tokens.items) × (self.new.tokens.items ≡ remove self.old.tokens.items place) }
-        ensures none { result ≡ CallResult.NoToken → (self.new.tokens.items ≡ self.old.tokens.items) × All (λ token. token.number ≢ freeze) self.old.tokens.items }
+        ensures tokens { GivesToken result self.old.tokens.items self.new.tokens.items freeze }
     {
         let Some(place) = place_of(&self.tokens, freeze) else {
             return CallResult::NoToken;

@@ -3,6 +3,8 @@
 ghost use Rattle.std.specs.Prelude.{◌≡◌, ◌+◌, ◌++◌, ◌≤◌, Some, IfSome, IfNone, length, take};
 ghost use Rattle.std.specs.Fmt.{with_newline};
 ghost use Rattle.trace.specs.TraceText.{line_of};
+ghost use Rattle.world.specs.TotalsOf.{totals_in};
+ghost use Rattle.embedding.specs.Lines.{AddsLines, PutsLines, PutsSums};
 
 use crate::call_result::CallResult;
 use crate::engine_handle::EngineHandle;
@@ -53,6 +55,7 @@ impl EngineHandle {
     /// that of record 0 the first line of a trace.
     pub fn put_lines(&self, from: u64, place: &mut [u8], put: &mut PutLines) -> CallResult
         ensures room { put.new.written ≤ length place.new }
+        ensures lines { PutsLines result self.now.version self.now.engine.history from place.new put.new.written put.new.next }
     {
         let records = self.engine.records();
         put.written = 0;
@@ -67,8 +70,10 @@ impl EngineHandle {
     }
 
     /// Puts the last line of a trace into a place: the sums so far.
+    #[tactic(auto, using(crate::proofs::Lines::put_alone))]
     pub fn put_end(&self, place: &mut [u8], put: &mut PutLines) -> CallResult
         ensures room { put.new.written ≤ length place.new }
+        ensures line { PutsSums result (totals_in self.now.engine.history self.now.engine.world) place.new put.new.written }
     {
         put.written = 0;
         let mut line = Text::none();
@@ -84,9 +89,13 @@ impl EngineHandle {
 }
 
 // Puts the lines of the records from the next on, as many as find room.
+#[tactic(auto, using(crate::proofs::Lines::adds_none, crate::proofs::Lines::adds_one))]
 fn put_records(records: &ChunkedList<Record>, place: &mut [u8], put: &mut PutLines) -> CallResult
     requires { put.old.written ≤ length place.old }
     ensures room { put.new.written ≤ length place.new }
+    ensures lines { AddsLines records.now.items (take put.old.written place.old) put.old.next (take put.new.written place.new) put.new.next }
+    ensures none { result ≡ CallResult.NoRoom → put.new.written ≡ 0 }
+    ensures all { result ≡ CallResult.Done → put.new.written ≡ 0 → length records.now.items ≤ put.new.next }
 {
     let all = records.len() as u64;
     for number in put.next..all {

@@ -1,6 +1,7 @@
 // An engine of a manifest's text, and the text of a fault in it. It relies on `manifest` for both.
 
 ghost use Rattle.std.specs.Prelude.{◌≤◌, length};
+ghost use Rattle.opening.specs.Opened.{Opens};
 
 use calls::Version;
 use embedding::{EngineHandle, put_front};
@@ -19,7 +20,9 @@ pub enum OpenFault {
 }
 
 /// Opens an engine of a manifest's text, with an empty history.
-pub fn open(alloc: Global, text: &[u8]) -> Result<Box<EngineHandle>, OpenFault> {
+pub fn open(alloc: Global, text: &[u8]) -> Result<Box<EngineHandle>, OpenFault>
+    ensures { Opens text.now result }
+{
     let Ok(text) = str::from_utf8(text) else {
         return Err(OpenFault::NotUtf8);
     };

@@ -1,6 +1,5 @@
 -- What an export did: to the values behind its slots, and with the result that its number stands for.
-use Rattle.std.specs.Prelude.{◌≡◌, ◌≢◌, ◌<◌, ◌++◌, ◌∷◌, ℕ, Bool, true, false, List, [], Option, None, Some, SomeIff, Result, Ok, Err, All, length}
-use Rattle.std.specs.List.{remove}
+use Rattle.std.specs.Prelude.{◌≡◌, ℕ, Bool, true, false, List, Option, None, Some, SomeIff, Result, Ok, Err}
 use Rattle.std.specs.Global.{Box}
 use Rattle.ccb.specs.declared.cam_status.CamStatus.{CamStatus}
 use Rattle.ccb.specs.Completion.{Outcome, IsCompletion}
@@ -16,13 +15,16 @@ use Rattle.calls.specs.declared.call_answer.CallAnswer.TheVariants as answers
 use Rattle.calls.specs.declared.totals.Totals.{Totals}
 use Rattle.engine_core.specs.EngineState.{EngineState}
 use Rattle.embedding.specs.declared.call_result.CallResult.{CallResult}
-use Rattle.embedding.specs.declared.call_result.CallResult.TheVariants.{Done, NoCompletion, NoToken}
+use Rattle.embedding.specs.declared.call_result.CallResult.TheVariants.{Done, OutOfMemory, NoCompletion, NotUtf8, Faulty}
 use Rattle.embedding.specs.declared.engine_handle.EngineHandle.{EngineHandle}
 use Rattle.embedding.specs.declared.run_handle.HeldRun.{HeldRun}
 use Rattle.embedding.specs.declared.run_handle.RunHandle.{RunHandle}
 use Rattle.embedding.specs.Calls.{IsCalled, IsCompleted, IsResumed}
 use Rattle.embedding.specs.Held.{is_same_run}
 use Rattle.embedding.specs.Results.{number_of}
+use Rattle.embedding.specs.Tokens.{KeepsToken, GivesToken}
+use Rattle.opening.specs.declared.opening.OpenFault.{OpenFault}
+use Rattle.opening.specs.declared.opening.OpenFault.TheVariants as faults
 use Rattle.camr_c.specs.declared.engine_exports.Sums.{Sums}
 use Rattle.camr_c.specs.declared.engine_slot.EngineSlot.{EngineSlot}
 use Rattle.camr_c.specs.declared.run_slot.RunSlot.{RunSlot}
@@ -46,16 +48,18 @@ Stays (Some it) new Told = (new ≡ Some it) × Told it
 
 -- ---- calls that name no run
 
+-- the number of what was opened, and what the slot holds then
+abbrev pub IsOpened : Result (Box EngineHandle) OpenFault → ℕ → Option EngineHandle → Type 0
+IsOpened (Ok handle) number new = (number ≡ number_of Done) × (new ≡ Some handle.value)
+IsOpened (Err faults.OutOfMemory) number new = number ≡ number_of OutOfMemory
+IsOpened (Err faults.NotUtf8) number new = number ≡ number_of NotUtf8
+IsOpened (Err (faults.Manifest fault)) number new = number ≡ number_of Faulty
+
 -- a call of the engine, which keeps its guests' tokens
 abbrev pub Called : ℕ → EngineSlot → EngineSlot → CallAnswer → Call → Type 0
 Called number old new answer call =
     Did number (λ its. Turns old.held new.held (λ before after.
     IsCalled its before.engine after.engine answer call × (after.tokens ≡ before.tokens)))
-
--- with the freeze its token is kept, and else the tokens are those that they were
-abbrev pub KeepsToken : CallResult → List Freeze → List Freeze → ℕ → Type 0
-KeepsToken its old new freeze =
-    (its ≡ Done → (token : Freeze) × (token.number ≡ freeze) × (new ≡ old ++ token ∷ [])) × (its ≢ Done → new ≡ old)
 
 -- a guest freezes a place
 abbrev pub Frozen : ℕ → EngineSlot → EngineSlot → ℕ → Place → ℕ → Type 0
@@ -63,12 +67,6 @@ Frozen number old new freeze place guest =
     Did number (λ its. Turns old.held new.held (λ before after.
     IsCalled its before.engine after.engine (answers.Freeze freeze) (GuestFreeze place guest)
     × KeepsToken its before.tokens.items after.tokens.items freeze))
-
--- with the freeze its token is gone, and where no token is told none has this number
-abbrev pub GivesToken : CallResult → List Freeze → List Freeze → ℕ → Type 0
-GivesToken its old new freeze =
-    (its ≡ Done → (place : ℕ) × (place < length old) × (new ≡ remove old place))
-    × (its ≡ NoToken → (new ≡ old) × All (λ token. token.number ≢ freeze) old)
 
 -- a guest's freeze is given back
 abbrev pub Released : ℕ → EngineSlot → EngineSlot → ℕ → ℕ → Type 0

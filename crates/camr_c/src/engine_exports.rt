@@ -1,11 +1,15 @@
 // The calls of an engine that name no run. It relies on `embedding` for each.
 
-ghost use Rattle.std.specs.Prelude.{◌≡◌, ◌<◌, ◌≤◌, IsSome, None, length};
+ghost use Rattle.std.specs.Prelude.{◌≡◌, ◌<◌, ◌≤◌, IsSome, None, Result, length};
+ghost use Rattle.std.specs.Global.{Box};
 ghost use Rattle.freeze_ledger.specs.declared.place.Place.TheVariants.{Device, Controller};
 ghost use Rattle.calls.specs.declared.call.Call.TheVariants.{Submit, Dispatch, Clock};
 ghost use Rattle.calls.specs.declared.call_answer.CallAnswer.TheVariants as answers;
 ghost use Rattle.world.specs.TotalsOf.{totals_in};
-ghost use Rattle.camr_c.specs.Exports.{Called, Frozen, Released, Stays, TellsDue, sums_of};
+ghost use Rattle.embedding.specs.declared.engine_handle.EngineHandle.{EngineHandle};
+ghost use Rattle.opening.specs.declared.opening.OpenFault.{OpenFault as TheFault};
+ghost use Rattle.opening.specs.Opened.{Opens};
+ghost use Rattle.camr_c.specs.Exports.{Called, Frozen, IsOpened, Released, Stays, TellsDue, sums_of};
 
 use crate::engine_slot::EngineSlot;
 use crate::loose::Loose;
@@ -33,24 +37,23 @@ pub extern "C" fn camr_raw_open(
     fault: &mut [u8],
     written: &mut usize,
 ) -> u32
-    ensures opened { result ≡ 0 → IsSome engine.new.held }
+    ensures opened { (answer : Result (Box EngineHandle) TheFault) × Opens manifest.now answer × IsOpened answer result engine.new.held }
     ensures few { result < 22 }
     ensures text { written.new ≤ length fault.new }
 {
     *written = 0;
-    let result = match open(alloc, manifest) {
+    match open(alloc, manifest) {
         Ok(handle) => {
             engine.fill(Loose::of(handle));
-            return 0;
+            CallResult::Done.number()
         }
-        Err(OpenFault::OutOfMemory) => CallResult::OutOfMemory,
-        Err(OpenFault::NotUtf8) => CallResult::NotUtf8,
+        Err(OpenFault::OutOfMemory) => CallResult::OutOfMemory.number(),
+        Err(OpenFault::NotUtf8) => CallResult::NotUtf8.number(),
         Err(OpenFault::Manifest(its)) => {
             *written = put_fault(alloc, &its, fault);
-            CallResult::Faulty
+            CallResult::Faulty.number()
         }
-    };
-    result.number()
+    }
 }
 
 /// Ends an engine: all that is still frozen is forfeited.

@@ -1,6 +1,9 @@
 // The trace of an engine as text. It relies on `embedding` for lines.
 
 ghost use Rattle.std.specs.Prelude.{◌<◌, ◌≤◌, IsSome, length};
+ghost use Rattle.world.specs.TotalsOf.{totals_in};
+ghost use Rattle.embedding.specs.Lines.{PutsLines, PutsSums};
+ghost use Rattle.camr_c.specs.Exports.{Did, Stays};
 
 use crate::engine_slot::EngineSlot;
 use embedding::PutLines;
@@ -15,7 +18,8 @@ pub extern "C" fn camr_raw_trace(
     next: &mut u64,
 ) -> u32
     requires { IsSome engine.old.held }
-    ensures open { IsSome engine.new.held }
+    ensures did { Did result (λ its. Stays engine.old.held engine.new.held (λ it.
+        PutsLines its it.version it.engine.history from place.new written.new next.new)) }
     ensures few { result < 22 }
     ensures text { written.new ≤ length place.new }
 {
@@ -37,7 +41,8 @@ pub extern "C" fn camr_raw_trace_end(
     written: &mut usize,
 ) -> u32
     requires { IsSome engine.old.held }
-    ensures open { IsSome engine.new.held }
+    ensures did { Did result (λ its. Stays engine.old.held engine.new.held (λ it.
+        PutsSums its (totals_in it.engine.history it.engine.world) place.new written.new)) }
     ensures few { result < 22 }
     ensures text { written.new ≤ length place.new }
 {

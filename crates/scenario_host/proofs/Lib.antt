@@ -1,3 +1,2 @@
-mod Faults
 mod Lent
 mod Whole

@@ -80,7 +80,6 @@ impl<'a, B: Object + Send + Sync, N: Notices + Sync> Host<'a, B, N> {
         self.drain(rt)
     }
 
-    #[tactic(auto, using(crate::proofs::Faults::none_of_step))]
     fn carry_out<R: Threads + Wait + Sync>(&mut self, rt: &R, step: &Step) -> Result<(), RunFault>
         ensures { IfErr result (IsOfStep step.now) }
     {

@@ -22,7 +22,6 @@ use workers::Seat;
 /// Runs the steps in their order on an engine of this configuration, and serves the completions that are left then, by 1 to 16
 /// workers. Tokens that are out at the end are forfeited. With one worker the trace is determined; with more, completions that
 /// wait together are served in any order. While workers serve, the engine's sums are told where they are wanted.
-#[tactic(auto, using(crate::proofs::Faults::none_of_steps))]
 pub fn run<N: Notices + Sync, R: Threads + Wait + Sync>(
     rt: &R,
     alloc: Global,
@@ -47,7 +46,6 @@ pub fn run<N: Notices + Sync, R: Threads + Wait + Sync>(
 }
 
 // The same on this engine.
-#[tactic(auto, using(crate::proofs::Faults::none_of_steps))]
 fn run_on<B: Object + Send + Sync, N: Notices + Sync, R: Threads + Wait + Sync>(
     rt: &R,
     alloc: Global,

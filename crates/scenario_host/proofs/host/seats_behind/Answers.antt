@@ -1,4 +1,4 @@
-use Rattle.std.proofs.Common.{◌≡◌, List, All, sym, subst}
+use Rattle.std.proofs.Common.{List, All, sym, subst}
 use Rattle.inbox.specs.Views.{IsOf}
 use Rattle.workers.specs.Serving.{SeatState}
 use Rattle.scenario_host.proofs.host.seats_behind.Goals as goal

@@ -24,11 +24,11 @@ pub record AddsLines (records : List Record) (before : List ℕ) (from : ℕ) (t
 abbrev pub first_line : Version → ℕ → List ℕ
 first_line version from = if from == 0 then header version else []
 
--- lines that are put with this result, of the records from one on: where none is, none finds room, or no record is left
+-- lines that are put with this result, of the records from one on: where none of a record is, none finds room, or no record is left
 abbrev pub PutsLines : CallResult → Version → List Record → ℕ → List ℕ → ℕ → ℕ → Type 0
 PutsLines result version records from place written next =
     (result ≢ NoRoom → AddsLines records (first_line version from) from (take written place) next)
-    × (result ≡ NoRoom → written ≡ 0) × (result ≡ Done → written ≡ 0 → length records ≤ next)
+    × (result ≡ NoRoom → (written ≡ 0) × (next ≡ from)) × (result ≡ Done → next ≡ from → length records ≤ next)
 
 -- the last line that is put with this result: where it is not, it finds no room
 abbrev pub PutsSums : CallResult → Totals → List ℕ → ℕ → Type 0

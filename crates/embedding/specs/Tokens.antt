@@ -1,5 +1,5 @@
 -- The tokens of guests' freezes that a handle keeps.
-use Rattle.std.specs.Prelude.{◌≡◌, ◌≢◌, ◌<◌, ◌++◌, ◌∷◌, ℕ, List, [], All, length, slice_index_or}
+use Rattle.std.specs.Prelude.{◌≡◌, ◌≢◌, ◌<◌, ◌++◌, ◌∷◌, ℕ, List, [], All, IsPermutation, length, slice_index_or}
 use Rattle.std.specs.List.{remove}
 use Rattle.freeze_ledger.specs.declared.freeze.Freeze.{Freeze}
 use Rattle.embedding.specs.declared.call_result.CallResult.{CallResult}
@@ -14,8 +14,8 @@ KeepsToken result old new freeze =
 abbrev pub HasTokenAt : List Freeze → ℕ → ℕ → Type 0
 HasTokenAt tokens freeze place = (place < length tokens) × ((other : Freeze) → (slice_index_or tokens place other).number ≡ freeze)
 
--- a freeze that is given back takes its token along, and where no token is told none has this number
+-- a freeze that is given back takes its token along, and else no token is lost; where no token is told none has this number
 abbrev pub GivesToken : CallResult → List Freeze → List Freeze → ℕ → Type 0
 GivesToken result old new freeze =
     (result ≡ Done → (place : ℕ) × HasTokenAt old freeze place × (new ≡ remove old place))
-    × (result ≡ NoToken → (new ≡ old) × All (λ token. token.number ≢ freeze) old)
+    × (result ≢ Done → IsPermutation old new) × (result ≡ NoToken → All (λ token. token.number ≢ freeze) old)

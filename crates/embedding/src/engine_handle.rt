@@ -129,6 +129,7 @@ impl EngineHandle {
 
     /// Gives the freeze of that number back: how many freezes its place has then. Its token is gone then, and with every other
     /// result it is still here.
+    #[tactic(auto, using(crate::proofs::Tokens::put_back, crate::proofs::Tokens::all_stay))]
     pub fn guest_release(&mut self, freeze: u32, left: &mut u32) -> CallResult
         ensures recorded { IsCalled result self.old.engine self.new.engine (answers.Left left.new) (GuestRelease freeze) }
         ensures tokens { GivesToken result self.old.tokens.items self.new.tokens.items freeze }

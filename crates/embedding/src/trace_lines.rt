@@ -1,6 +1,6 @@
 // The trace of an engine as text, in whole lines, from a record on. It relies on `trace` for lines.
 
-ghost use Rattle.std.specs.Prelude.{◌≡◌, ◌+◌, ◌++◌, ◌≤◌, Some, IfSome, IfNone, length, take};
+ghost use Rattle.std.specs.Prelude.{◌≡◌, ◌≢◌, ◌+◌, ◌++◌, ◌≤◌, Some, IfSome, IfNone, length, take};
 ghost use Rattle.std.specs.Fmt.{with_newline};
 ghost use Rattle.trace.specs.TraceText.{line_of};
 ghost use Rattle.world.specs.TotalsOf.{totals_in};
@@ -52,7 +52,7 @@ fn line(entry: &Record) -> Option<Text>
 
 impl EngineHandle {
     /// Puts whole lines of the trace into a place, as many as find room: those of the records from this number on, and before
-    /// that of record 0 the first line of a trace.
+    /// that of record 0 the first line of a trace. Where a record is left one line more is put, or none finds room.
     pub fn put_lines(&self, from: u64, place: &mut [u8], put: &mut PutLines) -> CallResult
         ensures room { put.new.written ≤ length place.new }
         ensures lines { PutsLines result self.now.version self.now.engine.history from place.new put.new.written put.new.next }
@@ -88,23 +88,27 @@ impl EngineHandle {
     }
 }
 
-// Puts the lines of the records from the next on, as many as find room.
+// Puts the lines of the records from the next on, as many as find room. Where the first of them does not, nothing stands there.
 #[tactic(auto, using(crate::proofs::Lines::adds_none, crate::proofs::Lines::adds_one))]
 fn put_records(records: &ChunkedList<Record>, place: &mut [u8], put: &mut PutLines) -> CallResult
     requires { put.old.written ≤ length place.old }
     ensures room { put.new.written ≤ length place.new }
-    ensures lines { AddsLines records.now.items (take put.old.written place.old) put.old.next (take put.new.written place.new) put.new.next }
-    ensures none { result ≡ CallResult.NoRoom → put.new.written ≡ 0 }
-    ensures all { result ≡ CallResult.Done → put.new.written ≡ 0 → length records.now.items ≤ put.new.next }
+    ensures lines { result ≢ CallResult.NoRoom → AddsLines records.now.items (take put.old.written place.old) put.old.next (take put.new.written place.new) put.new.next }
+    ensures none { result ≡ CallResult.NoRoom → (put.new.written ≡ 0) × (put.new.next ≡ put.old.next) }
+    ensures all { result ≡ CallResult.Done → put.new.next ≡ put.old.next → length records.now.items ≤ put.new.next }
 {
     let all = records.len() as u64;
-    for number in put.next..all {
+    let from = put.next;
+    for number in from..all {
         let Some(line) = line(&records[number as usize]) else {
             return CallResult::NoText;
         };
         match put_behind(line.as_slice(), place, put.written) {
             Some(count) => put.written = count,
-            None if put.written == 0 => return CallResult::NoRoom,
+            None if number == from => {
+                put.written = 0;
+                return CallResult::NoRoom;
+            }
             None => return CallResult::Done,
         }
         put.next = number + 1;

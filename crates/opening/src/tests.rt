@@ -146,12 +146,9 @@ fn lines_go_on(rt: HostRuntime) -> Result<(), Fail> {
     assert_eq!(rt; (put.written, put.next), (36, 3));
     assert_eq!(rt; lines(&engine, 3, &mut place, &mut put), CallResult::Done);
     assert_eq!(rt; (put.written, put.next), (0, 3));
-    let (mut line, mut header, mut end) = ([0; 35], [0; 12], [0; 11]);
+    let (mut line, mut first, mut end) = ([0; 35], [0; 33], [0; 11]);
     assert_eq!(rt; lines(&engine, 2, &mut line, &mut put), CallResult::NoRoom);
-    assert_eq!(rt;
-        lines(&engine, 0, &mut header, &mut put),
-        CallResult::NoRoom
-    );
+    assert_eq!(rt; lines(&engine, 0, &mut first, &mut put), CallResult::NoRoom);
     assert_eq!(rt; engine.put_end(&mut end, &mut put), CallResult::NoRoom);
     Ok(())
 }

@@ -137,7 +137,7 @@ pub extern "C" fn camr_raw_resume(
 #[unsafe(no_mangle)]
 pub extern "C" fn camr_raw_run_numbers(run: &mut RunSlot, number: &mut u32, freeze: &mut u32)
     requires { IsSome run.old.held }
-    ensures { Stays run.old.held run.new.held (λ its. (number.new ≡ its.number) × (freeze.new ≡ its.freeze)) }
+    ensures did { Stays run.old.held run.new.held (λ its. (number.new ≡ its.number) × (freeze.new ≡ its.freeze)) }
 {
     let held = run.held();
     *number = held.number;

@@ -268,8 +268,9 @@ static inline camr_result camr_totals(camr_engine *engine, camr_totals_t *totals
 /*
  * Puts whole lines of the trace into a buffer, as many as find room: those of the records from this number on, from 0, and
  * before that of record 0 the first line of a trace. *written is how many bytes, and *next the record from which to go on: where
- * it is the number of records, there is no more. CAMR_NO_ROOM: no line finds room; one has at most 700 bytes. CAMR_NO_TEXT,
- * CAMR_NULL, CAMR_TOO_LONG.
+ * it is the number of records, there is no more. Where there is no record yet, the first line is put by itself, and *next stays 0:
+ * a host that follows the trace asks when there is one. CAMR_NO_ROOM: no record's line finds room, that of record 0 together with
+ * the first line; a line has at most 700 bytes, and the first one 13. CAMR_NO_TEXT, CAMR_NULL, CAMR_TOO_LONG.
  */
 static inline camr_result camr_trace(camr_engine *engine, uint64_t from, char *buffer, size_t length, size_t *written,
                                      uint64_t *next)

@@ -90,6 +90,19 @@ fn has_text(place: &[u8], count: usize, text: &str) -> bool {
     }
 }
 
+// What the compiler lets go to another thread.
+fn goes_to_another_thread<T: Send>(_handle: &T) -> bool {
+    true
+}
+
+#[test]
+fn handles_go_from_thread_to_thread(rt: HostRuntime) -> Result<(), Fail> {
+    let engine = opened(rt.alloc())?;
+    let run = RunHandle::none();
+    assert!(rt; goes_to_another_thread(&engine) && goes_to_another_thread(&run));
+    Ok(())
+}
+
 #[test]
 fn recovers(rt: HostRuntime) -> Result<(), Fail> {
     let mut engine = opened(rt.alloc())?;

@@ -17,58 +17,55 @@ use Rattle.command_line.proofs.CommandWords.{IsWordOf, command_enters, command_f
 use Rattle.command_line.proofs.PlainWords.{turn_value, walk_at, walked_value}
 use Rattle.command_line.proofs.Planned.{apart}
 use Rattle.command_line.proofs.SpelledOut.{plain_out}
-use Rattle.command_line.proofs.Traces.{Trace, end_fault, path_walk, start, trace_both, trace_last, trace_more, traced_fault, traced_rows}
+use Rattle.command_line.proofs.Traces.{Trace, end_fault, start, trace_both, trace_last, trace_more, traced_fault, traced_rows}
 
-module _ (name : Text) (s : Shape) (rest : List Text) (asked : Asked) (f : Kinds) (end : Walk) (is : IsWordOf name s) (trace : Trace s start rest f end) where
+-- the word that such a line begins with
+abbrev word_of : Asked → Text
+word_of (Asm text program) = codes "asm"
+word_of (Dis program) = codes "dis"
+word_of (Check manifest) = codes "check"
+word_of (Migrate manifest migrated) = codes "migrate"
+word_of (Live is_clocked is_stepped manifest) = codes "live"
+word_of (Replay manifest trace) = codes "replay"
+word_of (Explain word) = codes "explain"
+word_of (Show manifest trace) = codes "show"
+word_of (Summarise manifest trace) = codes "show"
+word_of (Draw picture manifest trace) = codes "show"
+
+abbrev shape : Asked → Shape
+shape asked = shape_of (word_of asked)
+
+is_word : (asked : Asked) → IsWordOf (word_of asked) (shape asked)
+unfolding walked
+is_word (Asm text program) = record { stops = refl; faultless = refl; found = refl; named = refl }
+is_word (Dis program) = record { stops = refl; faultless = refl; found = refl; named = refl }
+is_word (Check manifest) = record { stops = refl; faultless = refl; found = refl; named = refl }
+is_word (Migrate manifest migrated) = record { stops = refl; faultless = refl; found = refl; named = refl }
+is_word (Live is_clocked is_stepped manifest) = record { stops = refl; faultless = refl; found = refl; named = refl }
+is_word (Replay manifest trace) = record { stops = refl; faultless = refl; found = refl; named = refl }
+is_word (Explain word) = record { stops = refl; faultless = refl; found = refl; named = refl }
+is_word (Show manifest trace) = record { stops = refl; faultless = refl; found = refl; named = refl }
+is_word (Summarise manifest trace) = record { stops = refl; faultless = refl; found = refl; named = refl }
+is_word (Draw picture manifest trace) = record { stops = refl; faultless = refl; found = refl; named = refl }
+
+-- a line is clear, by its trace
+module _ (asked : Asked) (rest : List Text) (f : Kinds) (end : Walk) (trace : Trace (shape asked) start rest f end) where
   abbrev rows : List Row
-  rows = finished s.rules end.held
+  rows = finished (shape asked).rules end.held
 
-  enters : subcommand_of camr_command (name ∷ rest) ≡ Some (name, rows)
-  enters = command_enters name s is rest ∙ ap (λ (r : List Row). Some (name, r)) (traced_rows s rest f end trace)
+  enters : subcommand_of camr_command (word_of asked ∷ rest) ≡ Some (word_of asked, rows)
+  enters = command_enters (word_of asked) (shape asked) (is_word asked) rest
+      ∙ ap (λ (r : List Row). Some (word_of asked, r)) (traced_rows (shape asked) rest f end trace)
 
-  -- a line is clear, by its trace
-  clear : end_fault s f end ≡ [] → asked_in name rows ≡ Some asked → Suffices name rows → bytes_eq name (codes "run") ≡ false
-      → map spelled_out (name ∷ rest) ≡ name ∷ rest → IsClear (name ∷ rest) (IsAsked asked)
+  clear : end_fault (shape asked) f end ≡ [] → asked_in (word_of asked) rows ≡ Some asked → Suffices (word_of asked) rows
+      → bytes_eq (word_of asked) (codes "run") ≡ false → map spelled_out (word_of asked ∷ rest) ≡ word_of asked ∷ rest
+      → IsClear (word_of asked ∷ rest) (IsAsked asked)
   clear fails asks suffices is_other spelled = record {
     out = spelled;
-    faultless = command_fault name s is rest ∙ (traced_fault s rest f end trace ∙ fails);
-    plans = λ plan found. subst (λ o. MeetsAsked o plan) asks (found_asked name rows suffices plan (subst (λ o. HasFound o plan) enters found));
-    some = λ none. subst (λ b. MatchBool b (MakesNoRun rows) (Suffices name rows → ⊥)) is_other (none name rows enters) suffices;
+    faultless = command_fault (word_of asked) (shape asked) (is_word asked) rest ∙ (traced_fault (shape asked) rest f end trace ∙ fails);
+    plans = λ plan found. subst (λ o. MeetsAsked o plan) asks (found_asked (word_of asked) rows suffices plan (subst (λ o. HasFound o plan) enters found));
+    some = λ none. subst (λ b. MatchBool b (MakesNoRun rows) (Suffices (word_of asked) rows → ⊥)) is_other (none (word_of asked) rows enters) suffices;
   }
-
--- ---- the words
-
-asm_word : IsWordOf (codes "asm") (shape_of (codes "asm"))
-unfolding walked
-asm_word = record { stops = refl; faultless = refl; found = refl; named = refl }
-
-dis_word : IsWordOf (codes "dis") (shape_of (codes "dis"))
-unfolding walked
-dis_word = record { stops = refl; faultless = refl; found = refl; named = refl }
-
-check_word : IsWordOf (codes "check") (shape_of (codes "check"))
-unfolding walked
-check_word = record { stops = refl; faultless = refl; found = refl; named = refl }
-
-migrate_word : IsWordOf (codes "migrate") (shape_of (codes "migrate"))
-unfolding walked
-migrate_word = record { stops = refl; faultless = refl; found = refl; named = refl }
-
-live_word : IsWordOf (codes "live") (shape_of (codes "live"))
-unfolding walked
-live_word = record { stops = refl; faultless = refl; found = refl; named = refl }
-
-replay_word : IsWordOf (codes "replay") (shape_of (codes "replay"))
-unfolding walked
-replay_word = record { stops = refl; faultless = refl; found = refl; named = refl }
-
-explain_word : IsWordOf (codes "explain") (shape_of (codes "explain"))
-unfolding walked
-explain_word = record { stops = refl; faultless = refl; found = refl; named = refl }
-
-show_word : IsWordOf (codes "show") (shape_of (codes "show"))
-unfolding walked
-show_word = record { stops = refl; faultless = refl; found = refl; named = refl }
 
 -- ---- what is held behind flags and options
 
@@ -113,54 +110,54 @@ picture_walked = refl
 
 pub asked_clear : (asked : Asked) → ArePlain asked → IsClear (line_of asked) (IsAsked asked)
 unfolding defaults_fault
-asked_clear (Asm text program) plain = clear (codes "asm") (shape_of (codes "asm")) _ (Asm text program) _ _ asm_word
-    (trace_both nothing_held (path_walk (shape_of (codes "asm")) start text).held text program refl plain.0 plain.1)
+asked_clear (Asm text program) plain = clear (Asm text program) _ _ _
+    (trace_both nothing_held text program refl plain.0 plain.1)
     refl refl ((text, refl), ((program, refl), tt)) refl (λ i. codes "asm" ∷ plain_out text plain.0 i ∷ plain_out program plain.1 i ∷ [])
-asked_clear (Dis program) plain = clear (codes "dis") (shape_of (codes "dis")) _ (Dis program) _ _ dis_word
+asked_clear (Dis program) plain = clear (Dis program) _ _ _
     (trace_last nothing_held 1 program plain)
     refl refl ((program, refl), tt) refl (λ i. codes "dis" ∷ plain_out program plain i ∷ [])
-asked_clear (Check manifest) plain = clear (codes "check") (shape_of (codes "check")) _ (Check manifest) _ _ check_word
+asked_clear (Check manifest) plain = clear (Check manifest) _ _ _
     (trace_last nothing_held 1 manifest plain)
     refl refl ((manifest, refl), tt) refl (λ i. codes "check" ∷ plain_out manifest plain i ∷ [])
-asked_clear (Migrate manifest migrated) plain = clear (codes "migrate") (shape_of (codes "migrate")) _ (Migrate manifest migrated) _ _ migrate_word
-    (trace_both nothing_held (path_walk (shape_of (codes "migrate")) start manifest).held manifest migrated refl plain.0 plain.1)
+asked_clear (Migrate manifest migrated) plain = clear (Migrate manifest migrated) _ _ _
+    (trace_both nothing_held manifest migrated refl plain.0 plain.1)
     refl refl ((manifest, refl), ((migrated, refl), tt)) refl (λ i. codes "migrate" ∷ plain_out manifest plain.0 i ∷ plain_out migrated plain.1 i ∷ [])
-asked_clear (Live true true manifest) plain = clear (codes "live") live_shape _ (Live true true manifest) _ _ live_word
+asked_clear (Live true true manifest) plain = clear (Live true true manifest) _ _ _
     (trace_more start (walk_at clocked idle 1) _ (codes "--clock") _ [] _ clock_walked refl
     (trace_more (walk_at clocked idle 1) (walk_at (stepped clocked) idle 1) _ (codes "--step") _ [] _ (step_walked clocked) refl
     (trace_last (stepped clocked) 1 manifest plain)))
     refl refl ((manifest, refl), tt) refl (λ i. codes "live" ∷ codes "--clock" ∷ codes "--step" ∷ plain_out manifest plain i ∷ [])
-asked_clear (Live true false manifest) plain = clear (codes "live") live_shape _ (Live true false manifest) _ _ live_word
+asked_clear (Live true false manifest) plain = clear (Live true false manifest) _ _ _
     (trace_more start (walk_at clocked idle 1) _ (codes "--clock") _ [] _ clock_walked refl (trace_last clocked 1 manifest plain))
     refl refl ((manifest, refl), tt) refl (λ i. codes "live" ∷ codes "--clock" ∷ plain_out manifest plain i ∷ [])
-asked_clear (Live false true manifest) plain = clear (codes "live") live_shape _ (Live false true manifest) _ _ live_word
+asked_clear (Live false true manifest) plain = clear (Live false true manifest) _ _ _
     (trace_more start (walk_at (stepped nothing_held) idle 1) _ (codes "--step") _ [] _ (step_walked nothing_held) refl (trace_last (stepped nothing_held) 1 manifest plain))
     refl refl ((manifest, refl), tt) refl (λ i. codes "live" ∷ codes "--step" ∷ plain_out manifest plain i ∷ [])
-asked_clear (Live false false manifest) plain = clear (codes "live") live_shape _ (Live false false manifest) _ _ live_word
+asked_clear (Live false false manifest) plain = clear (Live false false manifest) _ _ _
     (trace_last nothing_held 1 manifest plain)
     refl refl ((manifest, refl), tt) refl (λ i. codes "live" ∷ plain_out manifest plain i ∷ [])
-asked_clear (Replay manifest trace) plain = clear (codes "replay") (shape_of (codes "replay")) _ (Replay manifest trace) _ _ replay_word
-    (trace_both nothing_held (path_walk (shape_of (codes "replay")) start manifest).held manifest trace refl plain.0 plain.1)
+asked_clear (Replay manifest trace) plain = clear (Replay manifest trace) _ _ _
+    (trace_both nothing_held manifest trace refl plain.0 plain.1)
     refl refl ((manifest, refl), ((trace, refl), tt)) refl (λ i. codes "replay" ∷ plain_out manifest plain.0 i ∷ plain_out trace plain.1 i ∷ [])
-asked_clear (Explain word) plain = clear (codes "explain") (shape_of (codes "explain")) _ (Explain word) _ _ explain_word
+asked_clear (Explain word) plain = clear (Explain word) _ _ _
     (trace_last nothing_held 1 word plain)
     refl refl ((word, refl), tt) refl (λ i. codes "explain" ∷ plain_out word plain i ∷ [])
-asked_clear (Show manifest trace) plain = clear (codes "show") show_shape _ (Show manifest trace) _ _ show_word
-    (trace_both nothing_held (path_walk show_shape start manifest).held manifest trace refl plain.0 plain.1)
+asked_clear (Show manifest trace) plain = clear (Show manifest trace) _ _ _
+    (trace_both nothing_held manifest trace refl plain.0 plain.1)
     refl refl
     (((manifest, refl), ((trace, refl), tt)), record { ccb = refl; queue = refl; run = refl; freeze = refl; from = refl; to = refl }, λ asks. refl)
     refl (λ i. codes "show" ∷ plain_out manifest plain.0 i ∷ plain_out trace plain.1 i ∷ [])
-asked_clear (Summarise manifest trace) plain = clear (codes "show") show_shape _ (Summarise manifest trace) _ _ show_word
+asked_clear (Summarise manifest trace) plain = clear (Summarise manifest trace) _ _ _
     (trace_more start (walk_at counted idle 1) _ (codes "--summary") _ [] _ summary_walked refl
-    (trace_both counted (path_walk show_shape (walk_at counted idle 1) manifest).held manifest trace refl plain.0 plain.1))
+    (trace_both counted manifest trace refl plain.0 plain.1))
     refl refl
     (((manifest, refl), ((trace, refl), tt)), record { ccb = refl; queue = refl; run = refl; freeze = refl; from = refl; to = refl }, λ asks. refl)
     refl (λ i. codes "show" ∷ codes "--summary" ∷ plain_out manifest plain.0 i ∷ plain_out trace plain.1 i ∷ [])
-asked_clear (Draw picture manifest trace) plain = clear (codes "show") show_shape _ (Draw picture manifest trace) _ _ show_word
+asked_clear (Draw picture manifest trace) plain = clear (Draw picture manifest trace) _ _ _
     (trace_more start (walk_at drawn (option (codes "svg")) 1) _ (codes "--svg") _ [] _ picture_walked refl
     (trace_more (walk_at drawn (option (codes "svg")) 1) (walk_at (drawn_into picture) idle 1) _ picture _ [] _
     (walked_value show_shape.rules drawn (codes "svg") 1 picture plain.0) (turn_value show_shape drawn (codes "svg") 1 picture plain.0)
-    (trace_both (drawn_into picture) (path_walk show_shape (walk_at (drawn_into picture) idle 1) manifest).held manifest trace refl plain.1 plain.2)))
+    (trace_both (drawn_into picture) manifest trace refl plain.1 plain.2)))
     refl refl (
       ((manifest, refl), ((trace, refl), tt)),
       record { ccb = refl; queue = refl; run = refl; freeze = refl; from = refl; to = refl },

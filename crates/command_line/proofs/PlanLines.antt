@@ -1,6 +1,6 @@
 -- What follows for the plan of a line that asks for a run.
-use Rattle.std.proofs.Common.{◌≡◌, ◌⊎◌, ◌∙◌, List, Bool, Option, Some, None, true, false, inl, inr, refl, sym, subst, ap, codes}
-use Rattle.std.specs.Prelude.{unwrap_or}
+use Rattle.std.proofs.Common.{◌≡◌, ◌⊎◌, ◌∙◌, List, [], ◌∷◌, Bool, Option, Some, None, true, false, inl, inr, refl, sym, subst, ap, codes}
+use Rattle.std.specs.Prelude.{if◌then◌else◌, unwrap_or}
 use Rattle.clap.specs.Words.{HasKind, Row, Text, fault_of, first_of, kind_of, subcommand_of}
 use Rattle.clap.specs.ValueTests.{accepts}
 use Rattle.clap.specs.declared.error.Error.{Error}
@@ -56,16 +56,15 @@ module _ (words : List Text) (number manifest scenario : Text) (line : RunLine w
 
   pub line_fault : (e : Error) → HasKind (fault_of camr_command words) e
       → (kind_of e ≡ kind.OutOfMemory) ⊎ ((kind_of e ≡ kind.ValueValidation) × SpellsNoLawfulNumber number)
-  line_fault e has = go passes refl
+  line_fault e has =
+      let read = line_reading words number manifest scenario line plain_n plain_m plain_s in
+      go passes refl (subst (λ ks. HasKind ks e) read.faults has)
     where
-      go : (b : Bool) → passes ≡ b → (kind_of e ≡ kind.OutOfMemory) ⊎ ((kind_of e ≡ kind.ValueValidation) × SpellsNoLawfulNumber number)
-      go true is =
-          let none = (line_reading words number manifest scenario line plain_n plain_m plain_s).passes is in
-          elim (subst (λ ks. HasKind ks e) none has) [ inl memory ↦ inl memory | inr bad ↦ absurd bad ]
-      go false is =
-          let one = (line_reading words number manifest scenario line plain_n plain_m plain_s).fails is in
-          elim (subst (λ ks. HasKind ks e) one has) [
-            | inl memory ↦ inl memory
-            | inr (inl kind_is) ↦ inr (kind_is, refused_number number plain_n is)
-            | inr (inr bad) ↦ absurd bad
-          ]
+      go : (b : Bool) → passes ≡ b → HasKind (if b then [] else kind.ValueValidation ∷ []) e
+          → (kind_of e ≡ kind.OutOfMemory) ⊎ ((kind_of e ≡ kind.ValueValidation) × SpellsNoLawfulNumber number)
+      go true is h = elim h [ inl memory ↦ inl memory | inr bad ↦ absurd bad ]
+      go false is h = elim h [
+        | inl memory ↦ inl memory
+        | inr (inl kind_is) ↦ inr (kind_is, refused_number number plain_n is)
+        | inr (inr bad) ↦ absurd bad
+      ]

@@ -62,10 +62,13 @@ module _ {s : Shape} where
       → Trace s (walk_at h idle position) (word ∷ []) (or_else (step_fault s position h value) []) (path_walk s (walk_at h idle position) word)
   trace_last h position word plain = trace_path h position word [] [] _ plain (trace_nil (path_walk s (walk_at h idle position) word))
 
-  -- two paths, the first of which leaves the walk so
-  pub trace_both : (h second : Held) (a b : Text) → path_walk s (walk_at h idle 1) a ≡ walk_at second idle 2 → IsPlain a → IsPlain b
+  -- two paths
+  pub trace_both : (h : Held) (a b : Text) → let second = (path_walk s (walk_at h idle 1) a).held in path_walk s (walk_at h idle 1) a ≡ walk_at second idle 2
+      → IsPlain a → IsPlain b
       → Trace s (walk_at h idle 1) (a ∷ b ∷ []) (or_else (step_fault s 1 h value) (or_else (step_fault s 2 second value) [])) (path_walk s (walk_at second idle 2) b)
-  trace_both h second a b first plain_a plain_b = trace_path h 1 a (b ∷ []) _ _ plain_a
+  trace_both h a b first plain_a plain_b =
+      let second = (path_walk s (walk_at h idle 1) a).held in
+      trace_path h 1 a (b ∷ []) _ _ plain_a
       (subst (λ (w : Walk). Trace s w (b ∷ []) (or_else (step_fault s 2 second value) []) (path_walk s (walk_at second idle 2) b)) (sym first) (trace_last second 2 b plain_b))
 
 -- ---- what stands behind `run`

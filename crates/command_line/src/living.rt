@@ -9,7 +9,7 @@ ghost use Rattle.command_line.specs.RunCommand.{IsCommand, live_command};
 use crate::plans::{Manner, Plan};
 use crate::show_usage::flag;
 use crate::showing::is_true;
-use crate::usage::path;
+use crate::usage::manifest;
 use clap::{ArgMatches, Command};
 use std::alloc::{AllocError, Global};
 
@@ -27,16 +27,11 @@ pub fn live_command<'a>(alloc: Global) -> Result<Command<'a>, AllocError>
         "step",
         "A run goes on where a line says so: step R, drive R, park R, resume R",
     );
-    let manifest = path(
-        alloc,
-        "MANIFEST",
-        "The queues, their programs and their tables",
-    );
     Command::new(alloc, "live")
         .about("Carries out the lines of standard input as they come, and prints the trace")
         .arg(clock)?
         .arg(step)?
-        .arg(manifest)
+        .arg(manifest(alloc))
 }
 
 /// The plan of what clap found behind `live`.

@@ -3,7 +3,7 @@
 ghost use Rattle.std.specs.Prelude.{◌≡◌, IfOk};
 ghost use Rattle.command_line.specs.RunCommand.{IsArgument, IsCommand, flag_rule, numbered_command, option_rule, optional_command, show_command, timed_command};
 
-use crate::usage::path;
+use crate::usage::{manifest, trace};
 use clap::{Arg, ArgAction, Command};
 use std::alloc::{AllocError, Global};
 
@@ -16,16 +16,10 @@ exclude each other.";
 pub fn show_command<'a>(alloc: Global) -> Result<Command<'a>, AllocError>
     ensures { IfOk result (IsCommand show_command) }
 {
-    let manifest = path(
-        alloc,
-        "MANIFEST",
-        "The queues, their programs and their tables",
-    );
-    let trace = path(alloc, "TRACE", "What was recorded, a line a record");
     optional_command(alloc)?
         .after_help(TOGETHER)
-        .arg(manifest)?
-        .arg(trace)
+        .arg(manifest(alloc))?
+        .arg(trace(alloc))
 }
 
 // The subcommand without its paths.

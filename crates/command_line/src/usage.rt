@@ -1,7 +1,7 @@
 // The command line as `clap` is given it: its subcommands with their options and paths, and what help says of
 // them. It relies on `show_usage` for those of `show`.
 
-ghost use Rattle.std.specs.Prelude.{◌≡◌, IfOk};
+ghost use Rattle.std.specs.Prelude.{◌≡◌, IfOk, codes};
 ghost use Rattle.command_line.specs.RunCommand.{IsArgument, IsCommand, camr_command};
 ghost use Rattle.command_line.specs.RunCommand.{asm_command, bare_command, check_command, dis_command, explain_command, manifests_command, migrate_command};
 ghost use Rattle.command_line.specs.RunCommand.{path_rule, programs_command, replay_command, run_command, runs_command, show_command, texts_command};
@@ -109,14 +109,9 @@ fn dis_command<'a>(alloc: Global) -> Result<Command<'a>, AllocError>
 fn check_command<'a>(alloc: Global) -> Result<Command<'a>, AllocError>
     ensures { IfOk result (IsCommand check_command) }
 {
-    let manifest = path(
-        alloc,
-        "MANIFEST",
-        "The queues, their programs and their tables",
-    );
     Command::new(alloc, "check")
         .about("Verifies the programs of a manifest and prints their budgets")
-        .arg(manifest)
+        .arg(manifest(alloc))
 }
 
 fn explain_command<'a>(alloc: Global) -> Result<Command<'a>, AllocError>
@@ -135,11 +130,11 @@ fn explain_command<'a>(alloc: Global) -> Result<Command<'a>, AllocError>
 fn migrate_command<'a>(alloc: Global) -> Result<Command<'a>, AllocError>
     ensures { IfOk result (IsCommand migrate_command) }
 {
-    let manifest = path(alloc, "IN", "A manifest of version 1");
+    let old = path(alloc, "IN", "A manifest of version 1");
     let migrated = path(alloc, "OUT", "The file that gets it as one of version 2");
     Command::new(alloc, "migrate")
         .about("Writes a manifest with one controller over its queues")
-        .arg(manifest)?
+        .arg(old)?
         .arg(migrated)
 }
 
@@ -147,33 +142,22 @@ fn migrate_command<'a>(alloc: Global) -> Result<Command<'a>, AllocError>
 pub fn run_command<'a>(alloc: Global) -> Result<Command<'a>, AllocError>
     ensures { IfOk result (IsCommand run_command) }
 {
-    let manifest = path(
-        alloc,
-        "MANIFEST",
-        "The queues, their programs and their tables",
-    );
     let scenario = path(alloc, "SCENARIO", "What happens, a command a line");
     Command::new(alloc, "run")
         .about("Runs a scenario and prints its trace")
         .arg(workers(alloc))?
         .arg(watch(alloc))?
-        .arg(manifest)?
+        .arg(manifest(alloc))?
         .arg(scenario)
 }
 
 fn replay_command<'a>(alloc: Global) -> Result<Command<'a>, AllocError>
     ensures { IfOk result (IsCommand replay_command) }
 {
-    let manifest = path(
-        alloc,
-        "MANIFEST",
-        "The queues, their programs and their tables",
-    );
-    let trace = path(alloc, "TRACE", "What was recorded, a line a record");
     Command::new(alloc, "replay")
         .about("Replays a trace and says whether it is lawful")
-        .arg(manifest)?
-        .arg(trace)
+        .arg(manifest(alloc))?
+        .arg(trace(alloc))
 }
 
 fn workers<'a>(alloc: Global) -> Arg<'a>
@@ -197,8 +181,26 @@ fn watch<'a>(alloc: Global) -> Arg<'a>
         .help("Tells sums on standard error: `terminal`, where that is one, or `lines`, always")
 }
 
-/// A path that has to be there.
-pub(crate) fn path<'a>(alloc: Global, name: &'a str, help: &'a str) -> Arg<'a>
+/// The manifest that is read.
+pub(crate) fn manifest<'a>(alloc: Global) -> Arg<'a>
+    ensures { IsArgument (path_rule (codes "MANIFEST")) result }
+{
+    path(
+        alloc,
+        "MANIFEST",
+        "The queues, their programs and their tables",
+    )
+}
+
+/// The trace that is read.
+pub(crate) fn trace<'a>(alloc: Global) -> Arg<'a>
+    ensures { IsArgument (path_rule (codes "TRACE")) result }
+{
+    path(alloc, "TRACE", "What was recorded, a line a record")
+}
+
+// A path that has to be there.
+fn path<'a>(alloc: Global, name: &'a str, help: &'a str) -> Arg<'a>
     ensures { IsArgument (path_rule name.entry.now) result }
 {
     Arg::new(alloc, name).required(true).help(help)

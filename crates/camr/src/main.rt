@@ -99,11 +99,13 @@ fn carry_out<
 
 // Serves what standard input asks of the engine of a manifest, a path and its bytes. What goes out is not kept for a whole buffer.
 // Where there is a clock, another thread reads.
-fn serve_line_by_line<
-    R: Runtime + AllocGlobal + Wait,
-    E: Write,
-    B: FnOnce(Feeder) -> bool,
->(rt: &R, manner: Manner, manifest: (&str, &[u8]), err: &mut E, begin: B) -> u8
+fn serve_line_by_line<R: Runtime + AllocGlobal + Wait, E: Write, B: FnOnce(Feeder) -> bool>(
+    rt: &R,
+    manner: Manner,
+    manifest: (&str, &[u8]),
+    err: &mut E,
+    begin: B,
+) -> u8
     requires { (feeder : _) → B.pre begin feeder }
 {
     if !manner.is_clocked {

@@ -99,7 +99,7 @@ static void recover(camr_run *run)
 static void report(unsigned disk, uint32_t ccb, uint64_t chance)
 {
     static const uint8_t attention[18] = {0x70, 0, 6, 0, 0, 0, 0, 10, 0, 0, 0, 0, 0x29, 0};
-    camr_run *run;
+    camr_run *run = NULL;
     camr_result result;
     if (chance < 3)
         result = camr_complete(host.engine, ccb, CAMR_CMD_TIMEOUT, 0, NULL, 0, &run);

@@ -16,12 +16,14 @@
 #include <string.h>
 #include <time.h>
 
-enum { DISKS = 4, OPENINGS = 8, MOST_THREADS = 64, RETRIES = 3 };
+enum { DISKS = 4, OPENINGS = 8, MOST_THREADS = 64, RETRIES = 3, BATCH = 4 };
 
-/* What a disk was given and has not reported: its active CCBs. There are no more than its queue has openings. */
+/* What a disk was given and has not reported: its active CCBs. There are no more than its queue has openings. And whether a CCB of
+ * its queue may wait: more are submitted where none does, so that few wait behind a freeze. */
 struct disk {
     uint32_t commands[OPENINGS];
     unsigned count;
+    bool may_wait;
 };
 
 /* All of it stands under the mutex, the engine too. */
@@ -74,6 +76,7 @@ static void start_commands(unsigned disk)
         uint32_t ccb;
         camr_result result = camr_dispatch(host.engine, disk, &ccb);
         /* the queue is frozen, has no opening, or none waits: it is tried again when something changes */
+        its->may_wait = result != CAMR_NOTHING_WAITS;
         if (result == CAMR_FROZEN || result == CAMR_NO_OPENING || result == CAMR_NOTHING_WAITS) return;
         expect(result, "camr_dispatch");
         its->commands[its->count++] = ccb;
@@ -117,7 +120,18 @@ static void report(unsigned disk, uint32_t ccb, uint64_t chance)
     start_commands(disk);
 }
 
-/* A thread of a disk: it keeps some CCBs waiting, and serves one command after the other. */
+/* Submits some commands to a disk's queue, where none waits. */
+static void submit_commands(unsigned disk, uint64_t *state)
+{
+    if (host.disks[disk].may_wait) return;
+    for (unsigned count = 0; count < BATCH; count++) {
+        uint32_t ccb;
+        expect(camr_submit(host.engine, disk, (uint32_t)(next_random(state) % 16), RETRIES, &ccb), "camr_submit");
+    }
+    start_commands(disk);
+}
+
+/* A thread of a disk: it keeps some commands on their way, and serves one after the other. */
 static void *serve(void *argument)
 {
     uint64_t number = (uint64_t)(uintptr_t)argument;
@@ -127,10 +141,7 @@ static void *serve(void *argument)
     pthread_mutex_lock(&host.lock);
     while (!host.stops) {
         uint32_t ccb;
-        if (its->count < OPENINGS / 2) {
-            expect(camr_submit(host.engine, disk, (uint32_t)(next_random(&state) % 16), RETRIES, &ccb), "camr_submit");
-            start_commands(disk);
-        }
+        if (its->count < OPENINGS / 2) submit_commands(disk, &state);
         if (its->count == 0) {
             pthread_mutex_unlock(&host.lock);
             pause_for(1000);

@@ -1,5 +1,5 @@
 -- What a result says of a call: it is recorded, carried out or refused, or nothing changed.
-use Rattle.std.specs.Prelude.{◌≡◌, ℕ, Bool, true, false, Option, Some, None, List, ◌++◌, MatchOption, Result, Ok, Err}
+use Rattle.std.specs.Prelude.{◌≡◌, ◌≢◌, ℕ, Bool, true, false, Option, Some, None, List, ◌++◌, MatchOption, Result, Ok, Err}
 use Rattle.std.specs.Global.{Box}
 use Rattle.calls.specs.declared.call.Call.{Call}
 use Rattle.calls.specs.declared.call.Call.TheVariants.{Park}
@@ -36,12 +36,12 @@ abbrev pub IsCompleted : Result (Option (Box RunHandle)) CallResult → EngineSt
 IsCompleted (Ok None) old new call = Records old new (Called answers.Done call)
 IsCompleted (Ok (Some handle)) old new call =
     Records old new (Called (answers.Started handle.value.number handle.value.freeze) call) × ((run : RunState) × HoldsRun handle.value run)
-IsCompleted (Err result) old new call = IsFaulted result old new call
+IsCompleted (Err result) old new call = (result ≢ Done) × IsFaulted result old new call
 
 -- a resume with this result: the run is in the handle
 abbrev pub IsResumed : Result (Box RunHandle) CallResult → EngineState → EngineState → Call → Type 0
 IsResumed (Ok handle) old new call = Records old new (Called answers.Ok call) × ((run : RunState) × HoldsRun handle.value run)
-IsResumed (Err result) old new call = IsFaulted result old new call
+IsResumed (Err result) old new call = (result ≢ Done) × IsFaulted result old new call
 
 -- what the run at a stop tells, with R0 behind it
 abbrev pub advance_of : StoppedState → ℕ → Record

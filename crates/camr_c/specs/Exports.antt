@@ -9,20 +9,17 @@ use Rattle.freeze_ledger.specs.declared.place.Place.{Place}
 use Rattle.freeze_ledger.specs.Deadlines.{some_timer}
 use Rattle.transport.specs.Freezing.{IsNextDue}
 use Rattle.calls.specs.declared.call.Call.{Call}
-use Rattle.calls.specs.declared.call.Call.TheVariants.{Complete, GuestFreeze, GuestRelease, Resume}
+use Rattle.calls.specs.declared.call.Call.TheVariants.{Complete, Resume}
 use Rattle.calls.specs.declared.call_answer.CallAnswer.{CallAnswer}
-use Rattle.calls.specs.declared.call_answer.CallAnswer.TheVariants as answers
 use Rattle.calls.specs.declared.totals.Totals.{Totals}
 use Rattle.engine_core.specs.EngineState.{EngineState}
 use Rattle.embedding.specs.declared.call_result.CallResult.{CallResult}
 use Rattle.embedding.specs.declared.call_result.CallResult.TheVariants.{Done, OutOfMemory, NoCompletion, NotUtf8, Faulty}
-use Rattle.embedding.specs.declared.engine_handle.EngineHandle.{EngineHandle}
 use Rattle.embedding.specs.declared.run_handle.HeldRun.{HeldRun}
 use Rattle.embedding.specs.declared.run_handle.RunHandle.{RunHandle}
-use Rattle.embedding.specs.Calls.{IsCalled, IsCompleted, IsResumed}
+use Rattle.embedding.specs.Calls.{IsCalled, IsCompleted, IsFrozen, IsReleased, IsResumed}
 use Rattle.embedding.specs.Held.{is_same_run}
 use Rattle.embedding.specs.Results.{number_of}
-use Rattle.embedding.specs.Tokens.{KeepsToken, GivesToken}
 use Rattle.opening.specs.declared.opening.OpenFault.{OpenFault}
 use Rattle.opening.specs.declared.opening.OpenFault.TheVariants as faults
 use Rattle.camr_c.specs.declared.engine_exports.Sums.{Sums}
@@ -49,31 +46,26 @@ Stays (Some it) new Told = (new ≡ Some it) × Told it
 -- ---- calls that name no run
 
 -- the number of what was opened, and what the slot holds then
-abbrev pub IsOpened : Result (Box EngineHandle) OpenFault → ℕ → Option EngineHandle → Type 0
+abbrev pub IsOpened : Result (Box EngineState) OpenFault → ℕ → Option EngineState → Type 0
 IsOpened (Ok handle) number new = (number ≡ number_of Done) × (new ≡ Some handle.value)
 IsOpened (Err faults.OutOfMemory) number new = number ≡ number_of OutOfMemory
 IsOpened (Err faults.NotUtf8) number new = number ≡ number_of NotUtf8
 IsOpened (Err (faults.Manifest fault)) number new = number ≡ number_of Faulty
 
--- a call of the engine, which keeps its guests' tokens
+-- a call of the engine
 abbrev pub Called : ℕ → EngineSlot → EngineSlot → CallAnswer → Call → Type 0
 Called number old new answer call =
-    Did number (λ its. Turns old.held new.held (λ before after.
-    IsCalled its before.engine after.engine answer call × (after.tokens ≡ before.tokens)))
+    Did number (λ its. Turns old.held new.held (λ before after. IsCalled its before after answer call))
 
 -- a guest freezes a place
 abbrev pub Frozen : ℕ → EngineSlot → EngineSlot → ℕ → Place → ℕ → Type 0
 Frozen number old new freeze place guest =
-    Did number (λ its. Turns old.held new.held (λ before after.
-    IsCalled its before.engine after.engine (answers.Freeze freeze) (GuestFreeze place guest)
-    × KeepsToken its before.tokens.items after.tokens.items freeze))
+    Did number (λ its. Turns old.held new.held (λ before after. IsFrozen its before after freeze place guest))
 
 -- a guest's freeze is given back
 abbrev pub Released : ℕ → EngineSlot → EngineSlot → ℕ → ℕ → Type 0
 Released number old new left freeze =
-    Did number (λ its. Turns old.held new.held (λ before after.
-    IsCalled its before.engine after.engine (answers.Left left) (GuestRelease freeze)
-    × GivesToken its before.tokens.items after.tokens.items freeze))
+    Did number (λ its. Turns old.held new.held (λ before after. IsReleased its before after left freeze))
 
 -- whether a timer holds one of these freezes, and when the first is due
 abbrev pub TellsDue : List Freeze → Bool → ℕ → Type 0
@@ -86,12 +78,12 @@ sums_of totals = record { history = totals.history; frozen = totals.frozen; acti
 
 -- ---- calls with a run
 
--- a call of the engine with a run, which keeps the guests' tokens and the run's numbers
+-- a call of the engine with a run, which keeps the run's numbers
 abbrev pub CalledWith : ℕ → EngineSlot → EngineSlot → RunSlot → RunSlot
     → (CallResult → EngineState → EngineState → HeldRun → HeldRun → Type 0) → Type 0
 CalledWith number old new run again Told =
     Did number (λ its. Turns old.held new.held (λ before after. Turns run.held again.held (λ was is.
-    Told its before.engine after.engine was.held is.held × is_same_run was is × (after.tokens ≡ before.tokens))))
+    Told its before after was.held is.held × is_same_run was is)))
 
 -- what a device reports by these numbers: a completion, where the code is a status's and there may be such a one
 abbrev pub ReportOf : Option CamStatus → ℕ → ℕ → List ℕ → Option Outcome → Type 0
@@ -110,18 +102,18 @@ Starts (Ok (Some handle)) number started run = (number ≡ number_of Done) × (s
 Starts (Err its) number started run = (number ≡ number_of its) × (started ≡ false)
 
 -- what was reported is answered so; where nothing was, the engine is as before
-abbrev pub Completed : Option Outcome → EngineHandle → EngineHandle → ℕ → Bool → Option RunHandle → Type 0
+abbrev pub Completed : Option Outcome → EngineState → EngineState → ℕ → Bool → Option RunHandle → Type 0
 Completed None before after number started run = (number ≡ number_of NoCompletion) × (started ≡ false) × (after ≡ before)
 Completed (Some completion) before after number started run =
-    (answer : Result (Option (Box RunHandle)) CallResult) × IsCompleted answer before.engine after.engine (Complete completion)
-    × Starts answer number started run × (after.tokens ≡ before.tokens)
+    (answer : Result (Option (Box RunHandle)) CallResult) × IsCompleted answer before after (Complete completion)
+    × Starts answer number started run
 
 -- the number of a resume's result, whether the run is out again, and what the run's slot holds then
 abbrev pub GoesOut : Result (Box RunHandle) CallResult → ℕ → Bool → Option RunHandle → Type 0
 GoesOut (Ok handle) number resumed run = (number ≡ number_of Done) × (resumed ≡ true) × (run ≡ Some handle.value)
 GoesOut (Err its) number resumed run = (number ≡ number_of its) × (resumed ≡ false)
 
-abbrev pub Resumed : ℕ → EngineHandle → EngineHandle → ℕ → Bool → Option RunHandle → Type 0
+abbrev pub Resumed : ℕ → EngineState → EngineState → ℕ → Bool → Option RunHandle → Type 0
 Resumed parked before after number resumed run =
-    (answer : Result (Box RunHandle) CallResult) × IsResumed answer before.engine after.engine (Resume parked)
-    × GoesOut answer number resumed run × (after.tokens ≡ before.tokens)
+    (answer : Result (Box RunHandle) CallResult) × IsResumed answer before after (Resume parked)
+    × GoesOut answer number resumed run

@@ -6,7 +6,7 @@ ghost use Rattle.freeze_ledger.specs.declared.place.Place.TheVariants.{Device, C
 ghost use Rattle.calls.specs.declared.call.Call.TheVariants.{Submit, Dispatch, Clock};
 ghost use Rattle.calls.specs.declared.call_answer.CallAnswer.TheVariants as answers;
 ghost use Rattle.world.specs.TotalsOf.{totals_in};
-ghost use Rattle.embedding.specs.declared.engine_handle.EngineHandle.{EngineHandle};
+ghost use Rattle.engine_core.specs.EngineState.{EngineState};
 ghost use Rattle.opening.specs.declared.opening.OpenFault.{OpenFault as TheFault};
 ghost use Rattle.opening.specs.Opened.{Opens};
 ghost use Rattle.camr_c.specs.Exports.{Called, Frozen, IsOpened, Released, Stays, TellsDue, sums_of};
@@ -37,7 +37,7 @@ pub extern "C" fn camr_raw_open(
     fault: &mut [u8],
     written: &mut usize,
 ) -> u32
-    ensures opened { (answer : Result (Box EngineHandle) TheFault) × Opens manifest.now answer × IsOpened answer result engine.new.held }
+    ensures opened { (answer : Result (Box EngineState) TheFault) × Opens manifest.now answer × IsOpened answer result engine.new.held }
     ensures few { result < 22 }
     ensures text { written.new ≤ length fault.new }
 {
@@ -103,7 +103,7 @@ pub extern "C" fn camr_raw_clock(engine: &mut EngineSlot, reading: u64, removed:
 #[unsafe(no_mangle)]
 pub extern "C" fn camr_raw_next_due(engine: &mut EngineSlot, reading: &mut u64) -> bool
     requires { IsSome engine.old.held }
-    ensures did { Stays engine.old.held engine.new.held (λ its. TellsDue its.engine.world.transport.freezes result reading.new) }
+    ensures did { Stays engine.old.held engine.new.held (λ its. TellsDue its.world.transport.freezes result reading.new) }
 {
     match engine.held().next_due() {
         Some(due) => {
@@ -160,7 +160,7 @@ pub extern "C" fn camr_raw_guest_release(
 #[unsafe(no_mangle)]
 pub extern "C" fn camr_raw_totals(engine: &mut EngineSlot, sums: &mut Sums)
     requires { IsSome engine.old.held }
-    ensures did { Stays engine.old.held engine.new.held (λ its. sums.new ≡ sums_of (totals_in its.engine.history its.engine.world)) }
+    ensures did { Stays engine.old.held engine.new.held (λ its. sums.new ≡ sums_of (totals_in its.history its.world)) }
 {
     let totals = engine.held().totals();
     sums.history = totals.history;

@@ -1,7 +1,7 @@
 // Where a host written in C holds an engine: a pointer to its block, which no one but this library follows. It relies on `loose`.
 
 ghost use Rattle.std.specs.Prelude.{Option};
-ghost use Rattle.embedding.specs.declared.engine_handle.EngineHandle.{EngineHandle as Value};
+ghost use Rattle.engine_core.specs.EngineState.{EngineState as Value};
 
 use crate::loose::Loose;
 use embedding::EngineHandle;

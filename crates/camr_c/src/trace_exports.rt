@@ -1,6 +1,7 @@
 // The trace of an engine as text. It relies on `embedding` for lines.
 
 ghost use Rattle.std.specs.Prelude.{◌<◌, ◌≤◌, IsSome, length};
+ghost use Rattle.world.specs.World.{version_of};
 ghost use Rattle.world.specs.TotalsOf.{totals_in};
 ghost use Rattle.embedding.specs.Lines.{PutsLines, PutsSums};
 ghost use Rattle.camr_c.specs.Exports.{Did, Stays};
@@ -19,7 +20,7 @@ pub extern "C" fn camr_raw_trace(
 ) -> u32
     requires { IsSome engine.old.held }
     ensures did { Did result (λ its. Stays engine.old.held engine.new.held (λ it.
-        PutsLines its it.version it.engine.history from place.new written.new next.new)) }
+        PutsLines its (version_of it.setup) it.history from place.new written.new next.new)) }
     ensures few { result < 22 }
     ensures text { written.new ≤ length place.new }
 {
@@ -42,7 +43,7 @@ pub extern "C" fn camr_raw_trace_end(
 ) -> u32
     requires { IsSome engine.old.held }
     ensures did { Did result (λ its. Stays engine.old.held engine.new.held (λ it.
-        PutsSums its (totals_in it.engine.history it.engine.world) place.new written.new)) }
+        PutsSums its (totals_in it.history it.world) place.new written.new)) }
     ensures few { result < 22 }
     ensures text { written.new ≤ length place.new }
 {

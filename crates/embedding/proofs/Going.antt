@@ -1,5 +1,5 @@
 -- An engine that goes on: by no record, by one, and again.
-use Rattle.std.proofs.Common.{◌≡◌, List, [], ◌∷◌, ◌++◌, refl, sym, ap, ◌∙◌, append-nil, append_assoc}
+use Rattle.std.proofs.Common.{◌≡◌, List, [], ◌∷◌, ◌++◌, sym, ap, ◌∙◌, append-nil, append_assoc}
 use Rattle.calls.specs.declared.record.Record.{Record}
 use Rattle.engine_core.specs.EngineState.{EngineState, Records}
 use Rattle.embedding.specs.Calls.{GoesOn}

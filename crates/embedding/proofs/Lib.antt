@@ -1,3 +1,3 @@
 pub mod Going
 pub mod Lines
-pub mod Tokens
+pub mod Guests

@@ -1,31 +1,50 @@
 -- What a result says of a call: it is recorded, carried out or refused, or nothing changed.
-use Rattle.std.specs.Prelude.{◌≡◌, ◌≢◌, ℕ, Bool, true, false, Option, Some, None, List, ◌++◌, MatchOption, Result, Ok, Err}
+use Rattle.std.specs.Prelude.{◌≡◌, ℕ, Bool, true, false, Option, Some, None, IsSome, List, ◌++◌, Result, Ok, Err}
 use Rattle.std.specs.Global.{Box}
+use Rattle.freeze_ledger.specs.declared.place.Place.{Place}
+use Rattle.freeze_ledger.specs.Freezes.{entry_of}
 use Rattle.calls.specs.declared.call.Call.{Call}
-use Rattle.calls.specs.declared.call.Call.TheVariants.{Park}
+use Rattle.calls.specs.declared.call.Call.TheVariants.{GuestFreeze, GuestRelease, Park}
 use Rattle.calls.specs.declared.call_answer.CallAnswer.{CallAnswer}
 use Rattle.calls.specs.declared.call_answer.CallAnswer.TheVariants as answers
 use Rattle.calls.specs.declared.record.Record.{Record}
 use Rattle.calls.specs.declared.record.Record.TheVariants.{Called, Advance}
 use Rattle.engine_core.specs.Answers.{stopped_at}
 use Rattle.engine_core.specs.EngineState.{EngineState, Records}
+use Rattle.engine_core.specs.Unrecorded.{guests_of}
 use Rattle.engine_core.specs.RunState.{RunState, StoppedState, before_stop}
 use Rattle.embedding.specs.declared.call_result.CallResult.{CallResult}
-use Rattle.embedding.specs.declared.call_result.CallResult.TheVariants.{Done, NotOut, NotStretched}
+use Rattle.embedding.specs.declared.call_result.CallResult.TheVariants.{Done, OutOfMemory, Refused, NotOut, NoToken, NotStretched}
 use Rattle.embedding.specs.declared.call_result.CallResult.TheVariants as results
 use Rattle.embedding.specs.declared.run_handle.HeldRun.{HeldRun}
 use Rattle.embedding.specs.declared.run_handle.HeldRun.TheVariants.{Out, Stopped, Spent}
 use Rattle.embedding.specs.declared.run_handle.RunHandle.{RunHandle}
-use Rattle.embedding.specs.Results.{refusal_in}
 
--- a call that was not carried out: refused, it is one record more that tells so, and with every other result the engine is as before
+-- a call that was not carried out: refused, it is one record more that tells so, and where memory was refused the engine is as
+-- before; it is told no other result
 abbrev pub IsFaulted : CallResult → EngineState → EngineState → Call → Type 0
-IsFaulted result old new call = MatchOption (refusal_in result) (new ≡ old) (λ refusal. Records old new (Called (answers.Refused refusal) call))
+IsFaulted (Refused refusal) old new call = Records old new (Called (answers.Refused refusal) call)
+IsFaulted OutOfMemory old new call = new ≡ old
+IsFaulted result old new call = ⊥
 
 -- a call with this result: done, it is one record more with this answer
 abbrev pub IsCalled : CallResult → EngineState → EngineState → CallAnswer → Call → Type 0
 IsCalled Done old new answer call = Records old new (Called answer call)
 IsCalled result old new answer call = IsFaulted result old new call
+
+-- a guest's freeze with this result: done, the number that is told is of no freeze that there was
+abbrev pub IsFrozen : CallResult → EngineState → EngineState → ℕ → Place → ℕ → Type 0
+IsFrozen result old new freeze place guest =
+    IsCalled result old new (answers.Freeze freeze) (GuestFreeze place guest)
+    × (result ≡ Done → entry_of freeze old.world.transport.freezes ≡ None)
+
+-- a release with this result: done, it is one record more; there is no token of that number exactly where no guest holds a freeze
+-- of it, and then, or where memory was refused, the engine is as before
+abbrev pub IsReleased : CallResult → EngineState → EngineState → ℕ → ℕ → Type 0
+IsReleased Done old new left freeze = Records old new (Called (answers.Left left) (GuestRelease freeze))
+IsReleased OutOfMemory old new left freeze = (new ≡ old) × IsSome (entry_of freeze (guests_of old.world.transport.freezes))
+IsReleased NoToken old new left freeze = (new ≡ old) × (entry_of freeze (guests_of old.world.transport.freezes) ≡ None)
+IsReleased result old new left freeze = ⊥
 
 -- what the handle of a run that goes out holds
 abbrev pub HoldsRun : RunHandle → RunState → Type 0
@@ -36,12 +55,12 @@ abbrev pub IsCompleted : Result (Option (Box RunHandle)) CallResult → EngineSt
 IsCompleted (Ok None) old new call = Records old new (Called answers.Done call)
 IsCompleted (Ok (Some handle)) old new call =
     Records old new (Called (answers.Started handle.value.number handle.value.freeze) call) × ((run : RunState) × HoldsRun handle.value run)
-IsCompleted (Err result) old new call = (result ≢ Done) × IsFaulted result old new call
+IsCompleted (Err result) old new call = IsFaulted result old new call
 
 -- a resume with this result: the run is in the handle
 abbrev pub IsResumed : Result (Box RunHandle) CallResult → EngineState → EngineState → Call → Type 0
 IsResumed (Ok handle) old new call = Records old new (Called answers.Ok call) × ((run : RunState) × HoldsRun handle.value run)
-IsResumed (Err result) old new call = (result ≢ Done) × IsFaulted result old new call
+IsResumed (Err result) old new call = IsFaulted result old new call
 
 -- what the run at a stop tells, with R0 behind it
 abbrev pub advance_of : StoppedState → ℕ → Record
@@ -52,11 +71,13 @@ abbrev pub GoesOrIsSpent : Bool → StoppedState → HeldRun → Type 0
 GoesOrIsSpent true stopped held = held ≡ Spent
 GoesOrIsSpent false stopped held = (again : RunState) × (held ≡ Out again) × (again.number ≡ stopped.number)
 
--- an advance with this result, of a run at its stop: done, it is one record more, and with every other result the engine is as
--- before, and the run where its stretch began
+-- an advance with this result, of a run at its stop: done, it is one record more; where the run is not out in this engine, or
+-- memory was refused, the engine is as before, and the run where its stretch began
 abbrev pub IsTakenOver : CallResult → StoppedState → HeldRun → EngineState → EngineState → ℕ → Bool → Type 0
 IsTakenOver Done stopped held old new r0 ended = Records old new (advance_of stopped r0) × GoesOrIsSpent ended stopped held
-IsTakenOver result stopped held old new r0 ended = (new ≡ old) × (held ≡ Out (before_stop stopped))
+IsTakenOver OutOfMemory stopped held old new r0 ended = (new ≡ old) × (held ≡ Out (before_stop stopped))
+IsTakenOver NotOut stopped held old new r0 ended = (new ≡ old) × (held ≡ Out (before_stop stopped))
+IsTakenOver result stopped held old new r0 ended = ⊥
 
 -- an advance with this result, of a run that was held so, and how it is held then
 abbrev pub IsAdvanced : CallResult → HeldRun → HeldRun → EngineState → EngineState → ℕ → Bool → Type 0
@@ -68,7 +89,8 @@ IsAdvanced result Spent held old new r0 ended = (result ≡ results.Spent) × (h
 abbrev pub IsParked : CallResult → Option RunState → HeldRun → EngineState → EngineState → Type 0
 IsParked result None held old new = (result ≡ results.Spent) × (held ≡ Spent) × (new ≡ old)
 IsParked Done (Some run) held old new = Records old new (Called answers.Ok (Park run.number)) × (held ≡ Spent)
-IsParked result (Some run) held old new = (result ≡ NotOut) × (held ≡ Out run) × (new ≡ old)
+IsParked NotOut (Some run) held old new = (held ≡ Out run) × (new ≡ old)
+IsParked result (Some run) held old new = ⊥
 
 -- as many records more as there were advances
 pub record GoesOn (old new : EngineState) : Type 0 where

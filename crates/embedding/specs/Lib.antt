@@ -2,4 +2,4 @@ pub mod Results
 pub mod Calls
 pub mod Held
 pub mod Lines
-pub mod Tokens
+pub mod Guests

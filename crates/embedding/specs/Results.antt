@@ -1,5 +1,5 @@
 -- The numbers of results, and which result stands for which fault.
-use Rattle.std.specs.Prelude.{ℕ, Option, Some, None}
+use Rattle.std.specs.Prelude.{ℕ}
 use Rattle.calls.specs.declared.call_refusal.CallRefusal.{CallRefusal}
 use Rattle.calls.specs.declared.call_refusal.CallRefusal.TheVariants as refused
 use Rattle.engine_core.specs.declared.answers.CallFault.{CallFault}
@@ -9,19 +9,22 @@ use Rattle.engine_core.specs.declared.answers.ReleaseFault.TheVariants as releas
 use Rattle.engine_core.specs.declared.answers.AdvanceFault.{AdvanceFault}
 use Rattle.engine_core.specs.declared.answers.AdvanceFault.TheVariants as advance
 use Rattle.embedding.specs.declared.call_result.CallResult.{CallResult}
-use Rattle.embedding.specs.declared.call_result.CallResult.TheVariants.{Done, OutOfMemory, Unknown, Limit, NotActive, GoesBack, Frozen, NoOpening, NothingWaits, ControllerFrozen, NotOut, NotHeld, NoToken, NoCompletion, Spent, NotStretched, NotUtf8, Faulty, NoRoom, NoText, Null, TooLong}
+use Rattle.embedding.specs.declared.call_result.CallResult.TheVariants.{Done, OutOfMemory, Refused, NotOut, NotHeld, NoToken, NoCompletion, Spent, NotStretched, NotUtf8, Faulty, NoRoom, NoText, Null, TooLong}
+
+abbrev pub number_of_refusal : CallRefusal → ℕ
+number_of_refusal refused.Unknown = 2
+number_of_refusal refused.Limit = 3
+number_of_refusal refused.NotActive = 4
+number_of_refusal refused.GoesBack = 5
+number_of_refusal refused.Frozen = 6
+number_of_refusal refused.NoOpening = 7
+number_of_refusal refused.NothingWaits = 8
+number_of_refusal refused.ControllerFrozen = 9
 
 abbrev pub number_of : CallResult → ℕ
 number_of Done = 0
 number_of OutOfMemory = 1
-number_of Unknown = 2
-number_of Limit = 3
-number_of NotActive = 4
-number_of GoesBack = 5
-number_of Frozen = 6
-number_of NoOpening = 7
-number_of NothingWaits = 8
-number_of ControllerFrozen = 9
+number_of (Refused refusal) = number_of_refusal refusal
 number_of NotOut = 10
 number_of NotHeld = 11
 number_of NoToken = 12
@@ -35,31 +38,9 @@ number_of NoText = 19
 number_of Null = 20
 number_of TooLong = 21
 
--- the result that stands for a refusal, and the refusal that a result stands for
-abbrev pub refusal_result : CallRefusal → CallResult
-refusal_result refused.Unknown = Unknown
-refusal_result refused.Limit = Limit
-refusal_result refused.NotActive = NotActive
-refusal_result refused.GoesBack = GoesBack
-refusal_result refused.Frozen = Frozen
-refusal_result refused.NoOpening = NoOpening
-refusal_result refused.NothingWaits = NothingWaits
-refusal_result refused.ControllerFrozen = ControllerFrozen
-
-abbrev pub refusal_in : CallResult → Option CallRefusal
-refusal_in Unknown = Some refused.Unknown
-refusal_in Limit = Some refused.Limit
-refusal_in NotActive = Some refused.NotActive
-refusal_in GoesBack = Some refused.GoesBack
-refusal_in Frozen = Some refused.Frozen
-refusal_in NoOpening = Some refused.NoOpening
-refusal_in NothingWaits = Some refused.NothingWaits
-refusal_in ControllerFrozen = Some refused.ControllerFrozen
-refusal_in result = None
-
 abbrev pub result_of : CallFault → CallResult
 result_of fault.OutOfMemory = OutOfMemory
-result_of (fault.Refused refusal) = refusal_result refusal
+result_of (fault.Refused refusal) = Refused refusal
 
 abbrev pub released_result : ReleaseFault → CallResult
 released_result release.OutOfMemory = OutOfMemory

@@ -2,7 +2,7 @@
 // a call is not carried out.
 
 ghost use Rattle.std.specs.Prelude.{◌≡◌, ◌<◌, ◌≤◌, MatchOption};
-ghost use Rattle.embedding.specs.Results.{number_of, result_of, refusal_result, released_result, advanced_result};
+ghost use Rattle.embedding.specs.Results.{number_of, number_of_refusal, result_of, released_result, advanced_result};
 
 use engine_core::{AdvanceFault, CallFault, CallRefusal, ReleaseFault};
 
@@ -16,25 +16,11 @@ pub enum CallResult {
     Done,
     /// Memory was refused. Nothing changed.
     OutOfMemory,
-    /// C1, recorded: there is no such queue or controller, no such CCB, or no such run that is parked.
-    Unknown,
-    /// C2, recorded: a limit is reached.
-    Limit,
-    /// C3, recorded: the CCB is not active.
-    NotActive,
-    /// C5, recorded: the clock would go back.
-    GoesBack,
-    /// Q2, recorded: the queue is frozen.
-    Frozen,
-    /// Q3, recorded: as many CCBs of the queue are active as it has openings.
-    NoOpening,
-    /// Q4, recorded: no CCB of the queue waits.
-    NothingWaits,
-    /// Q5, recorded: the controller is frozen that the queue is under.
-    ControllerFrozen,
+    /// The call was refused, and that is recorded.
+    Refused(CallRefusal),
     /// C4: the run is not out in this engine. Nothing changed.
     NotOut,
-    /// C6: no guest's freeze is the token's. Nothing changed.
+    /// C6: no guest's freeze is the token's. No handle tells it: where there is no such freeze it keeps no token.
     NotHeld,
     /// No token of that number is held here. Nothing changed.
     NoToken,
@@ -58,13 +44,59 @@ pub enum CallResult {
     TooLong,
 }
 
+// The number of a refusal, as a result.
+fn refusal_number(refusal: CallRefusal) -> u32
+    ensures { result ≡ number_of_refusal refusal }
+{
+    match refusal {
+        CallRefusal::Unknown => 2,
+        CallRefusal::Limit => 3,
+        CallRefusal::NotActive => 4,
+        CallRefusal::GoesBack => 5,
+        CallRefusal::Frozen => 6,
+        CallRefusal::NoOpening => 7,
+        CallRefusal::NothingWaits => 8,
+        CallRefusal::ControllerFrozen => 9,
+    }
+}
+
+// A refusal's text, which begins with its code.
+fn refusal_text(refusal: CallRefusal) -> &'static str {
+    match refusal {
+        CallRefusal::Unknown => "C1: no such queue, controller, CCB or parked run",
+        CallRefusal::Limit => "C2: a limit is reached",
+        CallRefusal::NotActive => "C3: the CCB is not active",
+        CallRefusal::GoesBack => "C5: the clock would go back",
+        CallRefusal::Frozen => "Q2: the queue is frozen",
+        CallRefusal::NoOpening => "Q3: the queue has no opening",
+        CallRefusal::NothingWaits => "Q4: no CCB of the queue waits",
+        CallRefusal::ControllerFrozen => "Q5: the queue's controller is frozen",
+    }
+}
+
 impl CallResult {
     /// Its number, from 0.
     pub fn number(self) -> u32
         ensures number { result ≡ number_of self }
         ensures few { result < RESULTS }
     {
-        self as u32
+        match self {
+            CallResult::Done => 0,
+            CallResult::OutOfMemory => 1,
+            CallResult::Refused(refusal) => refusal_number(refusal),
+            CallResult::NotOut => 10,
+            CallResult::NotHeld => 11,
+            CallResult::NoToken => 12,
+            CallResult::NoCompletion => 13,
+            CallResult::Spent => 14,
+            CallResult::NotStretched => 15,
+            CallResult::NotUtf8 => 16,
+            CallResult::Faulty => 17,
+            CallResult::NoRoom => 18,
+            CallResult::NoText => 19,
+            CallResult::Null => 20,
+            CallResult::TooLong => 21,
+        }
     }
 
     /// The result of that number.
@@ -74,14 +106,14 @@ impl CallResult {
         Some(match number {
             0 => CallResult::Done,
             1 => CallResult::OutOfMemory,
-            2 => CallResult::Unknown,
-            3 => CallResult::Limit,
-            4 => CallResult::NotActive,
-            5 => CallResult::GoesBack,
-            6 => CallResult::Frozen,
-            7 => CallResult::NoOpening,
-            8 => CallResult::NothingWaits,
-            9 => CallResult::ControllerFrozen,
+            2 => CallResult::Refused(CallRefusal::Unknown),
+            3 => CallResult::Refused(CallRefusal::Limit),
+            4 => CallResult::Refused(CallRefusal::NotActive),
+            5 => CallResult::Refused(CallRefusal::GoesBack),
+            6 => CallResult::Refused(CallRefusal::Frozen),
+            7 => CallResult::Refused(CallRefusal::NoOpening),
+            8 => CallResult::Refused(CallRefusal::NothingWaits),
+            9 => CallResult::Refused(CallRefusal::ControllerFrozen),
             10 => CallResult::NotOut,
             11 => CallResult::NotHeld,
             12 => CallResult::NoToken,
@@ -103,14 +135,7 @@ impl CallResult {
         match self {
             CallResult::Done => "done",
             CallResult::OutOfMemory => "memory was refused, and nothing changed",
-            CallResult::Unknown => "C1: no such queue, controller, CCB or parked run",
-            CallResult::Limit => "C2: a limit is reached",
-            CallResult::NotActive => "C3: the CCB is not active",
-            CallResult::GoesBack => "C5: the clock would go back",
-            CallResult::Frozen => "Q2: the queue is frozen",
-            CallResult::NoOpening => "Q3: the queue has no opening",
-            CallResult::NothingWaits => "Q4: no CCB of the queue waits",
-            CallResult::ControllerFrozen => "Q5: the queue's controller is frozen",
+            CallResult::Refused(refusal) => refusal_text(refusal),
             CallResult::NotOut => "C4: the run is not out in this engine",
             CallResult::NotHeld => "C6: no guest's freeze is the token's",
             CallResult::NoToken => "no token of that number is held here",
@@ -132,22 +157,7 @@ impl CallResult {
     {
         match fault {
             CallFault::OutOfMemory => CallResult::OutOfMemory,
-            CallFault::Refused(refusal) => CallResult::refused(refusal),
-        }
-    }
-
-    fn refused(refusal: CallRefusal) -> Self
-        ensures { result ≡ refusal_result refusal }
-    {
-        match refusal {
-            CallRefusal::Unknown => CallResult::Unknown,
-            CallRefusal::Limit => CallResult::Limit,
-            CallRefusal::NotActive => CallResult::NotActive,
-            CallRefusal::GoesBack => CallResult::GoesBack,
-            CallRefusal::Frozen => CallResult::Frozen,
-            CallRefusal::NoOpening => CallResult::NoOpening,
-            CallRefusal::NothingWaits => CallResult::NothingWaits,
-            CallRefusal::ControllerFrozen => CallResult::ControllerFrozen,
+            CallFault::Refused(refusal) => CallResult::Refused(refusal),
         }
     }
 

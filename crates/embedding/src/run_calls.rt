@@ -16,13 +16,13 @@ use std::alloc::Global;
 impl EngineHandle {
     /// Takes a completion of an active CCB. With REQ_CMP the CCB is finished and gone; with any other status a run of the queue's
     /// program starts, which goes out. Its handle's place is made first: where memory for it is refused, the engine is not asked.
+    #[tactic(auto, using(crate::proofs::Guests::stay, crate::proofs::Guests::stay_faulted))]
     pub fn complete(
         &mut self,
         alloc: Global,
         completion: Completion,
     ) -> Result<Option<Box<RunHandle>>, CallResult>
-        ensures recorded { IsCompleted result self.old.engine self.new.engine (Complete completion) }
-        ensures tokens { self.new.tokens ≡ self.old.tokens }
+        ensures recorded { IsCompleted result self.old self.new (Complete completion) }
     {
         let Ok(mut handle) = Box::new(alloc, RunHandle::none()) else {
             return Err(CallResult::OutOfMemory);
@@ -41,13 +41,12 @@ impl EngineHandle {
 
     /// Takes over what a run did up to its next stop, at which it has to be, with R0 behind it. The run goes on, or has ended
     /// and is spent. Where it is not out in this engine it is back where it was.
-    #[tactic(auto, using(crate::proofs::Going::goes_one, crate::proofs::Going::goes_none))]
+    #[tactic(auto, using(crate::proofs::Going::goes_one, crate::proofs::Going::goes_none, crate::proofs::Guests::stay_advanced))]
     pub fn advance(&mut self, run: &mut RunHandle, r0: &mut u64, ended: &mut bool) -> CallResult
-        ensures recorded { IsAdvanced result run.old.held run.new.held self.old.engine self.new.engine r0.new ended.new }
-        ensures goes { GoesOn self.old.engine self.new.engine }
+        ensures recorded { IsAdvanced result run.old.held run.new.held self.old self.new r0.new ended.new }
+        ensures goes { GoesOn self.old self.new }
         ensures ended { result ≡ CallResult.Done → ended.new ≡ true → run.new.held ≡ HeldRun.Spent }
         ensures same { is_same_run run.old run.new }
-        ensures tokens { self.new.tokens ≡ self.old.tokens }
     {
         match run.held.take() {
             HeldRun::Stopped(stopped) => match self.engine.go_on(stopped) {
@@ -79,10 +78,9 @@ impl EngineHandle {
     /// has instructions: where that many were made, it would go on, which is told.
     #[tactic(auto, using(crate::proofs::Going::goes_then, crate::proofs::Going::goes_none))]
     pub fn drive(&mut self, run: &mut RunHandle, r0: &mut u64, ended: &mut bool) -> CallResult
-        ensures recorded { GoesOn self.old.engine self.new.engine }
+        ensures recorded { GoesOn self.old self.new }
         ensures ended { result ≡ CallResult.Done → ended.new ≡ true → run.new.held ≡ HeldRun.Spent }
         ensures same { is_same_run run.old run.new }
-        ensures tokens { self.new.tokens ≡ self.old.tokens }
     {
         *ended = false;
         for _ in 0..u32::MAX {
@@ -100,10 +98,10 @@ impl EngineHandle {
 
     /// Parks a run: it takes no step until it is resumed, and is spent here. What it did since its last stop is forgotten. Where
     /// it is not out in this engine it is back where it was.
+    #[tactic(auto, using(crate::proofs::Guests::stay))]
     pub fn park(&mut self, run: &mut RunHandle) -> CallResult
-        ensures recorded { IsParked result (out_of run.old.held) run.new.held self.old.engine self.new.engine }
+        ensures recorded { IsParked result (out_of run.old.held) run.new.held self.old self.new }
         ensures same { is_same_run run.old run.new }
-        ensures tokens { self.new.tokens ≡ self.old.tokens }
     {
         match run.held.take().out() {
             Some(out) => match self.engine.park(out) {
@@ -118,9 +116,9 @@ impl EngineHandle {
     }
 
     /// Lets a run that is parked go on. Its handle's place is made first: where memory for it is refused, the engine is not asked.
+    #[tactic(auto, using(crate::proofs::Guests::stay, crate::proofs::Guests::stay_faulted))]
     pub fn resume(&mut self, alloc: Global, run: u32) -> Result<Box<RunHandle>, CallResult>
-        ensures recorded { IsResumed result self.old.engine self.new.engine (Resume run) }
-        ensures tokens { self.new.tokens ≡ self.old.tokens }
+        ensures recorded { IsResumed result self.old self.new (Resume run) }
     {
         let Ok(mut handle) = Box::new(alloc, RunHandle::none()) else {
             return Err(CallResult::OutOfMemory);

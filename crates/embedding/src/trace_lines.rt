@@ -3,6 +3,7 @@
 ghost use Rattle.std.specs.Prelude.{◌≡◌, ◌≢◌, ◌+◌, ◌++◌, ◌≤◌, Some, IfSome, IfNone, length, take};
 ghost use Rattle.std.specs.Fmt.{with_newline};
 ghost use Rattle.trace.specs.TraceText.{line_of};
+ghost use Rattle.world.specs.World.{version_of};
 ghost use Rattle.world.specs.TotalsOf.{totals_in};
 ghost use Rattle.embedding.specs.Lines.{AddsLines, PutsLines, PutsSums};
 
@@ -55,13 +56,13 @@ impl EngineHandle {
     /// that of record 0 the first line of a trace. Where a record is left one line more is put, or none finds room.
     pub fn put_lines(&self, from: u64, place: &mut [u8], put: &mut PutLines) -> CallResult
         ensures room { put.new.written ≤ length place.new }
-        ensures lines { PutsLines result self.now.version self.now.engine.history from place.new put.new.written put.new.next }
+        ensures lines { PutsLines result (version_of self.now.setup) self.now.history from place.new put.new.written put.new.next }
     {
         let records = self.engine.records();
         put.written = 0;
         put.next = from;
         if from == 0 {
-            match put_behind(header(self.version).as_bytes(), place, 0) {
+            match put_behind(header(self.engine.version()).as_bytes(), place, 0) {
                 Some(count) => put.written = count,
                 None => return CallResult::NoRoom,
             }
@@ -73,7 +74,7 @@ impl EngineHandle {
     #[tactic(auto, using(crate::proofs::Lines::put_alone))]
     pub fn put_end(&self, place: &mut [u8], put: &mut PutLines) -> CallResult
         ensures room { put.new.written ≤ length place.new }
-        ensures line { PutsSums result (totals_in self.now.engine.history self.now.engine.world) place.new put.new.written }
+        ensures line { PutsSums result (totals_in self.now.history self.now.world) place.new put.new.written }
     {
         put.written = 0;
         let mut line = Text::none();

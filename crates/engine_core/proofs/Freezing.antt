@@ -1,12 +1,11 @@
 -- What a call may rely on that freezes a place: a queue that it names, or its run's controller.
-use Rattle.std.proofs.Common.{◌≡◌, ℕ, ◌<◌, ◌≤◌, List, length, Some, refl, ap, sym, subst, ◌∙◌, arith, ltb-true}
+use Rattle.std.proofs.Common.{◌≡◌, ℕ, ◌<◌, List, length, Some, refl, ap, sym, subst, ◌∙◌, arith, ltb-true}
 use Rattle.std.specs.Prelude.{slice_index_or}
 use Rattle.std.proofs.lemmas.List.{length-map}
 use Rattle.std.proofs.lemmas.List.Elements.{All-get_or}
 use Rattle.freeze_ledger.specs.declared.freeze.Freeze.{Freeze}
 use Rattle.freeze_ledger.specs.declared.place.Place.{Place}
-use Rattle.freeze_ledger.specs.declared.place.Place.TheVariants.{Controller}
-use Rattle.freeze_ledger.specs.Places.{device, index_of, places_of}
+use Rattle.freeze_ledger.specs.Places.{index_of, places_of}
 use Rattle.helpers.specs.declared.limits.HelperSet.{HelperSet}
 use Rattle.helpers.specs.declared.limits.HelperSet.TheVariants.{Controllers, Queues}
 use Rattle.helpers.specs.declared.table.Deed.TheVariants as deeds
@@ -17,7 +16,7 @@ use Rattle.interpreter.specs.Segments.{SegmentState}
 use Rattle.runs.specs.RunsState.{RunsState, tokens_at}
 use Rattle.runs.specs.RunPlaces.{HasRunAt}
 use Rattle.transport.proofs.Placed.{queue_placed, controller_placed}
-use Rattle.world.specs.World.{QueueSetup, Setup, no_queue, queue_count, queue_setup, LiveRun, Transport, World}
+use Rattle.world.specs.World.{QueueSetup, no_queue, queue_count, queue_setup, LiveRun, Transport, World}
 use Rattle.world.specs.Lawful.{AreUnder}
 use Rattle.world.specs.RunSteps.{step_request, takes}
 use Rattle.world.specs.Laws.FreezeLaws.{entries_of}

@@ -170,6 +170,13 @@ impl Engine {
         self.config.programs(alloc)
     }
 
+    /// The vocabulary of its history.
+    pub fn version(&self) -> Version
+        ensures { result ≡ version_of self.now.setup }
+    {
+        Version::of(self.config.helpers())
+    }
+
     /// The records of the calls so far, in their order.
     pub fn records(&self) -> &ChunkedList<Record>
         ensures items { result.now.items ≡ self.now.history }
@@ -208,14 +215,15 @@ impl Engine {
         ensures totals { TotalsOf self.setup self.history result.totals }
         ensures run { IsRun self }
     {
+        let version = self.version();
         let totals = self.totals();
         let Engine {
-            config,
+            config: _,
             parts: _,
             history: records,
         } = self;
         Trace {
-            version: Version::of(config.helpers()),
+            version,
             records,
             totals,
         }

@@ -1,7 +1,8 @@
 // The tokens of guests' freezes, where nobody else keeps them: found by number. It relies on `freeze_ledger` for tokens, and on
 // `numbered_slots` for the search.
 
-ghost use Rattle.std.specs.Prelude.{◌≡◌, Contains, None, IfSome, IfNone};
+ghost use Rattle.std.specs.Prelude.{◌≡◌, ◌<◌, ◌≤◌, Contains, None, IfSome, IfNone, length, vec_capacity};
+ghost use Rattle.std.specs.List.{insert};
 ghost use Rattle.freeze_ledger.specs.Freezes.{entry_of, without};
 ghost use Rattle.engine_core.specs.Unrecorded.{AreTokens};
 
@@ -10,7 +11,7 @@ use numbered_slots::{Numbered, place_for};
 use std::marker::Model;
 
 /// The right of a guest to give a freeze back. Where it is dropped, as with its engine, the freeze is forfeited.
-pub(crate) struct GuestToken(FreezeToken);
+pub struct GuestToken(FreezeToken);
 
 impl Model for GuestToken {
     ghost use Rattle.freeze_ledger.specs.declared.freeze.Freeze.{Freeze};
@@ -36,7 +37,7 @@ impl Numbered for GuestToken {
 }
 
 impl GuestToken {
-    pub(crate) fn new(token: FreezeToken) -> Self
+    pub fn new(token: FreezeToken) -> Self
         ensures { result ≡ token }
     {
         GuestToken(token)
@@ -50,17 +51,30 @@ impl GuestToken {
     }
 }
 
-/// Takes out the token of the freeze of that number; `None`, which changes nothing, exactly where it is not there. It asks for
-/// tokens of rising numbers.
-pub(crate) fn take_token(tokens: &mut Vec<GuestToken>, freeze: u32) -> Option<FreezeToken>
+/// Takes out the token of the freeze of that number, with the place at which it stood; `None`, which changes nothing, exactly
+/// where it is not there. It asks for tokens of rising numbers.
+pub fn take_token(tokens: &mut Vec<GuestToken>, freeze: u32) -> Option<(usize, FreezeToken)>
     requires { AreTokens tokens.old.items }
-    ensures taken { IfSome result (λ token. Contains tokens.old.items token × (token.number ≡ freeze) × (tokens.new.items ≡ without freeze tokens.old.items)) }
+    ensures taken { IfSome result (λ its. Contains tokens.old.items its.1 × (its.1.number ≡ freeze) × (tokens.new.items ≡ without freeze tokens.old.items)) }
+    ensures back { IfSome result (λ its. (its.0 ≤ length tokens.new.items) × (insert tokens.new.items its.0 its.1 ≡ tokens.old.items)) }
+    ensures room { IfSome result (λ _. length tokens.new.items < vec_capacity tokens.new) }
     ensures none { IfNone result ((tokens.new.items ≡ tokens.old.items) × (entry_of freeze tokens.old.items ≡ None)) }
 {
     let place = place_for(tokens, freeze);
     if place < tokens.len() && tokens[place].number() == freeze {
-        Some(tokens.remove(place).into_token())
+        Some((place, tokens.remove(place).into_token()))
     } else {
         None
+    }
+}
+
+/// Puts a token at a place, for which there is room.
+pub fn put_token(tokens: &mut Vec<GuestToken>, place: usize, token: FreezeToken)
+    requires place { place ≤ length tokens.old.items }
+    requires room { length tokens.old.items < vec_capacity tokens.old }
+    ensures { tokens.new.items ≡ insert tokens.old.items place token }
+{
+    if tokens.insert(place, GuestToken::new(token)).is_err() {
+        unreachable!();
     }
 }

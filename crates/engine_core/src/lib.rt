@@ -29,6 +29,7 @@ pub use calls::{Call, CallAnswer, CallRefusal, Record, StoppedAt, Totals, Trace}
 pub use engine::Engine;
 pub use engine_config::Config;
 pub use event::Event;
+pub use guest_tokens::{GuestToken, put_token, take_token};
 pub use reply::{Back, Given, Reply};
 pub use run::Run;
 pub use run_info::RunInfo;

@@ -160,7 +160,7 @@ impl<'a> Unrecorded<'a> {
         ensures answered { Answers self.old (GuestRelease freeze) result self.new }
         ensures setup { self.new.setup ≡ self.old.setup }
     {
-        let token = take_token(&mut self.tokens, freeze)?;
+        let (_, token) = take_token(&mut self.tokens, freeze)?;
         let count = self.parts.transport.guest_release(token);
         Some(CallAnswer::Left(count))
     }

@@ -3,7 +3,6 @@
 ghost use Rattle.std.specs.Prelude.{◌≤◌, length};
 ghost use Rattle.opening.specs.Opened.{Opens};
 
-use calls::Version;
 use embedding::{EngineHandle, put_front};
 use engine_core::Engine;
 use manifest::{ManifestFault, read};
@@ -31,12 +30,11 @@ pub fn open(alloc: Global, text: &[u8]) -> Result<Box<EngineHandle>, OpenFault>
         Err(OrMemory::OutOfMemory) => return Err(OpenFault::OutOfMemory),
         Err(OrMemory::Fault(fault)) => return Err(OpenFault::Manifest(fault)),
     };
-    let version = Version::of(config.helpers());
     let engine = match Engine::open(alloc, config) {
         Ok(engine) => engine,
         Err(_) => return Err(OpenFault::OutOfMemory),
     };
-    match Box::new(alloc, EngineHandle::new(alloc, version, engine)) {
+    match Box::new(alloc, EngineHandle::new(alloc, engine)) {
         Ok(handle) => Ok(handle),
         Err(_) => Err(OpenFault::OutOfMemory),
     }

@@ -1,6 +1,7 @@
 // Tests of what no contract says: what a host sees of a recovery, each result of a call, and the trace's text.
 
 use crate::{OpenFault, open, put_fault};
+use calls::CallRefusal;
 use ccb::{CamStatus, CcbId, Completion, QueueId};
 use embedding::{CallResult, EngineHandle, PutLines, RunHandle};
 use freeze_ledger::Place;
@@ -171,16 +172,31 @@ fn refused(rt: HostRuntime) -> Result<(), Fail> {
     let alloc = rt.alloc();
     let mut engine = opened(alloc)?;
     let mut it = 0;
-    assert_eq!(rt; engine.submit(1, 0, 0, &mut it), CallResult::Unknown);
-    assert_eq!(rt; engine.dispatch(0, &mut it), CallResult::NothingWaits);
-    assert_eq!(rt; engine.clock(1 << 63, &mut it), CallResult::Limit);
+    assert_eq!(rt;
+        engine.submit(1, 0, 0, &mut it),
+        CallResult::Refused(CallRefusal::Unknown)
+    );
+    assert_eq!(rt;
+        engine.dispatch(0, &mut it),
+        CallResult::Refused(CallRefusal::NothingWaits)
+    );
+    assert_eq!(rt;
+        engine.clock(1 << 63, &mut it),
+        CallResult::Refused(CallRefusal::Limit)
+    );
     assert_eq!(rt; engine.clock(9, &mut it), CallResult::Done);
-    assert_eq!(rt; engine.clock(8, &mut it), CallResult::GoesBack);
+    assert_eq!(rt;
+        engine.clock(8, &mut it),
+        CallResult::Refused(CallRefusal::GoesBack)
+    );
     let ccb = start(&rt, &mut engine);
     assert_eq!(rt; engine.submit(0, 0, 0, &mut it), CallResult::Done);
-    assert_eq!(rt; engine.dispatch(0, &mut it), CallResult::NoOpening);
+    assert_eq!(rt;
+        engine.dispatch(0, &mut it),
+        CallResult::Refused(CallRefusal::NoOpening)
+    );
     let early = engine.complete(alloc, completion(it, CamStatus::RequestCompleted)?);
-    assert!(rt; matches!(&early, Err(CallResult::NotActive)));
+    assert!(rt; matches!(&early, Err(CallResult::Refused(CallRefusal::NotActive))));
     let done = engine.complete(alloc, completion(ccb, CamStatus::RequestCompleted)?);
     assert!(rt; matches!(&done, Ok(None)));
     Ok(())
@@ -198,11 +214,17 @@ fn freezes_by_number(rt: HostRuntime) -> Result<(), Fail> {
         CallResult::Done
     );
     assert_eq!(rt; (one, two), (1, 2));
-    assert_eq!(rt; engine.dispatch(0, &mut ccb), CallResult::Frozen);
+    assert_eq!(rt;
+        engine.dispatch(0, &mut ccb),
+        CallResult::Refused(CallRefusal::Frozen)
+    );
     assert_eq!(rt; engine.guest_release(1, &mut left), CallResult::Done);
     assert_eq!(rt; left, 0);
     assert_eq!(rt; engine.guest_release(1, &mut left), CallResult::NoToken);
-    assert_eq!(rt; engine.dispatch(0, &mut ccb), CallResult::ControllerFrozen);
+    assert_eq!(rt;
+        engine.dispatch(0, &mut ccb),
+        CallResult::Refused(CallRefusal::ControllerFrozen)
+    );
     assert_eq!(rt; engine.guest_release(2, &mut left), CallResult::Done);
     assert_eq!(rt; engine.dispatch(0, &mut ccb), CallResult::Done);
     Ok(())
@@ -224,7 +246,12 @@ fn parks(rt: HostRuntime) -> Result<(), Fail> {
     assert_eq!(rt; run.stretch(), CallResult::Done);
     assert_eq!(rt; engine.park(&mut run), CallResult::Done);
     assert_eq!(rt; run.stretch(), CallResult::Spent);
-    assert!(rt; matches!(&engine.resume(alloc, 2), Err(CallResult::Unknown)));
+    assert!(rt;
+        matches!(
+            &engine.resume(alloc, 2),
+            Err(CallResult::Refused(CallRefusal::Unknown))
+        )
+    );
     let Ok(mut again) = engine.resume(alloc, 1) else {
         return Err(Fail::new("it is parked"));
     };

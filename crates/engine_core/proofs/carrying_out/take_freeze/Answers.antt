@@ -1,10 +1,8 @@
-use Rattle.std.proofs.Common.{◌≡◌, ℕ, ◌+◌, ◌<◌, List, [], ◌∷◌, ◌++◌, length, true, false, Some, inl, inr, refl, ap, sym, ◌∙◌, arith, ltb-true}
-use Rattle.std.proofs.lemmas.List.{length-map}
+use Rattle.std.proofs.Common.{◌≡◌, ℕ, ◌+◌, List, [], ◌∷◌, ◌++◌, true, false, Some, inl, inr, refl, ap, sym, ◌∙◌, arith}
 use Rattle.std.proofs.lemmas.Bool.{cond-true, cond-false}
 use Rattle.freeze_ledger.specs.declared.freeze.Holder.TheVariants.{Run}
 use Rattle.freeze_ledger.specs.declared.freeze.Freeze.{Freeze}
 use Rattle.freeze_ledger.specs.Freezes.{meets_limit}
-use Rattle.helpers.specs.declared.table.Deed.TheVariants as deeds
 use Rattle.std.specs.Prelude.{slice_set}
 use Rattle.freeze_ledger.specs.declared.place.Place.{Place}
 use Rattle.helpers.specs.declared.request.Request.{Request}
@@ -18,16 +16,14 @@ use Rattle.world.specs.World.{Transport, LiveRun, World}
 use Rattle.world.specs.Lookups.{with_run}
 use Rattle.world.specs.FreezeSteps.{froze}
 use Rattle.world.specs.RunSteps.{answers}
-use Rattle.world.specs.Laws.FreezeLaws.{entries_of}
 use Rattle.world.proofs.Lists.HeldBy.{none_above}
 use Rattle.world_laws.proofs.Kept.{room_from}
 use Rattle.engine_core.proofs.Recording.{kept_sound}
 use Rattle.world_laws.proofs.Deeds.{FreezesByRow}
-use Rattle.engine_core.specs.TakingOver.{IsCalled, FreezesPlace, freezes_queue, freezes_controller, at_stop, Does}
+use Rattle.engine_core.specs.TakingOver.{IsCalled, FreezesPlace, at_stop, Does}
 use Rattle.engine_core.proofs.Freezing.{freezing, by_row, freezing_step}
-use Rattle.engine_core.proofs.Calls.{is_ruled, is_answer, deed_step, between, held_are, rule}
-use Rattle.engine_core.proofs.Holding.{holds_one_more, same_freezes, tokens_here}
-use Rattle.engine_core.proofs.Recording.{opening_count}
+use Rattle.engine_core.proofs.Calls.{is_answer, between, held_are}
+use Rattle.engine_core.proofs.Holding.{holds_one_more, same_freezes}
 use Rattle.transport.specs.Freezing.{IsTaken, took}
 use Rattle.engine_core.proofs.carrying_out.take_freeze.Goals as goal
 

@@ -5,8 +5,7 @@ use Rattle.embedding.proofs.engine_handle.EngineHandle.drive.Given as goal
 
 abbrev pub invariant-loop : goal.invariant-loop
 invariant-loop l = record {
-  goes : GoesOn l.fn.self.engine l.self.engine;
+  goes : GoesOn l.fn.self l.self;
   goes_on : l.ended ≡ false;
   same : is_same_run l.fn.run l.run;
-  tokens : l.self.tokens ≡ l.fn.self.tokens;
 }

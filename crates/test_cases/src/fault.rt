@@ -12,6 +12,8 @@ pub enum LineFault {
     OutOfMemory,
     /// It is not of the form, or does not belong where it stands.
     Form,
+    /// The case of that line, which ends before, has no words, or no trace for its calls.
+    Case(usize),
 }
 
 /// Why a file of cases is not read.
@@ -22,6 +24,9 @@ pub enum CaseError {
     /// That line is not of the form, or does not belong there.
     #[error("line {0} is not of the form")]
     Line(usize),
+    /// The case of that line has no words, or no trace for its calls.
+    #[error("the case of line {0} has no words, or no trace for its calls")]
+    Case(usize),
 }
 
 impl LineFault {
@@ -30,6 +35,7 @@ impl LineFault {
         match self {
             LineFault::OutOfMemory => CaseError::OutOfMemory,
             LineFault::Form => CaseError::Line(line),
+            LineFault::Case(line) => CaseError::Case(line),
         }
     }
 }

@@ -2,10 +2,12 @@
 // write by hand. It relies on `hexadecimal` for escapes.
 #![tactic(auto)]
 
+mod calls;
 mod case;
 mod draft;
 mod escapes;
 mod fault;
+mod given;
 mod outcome;
 mod reader;
 mod text;

@@ -39,6 +39,15 @@ impl Text {
         }
     }
 
+    /// Adds a shared text; one with a place left in it is refused.
+    pub fn push_text(&mut self, text: &Text) -> Result<(), LineFault> {
+        if text.place.is_some() {
+            return Err(LineFault::Form);
+        }
+        self.bytes.extend_from_slice(&text.bytes)?;
+        Ok(())
+    }
+
     fn push_line(&mut self, line: &str) -> Result<(), LineFault> {
         self.bytes.extend_from_slice(line.as_bytes())?;
         self.end_line()

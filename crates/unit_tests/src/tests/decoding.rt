@@ -1,6 +1,6 @@
-// What no command shows: programs written as bytes again, and want of memory, after which the same call answers.
+// What no command shows: want of memory, after which the same call answers.
 
-use bpf_decode::{decode, encode};
+use bpf_decode::decode;
 use or_memory::OrMemory;
 
 /// `mov64 r0, -1; exit`.
@@ -16,28 +16,4 @@ fn goes_on_after_want_of_memory(rt: HostRuntime) {
         decoded => decoded,
     };
     assert_eq!(rt; decoded.map(|program| program.len()), Ok(2));
-}
-
-/// `lddw r3, 0x1122334455667788; ldxsh r4, [r1-2]; stxdw [r10-8], r3; stb [r10-1], 7; ja +0; ja32 +0; call local -1;
-/// exit`.
-const ROWS: [u8; 72] = [
-    0x18, 0x03, 0x00, 0x00, 0x88, 0x77, 0x66, 0x55, //
-    0x00, 0x00, 0x00, 0x00, 0x44, 0x33, 0x22, 0x11, //
-    0x89, 0x14, 0xfe, 0xff, 0x00, 0x00, 0x00, 0x00, //
-    0x7b, 0x3a, 0xf8, 0xff, 0x00, 0x00, 0x00, 0x00, //
-    0x72, 0x0a, 0xff, 0xff, 0x07, 0x00, 0x00, 0x00, //
-    0x05, 0x00, 0x00, 0x00, 0x00, 0x00, 0x00, 0x00, //
-    0x06, 0x00, 0x00, 0x00, 0x00, 0x00, 0x00, 0x00, //
-    0x85, 0x10, 0x00, 0x00, 0xff, 0xff, 0xff, 0xff, //
-    0x95, 0x00, 0x00, 0x00, 0x00, 0x00, 0x00, 0x00,
-];
-
-#[test]
-fn encodes_what_was_decoded(rt: HostRuntime) {
-    let program = decode(rt.alloc(), &ROWS).expect(&rt, "eight instructions");
-    let bytes = match encode(rt.alloc(), &program) {
-        Ok(bytes) => bytes,
-        Err(_) => encode(rt.alloc(), &program).expect(&rt, "memory"),
-    };
-    assert_eq!(rt; bytes.as_slice(), ROWS.as_slice());
 }

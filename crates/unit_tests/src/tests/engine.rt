@@ -4,11 +4,10 @@
 use super::policies::{limits_of, policy};
 use accepted::Accepted;
 use bpf_insn::{Insn, Program};
-use calls::{Call, CallAnswer};
 use ccb::QueueId;
 use chunked_list::ChunkedList;
 use engine_core::{CallFault, Config, Engine, Record, ReleaseFault, Totals, Trace};
-use freeze_ledger::{FreezeToken, Place};
+use freeze_ledger::FreezeToken;
 use or_memory::OrMemory;
 use std::alloc::{AllocError, Global};
 use std::process::Abort;
@@ -157,11 +156,6 @@ pub fn release(
     }
 }
 
-fn freeze_and_release(rt: &impl Abort, engine: &mut Engine) -> Result<u32, Fail> {
-    let token = freeze(rt, engine, QUEUE)?;
-    Ok(release(rt, engine, token)?)
-}
-
 // Whether these are the records, by all that they tell.
 pub fn are_told(
     alloc: Global,
@@ -180,34 +174,6 @@ fn are_same(
     wanted: &[Record],
 ) -> Result<bool, AllocError> {
     Ok(*format!(in alloc; "{records:?}")? == *format!(in alloc; "{wanted:?}")?)
-}
-
-#[test]
-fn memory_refused_once(rt: HostRuntime) -> Result<(), Fail> {
-    let mut engine = open(&rt, rt.alloc(), one_queue(rt.alloc())?)?;
-    let count = freeze_and_release(&rt, &mut engine);
-    let trace = shut(engine);
-    assert_eq!(rt; count?, 0);
-    let frozen = Record::Called {
-        call: Call::GuestFreeze {
-            place: Place::Device(QUEUE),
-            guest: 7,
-        },
-        answer: CallAnswer::Freeze(1),
-    };
-    let released = Record::Called {
-        call: Call::GuestRelease { freeze: 1 },
-        answer: CallAnswer::Left(0),
-    };
-    assert!(rt; are_told(rt.alloc(), &trace.records, &[frozen, released])?);
-    let sums = Totals {
-        history: 2,
-        frozen: 0,
-        active: 0,
-        runs: 0,
-    };
-    assert_eq!(rt; trace.totals, sums);
-    Ok(())
 }
 
 // C6 is no record, and the token comes back to where it belongs.

@@ -2,7 +2,7 @@
 
 use bpf_insn::{AluOp, Callee, Condition, Insn, LoadForm, Operand, Reg, StoreSize, Width};
 use helpers::{HelperLimits, HelperSet, TableLengths};
-use std::alloc::{AllocError, Global};
+use std::alloc::Global;
 
 pub const fn mov(dst: Reg, src: Operand) -> Insn {
     Insn::Alu {
@@ -124,34 +124,6 @@ pub const fn spilling_policy() -> [Insn; 16] {
         mov(Reg::R0, Operand::Immediate(0)),
         Insn::Exit,
     ]
-}
-
-/// The freeze of the run's start is spilled, and for each of these offsets queue 0 is frozen and that freeze is spilled there. Then all
-/// are given back, as far as there are any, and the CCB waits again.
-pub fn holding_policy(alloc: Global, offsets: &[i16]) -> Result<Vec<Insn>, AllocError> {
-    let mut insns = Vec::new(alloc);
-    insns.push(spill(Reg::R2, -8))?;
-    for offset in offsets {
-        insns.push(mov(Reg::R1, Operand::Immediate(0)))?;
-        insns.push(Insn::Call(Callee::Helper(1)))?;
-        insns.push(spill(Reg::R0, *offset))?;
-    }
-    give_back(&mut insns, -8)?;
-    for offset in offsets {
-        give_back(&mut insns, *offset)?;
-    }
-    for insn in &policy()[3..] {
-        insns.push(*insn)?;
-    }
-    Ok(insns)
-}
-
-// The freeze that is spilled there is given back, if it is one.
-fn give_back(insns: &mut Vec<Insn>, offset: i16) -> Result<(), AllocError> {
-    insns.push(load_spilled(Reg::R1, offset))?;
-    insns.push(jeq(Reg::R1, Operand::Immediate(0), 1))?;
-    insns.push(Insn::Call(Callee::Helper(2)))?;
-    Ok(())
 }
 
 /// One queue and no table.

@@ -310,29 +310,6 @@ fn traced(alloc: Global, bytes: ShortBytes) -> Result<TracedBytes, AllocError> {
     }
 }
 
-#[test]
-fn failed_once_and_memory_refused_once(rt: HostRuntime) -> Result<(), Fail> {
-    let mut engine = open(&rt, rt.alloc(), one_queue(rt.alloc())?)?;
-    let failed = completion(1, CamStatus::CommandTimeout)?;
-    let outcome = recover_once(&rt, &mut engine, failed);
-    let trace = shut(engine);
-    outcome?;
-    let records = [
-        submitted(),
-        dispatched(),
-        recovering(completed(rt.alloc(), &failed)?),
-        advanced(3, StoppedAt::Helper(Helper::Release)),
-        advanced(2, StoppedAt::Helper(Helper::Requeue)),
-        advanced(2, StoppedAt::Exit),
-    ];
-    assert!(rt; are_told(rt.alloc(), &trace.records, &records)?);
-    assert_eq!(rt;
-        (trace.totals.frozen, trace.totals.active, trace.totals.runs),
-        (0, 0, 0)
-    );
-    Ok(())
-}
-
 // C4 is no record, and the run comes back to where it is out.
 fn presented_elsewhere(
     rt: &impl Abort,

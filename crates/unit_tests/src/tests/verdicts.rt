@@ -9,7 +9,7 @@ use verifier::{Cause, Refusal, verify};
 
 // The verdict on a program of these instructions, as its budget and how many checks it took. With any one allocation
 // refused, the first call or the second answers.
-pub fn verdict(
+fn verdict(
     alloc: Global,
     insns: &[Insn],
 ) -> Result<Option<Result<(u32, u32), Refusal>>, AllocError> {

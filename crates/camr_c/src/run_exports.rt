@@ -1,10 +1,8 @@
 // The calls that start runs, take them further, park and resume them. It relies on `embedding` for each.
 
-ghost use Rattle.std.specs.Prelude.{◌≡◌, ◌<◌, IsSome, None, Option, true};
+ghost use Rattle.std.specs.Prelude.{◌≡◌, ◌<◌, IsSome, None, Option};
 ghost use Rattle.ccb.specs.Completion.{Outcome};
-ghost use Rattle.embedding.specs.declared.call_result.CallResult.TheVariants.{Done};
-ghost use Rattle.embedding.specs.declared.run_handle.HeldRun.TheVariants as runs;
-ghost use Rattle.embedding.specs.Calls.{IsAdvanced, IsParked, GoesOn};
+ghost use Rattle.embedding.specs.Calls.{IsAdvanced, IsDriven, IsParked};
 ghost use Rattle.embedding.specs.Held.{is_same_run, out_of, IsStretched};
 ghost use Rattle.camr_c.specs.Exports.{Did, Turns, Stays, CalledWith, IsReported, Completed, Resumed};
 
@@ -92,7 +90,7 @@ pub extern "C" fn camr_raw_drive(
     requires engine { IsSome engine.old.held }
     requires run { IsSome run.old.held }
     ensures did { CalledWith result engine.old engine.new run.old run.new (λ its before after was is.
-        GoesOn before after × (its ≡ Done → ended.new ≡ true → is ≡ runs.Spent)) }
+        IsDriven its was is before after r0.new ended.new) }
     ensures few { result < 22 }
 {
     engine.held().drive(run.held(), r0, ended).number()

@@ -1,3 +1,4 @@
+pub mod Driving
 pub mod Going
 pub mod Lines
 pub mod Guests

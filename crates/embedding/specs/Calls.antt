@@ -1,5 +1,5 @@
 -- What a result says of a call: it is recorded, carried out or refused, or nothing changed.
-use Rattle.std.specs.Prelude.{◌≡◌, ℕ, Bool, true, false, Option, Some, None, IsSome, List, ◌++◌, Result, Ok, Err}
+use Rattle.std.specs.Prelude.{◌≡◌, ℕ, Bool, true, false, Option, Some, None, IsSome, List, [], ◌∷◌, ◌++◌, ◌⊎◌, length, Result, Ok, Err}
 use Rattle.std.specs.Global.{Box}
 use Rattle.freeze_ledger.specs.declared.place.Place.{Place}
 use Rattle.freeze_ledger.specs.Freezes.{entry_of}
@@ -19,6 +19,7 @@ use Rattle.embedding.specs.declared.call_result.CallResult.TheVariants as result
 use Rattle.embedding.specs.declared.run_handle.HeldRun.{HeldRun}
 use Rattle.embedding.specs.declared.run_handle.HeldRun.TheVariants.{Out, Stopped, Spent}
 use Rattle.embedding.specs.declared.run_handle.RunHandle.{RunHandle}
+use Rattle.embedding.specs.Held.{IsStretched}
 
 -- a call that was not carried out: refused, it is one record more that tells so, and where memory was refused the engine is as
 -- before; it is told no other result
@@ -97,3 +98,34 @@ pub record GoesOn (old new : EngineState) : Type 0 where
   pub more : List Record
   pub history : new.history ≡ old.history ++ more
   pub setup : new.setup ≡ old.setup
+
+-- ---- a run that is driven
+
+-- one turn: the run is stretched to its next stop, taken over there, and goes on
+abbrev pub IsTurn : HeldRun → EngineState → HeldRun → EngineState → Type 0
+IsTurn was before held after = (stopped : HeldRun) × (r0 : ℕ) × IsStretched Done was stopped × IsAdvanced Done stopped held before after r0 false
+
+-- turns, by where each but the first began, the last of them first
+abbrev pub AreTurns : HeldRun → EngineState → List (HeldRun × EngineState) → HeldRun → EngineState → Type 0
+AreTurns was before [] held after = (held ≡ was) × (after ≡ before)
+AreTurns was before (between ∷ rest) held after = AreTurns was before rest between.0 between.1 × IsTurn between.0 between.1 held after
+
+-- what comes last: an advance with this result, after which the run has ended or which is not carried out
+abbrev pub IsLastAdvance : CallResult → HeldRun → HeldRun → EngineState → EngineState → ℕ → Bool → Type 0
+IsLastAdvance result was held before after r0 ended =
+    (stopped : HeldRun) × IsStretched Done was stopped × IsAdvanced result stopped held before after r0 ended × (result ≡ Done → ended ≡ true)
+
+-- or a run that is spent is told so, or as many turns were made as may be
+abbrev pub IsLast : CallResult → ℕ → HeldRun → HeldRun → EngineState → EngineState → ℕ → Bool → Type 0
+IsLast result turns was held before after r0 ended =
+    IsLastAdvance result was held before after r0 ended
+    ⊎ ((result ≡ results.Spent) × (was ≡ Spent) × (held ≡ Spent) × (after ≡ before))
+    ⊎ ((result ≡ Done) × (ended ≡ false) × (held ≡ was) × (after ≡ before) × (turns ≡ 4294967295))
+
+-- a drive with this result: turns, and what comes last
+pub record IsDriven (result : CallResult) (was held : HeldRun) (before after : EngineState) (r0 : ℕ) (ended : Bool) : Type 0 where
+  pub turns : List (HeldRun × EngineState)
+  pub run : HeldRun
+  pub engine : EngineState
+  pub are_turns : AreTurns was before turns run engine
+  pub last : IsLast result (length turns) run held engine after r0 ended

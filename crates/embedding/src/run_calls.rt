@@ -3,7 +3,7 @@
 
 ghost use Rattle.std.specs.Prelude.{◌≡◌, true};
 ghost use Rattle.calls.specs.declared.call.Call.TheVariants.{Complete, Resume};
-ghost use Rattle.embedding.specs.Calls.{IsAdvanced, IsCompleted, IsParked, IsResumed, GoesOn};
+ghost use Rattle.embedding.specs.Calls.{IsAdvanced, IsCompleted, IsDriven, IsParked, IsResumed, GoesOn};
 ghost use Rattle.embedding.specs.Held.{is_same_run, out_of};
 
 use crate::call_result::CallResult;
@@ -76,14 +76,15 @@ impl EngineHandle {
 
     /// Takes a run from stop to stop until it has ended, with R0 at its exit. A run has no more stops than its program's budget
     /// has instructions: where that many were made, it would go on, which is told.
-    #[tactic(auto, using(crate::proofs::Going::goes_then, crate::proofs::Going::goes_none))]
+    #[tactic(auto, using(crate::proofs::Going::goes_then, crate::proofs::Going::goes_none, crate::proofs::Driving::ends_spent, crate::proofs::Driving::ends_last, crate::proofs::Driving::ends_open))]
     pub fn drive(&mut self, run: &mut RunHandle, r0: &mut u64, ended: &mut bool) -> CallResult
         ensures recorded { GoesOn self.old self.new }
+        ensures driven { IsDriven result run.old.held run.new.held self.old self.new r0.new ended.new }
         ensures ended { result ≡ CallResult.Done → ended.new ≡ true → run.new.held ≡ HeldRun.Spent }
         ensures same { is_same_run run.old run.new }
     {
         *ended = false;
-        for _ in 0..u32::MAX {
+        for turn in 0..u32::MAX {
             let stretched = run.stretch();
             if stretched != CallResult::Done {
                 return stretched;

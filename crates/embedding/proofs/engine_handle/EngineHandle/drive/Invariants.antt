@@ -1,11 +1,14 @@
-use Rattle.std.proofs.Common.{◌≡◌, false}
-use Rattle.embedding.specs.Calls.{GoesOn}
+use Rattle.std.proofs.Common.{◌≡◌, false, List, length}
+use Rattle.engine_core.specs.EngineState.{EngineState}
+use Rattle.embedding.specs.declared.run_handle.HeldRun.{HeldRun}
+use Rattle.embedding.specs.Calls.{AreTurns, GoesOn}
 use Rattle.embedding.specs.Held.{is_same_run}
 use Rattle.embedding.proofs.engine_handle.EngineHandle.drive.Given as goal
 
-abbrev pub invariant-loop : goal.invariant-loop
-invariant-loop l = record {
+abbrev pub invariant-loop-turn : goal.invariant-loop-turn
+invariant-loop-turn l = record {
   goes : GoesOn l.fn.self l.self;
   goes_on : l.ended ≡ false;
   same : is_same_run l.fn.run l.run;
+  turns : (steps : List (HeldRun × EngineState)) × (length steps ≡ l.turn) × AreTurns l.fn.run.held l.fn.self steps l.run.held l.self;
 }

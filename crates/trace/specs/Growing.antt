@@ -2,6 +2,7 @@
 use Rattle.std.specs.Prelude.{◌≡◌, ℕ, Option, Some, List, ◌++◌, Result, Ok, Err}
 use Rattle.std.specs.Io.KnownBytes.{Appends}
 use Rattle.calls.specs.declared.trace.Version.{Version}
+use Rattle.trace.specs.Sinks.{HasFailed}
 
 -- the version, of how many records the lines were printed, and the bytes that were not yet handed on
 pub record GrowingState : Type 0 where
@@ -28,3 +29,8 @@ pub record IsFront (text : List ℕ) (old new : Option (List ℕ)) : Type 0 wher
 abbrev pub GoesOn : {T E : Type 0} → Option (List ℕ) → List ℕ → Option (List ℕ) → Result T E → List ℕ → Option (List ℕ) → Type 0
 GoesOn text before old (Ok done) waiting new = Goes text before old waiting new
 GoesOn text before old (Err fault) waiting new = (more : List ℕ) → text ≡ Some more → IsFront (before ++ more) old new
+
+-- an error is told where a write of the sink failed, and only there
+abbrev pub FailsBySink : {T E : Type 0} → ℕ → Result T E → ℕ → Type 0
+FailsBySink failed (Ok done) fails = fails ≡ failed
+FailsBySink failed (Err fault) fails = HasFailed failed fails

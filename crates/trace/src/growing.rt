@@ -4,7 +4,7 @@
 ghost use Rattle.std.specs.Prelude.{◌≡◌, ◌+◌, ◌≤◌, [], Some, drop, length, OnOk};
 ghost use Rattle.call_lines.specs.Written.{IsPut};
 ghost use Rattle.trace.specs.HasText.{AllHaveText, HasText};
-ghost use Rattle.trace.specs.Growing.{GoesOn};
+ghost use Rattle.trace.specs.Growing.{FailsBySink, GoesOn};
 ghost use Rattle.trace.specs.TraceText.{header, record_text, records_text, totals_text};
 
 use crate::fitting::fits;
@@ -66,6 +66,7 @@ impl Growing {
         requires begun { self.old.printed ≤ length records.now.items }
         requires spelled { AllHaveText self.old.version records.now.items }
         ensures text { GoesOn (records_text self.old.version (drop self.old.printed records.now.items)) self.old.waiting (S.bytes out.old) result self.new.waiting (S.bytes out.new) }
+        ensures failures { FailsBySink (S.failures out.old) result (S.failures out.new) }
         ensures version { self.new.version ≡ self.old.version }
         ensures printed { OnOk result (self.new.printed ≡ length records.now.items) }
     {
@@ -81,6 +82,7 @@ impl Growing {
     fn print_next<S: Sink>(&mut self, entry: &Record, out: &mut S) -> Result<(), WriteFailed>
         requires { HasText self.old.version entry.now }
         ensures text { GoesOn (record_text self.old.version entry.now) self.old.waiting (S.bytes out.old) result self.new.waiting (S.bytes out.new) }
+        ensures failures { FailsBySink (S.failures out.old) result (S.failures out.new) }
         ensures version { self.new.version ≡ self.old.version }
     {
         self.make_room(out)?;
@@ -110,6 +112,7 @@ impl Growing {
     // Hands on what waits, where a line more might find no room.
     fn make_room<S: Sink>(&mut self, out: &mut S) -> Result<(), WriteFailed>
         ensures text { GoesOn (Some []) self.old.waiting (S.bytes out.old) result self.new.waiting (S.bytes out.new) }
+        ensures failures { FailsBySink (S.failures out.old) result (S.failures out.new) }
         ensures room { OnOk result (length self.new.waiting + RECORD ≤ ROOM) }
         ensures version { self.new.version ≡ self.old.version }
     {
@@ -123,6 +126,7 @@ impl Growing {
     /// Hands on what waits.
     pub fn hand_on<S: Sink>(&mut self, out: &mut S) -> Result<(), WriteFailed>
         ensures text { GoesOn (Some []) self.old.waiting (S.bytes out.old) result self.new.waiting (S.bytes out.new) }
+        ensures failures { FailsBySink (S.failures out.old) result (S.failures out.new) }
         ensures all { OnOk result (self.new.waiting ≡ []) }
         ensures version { self.new.version ≡ self.old.version }
         ensures printed { self.new.printed ≡ self.old.printed }
@@ -137,6 +141,7 @@ impl Growing {
     /// Prints the last line, and hands all on.
     pub fn end<S: Sink>(&mut self, totals: Totals, out: &mut S) -> Result<(), WriteFailed>
         ensures text { GoesOn (totals_text totals) self.old.waiting (S.bytes out.old) result self.new.waiting (S.bytes out.new) }
+        ensures failures { FailsBySink (S.failures out.old) result (S.failures out.new) }
         ensures all { OnOk result (self.new.waiting ≡ []) }
     {
         self.make_room(out)?;

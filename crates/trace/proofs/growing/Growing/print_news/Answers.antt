@@ -5,6 +5,7 @@ use Rattle.calls.specs.declared.record.Record.{Record}
 use Rattle.calls.specs.declared.trace.Version.{Version}
 use Rattle.trace.specs.Growing.{Goes}
 use Rattle.trace.specs.HasText.{HasText}
+use Rattle.trace.specs.Sinks.{HasFailed}
 use Rattle.trace.specs.TraceText.{record_text, records_text}
 use Rattle.trace.proofs.Grown.{Fronts, all_gone, news_there, no_news, one_more_fails, one_more_goes}
 use Rattle.trace.proofs.Spelled.{has_there}
@@ -14,6 +15,7 @@ pub loop-number-init : goal.loop-number-init
 loop-number-init g c = record {
   so_far = no_news c.args.self.now.version (drop c.args.self.now.printed c.args.records.now.items) _ _;
   version = refl;
+  none = refl;
 }
 
 pub loop-number-preserved : goal.loop-number-preserved
@@ -25,6 +27,7 @@ loop-number-preserved g c =
       so_far = one_more_goes c.args.self.now.version (drop c.args.self.now.printed c.args.records.now.items) c.loop-number.number entry _ _ _ _ _ _ there.0 there.1 c.loop-number.invariant.so_far
           (subst (λ (v : Version). Goes (record_text v entry) c.loop-number.self.waiting (g.S.Sink.bytes c.loop-number.out) c.print_next.new.self.waiting (g.S.Sink.bytes c.print_next.new.out)) c.loop-number.invariant.version c.in_ok-print_next.ensures.text);
       version = c.in_ok-print_next.ensures.version ∙ c.loop-number.invariant.version;
+      none = c.in_ok-print_next.ensures.failures ∙ c.loop-number.invariant.none;
     }
 
 pub print_next-requires : goal.print_next-requires
@@ -51,3 +54,8 @@ returns-clause-text g c =
     let many : c.loop-number.number ≡ length news = omega (arith, length-drop c.args.self.now.printed c.args.records.now.items) in
     subst (λ (waiting : List ℕ). Goes (records_text c.args.self.now.version news) c.args.self.now.waiting (g.S.Sink.bytes c.args.out.now) waiting (g.S.Sink.bytes c.loop-number.out)) waits
     (all_gone c.args.self.now.version news c.loop-number.number _ _ _ _ many c.loop-number.invariant.so_far)
+
+pub returns-in_err-print_next-clause-failures : goal.returns-in_err-print_next-clause-failures
+returns-in_err-print_next-clause-failures g c =
+    let p = err_from_is_err_and c.from_residual.result c.from_residual.ensures.1 in
+    rw p.1 (subst (λ (failed : ℕ). HasFailed failed (g.S.Sink.failures c.print_next.new.out)) c.loop-number.invariant.none c.in_err-print_next.ensures.failures)

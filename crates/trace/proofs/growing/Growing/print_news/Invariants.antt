@@ -8,4 +8,5 @@ abbrev pub invariant-loop-number : goal.invariant-loop-number
 invariant-loop-number g l = record {
   so_far : Goes (records_text l.fn.self.version (take l.number (drop l.fn.self.printed l.records.items))) l.fn.self.waiting (g.S.Sink.bytes l.fn.out) l.self.waiting (g.S.Sink.bytes l.out);
   version : l.self.version ≡ l.fn.self.version;
+  none : g.S.Sink.failures l.out ≡ g.S.Sink.failures l.fn.out;
 }

@@ -1,6 +1,7 @@
 // A path as long as a program's budget. It relies on `budget_path` for lengths, and on `static_path` for that it is one.
 
-ghost use Rattle.std.specs.Prelude.{IfOk, IfSome};
+ghost use Rattle.std.specs.Prelude.{◌≤◌, ℕ, length, IfOk, IfSome};
+ghost use Rattle.call_shape.specs.StaticPath.{StaticPath, outermost};
 ghost use Rattle.checked_path.specs.Passes.{IsPath};
 
 use crate::static_path::is_static_path;
@@ -10,13 +11,19 @@ use call_shape::{MAX_WRITTEN_OUT, Onward, Shape};
 use std::alloc::{AllocError, Global};
 
 /// The slots of a longest path through a program of lawful shape, from slot 0 to the exit. `None` where what was found is no
-/// static path.
+/// such path.
 pub fn longest_path(alloc: Global, shape: &Shape<'_>) -> Result<Option<Vec<usize>>, AllocError>
-    ensures { IfOk result (λ found. IfSome found (λ slots. IsPath shape.now slots.items)) }
+    ensures path { IfOk result (λ found. IfSome found (λ slots. IsPath shape.now slots.items)) }
+    // Some path to the exit is so long, and none is longer.
+    ensures exit { IfOk result (λ found. IfSome found (λ slots. StaticPath shape.now (outermost 0) (length slots.items))) }
+    ensures longest { IfOk result (λ found. IfSome found (λ slots. (n : ℕ) → StaticPath shape.now (outermost 0) n → n ≤ length slots.items)) }
 {
     let program = shape.program();
     let lengths = lengths(alloc, shape)?;
     let slots = followed(alloc, program, &lengths)?;
+    if slots.len() != lengths[0] as usize {
+        return Ok(None);
+    }
     if is_static_path(alloc, program, &slots)? {
         Ok(Some(slots))
     } else {

@@ -1,8 +1,11 @@
 // Who is shown a pass and keeps what it saw. It relies on `verifier` for what is shown, and on `description` for what is known.
 
+ghost use Rattle.std.specs.Prelude.{◌≡◌, [], false};
+
 use crate::registers::Registers;
 use description::Description;
 use std::alloc::{AllocError, Global};
+use std::marker::Model;
 use verifier::Witness;
 
 /// A check that was made, or the one that failed.
@@ -38,39 +41,56 @@ pub struct Open {
     pub known: Description,
 }
 
-/// All that was shown of a pass, in its order: the number of a check is its place.
+/// All that was shown of a pass, in its order: the number of a check is its place. Contracts see the checks, the open ways, and whether
+/// memory was refused.
 #[derive(Drop)]
 pub struct Log {
     sightings: Vec<Sighting>,
     arrivals: Vec<Arrival>,
-    open: Vec<Open>,
+    ways: Vec<Open>,
     lacks_memory: bool,
+}
+
+impl Model for Log {
+    ghost use Rattle.checked_path.specs.Logs.{LogState};
+
+    ghost Value = { LogState };
+
+    ghost view = { λ log. record { sightings = log.sightings.items; ways = log.ways.items; lacks_memory = log.lacks_memory } };
 }
 
 impl Log {
     /// Nothing yet.
-    pub fn new(alloc: Global) -> Self {
+    pub fn new(alloc: Global) -> Self
+        ensures { result ≡ record { sightings = []; ways = []; lacks_memory = false } }
+    {
         Log {
             sightings: Vec::new(alloc),
             arrivals: Vec::new(alloc),
-            open: Vec::new(alloc),
+            ways: Vec::new(alloc),
             lacks_memory: false,
         }
     }
 
     /// Whether memory was refused, so that the rest was not kept.
-    pub fn lacks_memory(&self) -> bool {
+    pub fn lacks_memory(&self) -> bool
+        ensures { result ≡ self.now.lacks_memory }
+    {
         self.lacks_memory
     }
 
     /// The checks, in their order.
-    pub fn sightings(&self) -> &[Sighting] {
+    pub fn sightings(&self) -> &[Sighting]
+        ensures { result.now ≡ self.now.sightings }
+    {
         self.sightings.as_slice()
     }
 
     /// The ways that lead to checks that were not made: behind a check that failed all that stood open.
-    pub fn open(&self) -> &[Open] {
-        self.open.as_slice()
+    pub fn open(&self) -> &[Open]
+        ensures { result.now ≡ self.now.ways }
+    {
+        self.ways.as_slice()
     }
 
     // The ways by which control comes to the check of that number.
@@ -110,12 +130,12 @@ impl Log {
     // The ways that stand open and lead to that check come there.
     fn arrive(&mut self, slot: usize, depth: usize, known: &Description) -> Result<(), AllocError> {
         let mut place = 0usize;
-        for _way in 0..self.open.len() {
-            if place >= self.open.len() {
+        for _way in 0..self.ways.len() {
+            if place >= self.ways.len() {
                 return Ok(());
             }
-            if self.open[place].slot == slot && self.open[place].depth == depth {
-                let way = self.open.swap_remove(place);
+            if self.ways[place].slot == slot && self.ways[place].depth == depth {
+                let way = self.ways.swap_remove(place);
                 let alike = Registers::alike(&way.known, known);
                 let stack_alike = way.known.stack == known.stack;
                 self.arrivals.push(Arrival {
@@ -139,7 +159,7 @@ impl Log {
         known: &Description,
     ) -> Result<(), AllocError> {
         let known = known.try_copy()?;
-        self.open.push(Open {
+        self.ways.push(Open {
             slot,
             depth,
             from: number as usize,

@@ -1,7 +1,8 @@
 // A path by which control comes to a check, of those that were shown: back from the check, each time by the way that says most of
 // what is known there of the registers that matter. It relies on `log`, and on `static_path` for that it is one.
 
-ghost use Rattle.std.specs.Prelude.{IfOk, IfSome};
+ghost use Rattle.std.specs.Prelude.{◌≡◌, map, IfOk, IfSome};
+ghost use Rattle.checked_path.specs.Logs.{EndsAt, slot_at};
 ghost use Rattle.checked_path.specs.Passes.{IsPath};
 
 use crate::log::{Arrival, Log};
@@ -26,7 +27,9 @@ pub fn path_to(
     number: usize,
     matter: Registers,
 ) -> Result<Option<Path>, AllocError>
-    ensures { IfOk result (λ found. IfSome found (λ path. IsPath program.now path.slots.items)) }
+    ensures path { IfOk result (λ found. IfSome found (λ path. IsPath program.now path.slots.items)) }
+    ensures last { IfOk result (λ found. IfSome found (λ path. EndsAt number path.checks.items)) }
+    ensures slots { IfOk result (λ found. IfSome found (λ path. path.slots.items ≡ map (slot_at log.now.sightings) path.checks.items)) }
 {
     let checks = checks_to(alloc, program, log, number, matter)?;
     let slots = slots_of(alloc, log, &checks)?;
@@ -44,17 +47,20 @@ fn checks_to(
     log: &Log,
     number: usize,
     matter: Registers,
-) -> Result<Vec<usize>, AllocError> {
+) -> Result<Vec<usize>, AllocError>
+    ensures { IfOk result (λ checks. EndsAt number checks.items) }
+{
     let mut checks = Vec::new(alloc);
+    checks.push(number)?;
     let mut matter = matter;
     let mut at = number;
-    for _check in 0..=number {
-        checks.push(at)?;
+    for _check in 0..number {
         let Some(before) = before(log, at, matter) else {
             break;
         };
         at = before;
         matter = mattering(program, log, at, matter);
+        checks.push(at)?;
     }
     checks.reverse();
     Ok(checks)
@@ -106,13 +112,22 @@ fn mattering(program: &Program, log: &Log, at: usize, matter: Registers) -> Regi
 }
 
 // The slots of these checks.
-fn slots_of(alloc: Global, log: &Log, checks: &[usize]) -> Result<Vec<usize>, AllocError> {
+fn slots_of(alloc: Global, log: &Log, checks: &[usize]) -> Result<Vec<usize>, AllocError>
+    ensures { IfOk result (λ slots. slots.items ≡ map (slot_at log.now.sightings) checks.now) }
+{
     let mut slots = Vec::with_capacity(alloc, checks.len())?;
     for check in checks {
-        match log.sightings().get(*check) {
-            Some(sighting) => slots.push(sighting.slot)?,
-            None => slots.push(usize::MAX)?,
-        }
+        slots.push(slot_at(log, *check))?;
     }
     Ok(slots)
+}
+
+// The slot of the check of that number, or the greatest number.
+fn slot_at(log: &Log, check: usize) -> usize
+    ensures { result ≡ slot_at log.now.sightings check }
+{
+    match log.sightings().get(check) {
+        Some(sighting) => sighting.slot,
+        None => usize::MAX,
+    }
 }

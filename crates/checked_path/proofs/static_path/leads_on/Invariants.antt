@@ -1,4 +1,4 @@
-use Rattle.std.proofs.Common.{ℕ, ◌∷◌, take}
+use Rattle.std.proofs.Common.{◌∷◌, take}
 use Rattle.checked_path.specs.Passes.{Passes, standing}
 use Rattle.checked_path.proofs.static_path.leads_on.Given as goal
 

@@ -104,7 +104,8 @@ impl Growing {
     // So does the last line.
     fn put_totals(&mut self, totals: Totals)
         requires { length self.old.waiting + RECORD ≤ ROOM }
-        ensures { IsPut (totals_text totals) self.old.waiting self.new.waiting }
+        ensures text { IsPut (totals_text totals) self.old.waiting self.new.waiting }
+        ensures printed { self.new.printed ≡ self.old.printed }
     {
         print_totals(totals, &mut self.page.text);
     }
@@ -115,6 +116,7 @@ impl Growing {
         ensures failures { FailsBySink (S.failures out.old) result (S.failures out.new) }
         ensures room { OnOk result (length self.new.waiting + RECORD ≤ ROOM) }
         ensures version { self.new.version ≡ self.old.version }
+        ensures printed { self.new.printed ≡ self.old.printed }
     {
         self.page.written = 0;
         match make_room(&mut self.page, out) {
@@ -143,6 +145,7 @@ impl Growing {
         ensures text { GoesOn (totals_text totals) self.old.waiting (S.bytes out.old) result self.new.waiting (S.bytes out.new) }
         ensures failures { FailsBySink (S.failures out.old) result (S.failures out.new) }
         ensures all { OnOk result (self.new.waiting ≡ []) }
+        ensures printed { self.new.printed ≡ self.old.printed }
     {
         self.make_room(out)?;
         self.put_totals(totals);

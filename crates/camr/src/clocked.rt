@@ -17,6 +17,7 @@ pub struct Clocked<'a, R: Wait + Clock> {
     feed: Arc<Feed>,
     bytes: Vec<u8>,
     len: usize,
+    has_failed: bool,
 }
 
 impl<'a, R: Wait + Clock> Clocked<'a, R> {
@@ -30,12 +31,15 @@ impl<'a, R: Wait + Clock> Clocked<'a, R> {
             feed,
             bytes: vec![in alloc; 0; PIECE]?,
             len: 0,
+            has_failed: false,
         };
         Ok((clocked, feeder))
     }
 }
 
 impl<R: Wait + Clock> Input for Clocked<'_, R> {
+    ghost has_failed = { λ clocked. clocked.has_failed };
+
     fn wait(&mut self, until: Option<u64>) -> Came {
         match take(self.rt, &self.clock, &self.feed, until, &mut self.bytes) {
             Handed::Nothing => Came::Due(self.now().or(until).unwrap_or(0)),
@@ -44,7 +48,10 @@ impl<R: Wait + Clock> Input for Clocked<'_, R> {
                 Came::Bytes
             }
             Handed::End => Came::End,
-            Handed::Failed => Came::Failed,
+            Handed::Failed => {
+                self.has_failed = true;
+                Came::Failed
+            }
         }
     }
 

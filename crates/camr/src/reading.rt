@@ -15,6 +15,7 @@ pub struct Reading<R: Read + Drop> {
     reader: R,
     bytes: Vec<u8>,
     len: usize,
+    has_failed: bool,
 }
 
 impl<R: Read + Drop> Reading<R> {
@@ -24,11 +25,14 @@ impl<R: Read + Drop> Reading<R> {
             reader,
             bytes: vec![in alloc; 0; PIECE]?,
             len: 0,
+            has_failed: false,
         })
     }
 }
 
 impl<R: Read + Drop> Input for Reading<R> {
+    ghost has_failed = { λ reading. reading.has_failed };
+
     fn wait(&mut self, _until: Option<u64>) -> Came {
         match read_some(&mut self.reader, self.bytes.as_mut_slice()) {
             Ok(0) => Came::End,
@@ -36,7 +40,10 @@ impl<R: Read + Drop> Input for Reading<R> {
                 self.len = len;
                 Came::Bytes
             }
-            Err(_) => Came::Failed,
+            Err(_) => {
+                self.has_failed = true;
+                Came::Failed
+            }
         }
     }
 

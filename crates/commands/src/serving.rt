@@ -1,7 +1,7 @@
 // A manifest's engine that is asked over a pipe. It relies on `live` for what its lines ask and what goes out, and on `manifest` for the
 // engine's configuration.
 
-ghost use Rattle.std.specs.Prelude.{◌≡◌, ◌≢◌, ◌≤◌, IfErr, IfOk, IsErrAnd, IsUtf8};
+ghost use Rattle.std.specs.Prelude.{◌≡◌, ◌≢◌, ◌≤◌, false, IfErr, IfOk, IsErrAnd, IsUtf8};
 ghost use Rattle.std.specs.Io.KnownBytes.{Keeps};
 ghost use Rattle.live.specs.Telling.{IsBegun, IsOut};
 ghost use Rattle.manifest.specs.Meaning.{AreShort, Means};
@@ -133,6 +133,8 @@ impl<E: Write> Reports for Telling<'_, E> {
 struct Nothing;
 
 impl Input for Nothing {
+    ghost has_failed = { λ _. false };
+
     fn wait(&mut self, _until: Option<u64>) -> Came {
         Came::End
     }

@@ -5,11 +5,18 @@ ghost use Rattle.live.specs.Growth.{Grows};
 
 use crate::reports::{LineFault, Reports};
 use crate::request::{Request, request_of};
-use crate::serving::LiveFault;
 use calls::CallAnswer;
 use engine_core::{Engine, Event};
 use hands::{Hands, Told};
 use scenario::{Command, is_skipped};
+
+/// Why a host carries nothing out any more.
+#[derive(Clone, Copy, Debug, PartialEq, Eq)]
+pub(crate) enum HostFault {
+    OutOfMemory,
+    /// A run or a token that is out does not fit the engine, which cannot be.
+    Unsettled,
+}
 
 /// An engine, and what is out of it.
 pub(crate) struct Host {
@@ -28,7 +35,7 @@ impl Host {
         number: usize,
         now: Option<u64>,
         reports: &mut N,
-    ) -> Result<(), LiveFault>
+    ) -> Result<(), HostFault>
         ensures { Grows self.old.engine self.new.engine }
     {
         let request = match line {
@@ -54,7 +61,7 @@ impl Host {
     }
 
     /// Takes a clock reading, in milliseconds.
-    pub(crate) fn read_clock(&mut self, reading: u64) -> Result<(), LiveFault>
+    pub(crate) fn read_clock(&mut self, reading: u64) -> Result<(), HostFault>
         ensures { Grows self.old.engine self.new.engine }
     {
         self.asked(Event::Clock { reading })
@@ -65,7 +72,7 @@ impl Host {
         &mut self,
         request: Option<Request>,
         reports: &mut N,
-    ) -> Result<Option<LineFault>, LiveFault>
+    ) -> Result<Option<LineFault>, HostFault>
         ensures { Grows self.old.engine self.new.engine }
     {
         match request {
@@ -86,7 +93,7 @@ impl Host {
         }
     }
 
-    fn command(&mut self, command: Command) -> Result<Option<LineFault>, LiveFault>
+    fn command(&mut self, command: Command) -> Result<Option<LineFault>, HostFault>
         ensures { Grows self.old.engine self.new.engine }
     {
         match command {
@@ -124,7 +131,7 @@ impl Host {
     }
 
     // Drives a run that is out to its next stop.
-    fn step(&mut self, number: u32) -> Result<Option<LineFault>, LiveFault>
+    fn step(&mut self, number: u32) -> Result<Option<LineFault>, HostFault>
         ensures { Grows self.old.engine self.new.engine }
     {
         match self.hands.take_run(number) {
@@ -137,7 +144,7 @@ impl Host {
     }
 
     // Drives a run that is out to its end.
-    fn drive(&mut self, number: u32) -> Result<Option<LineFault>, LiveFault>
+    fn drive(&mut self, number: u32) -> Result<Option<LineFault>, HostFault>
         ensures { Grows self.old.engine self.new.engine }
     {
         for _ in 0..u64::MAX {
@@ -152,7 +159,7 @@ impl Host {
     }
 
     // Parks a run that is out.
-    fn park(&mut self, number: u32) -> Result<Option<LineFault>, LiveFault>
+    fn park(&mut self, number: u32) -> Result<Option<LineFault>, HostFault>
         ensures { Grows self.old.engine self.new.engine }
     {
         match self.hands.take_run(number) {
@@ -165,7 +172,7 @@ impl Host {
     }
 
     /// Drives the runs that are out to their ends, in the order of their numbers.
-    pub(crate) fn drive_all(&mut self) -> Result<(), LiveFault>
+    pub(crate) fn drive_all(&mut self) -> Result<(), HostFault>
         ensures { Grows self.old.engine self.new.engine }
     {
         for _ in 0..u64::MAX {
@@ -187,7 +194,7 @@ impl Host {
         hands.forfeit();
     }
 
-    fn asked(&mut self, event: Event<'_>) -> Result<(), LiveFault>
+    fn asked(&mut self, event: Event<'_>) -> Result<(), HostFault>
         ensures { Grows self.old.engine self.new.engine }
     {
         let _ = self.ask(event)?;
@@ -196,16 +203,16 @@ impl Host {
 
     // Asks the engine, and keeps what it gives or what comes back. A refusal is recorded and no fault.
     #[tactic(auto, using(crate::proofs::Growing::grows_recorded))]
-    fn ask(&mut self, event: Event<'_>) -> Result<Told, LiveFault>
+    fn ask(&mut self, event: Event<'_>) -> Result<Told, HostFault>
         ensures { Grows self.old.engine self.new.engine }
     {
         match self.hands.ask(&mut self.engine, event) {
-            Ok(Told::OutOfMemory) => Err(LiveFault::OutOfMemory),
-            Ok(Told::Unfit) => Err(LiveFault::Unsettled),
+            Ok(Told::OutOfMemory) => Err(HostFault::OutOfMemory),
+            Ok(Told::Unfit) => Err(HostFault::Unsettled),
             Ok(told) => Ok(told),
             Err(event) => {
                 event.forfeit();
-                Err(LiveFault::OutOfMemory)
+                Err(HostFault::OutOfMemory)
             }
         }
     }

@@ -1,5 +1,8 @@
 // Where bytes come from, and what a clock reads meanwhile. It relies on nothing.
 
+ghost use Rattle.std.specs.Prelude.{◌≡◌, Bool, IsTrue};
+ghost use Rattle.live.specs.declared.input.Came.TheVariants.{Failed};
+
 /// What came.
 #[derive(Clone, Copy, Debug, PartialEq, Eq)]
 pub enum Came {
@@ -13,11 +16,14 @@ pub enum Came {
     Failed,
 }
 
-/// Bytes that come piece by piece, and a clock, if there is one.
+/// Bytes that come piece by piece, and a clock, if there is one. Contracts see whether it could not be read.
 pub trait Input {
+    ghost has_failed: { Self → Bool };
+
     /// Waits for bytes, which then stand in place of those that came before, and not longer than until the clock reads `until`, in
     /// milliseconds, if there is a clock and that is given.
-    fn wait(&mut self, until: Option<u64>) -> Came;
+    fn wait(&mut self, until: Option<u64>) -> Came
+        ensures { result ≡ Failed → IsTrue (has_failed self.new) };
 
     /// The bytes that came last.
     fn bytes(&self) -> &[u8];

@@ -1,5 +1,8 @@
 // The lines of an input, one by one. It relies on `draft` for the line that comes, and on `input` for bytes.
 
+ghost use Rattle.std.specs.Prelude.{◌≡◌, IsTrue};
+ghost use Rattle.live.specs.declared.lines.Next.TheVariants.{Failed};
+
 use crate::draft::Draft;
 use crate::input::{Came, Input};
 
@@ -16,9 +19,8 @@ pub(crate) enum Next {
 
 /// The lines of an input.
 #[derive(Drop)]
-pub(crate) struct Lines<'a, I: Input> {
-    input: &'a mut I,
-    // how many of its bytes were taken
+pub(crate) struct Lines {
+    // how many of the input's bytes were taken
     taken: usize,
     draft: Draft,
     // of the line that was told last
@@ -28,12 +30,11 @@ pub(crate) struct Lines<'a, I: Input> {
     is_ended: bool,
 }
 
-impl<'a, I: Input> Lines<'a, I> {
+impl Lines {
     /// The lines of an input of which no bytes came yet.
-    pub(crate) fn of(input: &'a mut I) -> Self {
+    pub(crate) fn of<I: Input>(input: &I) -> Self {
         Lines {
             taken: input.bytes().len(),
-            input,
             draft: Draft::none(),
             number: 0,
             is_whole: false,
@@ -42,17 +43,12 @@ impl<'a, I: Input> Lines<'a, I> {
     }
 
     /// Whether the next line is there, so that `next` does not wait.
-    pub(crate) fn is_there(&self) -> bool {
+    pub(crate) fn is_there<I: Input>(&self, input: &I) -> bool {
         let taken = self.taken;
-        match self.input.bytes().get(taken..) {
+        match input.bytes().get(taken..) {
             Some(rest) => rest.contains(&b'\n'),
             None => false,
         }
-    }
-
-    /// What the clock reads, in milliseconds since the beginning, if there is one.
-    pub(crate) fn now(&self) -> Option<u64> {
-        self.input.now()
     }
 
     /// The line that came, if it is of the form of a line: of 1,024 bytes at most, in UTF-8, without NUL, and with its line feed.
@@ -70,20 +66,22 @@ impl<'a, I: Input> Lines<'a, I> {
     }
 
     /// Waits for the next line, and not longer than until the clock reads `until`, if there is one.
-    pub(crate) fn next(&mut self, until: Option<u64>) -> Next {
+    pub(crate) fn next<I: Input>(&mut self, input: &mut I, until: Option<u64>) -> Next
+        ensures { result ≡ Failed → IsTrue (I.has_failed input.new) }
+    {
         if self.is_whole {
             self.draft.clear();
             self.is_whole = false;
         }
         for _ in 0..u64::MAX {
-            if self.take() {
+            if self.take(input) {
                 self.number = self.number.saturating_add(1);
                 return Next::Line;
             }
             if self.is_ended {
                 return Next::End;
             }
-            match self.input.wait(until) {
+            match input.wait(until) {
                 Came::Bytes => self.taken = 0,
                 Came::Due(reading) => return Next::Due(reading),
                 Came::Failed => return Next::Failed,
@@ -100,9 +98,9 @@ impl<'a, I: Input> Lines<'a, I> {
     }
 
     // Takes what came up to a line feed, and whether there was one.
-    fn take(&mut self) -> bool {
+    fn take<I: Input>(&mut self, input: &I) -> bool {
         let taken = self.taken;
-        let rest = match self.input.bytes().get(taken..) {
+        let rest = match input.bytes().get(taken..) {
             Some(rest) => rest,
             None => return false,
         };

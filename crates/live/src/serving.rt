@@ -1,13 +1,14 @@
 // A live engine from its opening to the end of its input. It relies on `host` for what lines ask, on `lines` for lines, and on `trace` for
 // what goes out.
 
-ghost use Rattle.std.specs.Prelude.{◌≡◌, ◌≤◌, ℕ, Option, List, length, OnOk};
+ghost use Rattle.std.specs.Prelude.{◌≡◌, ◌≢◌, ◌≤◌, ℕ, Option, List, length, Err, IfErr, IsTrue, OnOk};
 ghost use Rattle.engine_core.specs.EngineState.{IsRun};
 ghost use Rattle.history_texts.specs.EachHasText.{FewInstructions};
 ghost use Rattle.live.specs.Growth.{Grows};
 ghost use Rattle.live.specs.Telling.{IsBegun, IsInStep, IsTold, Serves, Tells};
+ghost use Rattle.live.specs.declared.serving.LiveFault.TheVariants.{Unread, Unwritten};
 
-use crate::host::Host;
+use crate::host::{Host, HostFault};
 use crate::input::Input;
 use crate::lines::{Lines, Next};
 use crate::reports::Reports;
@@ -30,8 +31,21 @@ pub enum LiveFault {
 }
 
 impl From<WriteFailed> for LiveFault {
+    ghost from_gives = { λ _ fault. fault ≡ Unwritten };
+
     fn from(_: WriteFailed) -> Self {
         LiveFault::Unwritten
+    }
+}
+
+impl From<HostFault> for LiveFault {
+    ghost from_gives = { λ _ fault. fault ≢ Unread };
+
+    fn from(fault: HostFault) -> Self {
+        match fault {
+            HostFault::OutOfMemory => LiveFault::OutOfMemory,
+            HostFault::Unsettled => LiveFault::Unsettled,
+        }
     }
 }
 
@@ -49,7 +63,8 @@ pub fn serve<I: Input, S: Sink, N: Reports>(
 ) -> Result<(), LiveFault>
     requires { FewInstructions config }
     // All that went out is the trace of an engine of this configuration; where it stopped, it is a front of one.
-    ensures { Serves config (S.bytes out.old) result (S.bytes out.new) }
+    ensures told { Serves config (S.bytes out.old) result (S.bytes out.new) }
+    ensures unread { result ≡ Err Unread → IsTrue (I.has_failed input.new) }
 {
     let mut printed = Growing::of(Version::of(config.helpers()));
     let engine = match Engine::open(alloc, config) {
@@ -62,7 +77,7 @@ pub fn serve<I: Input, S: Sink, N: Reports>(
         is_stepped,
     };
     let mut lines = Lines::of(input);
-    let served = serve_all(&mut host, &mut lines, &mut printed, out, reports);
+    let served = serve_all(&mut host, input, &mut lines, &mut printed, out, reports);
     host.forfeit();
     served
 }
@@ -70,26 +85,29 @@ pub fn serve<I: Input, S: Sink, N: Reports>(
 // Serves the lines up to the input's end, and drives the runs that are out then.
 fn serve_all<I: Input, S: Sink, N: Reports>(
     host: &mut Host,
-    lines: &mut Lines<'_, I>,
+    input: &mut I,
+    lines: &mut Lines,
     printed: &mut Growing,
     out: &mut S,
     reports: &mut N,
 ) -> Result<(), LiveFault>
     requires short { FewInstructions host.old.engine.setup }
     requires begun { IsInStep host.old.engine printed.old }
-    ensures { (base : Option (List ℕ)) → IsTold host.old.engine.history printed.old base (S.bytes out.old) → Serves host.old.engine.setup base result (S.bytes out.new) }
+    ensures told { (base : Option (List ℕ)) → IsTold host.old.engine.history printed.old base (S.bytes out.old) → Serves host.old.engine.setup base result (S.bytes out.new) }
+    ensures unread { result ≡ Err Unread → IsTrue (I.has_failed input.new) }
 {
-    serve_lines(host, lines, printed, out, reports)?;
+    serve_lines(host, input, lines, printed, out, reports)?;
     match host.drive_all() {
         Ok(()) => end(&host.engine, printed, out),
-        Err(fault) => Err(stop(&host.engine, printed, out, fault)),
+        Err(fault) => Err(stop(&host.engine, printed, out, LiveFault::from(fault))),
     }
 }
 
 // Serves the lines up to the input's end.
 fn serve_lines<I: Input, S: Sink, N: Reports>(
     host: &mut Host,
-    lines: &mut Lines<'_, I>,
+    input: &mut I,
+    lines: &mut Lines,
     printed: &mut Growing,
     out: &mut S,
     reports: &mut N,
@@ -99,9 +117,10 @@ fn serve_lines<I: Input, S: Sink, N: Reports>(
     ensures told { (base : Option (List ℕ)) → IsTold host.old.engine.history printed.old base (S.bytes out.old) → Tells host.new.engine base result printed.new (S.bytes out.new) }
     ensures step { OnOk result (IsInStep host.new.engine printed.new) }
     ensures setup { host.new.engine.setup ≡ host.old.engine.setup }
+    ensures unread { result ≡ Err Unread → IsTrue (I.has_failed input.new) }
 {
     for _ in 0..u64::MAX {
-        if !serve_next(host, lines, printed, out, reports)? {
+        if !serve_next(host, input, lines, printed, out, reports)? {
             break;
         }
     }
@@ -111,7 +130,8 @@ fn serve_lines<I: Input, S: Sink, N: Reports>(
 // Tells what is not told yet, and serves what comes next. Whether more may come.
 fn serve_next<I: Input, S: Sink, N: Reports>(
     host: &mut Host,
-    lines: &mut Lines<'_, I>,
+    input: &mut I,
+    lines: &mut Lines,
     printed: &mut Growing,
     out: &mut S,
     reports: &mut N,
@@ -121,9 +141,10 @@ fn serve_next<I: Input, S: Sink, N: Reports>(
     ensures told { (base : Option (List ℕ)) → IsTold host.old.engine.history printed.old base (S.bytes out.old) → Tells host.new.engine base result printed.new (S.bytes out.new) }
     ensures step { OnOk result (IsInStep host.new.engine printed.new) }
     ensures setup { host.new.engine.setup ≡ host.old.engine.setup }
+    ensures unread { result ≡ Err Unread → IsTrue (I.has_failed input.new) }
 {
-    tell(&host.engine, printed, out, !lines.is_there())?;
-    match serve_what_comes(host, lines, reports) {
+    tell(&host.engine, printed, out, !lines.is_there(input))?;
+    match serve_what_comes(host, input, lines, reports) {
         Ok(is_more) => Ok(is_more),
         Err(fault) => Err(stop(&host.engine, printed, out, fault)),
     }
@@ -132,14 +153,16 @@ fn serve_next<I: Input, S: Sink, N: Reports>(
 // Waits for a line, or for the next timer, and carries out what it asks. Whether more may come.
 fn serve_what_comes<I: Input, N: Reports>(
     host: &mut Host,
-    lines: &mut Lines<'_, I>,
+    input: &mut I,
+    lines: &mut Lines,
     reports: &mut N,
 ) -> Result<bool, LiveFault>
-    ensures { Grows host.old.engine host.new.engine }
+    ensures grown { Grows host.old.engine host.new.engine }
+    ensures unread { result ≡ Err Unread → IsTrue (I.has_failed input.new) }
 {
-    match lines.next(host.engine.next_due()) {
+    match lines.next(input, host.engine.next_due()) {
         Next::Line => {
-            host.serve_line(lines.line(), lines.number(), lines.now(), reports)?;
+            host.serve_line(lines.line(), lines.number(), input.now(), reports)?;
             Ok(true)
         }
         Next::Due(reading) => {
@@ -164,6 +187,7 @@ fn tell<S: Sink>(
     ensures step { OnOk result (IsInStep engine.now printed.new) }
     ensures all { OnOk result (printed.new.printed ≡ length engine.now.history) }
     ensures run { IsRun engine.now }
+    ensures unwritten { IfErr result (λ fault. fault ≡ Unwritten) }
 {
     printed.print_news(engine.records(), out)?;
     if is_last {
@@ -176,7 +200,8 @@ fn tell<S: Sink>(
 fn stop<S: Sink>(engine: &Engine, printed: &mut Growing, out: &mut S, fault: LiveFault) -> LiveFault
     requires short { FewInstructions engine.now.setup }
     requires begun { IsInStep engine.now printed.old }
-    ensures { (base : Option (List ℕ)) → IsTold engine.now.history printed.old base (S.bytes out.old) → IsBegun engine.now.setup base (S.bytes out.new) }
+    ensures told { (base : Option (List ℕ)) → IsTold engine.now.history printed.old base (S.bytes out.old) → IsBegun engine.now.setup base (S.bytes out.new) }
+    ensures unread { result ≡ Unread → fault ≡ Unread }
 {
     match tell(engine, printed, out, true) {
         Ok(()) => fault,
@@ -188,7 +213,8 @@ fn stop<S: Sink>(engine: &Engine, printed: &mut Growing, out: &mut S, fault: Liv
 fn end<S: Sink>(engine: &Engine, printed: &mut Growing, out: &mut S) -> Result<(), LiveFault>
     requires short { FewInstructions engine.now.setup }
     requires begun { IsInStep engine.now printed.old }
-    ensures { (base : Option (List ℕ)) → IsTold engine.now.history printed.old base (S.bytes out.old) → Serves engine.now.setup base result (S.bytes out.new) }
+    ensures told { (base : Option (List ℕ)) → IsTold engine.now.history printed.old base (S.bytes out.old) → Serves engine.now.setup base result (S.bytes out.new) }
+    ensures unwritten { IfErr result (λ fault. fault ≡ Unwritten) }
 {
     tell(engine, printed, out, false)?;
     printed.end(engine.totals(), out)?;

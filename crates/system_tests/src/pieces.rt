@@ -1,5 +1,7 @@
 // Standard input as a case has it. It relies on `live` for what an input is.
 
+ghost use Rattle.std.specs.Prelude.{false};
+
 use live::{Came, Input};
 
 /// How many bytes come at a time where there is no clock.
@@ -40,6 +42,8 @@ impl<'a> Pieces<'a> {
 }
 
 impl Input for Pieces<'_> {
+    ghost has_failed = { λ _. false };
+
     fn wait(&mut self, until: Option<u64>) -> Came {
         if let Some(now) = self.now {
             let next = now.saturating_add(PAUSE);

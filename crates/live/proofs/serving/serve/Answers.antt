@@ -6,12 +6,12 @@ use Rattle.live.specs.Telling.{IsTold, Serves}
 use Rattle.live.proofs.Opening.{begun_unopened, told_first}
 use Rattle.live.proofs.serving.serve.Goals as goal
 
-pub returns-in-Err : goal.returns-in-Err
-returns-in-Err g c = begun_unopened c.args.config (g.S.Sink.bytes c.args.out.now)
+pub returns-in-Err-clause-told : goal.returns-in-Err-clause-told
+returns-in-Err-clause-told g c = begun_unopened c.args.config (g.S.Sink.bytes c.args.out.now)
 
-pub returns : goal.returns
-returns g c =
+pub returns-clause-told : goal.returns-clause-told
+returns-clause-told g c =
     let engine = c.in-Ok.engine in
     let base = g.S.Sink.bytes c.args.out.now in
     let told = subst (λ (printed : GrowingState). IsTold engine.history printed base base) (sym c.of-printed.ensures) (told_first engine c.args.config c.of.result base c.in-Ok.ensures.opened) in
-    subst (λ (setup : Setup). Serves setup base c.serve_all-served.result (g.S.Sink.bytes c.serve_all-served.new.out)) (ap (λ (e : EngineState). e.setup) c.in-Ok.ensures.opened) (c.serve_all-served.ensures base told)
+    subst (λ (setup : Setup). Serves setup base c.serve_all-served.result (g.S.Sink.bytes c.serve_all-served.new.out)) (ap (λ (e : EngineState). e.setup) c.in-Ok.ensures.opened) (c.serve_all-served.ensures.told base told)

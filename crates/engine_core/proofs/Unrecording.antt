@@ -10,6 +10,8 @@ use Rattle.runs.specs.Admits.{IsOutWith}
 use Rattle.runs.specs.RunsState.{RunsState, no_runs}
 use Rattle.runs.specs.RunPlaces.{HasRunAt}
 use Rattle.helpers.specs.declared.limits.HelperLimits.{HelperLimits}
+use Rattle.bpf_semantics.specs.declared.stop.Stop.{Stop}
+use Rattle.bpf_semantics.specs.declared.stop.Stop.TheVariants.{Helper, Exit}
 use Rattle.calls.specs.declared.call.Call.{Call}
 use Rattle.calls.specs.declared.call.Call.TheVariants.{Submit, Dispatch, Complete, Clock, GuestRelease, Park, Resume}
 use Rattle.calls.specs.declared.call_answer.CallAnswer.{CallAnswer}
@@ -39,9 +41,10 @@ use Rattle.engine_core.specs.declared.reply.Reply.TheVariants as replied
 use Rattle.engine_core.specs.Answers.{stopped_at}
 use Rattle.engine_core.specs.EngineState.{world_of}
 use Rattle.engine_core.specs.Invariant.{HoldEntries, KeepsEngine}
+use Rattle.engine_core.specs.Looking.{AsksNext, StopsNext, asked_at}
 use Rattle.engine_core.specs.Performing.{Performs}
 use Rattle.engine_core.specs.Replies.{answer_of, call_of, r0_given, record_given, record_of}
-use Rattle.engine_core.specs.RunState.{IsAgain, RunState, StoppedState, before_stop}
+use Rattle.engine_core.specs.RunState.{IsAgain, IsStopped, RunState, StoppedState, before_stop}
 use Rattle.engine_core.specs.TakingOver.{LeadsTo}
 use Rattle.engine_core.specs.Unrecorded.{AreTokens, IsAdvanceOf, IsPlain, UnrecordedState, IsBehind, Follows, CannotFollow, KeepsUnrecorded, answer_told, guests_of}
 use Rattle.engine_core.proofs.Recording.{flat_push, world_is, goes, kept_sound}
@@ -243,3 +246,23 @@ stands_out setup list number it again run found out is stopped = record {
 -- one run stands at a place
 pub stands_once : (list : List LiveRun) (place : ℕ) (a b : LiveRun) → HasRunAt list place a → HasRunAt list place b → a ≡ b
 stands_once list place a b first second = sym first.here ∙ (get_or_default list place a b first.within ∙ second.here)
+
+-- a run that is made again, at its stop
+pub stops_next : (setup : Setup) (list : List LiveRun) (number : ℕ) (it : LiveRun) (again : RunState) (run : StoppedState) → run_of number list ≡ Some it → it.out ≡ true → IsAgain setup it again → before_stop run ≡ again → IsStopped run
+    → StopsNext list number run.segment.stop
+stops_next setup list number it again run found out is stopped whole =
+    let program : run.segment.program.program ≡ it.program = ap (λ (r : RunState). r.program.program) stopped ∙ is.program in
+    record {
+      it = it;
+      found = found;
+      out = out;
+      segment = run.segment;
+      is = whole.segment;
+      next = record { program_is = program; segment_program_is = program; start_is = ap (λ (r : RunState). r.machine) stopped ∙ is.machine };
+      stands = refl;
+    }
+
+-- what a run asks that comes to a stop
+pub asks : (runs : List LiveRun) (number : ℕ) (stop : Stop) → StopsNext runs number stop → AsksNext runs number (asked_at stop)
+asks runs number (Helper request) it = it
+asks runs number (Exit r0) it = λ live found out. (r0, it)

@@ -1,7 +1,8 @@
 -- What can be read of an engine's runs: what is recorded of one, and what it asks next.
-use Rattle.std.specs.Prelude.{◌≡◌, ℕ, true, List, Some}
+use Rattle.std.specs.Prelude.{◌≡◌, ℕ, true, List, Option, Some, None}
 use Rattle.helpers.specs.declared.request.Request.{Request}
-use Rattle.bpf_semantics.specs.declared.stop.Stop.TheVariants.{Helper}
+use Rattle.bpf_semantics.specs.declared.stop.Stop.{Stop}
+use Rattle.bpf_semantics.specs.declared.stop.Stop.TheVariants.{Helper, Exit}
 use Rattle.interpreter.specs.Segments.{SegmentState, IsSegment}
 use Rattle.world.specs.World.{LiveRun}
 use Rattle.world.specs.Lookups.{run_of}
@@ -17,12 +18,22 @@ pub record IsRunTold (number : ℕ) (runs : List LiveRun) (told : RunInfo) : Typ
   pub controller : told.controller ≡ it.controller
   pub out : told.is_out ≡ it.out
 
--- A run of that number is out, and by its next segment it comes to this call of a helper.
-pub record AsksNext (runs : List LiveRun) (number : ℕ) (request : Request) : Type 0 where
+-- A run of that number is out, and by its next segment it comes to this stop.
+pub record StopsNext (runs : List LiveRun) (number : ℕ) (stop : Stop) : Type 0 where
   pub it : LiveRun
   pub found : run_of number runs ≡ Some it
   pub out : it.out ≡ true
   pub segment : SegmentState
   pub is : IsSegment segment
   pub next : IsNext it segment.program.program segment
-  pub stop : segment.stop ≡ Helper request
+  pub stands : segment.stop ≡ stop
+
+-- what is asked at a stop
+abbrev pub asked_at : Stop → Option Request
+asked_at (Helper request) = Some request
+asked_at (Exit r0) = None
+
+-- what the run of that number asks at its next stop; nothing where none of that number is out, or where it comes to its exit
+abbrev pub AsksNext : List LiveRun → ℕ → Option Request → Type 0
+AsksNext runs number (Some request) = StopsNext runs number (Helper request)
+AsksNext runs number None = (it : LiveRun) → run_of number runs ≡ Some it → it.out ≡ true → (r0 : ℕ) × StopsNext runs number (Exit r0)

@@ -6,14 +6,13 @@ ghost use Rattle.std.specs.Prelude.{◌≡◌, ◌<◌, ◌↔◌, ◌∷◌, []
 ghost use Rattle.calls.specs.declared.call.Call.{Call as TheCall};
 ghost use Rattle.calls.specs.declared.call.Call.TheVariants.{Complete, GuestFreeze, GuestRelease, Park};
 ghost use Rattle.calls.specs.declared.record.Record.TheVariants.{Called};
-ghost use Rattle.bpf_semantics.specs.declared.stop.Stop.TheVariants.{Helper as AtHelper};
 ghost use Rattle.freeze_ledger.specs.Freezes.{holders_of};
 ghost use Rattle.freeze_ledger.specs.Places.{index_of, places_of};
 ghost use Rattle.world.specs.Capacities.{most_controllers};
 ghost use Rattle.world.specs.Lookups.{ccb_of, run_of};
 ghost use Rattle.world.specs.QueueInfo.{queue_info};
 ghost use Rattle.world.specs.World.{World};
-ghost use Rattle.engine_core.specs.Looking.{AsksNext, IsRunTold};
+ghost use Rattle.engine_core.specs.Looking.{AsksNext, IsRunTold, asked_at};
 ghost use Rattle.engine_core.specs.Replies.{call_of};
 ghost use Rattle.engine_core.specs.Unrecorded.{Advances, Answers, CannotFollow, Follows, IsPlain, opened_unrecorded, sums_behind};
 
@@ -259,7 +258,7 @@ impl<'a> Unrecorded<'a> {
     /// What the run of that number asks where it comes to its next stop: a helper, with its arguments. `None` where no run of
     /// that number is out, or where it comes to its exit. It changes nothing.
     pub fn asked(&mut self, run: u32) -> Result<Option<Request>, AllocError>
-        ensures asked { IfOk result (λ asked. IfSome asked (AsksNext self.old.runs.list run)) }
+        ensures asked { IfOk result (AsksNext self.old.runs.list run) }
         ensures same { self.new ≡ self.old }
     {
         let Some(place) = self.parts.runs.out_at(run) else {
@@ -288,7 +287,7 @@ impl<'a> Unrecorded<'a> {
 
 // What is asked there, if a helper is.
 fn request_of(stop: Stop) -> Option<Request>
-    ensures { IfSome result (λ request. stop ≡ AtHelper request) }
+    ensures { result ≡ asked_at stop }
 {
     match stop {
         Stop::Helper(request) => Some(request),

@@ -1,5 +1,5 @@
 // What is known of a manifest's programs that are accepted: the budget's path, the stack, and each helper call with its arguments and
-// the freezes held. It relies on `budget_path` for the path, and on `checked_path` for what is known.
+// the freezes held. It relies on `checked_path` for the path and for what is known.
 
 use crate::arguments::{helper_of, signature};
 use crate::kinds::{put_held, put_registers};
@@ -102,9 +102,7 @@ fn print_budget(
     let Ok(shape) = shape(program) else {
         return Err(AllocError);
     };
-    let Some(path) = longest_path(alloc, &shape)? else {
-        return Err(AllocError);
-    };
+    let path = longest_path(alloc, &shape)?;
     let mut ranges = 0u32;
     let mut first = 0usize;
     let mut last = 0usize;

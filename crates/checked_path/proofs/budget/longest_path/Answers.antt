@@ -1,31 +1,38 @@
-use Rattle.std.proofs.Common.{◌≡◌, ◌<◌, ◌≤◌, ℕ, length, sym, subst, arith}
+use Rattle.std.proofs.Common.{◌≡◌, ℕ, List, [], ◌∷◌, ◌++◌, sym, subst, ap, ◌∙◌, arith}
 use Rattle.std.proofs.lemmas.List.{get_or_read}
-use Rattle.budget_path.specs.Longest.{IsLongestFrom}
-use Rattle.budget_path.proofs.PathLengths.{budget_is}
-use Rattle.call_shape.proofs.Places.{begins_first}
-use Rattle.call_shape.specs.StaticPath.{StaticPath, outermost}
+use Rattle.bpf_insn.specs.declared.program.Slot.{Slot}
+use Rattle.checked_path.specs.Passes.{standing}
+use Rattle.checked_path.specs.Remaining.{GoesOn}
+use Rattle.checked_path.proofs.Remaining.{IsWalked, walked_first, walked_more, walked_all}
 use Rattle.checked_path.proofs.budget.longest_path.Goals as goal
 
-pub returns-then-branch-clause-exit : goal.returns-then-branch-clause-exit
-returns-then-branch-clause-exit c =
-    let known = c.in_ok-lengths.ensures in
-    let is = c.program-program.ensures.program in
-    let items = c.in_ok-lengths.lengths.items in
-    let some : 0 < length items = omega (arith, known.whole, is.in_range.0) in
-    let read = get_or_read items 0 c.index.result.now some c.index.ensures 0 in
-    let budget = budget_is c.args.shape.now c.index.result.now is c.program-program.ensures.lawful
-    (subst (IsLongestFrom c.args.shape.now 0) (sym read) (known.each 0 (begins_first c.args.shape.now is))) in
-    let same : c.index.result.now ≡ length c.in_ok-slots.slots.items = omega (arith, c.len.ensures, c.if-len-index.false) in
-    subst (StaticPath c.args.shape.now (outermost 0)) same budget.path
+pub loop-slot-init : goal.loop-slot-init
+loop-slot-init c =
+    let shape = c.args.shape.now in
+    let program = c.program-program.ensures in
+    let lengths = c.in_ok-lengths.lengths.items in
+    let slots = c.push.new.self.items in
+    let returns = c.new-returns.result.items in
+    let first : slots ≡ 0 ∷ [] = c.in_ok-push.ensures.items ∙ ap (λ (l : List ℕ). l ++ 0 ∷ []) c.new-slots.ensures.items in
+    subst (λ (p : List Slot). IsWalked p lengths slots (standing 0 returns) 1) (sym program.value)
+    (walked_first shape lengths slots returns program.program program.lawful c.in_ok-lengths.ensures first c.new-returns.ensures.items)
 
-pub returns-then-branch-clause-longest : goal.returns-then-branch-clause-longest
-returns-then-branch-clause-longest c =
-    let known = c.in_ok-lengths.ensures in
-    let is = c.program-program.ensures.program in
-    let items = c.in_ok-lengths.lengths.items in
-    let some : 0 < length items = omega (arith, known.whole, is.in_range.0) in
-    let read = get_or_read items 0 c.index.result.now some c.index.ensures 0 in
-    let budget = budget_is c.args.shape.now c.index.result.now is c.program-program.ensures.lawful
-    (subst (IsLongestFrom c.args.shape.now 0) (sym read) (known.each 0 (begins_first c.args.shape.now is))) in
-    let same : c.index.result.now ≡ length c.in_ok-slots.slots.items = omega (arith, c.len.ensures, c.if-len-index.false) in
-    λ n path. subst (λ (most : ℕ). n ≤ most) same (budget.longest n path)
+pub loop-slot-preserved : goal.loop-slot-preserved
+loop-slot-preserved c =
+    let program = c.program-program.result.now in
+    let lengths = c.in_ok-lengths.lengths.items in
+    let at = standing c.loop-slot.at c.loop-slot.returns.items in
+    let to = standing c.in_ok-at.at c.next_of.new.returns.items in
+    walked_more program lengths c.loop-slot.slots.items c.push-in-loop-slot.new.self.items at to c.loop-slot._slot
+    (subst (λ (l : List ℕ). GoesOn program l at to) c.deref.ensures.value c.in_ok-at.ensures) c.in_ok-push-2.ensures.items c.loop-slot.invariant
+
+pub returns : goal.returns
+returns c =
+    let program = c.args.shape.now in
+    let lengths = c.in_ok-lengths.lengths.items in
+    let slots = c.loop-slot.slots.items in
+    let at = standing c.loop-slot.at c.loop-slot.returns.items in
+    let walked = subst (λ (p : List Slot). IsWalked p lengths slots at c.loop-slot._slot) c.program-program.ensures.value c.loop-slot.invariant in
+    let end = get_or_read lengths 0 c.index-slot-end.result.now (omega arith) c.index-slot-end.ensures 0 in
+    let budget = walked_all program lengths slots at c.loop-slot._slot (omega (arith, end)) (λ some. omega (arith, end)) walked in
+    record { path = (at, walked.passes); exit = budget.path; longest = budget.longest }

@@ -1,5 +1,5 @@
 -- How an engine's history grows.
-use Rattle.std.proofs.Common.{◌≡◌, ◌∙◌, ◌≤◌, Option, Some, None, Result, Ok, Err, MatchOption, List, [], ◌∷◌, ◌++◌, length, refl, sym, ap, append_assoc, append-nil, arith, length-append}
+use Rattle.std.proofs.Common.{◌≡◌, ◌∙◌, Option, Some, None, MatchOption, List, [], ◌∷◌, ◌++◌, refl, sym, ap, append_assoc, append-nil}
 use Rattle.calls.specs.declared.record.Record.{Record}
 use Rattle.engine_core.specs.EngineState.{EngineState, Records}
 use Rattle.live.specs.Growth.{Grows}

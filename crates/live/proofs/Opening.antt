@@ -1,5 +1,5 @@
 -- What is out of the trace of an engine that was just opened, or was not.
-use Rattle.std.proofs.Common.{◌≡◌, ◌∙◌, ℕ, Option, Some, List, [], ◌++◌, refl, ap, append-nil, arith, subst, sym}
+use Rattle.std.proofs.Common.{◌≡◌, ℕ, Option, Some, List, [], ◌++◌, refl, ap, append-nil, arith, subst, sym}
 use Rattle.std.specs.Fmt.{option_append}
 use Rattle.std.proofs.KnownBytes.{Appends-nil}
 use Rattle.calls.specs.declared.trace.Version.{Version}

@@ -1,5 +1,5 @@
 -- What lines ask for.
-use Rattle.std.proofs.Common.{◌≡◌, ◌∙◌, ◌==◌, ◌++◌, ℕ, Bool, true, false, cond, Option, Some, None, IfSome, List, ap, bytes_eq, codes, drop, get_or, refl, sym}
+use Rattle.std.proofs.Common.{◌≡◌, ◌∙◌, ◌==◌, ◌++◌, ℕ, true, false, cond, Option, Some, None, IfSome, List, ap, bytes_eq, codes, drop, get_or, refl, sym}
 use Rattle.std.specs.Fmt.{option_append}
 use Rattle.call_lines.specs.Calls.{one, word_text}
 use Rattle.call_lines.specs.Lines.{fields_text, line_text}

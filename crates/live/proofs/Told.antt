@@ -1,5 +1,5 @@
 -- What is out of a trace whose history grows.
-use Rattle.std.proofs.Common.{◌≡◌, ◌∙◌, ℕ, ◌≤◌, Option, Some, None, Result, Ok, Err, List, [], ◌++◌, length, take, drop, refl, sym, ap, subst, append_assoc, append-nil, arith, length-append}
+use Rattle.std.proofs.Common.{◌≡◌, ◌∙◌, ℕ, Option, Some, List, [], ◌++◌, length, take, drop, refl, sym, ap, subst, append_assoc, append-nil, arith, length-append}
 use Rattle.std.proofs.lemmas.List.{drop_all, take-append-le, take_all}
 use Rattle.std.specs.Fmt.{option_append}
 use Rattle.std.specs.Io.KnownBytes.{Appends}
@@ -9,14 +9,14 @@ use Rattle.calls.specs.declared.record.Record.{Record}
 use Rattle.calls.specs.declared.totals.Totals.{Totals}
 use Rattle.calls.specs.declared.trace.Version.{Version}
 use Rattle.engine_core.specs.EngineState.{EngineState, IsRun}
-use Rattle.trace.specs.Growing.{Goes, GoesOn, GrowingState, IsFront}
+use Rattle.trace.specs.Growing.{Goes, GrowingState, IsFront}
 use Rattle.trace.specs.TraceText.{header, lines_text, records_text, totals_text}
 use Rattle.trace.proofs.Grown.{Fronts, fronts_before, fronts_no_room}
 use Rattle.trace.proofs.Printing.{append_nothing, append_three, first_of_all, no_records, nothing_append}
-use Rattle.world.specs.World.{Setup, version_of}
-use Rattle.world.specs.TotalsOf.{TotalsOf, totals_in}
+use Rattle.world.specs.World.{version_of}
+use Rattle.world.specs.TotalsOf.{totals_in}
 use Rattle.live.specs.Growth.{Grows}
-use Rattle.live.specs.Telling.{IsBegun, IsInStep, IsOut, IsTold, Serves, Tells, front_text, text_of}
+use Rattle.live.specs.Telling.{IsBegun, IsInStep, IsOut, IsTold, front_text, text_of}
 
 -- ---- the history grows
 

@@ -4,6 +4,8 @@
 ghost use Rattle.std.specs.Prelude.{◌≡◌, ◌≢◌, ◌≤◌, ℕ, Option, List, length, Err, IfErr, IsTrue, OnOk};
 ghost use Rattle.engine_core.specs.EngineState.{IsRun};
 ghost use Rattle.history_texts.specs.EachHasText.{FewInstructions};
+ghost use Rattle.trace.specs.Growing.{FailsBySink};
+ghost use Rattle.trace.specs.Sinks.{HasFailed};
 ghost use Rattle.live.specs.Growth.{Grows};
 ghost use Rattle.live.specs.Telling.{IsBegun, IsInStep, IsTold, Serves, Tells};
 ghost use Rattle.live.specs.declared.serving.LiveFault.TheVariants.{Unread, Unwritten};
@@ -39,7 +41,7 @@ impl From<WriteFailed> for LiveFault {
 }
 
 impl From<HostFault> for LiveFault {
-    ghost from_gives = { λ _ fault. fault ≢ Unread };
+    ghost from_gives = { λ _ fault. (fault ≢ Unread) × (fault ≢ Unwritten) };
 
     fn from(fault: HostFault) -> Self {
         match fault {
@@ -65,6 +67,7 @@ pub fn serve<I: Input, S: Sink, N: Reports>(
     // All that went out is the trace of an engine of this configuration; where it stopped, it is a front of one.
     ensures told { Serves config (S.bytes out.old) result (S.bytes out.new) }
     ensures unread { result ≡ Err Unread → IsTrue (I.has_failed input.new) }
+    ensures unwritten { result ≡ Err Unwritten → HasFailed (S.failures out.old) (S.failures out.new) }
 {
     let mut printed = Growing::of(Version::of(config.helpers()));
     let engine = match Engine::open(alloc, config) {
@@ -95,6 +98,7 @@ fn serve_all<I: Input, S: Sink, N: Reports>(
     requires begun { IsInStep host.old.engine printed.old }
     ensures told { (base : Option (List ℕ)) → IsTold host.old.engine.history printed.old base (S.bytes out.old) → Serves host.old.engine.setup base result (S.bytes out.new) }
     ensures unread { result ≡ Err Unread → IsTrue (I.has_failed input.new) }
+    ensures unwritten { result ≡ Err Unwritten → HasFailed (S.failures out.old) (S.failures out.new) }
 {
     serve_lines(host, input, lines, printed, out, reports)?;
     match host.drive_all() {
@@ -118,6 +122,8 @@ fn serve_lines<I: Input, S: Sink, N: Reports>(
     ensures step { OnOk result (IsInStep host.new.engine printed.new) }
     ensures setup { host.new.engine.setup ≡ host.old.engine.setup }
     ensures unread { result ≡ Err Unread → IsTrue (I.has_failed input.new) }
+    ensures unwritten { result ≡ Err Unwritten → HasFailed (S.failures out.old) (S.failures out.new) }
+    ensures none { OnOk result (S.failures out.new ≡ S.failures out.old) }
 {
     for _ in 0..u64::MAX {
         if !serve_next(host, input, lines, printed, out, reports)? {
@@ -142,6 +148,8 @@ fn serve_next<I: Input, S: Sink, N: Reports>(
     ensures step { OnOk result (IsInStep host.new.engine printed.new) }
     ensures setup { host.new.engine.setup ≡ host.old.engine.setup }
     ensures unread { result ≡ Err Unread → IsTrue (I.has_failed input.new) }
+    ensures unwritten { result ≡ Err Unwritten → HasFailed (S.failures out.old) (S.failures out.new) }
+    ensures none { OnOk result (S.failures out.new ≡ S.failures out.old) }
 {
     tell(&host.engine, printed, out, !lines.is_there(input))?;
     match serve_what_comes(host, input, lines, reports) {
@@ -159,6 +167,7 @@ fn serve_what_comes<I: Input, N: Reports>(
 ) -> Result<bool, LiveFault>
     ensures grown { Grows host.old.engine host.new.engine }
     ensures unread { result ≡ Err Unread → IsTrue (I.has_failed input.new) }
+    ensures written { result ≢ Err Unwritten }
 {
     match lines.next(input, host.engine.next_due()) {
         Next::Line => {
@@ -188,6 +197,7 @@ fn tell<S: Sink>(
     ensures all { OnOk result (printed.new.printed ≡ length engine.now.history) }
     ensures run { IsRun engine.now }
     ensures unwritten { IfErr result (λ fault. fault ≡ Unwritten) }
+    ensures failures { FailsBySink (S.failures out.old) result (S.failures out.new) }
 {
     printed.print_news(engine.records(), out)?;
     if is_last {
@@ -200,8 +210,10 @@ fn tell<S: Sink>(
 fn stop<S: Sink>(engine: &Engine, printed: &mut Growing, out: &mut S, fault: LiveFault) -> LiveFault
     requires short { FewInstructions engine.now.setup }
     requires begun { IsInStep engine.now printed.old }
+    requires written { fault ≢ Unwritten }
     ensures told { (base : Option (List ℕ)) → IsTold engine.now.history printed.old base (S.bytes out.old) → IsBegun engine.now.setup base (S.bytes out.new) }
     ensures unread { result ≡ Unread → fault ≡ Unread }
+    ensures unwritten { result ≡ Unwritten → HasFailed (S.failures out.old) (S.failures out.new) }
 {
     match tell(engine, printed, out, true) {
         Ok(()) => fault,
@@ -215,6 +227,7 @@ fn end<S: Sink>(engine: &Engine, printed: &mut Growing, out: &mut S) -> Result<(
     requires begun { IsInStep engine.now printed.old }
     ensures told { (base : Option (List ℕ)) → IsTold engine.now.history printed.old base (S.bytes out.old) → Serves engine.now.setup base result (S.bytes out.new) }
     ensures unwritten { IfErr result (λ fault. fault ≡ Unwritten) }
+    ensures failures { FailsBySink (S.failures out.old) result (S.failures out.new) }
 {
     tell(engine, printed, out, false)?;
     printed.end(engine.totals(), out)?;

@@ -8,4 +8,5 @@ invariant-loop g l = record {
   told : (base : Option (List ℕ)) → IsTold l.fn.host.engine.history l.fn.printed base (g.S.Sink.bytes l.fn.out) → IsTold l.host.engine.history l.printed base (g.S.Sink.bytes l.out);
   step : IsInStep l.host.engine l.printed;
   setup : l.host.engine.setup ≡ l.fn.host.engine.setup;
+  none : g.S.Sink.failures l.out ≡ g.S.Sink.failures l.fn.out;
 }

@@ -1,15 +1,13 @@
-use Rattle.std.proofs.Common.{◌≡◌, ◌∙◌, ℕ, Option, List, ap, arith, drop, length, subst, sym}
+use Rattle.std.proofs.Common.{◌∙◌, List, ap, drop, length, subst, sym}
 use Rattle.std.proofs.lemmas.Result.{err_from_is_err_and}
 use Rattle.calls.specs.declared.record.Record.{Record}
 use Rattle.calls.specs.declared.trace.Version.{Version}
-use Rattle.engine_core.specs.EngineState.{EngineState}
 use Rattle.history_texts.proofs.Each.{each_record_has_text}
-use Rattle.trace.specs.Growing.{Goes, GrowingState}
+use Rattle.trace.specs.Growing.{Goes}
 use Rattle.trace.specs.HasText.{AllHaveText}
 use Rattle.trace.specs.TraceText.{records_text}
 use Rattle.trace.proofs.Grown.{Fronts}
 use Rattle.world.specs.World.{version_of}
-use Rattle.live.specs.Telling.{IsInStep, IsTold}
 use Rattle.live.proofs.Told.{begun_handed, begun_news, step_again, told_handed, told_news}
 use Rattle.live.proofs.serving.tell.Goals as goal
 

@@ -1,5 +1,6 @@
 -- What is told of a manifest that was not read.
-use Rattle.std.proofs.Common.{◌≡◌, ◌⊎◌, ◌∙◌, ℕ, zero, suc, List, [], ◌∷◌, Some, get_or, length, arith, inl, inr}
+use Rattle.std.proofs.Common.{◌≡◌, ◌⊎◌, ◌∙◌, ℕ, zero, suc, List, [], ◌∷◌, Some, Vec, get_or, length, arith, inl, inr}
+use Rattle.std.specs.Global.{Global}
 use Rattle.std.specs.List.{Contains}
 use Rattle.std.specs.Prelude.{slice_get}
 use Rattle.manifest.specs.declared.ManifestFault.{ManifestFault}
@@ -27,6 +28,12 @@ pub second_is : {X : Type 0} (xs : List X) (x y : X) → x ≡ get_or xs 1 x →
 second_is [] x y read there = absurd cc
 second_is (z ∷ []) x y read there = absurd cc
 second_is (z ∷ w ∷ zs) x y read there = cc
+
+-- what is so of the bytes of two that are read, is so of those that stand there
+pub of_both : (P : List ℕ → List ℕ → Type 0) (files : List (Vec ℕ Global)) {a b : Vec ℕ Global} {one two : List ℕ} → a ≡ get_or files 0 a → b ≡ get_or files 1 b
+    → one ≡ a.items → two ≡ b.items → P one two
+    → (first second : Vec ℕ Global) → slice_get files 0 ≡ Some first → slice_get files 1 ≡ Some second → P first.items second.items
+of_both P files read too same again holds first second one other = rw (← first_is files _ first read one, ← second_is files _ second too other, ← same, ← again) holds
 
 -- a trace that is accepted is so over a manifest
 pub over_manifest : (manifest text : List ℕ) → IsAcceptedTrace manifest text → IsManifest manifest

@@ -1,5 +1,5 @@
--- What the status of a plan tells of the first file that it reads.
-use Rattle.std.specs.Prelude.{◌≡◌, ℕ, List, Option, Some}
+-- What the status of a plan tells of the files that it reads.
+use Rattle.std.specs.Prelude.{◌≡◌, ◌⊎◌, ℕ, Contains, List, Option, Some, Err}
 use Rattle.std.specs.Io.KnownBytes.{Appends}
 use Rattle.bpf_decode.specs.Spells.{Spells}
 use Rattle.bpf_decode.specs.FirstFault.{HasFault as HasDecodeFault}
@@ -10,7 +10,15 @@ use Rattle.manifest.specs.declared.ManifestFault.{ManifestFault}
 use Rattle.manifest.specs.Meaning.{Means, HasFault}
 use Rattle.manifest.specs.Migration.{HasMigrationFault, IsMigrated}
 use Rattle.calls.specs.declared.trace.Trace.{Trace}
+use Rattle.or_memory.specs.declared.OrMemory.TheVariants as part
+use Rattle.replay.specs.Replaying.{IsFaultyAt}
+use Rattle.replay.specs.declared.fault.ReplayFault.{ReplayFault}
+use Rattle.scenario.specs.Said.{IsFaultyLine, Say, lines_of}
+use Rattle.scenario.specs.declared.steps.Step.{Step}
+use Rattle.scenario_host.specs.Faults.{IsRelease}
+use Rattle.trace.specs.Reading.{Says as SaysTrace}
 use Rattle.trace.specs.TraceText.{trace_text}
+use Rattle.trace.specs.declared.fault.TraceFault.{TraceFault}
 use Rattle.world.specs.World.{Setup}
 use Rattle.world.specs.TotalsOf.{TotalsOf}
 use Rattle.command_line.specs.declared.plans.Plan.{Plan}
@@ -93,3 +101,35 @@ IsAccepted (Show filter manifest trace) first second = IsAcceptedTrace first sec
 IsAccepted (Summarise manifest trace) first second = IsAcceptedTrace first second
 IsAccepted (Draw manifest trace picture) first second = IsAcceptedTrace first second
 IsAccepted plan first second = Unit {0}
+
+-- The text has this fault of a trace, or this faulty line of a scenario.
+abbrev pub IsFaultyTrace : List ℕ → Type 0
+IsFaultyTrace text = (fault : TraceFault) × SaysTrace text (Err (part.Fault fault))
+
+abbrev pub IsFaultyScenario : List ℕ → Type 0
+IsFaultyScenario text = (number : ℕ) × IsFaultyLine text number
+
+-- The one text is a manifest, and the other a trace, this line of which is the first that does not follow over it.
+abbrev pub IsFaultyReplay : List ℕ → List ℕ → Type 0
+IsFaultyReplay manifest text =
+    (setup : _) × (programs : _) × (trace : Trace) × (fault : ReplayFault) × Means manifest setup programs × (trace_text trace ≡ Some text) × IsFaultyAt setup trace fault
+
+-- The text is a scenario, and a step of it, on this line, gives a freeze back.
+abbrev pub HasRelease : List ℕ → Type 0
+HasRelease text = (steps : List Step) × (step : Step) × (line : ℕ) × Say (lines_of text) steps × Contains steps step × IsRelease step line
+
+-- why a trace is not accepted over a manifest, and why a scenario is not carried out
+abbrev pub IsRejectedTrace : List ℕ → List ℕ → Type 0
+IsRejectedTrace manifest text = IsFaultyManifest manifest ⊎ (IsFaultyTrace text ⊎ IsFaultyReplay manifest text)
+
+abbrev pub IsRejectedScenario : List ℕ → List ℕ → Type 0
+IsRejectedScenario manifest text = IsFaultyManifest manifest ⊎ (IsFaultyScenario text ⊎ HasRelease text)
+
+-- what is wrong with a plan's first file, or with its second beside the first, where the plan was refused
+abbrev pub IsRejected : Plan → List ℕ → List ℕ → Type 0
+IsRejected (Run workers watch manifest scenario) first second = IsRejectedScenario first second
+IsRejected (Replay manifest trace) first second = IsRejectedTrace first second
+IsRejected (Show filter manifest trace) first second = IsRejectedTrace first second
+IsRejected (Summarise manifest trace) first second = IsRejectedTrace first second
+IsRejected (Draw manifest trace picture) first second = IsRejectedTrace first second
+IsRejected plan first second = Unit {0}

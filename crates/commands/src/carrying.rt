@@ -8,7 +8,7 @@ ghost use Rattle.manifest.specs.Migration.{IsMigrated};
 ghost use Rattle.trace.specs.HasText.{AllHaveText};
 ghost use Rattle.workers.specs.declared.serving.TheConstants.{MAX_WORKERS};
 ghost use Rattle.commands.specs.Faults.{status_of};
-ghost use Rattle.commands.specs.Told.{IsText, IsProgram, IsManifest, IsMigratable, IsFaultyText, IsFaultyProgram, IsFaultyManifest, IsFaultyMigration, IsAsAsked, IsAccepted, IsFaulty};
+ghost use Rattle.commands.specs.Told.{IsText, IsProgram, IsManifest, IsMigratable, IsFaultyText, IsFaultyProgram, IsFaultyManifest, IsFaultyMigration, IsAsAsked, IsAccepted, IsFaulty, IsRejected, IsRejectedScenario};
 
 use crate::explaining::print_explanation;
 use crate::fault::Fault;
@@ -52,6 +52,8 @@ pub fn carry<N: Notices + Sync, R: Threads + Wait + Sync, W: Write, E: Write>(
     ensures accepted { result ≡ 0 → (first second : _) → slice_get inputs.now 0 ≡ Some first → slice_get inputs.now 1 ≡ Some second → IsAccepted plan.now first.items second.items }
     // Refused only where it has a fault, or a scenario or a trace behind it has one; a manifest that is to be explained is refused too.
     ensures refused { result ≡ 1 → (input : _) → slice_get inputs.now 0 ≡ Some input → IsFaulty plan.now input.items }
+    // Of two files, refused only where one has a fault, a line of the trace does not follow, or the scenario has a release.
+    ensures rejected { result ≡ 1 → (first second : _) → slice_get inputs.now 0 ≡ Some first → slice_get inputs.now 1 ≡ Some second → IsRejected plan.now first.items second.items }
 {
     match plan {
         Plan::Asm(text, _) => match assembled(alloc, (text.as_str(), inputs[0].as_slice())) {
@@ -170,6 +172,7 @@ fn print_run<N: Notices + Sync, R: Threads + Wait + Sync, W: Write, E: Write>(
     ensures manifest { ¬ (IsUtf8 manifest.entry.1.now) → result ≡ 2 }
     ensures scenario { ¬ (IsUtf8 scenario.entry.1.now) → result ≡ 2 }
     ensures done { result ≡ 0 → IsManifest manifest.entry.1.now }
+    ensures rejected { result ≡ 1 → IsRejectedScenario manifest.entry.1.now scenario.entry.1.now }
 {
     match run(rt, alloc, workers, manifest, scenario, notices) {
         Ok(trace) => status(print_trace(&trace, out), err),
@@ -203,6 +206,7 @@ fn run<'a, N: Notices + Sync, R: Threads + Wait + Sync>(
     ensures scenario { ¬ (IsUtf8 scenario.entry.1.now) → IsErrAnd result (λ e. status_of e ≡ 2) }
     ensures done { IfOk result (λ _. IsManifest manifest.entry.1.now) }
     ensures spelled { IfOk result (λ trace. AllHaveText trace.version trace.records.items) }
+    ensures fault { IfErr result (λ e. status_of e ≡ 1 → IsRejectedScenario manifest.entry.1.now scenario.entry.1.now) }
 {
     let manifest = text(manifest)?;
     let scenario = text(scenario)?;

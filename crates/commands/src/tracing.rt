@@ -1,10 +1,10 @@
 // What is told of a trace that is accepted. It relies on `replay` for the verdict, and on `trace_account`, `trace_summary` and
 // `trace_picture` for what a trace shows.
 
-ghost use Rattle.std.specs.Prelude.{◌≡◌, ◌≤◌, Contains, Some, IfOk, IsErrAnd, IsUtf8, length, slice_get};
+ghost use Rattle.std.specs.Prelude.{◌≡◌, ◌≤◌, Contains, Some, IfErr, IfOk, IsErrAnd, IsUtf8, length, slice_get};
 ghost use Rattle.command_line.specs.Files.{input_paths};
 ghost use Rattle.commands.specs.Faults.{status_of};
-ghost use Rattle.commands.specs.Told.{IsAcceptedTrace, IsManifest};
+ghost use Rattle.commands.specs.Told.{IsAcceptedTrace, IsManifest, IsRejectedTrace};
 
 use crate::fault::Fault;
 use crate::files::{status, text};
@@ -52,6 +52,7 @@ pub(crate) fn print_traced<N: Notices, W: Write, E: Write>(
     ensures no_text { (input : _) → Contains inputs.now input → ¬ (IsUtf8 input.items) → result ≡ 2 }
     ensures manifest { result ≡ 0 → (first : _) → slice_get inputs.now 0 ≡ Some first → IsManifest first.items }
     ensures done { result ≡ 0 → (first second : _) → slice_get inputs.now 0 ≡ Some first → slice_get inputs.now 1 ≡ Some second → IsAcceptedTrace first.items second.items }
+    ensures rejected { result ≡ 1 → (first second : _) → slice_get inputs.now 0 ≡ Some first → slice_get inputs.now 1 ≡ Some second → IsRejectedTrace first.items second.items }
 {
     let manifest = (plan.input(0), inputs[0].as_slice());
     let trace = (plan.input(1), inputs[1].as_slice());
@@ -72,6 +73,7 @@ fn print_over<N: Notices, W: Write, E: Write>(
     ensures manifest { ¬ (IsUtf8 manifest.entry.1.now) → result ≡ 2 }
     ensures trace { ¬ (IsUtf8 trace.entry.1.now) → result ≡ 2 }
     ensures done { result ≡ 0 → IsAcceptedTrace manifest.entry.1.now trace.entry.1.now }
+    ensures rejected { result ≡ 1 → IsRejectedTrace manifest.entry.1.now trace.entry.1.now }
 {
     match replayed(alloc, manifest, trace, notices) {
         Ok((manifest, trace)) => status(print(alloc, told, &manifest, &trace, out), err),
@@ -89,6 +91,7 @@ fn replayed<'a, N: Notices>(
     ensures manifest { ¬ (IsUtf8 manifest.entry.1.now) → IsErrAnd result (λ e. status_of e ≡ 2) }
     ensures trace { ¬ (IsUtf8 trace.entry.1.now) → IsErrAnd result (λ e. status_of e ≡ 2) }
     ensures done { IfOk result (λ _. IsAcceptedTrace manifest.entry.1.now trace.entry.1.now) }
+    ensures fault { IfErr result (λ e. status_of e ≡ 1 → IsRejectedTrace manifest.entry.1.now trace.entry.1.now) }
 {
     let manifest = text(manifest)?;
     let trace = text(trace)?;

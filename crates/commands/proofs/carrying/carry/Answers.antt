@@ -3,8 +3,8 @@ use Rattle.std.specs.Prelude.{IsUtf8}
 use Rattle.std.specs.Global.{Global}
 use Rattle.command_line.specs.Files.{input_paths}
 use Rattle.command_line.specs.declared.plans.Plan.{Plan}
-use Rattle.commands.specs.Told.{IsAccepted, IsAsAsked, IsFaulty, IsFaultyManifest, IsFaultyMigration, IsFaultyText, IsManifest, IsMigratable}
-use Rattle.commands.proofs.Telling.{first_is, one_of_two}
+use Rattle.commands.specs.Told.{IsAccepted, IsAsAsked, IsFaulty, IsFaultyManifest, IsFaultyMigration, IsFaultyText, IsManifest, IsMigratable, IsRejected, IsRejectedScenario}
+use Rattle.commands.proofs.Telling.{first_is, of_both, one_of_two}
 use Rattle.commands.proofs.carrying.carry.Goals as goal
 
 pub returns-in-Err-check-clause-refused : goal.returns-in-Err-check-clause-refused
@@ -35,6 +35,12 @@ returns-in-Run-clause-no_text g c = λ reads input there not_text.
       | inr second ↦ c.print_run.ensures.scenario (λ text. not_text (subst (λ (bytes : List ℕ). IsUtf8 bytes) (c.as_slice-in-Run-2.ensures.value ∙ ap (λ (bytes : Vec ℕ Global). bytes.items) second) text))
     ]
 
+pub returns-in-Run-clause-rejected : goal.returns-in-Run-clause-rejected
+returns-in-Run-clause-rejected g c = λ is first second one other.
+    subst (λ (plan : Plan). IsRejected plan first.items second.items) (sym c.in-Run.is)
+    (of_both IsRejectedScenario c.args.inputs.now c.index-inputs-0-in-Run.is c.index-inputs-1.is c.as_slice-in-Run.ensures.value c.as_slice-in-Run-2.ensures.value
+    (c.print_run.ensures.rejected is) first second one other)
+
 pub returns-in-Migrate-clause-done : goal.returns-in-Migrate-clause-done
 returns-in-Migrate-clause-done g c = λ is input there.
     let read = first_is c.args.inputs.now c.index-inputs-0-in-Migrate.result input c.index-inputs-0-in-Migrate.is there in
@@ -55,6 +61,10 @@ pub returns-in-Replay-clause-accepted : goal.returns-in-Replay-clause-accepted
 returns-in-Replay-clause-accepted g c = λ is first second one other.
     subst (λ (plan : Plan). IsAccepted plan first.items second.items) (sym c.in-Replay.is) (c.print_traced.ensures.done is first second one other)
 
+pub returns-in-Replay-clause-rejected : goal.returns-in-Replay-clause-rejected
+returns-in-Replay-clause-rejected g c = λ is first second one other.
+    subst (λ (plan : Plan). IsRejected plan first.items second.items) (sym c.in-Replay.is) (c.print_traced.ensures.rejected is first second one other)
+
 pub returns-in-Show-clause-done : goal.returns-in-Show-clause-done
 returns-in-Show-clause-done g c = λ is input there.
     subst (λ (plan : Plan). IsAsAsked plan input.items) (sym c.in-Show.is) (c.print_traced-in-Show.ensures.manifest is input there)
@@ -62,6 +72,10 @@ returns-in-Show-clause-done g c = λ is input there.
 pub returns-in-Show-clause-accepted : goal.returns-in-Show-clause-accepted
 returns-in-Show-clause-accepted g c = λ is first second one other.
     subst (λ (plan : Plan). IsAccepted plan first.items second.items) (sym c.in-Show.is) (c.print_traced-in-Show.ensures.done is first second one other)
+
+pub returns-in-Show-clause-rejected : goal.returns-in-Show-clause-rejected
+returns-in-Show-clause-rejected g c = λ is first second one other.
+    subst (λ (plan : Plan). IsRejected plan first.items second.items) (sym c.in-Show.is) (c.print_traced-in-Show.ensures.rejected is first second one other)
 
 pub returns-in-Summarise-clause-done : goal.returns-in-Summarise-clause-done
 returns-in-Summarise-clause-done g c = λ is input there.
@@ -71,6 +85,10 @@ pub returns-in-Summarise-clause-accepted : goal.returns-in-Summarise-clause-acce
 returns-in-Summarise-clause-accepted g c = λ is first second one other.
     subst (λ (plan : Plan). IsAccepted plan first.items second.items) (sym c.in-Summarise.is) (c.print_traced-in-Summarise.ensures.done is first second one other)
 
+pub returns-in-Summarise-clause-rejected : goal.returns-in-Summarise-clause-rejected
+returns-in-Summarise-clause-rejected g c = λ is first second one other.
+    subst (λ (plan : Plan). IsRejected plan first.items second.items) (sym c.in-Summarise.is) (c.print_traced-in-Summarise.ensures.rejected is first second one other)
+
 pub returns-in-Draw-clause-done : goal.returns-in-Draw-clause-done
 returns-in-Draw-clause-done g c = λ is input there.
     subst (λ (plan : Plan). IsAsAsked plan input.items) (sym c.in-Draw.is) (c.print_traced-in-Draw.ensures.manifest is input there)
@@ -78,6 +96,10 @@ returns-in-Draw-clause-done g c = λ is input there.
 pub returns-in-Draw-clause-accepted : goal.returns-in-Draw-clause-accepted
 returns-in-Draw-clause-accepted g c = λ is first second one other.
     subst (λ (plan : Plan). IsAccepted plan first.items second.items) (sym c.in-Draw.is) (c.print_traced-in-Draw.ensures.done is first second one other)
+
+pub returns-in-Draw-clause-rejected : goal.returns-in-Draw-clause-rejected
+returns-in-Draw-clause-rejected g c = λ is first second one other.
+    subst (λ (plan : Plan). IsRejected plan first.items second.items) (sym c.in-Draw.is) (c.print_traced-in-Draw.ensures.rejected is first second one other)
 
 pub returns-in-Explain-clause-done : goal.returns-in-Explain-clause-done
 returns-in-Explain-clause-done g c = λ is input there.

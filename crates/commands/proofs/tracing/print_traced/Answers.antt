@@ -1,8 +1,8 @@
 use Rattle.std.proofs.Common.{◌≡◌, ◌∙◌, ℕ, List, Vec, ap, inl, inr, subst}
 use Rattle.std.specs.Prelude.{IsUtf8}
 use Rattle.std.specs.Global.{Global}
-use Rattle.commands.specs.Told.{IsAcceptedTrace, IsManifest}
-use Rattle.commands.proofs.Telling.{first_is, one_of_two, over_manifest, second_is}
+use Rattle.commands.specs.Told.{IsAcceptedTrace, IsManifest, IsRejectedTrace}
+use Rattle.commands.proofs.Telling.{first_is, of_both, one_of_two, over_manifest}
 use Rattle.commands.proofs.tracing.print_traced.Goals as goal
 
 pub returns-clause-no_text : goal.returns-clause-no_text
@@ -19,10 +19,9 @@ returns-clause-manifest g c = λ is first there.
     subst (λ (bytes : List ℕ). IsManifest bytes) same (over_manifest c.as_slice.result.now c.as_slice-2.result.now (c.print_over.ensures.done is))
 
 pub returns-clause-done : goal.returns-clause-done
-returns-clause-done g c = λ is first second one other.
-    let read = first_is c.args.inputs.now c.index-inputs-0.result first c.index-inputs-0.is one in
-    let too = second_is c.args.inputs.now c.index-inputs-1.result second c.index-inputs-1.is other in
-    let manifest : c.as_slice.result.now ≡ first.items = c.as_slice.ensures.value ∙ ap (λ (bytes : Vec ℕ Global). bytes.items) read in
-    let trace : c.as_slice-2.result.now ≡ second.items = c.as_slice-2.ensures.value ∙ ap (λ (bytes : Vec ℕ Global). bytes.items) too in
-    subst (λ (bytes : List ℕ). IsAcceptedTrace first.items bytes) trace
-    (subst (λ (bytes : List ℕ). IsAcceptedTrace bytes c.as_slice-2.result.now) manifest (c.print_over.ensures.done is))
+returns-clause-done g c = λ is.
+    of_both IsAcceptedTrace c.args.inputs.now c.index-inputs-0.is c.index-inputs-1.is c.as_slice.ensures.value c.as_slice-2.ensures.value (c.print_over.ensures.done is)
+
+pub returns-clause-rejected : goal.returns-clause-rejected
+returns-clause-rejected g c = λ is.
+    of_both IsRejectedTrace c.args.inputs.now c.index-inputs-0.is c.index-inputs-1.is c.as_slice.ensures.value c.as_slice-2.ensures.value (c.print_over.ensures.rejected is)

@@ -1,8 +1,10 @@
 -- A longest path goes on to where a longest path begins. So from step to step one instruction less is left of it.
-use Rattle.std.proofs.Common.{◌≡◌, ℕ, zero, suc, ◌+◌, ◌<◌, ◌≤◌, List, [], ◌∷◌, ◌++◌, length, Some, slice_index, refl, ap, sym, subst, ◌∙◌, arith, inl, inr, length-append}
+use Rattle.std.proofs.Common.{◌≡◌, ℕ, zero, suc, ◌+◌, ◌<◌, ◌≤◌, true, List, [], ◌∷◌, ◌++◌, length, Some, slice_index, refl, ap, sym, subst, ◌∙◌, arith, inl, inr, length-append}
 use Rattle.std.specs.List.{sum_by}
 use Rattle.std.proofs.lemmas.List.Sums.{sum_by-cons}
 use Rattle.bpf_insn.specs.declared.insn.Insn.{Insn}
+use Rattle.bpf_insn.specs.declared.insn.Insn.TheVariants.{Alu, InPlace, SignExtend, JumpIf, Jump, LoadImmediate, Load, Store, Call, Exit}
+use Rattle.bpf_insn.specs.declared.insn.Callee.TheVariants.{Helper, Local}
 use Rattle.bpf_insn.specs.declared.program.Slot.{Slot}
 use Rattle.bpf_insn.specs.Program.{IsProgram, insn_at}
 use Rattle.budget_path.specs.Length.{whole_by}
@@ -11,14 +13,15 @@ use Rattle.budget_path.proofs.PathLengths.{IsBudget, budget_is}
 use Rattle.call_shape.specs.declared.lawful_shape.TheConstants.{MAX_WRITTEN_OUT}
 use Rattle.call_shape.specs.declared.onward.Onward.{Onward}
 use Rattle.call_shape.specs.declared.onward.Onward.TheVariants.{Leaves, Continues, Branches, Enters}
+use Rattle.call_shape.specs.Calls as shape
 use Rattle.call_shape.specs.Onward.{onward}
 use Rattle.call_shape.specs.OnTheWay.{AreBegun}
 use Rattle.call_shape.specs.Shape.{AreContained, IsLawful}
 use Rattle.call_shape.specs.StaticPath.{Standing, outermost, moved, depth, ReturnsTo, StaticPath}
 use Rattle.call_shape.proofs.Paths.{LeadsOn, WaysFrom, GoesOut, leads_so, ways_on, way_from}
-use Rattle.call_shape.proofs.Places.{begins_first, there_begins}
+use Rattle.call_shape.proofs.Places.{begins_first, begins_there, there_begins}
 use Rattle.call_shape.proofs.Ways.{IsLawfulWay, lawful_way}
-use Rattle.checked_path.specs.Passes.{Passes, begins, goes_on, standing}
+use Rattle.checked_path.specs.Passes.{IsWhole, Passes, begins, goes_on, standing}
 use Rattle.checked_path.specs.Remaining.{left, IsUnderWay, GoesOn, GoesTo}
 
 -- ---- the longest path from a place
@@ -175,10 +178,64 @@ some_path : (program : List Slot) (at : Standing) (n : ℕ) → StaticPath progr
 some_path program at zero path = absurd path
 some_path program at (suc n) path = omega arith
 
-pub walked_all : (program : List Slot) (lengths slots : List ℕ) (at : Standing) (count : ℕ) → slice_index lengths 0 ≤ count → (1 ≤ slice_index lengths 0 → count ≤ slice_index lengths 0) → IsWalked program lengths slots at count → IsBudget program (length slots)
+-- ---- its end
+
+-- something is left where an instruction begins
+some_left : (program : List Slot) (lengths : List ℕ) (place : ℕ) → AreLongest program lengths → shape.begins program place ≡ true → 0 < slice_index lengths place
+some_left program lengths place known begun =
+    let on = known.each place begun in
+    omega (arith, on.same, some_path program (outermost place) on.longest on.path)
+
+none_open : (program : List Slot) (lengths returns : List ℕ) → AreLongest program lengths → AreBegun program returns → sum_by (slice_index lengths) returns ≡ 0 → returns ≡ []
+none_open program lengths [] known begun none = refl
+none_open program lengths (return ∷ returns) known begun none =
+    absurd (omega (arith, none, some_left program lengths return known begun.0, sum_by-cons (slice_index lengths) return returns))
+
+-- where control goes on from all but an exit, and something is left there
+goes_further : (program : List Slot) (lengths : List ℕ) (place : ℕ) (way : Onward) → AreLongest program lengths → IsLawfulWay program place way → whole_by lengths way ≡ 1 → way ≡ Leaves
+goes_further program lengths place Leaves known lawful last = refl
+goes_further program lengths place (Continues next) known lawful last = absurd (omega (arith, last, some_left program lengths next known lawful.there))
+goes_further program lengths place (Branches next other) known lawful last = absurd (omega (arith, last, some_left program lengths next known lawful.0.there))
+goes_further program lengths place (Enters callee next) known lawful last = absurd (omega (arith, last, some_left program lengths next known lawful.1.there))
+
+is_exit : (place : ℕ) (insn : Insn) → onward place insn ≡ Leaves → insn ≡ Exit
+is_exit place Exit leaves = refl
+is_exit place (Jump distance) leaves = absurd cc
+is_exit place (JumpIf width condition dst src offset) leaves = absurd cc
+is_exit place (Call (Local distance)) leaves = absurd cc
+is_exit place (Call (Helper number)) leaves = absurd cc
+is_exit place (LoadImmediate dst value) leaves = absurd cc
+is_exit place (Alu width op dst src) leaves = absurd cc
+is_exit place (InPlace op dst) leaves = absurd cc
+is_exit place (SignExtend extension dst src) leaves = absurd cc
+is_exit place (Load form dst src offset) leaves = absurd cc
+is_exit place (Store size dst src offset) leaves = absurd cc
+
+-- a path is whole where one instruction is left
+walked_out : (program : List Slot) (lengths slots : List ℕ) (at : Standing) (count : ℕ) → left lengths at ≡ 1 → IsWalked program lengths slots at count → IsWhole program slots
+walked_out program lengths slots at count last walked =
+    let is = walked.under_way in
+    let functions = is.lawful.frames.calls.functions in
+    let there = begins_there program at.slot is.begun.0 in
+    let here = some_left program lengths at.slot is.longest is.begun.0 in
+    let whole = entry_by program lengths at.slot there.0 is.program_is functions is.longest there.1 (omega (arith, is.few)) in
+    let way = lawful_way program at.slot there.0 is.program_is functions there.1 in
+    record {
+      at = at;
+      passes = walked.passes;
+      insn = there.0;
+      there = there.1;
+      ends = (
+        is_exit at.slot there.0 (goes_further program lengths at.slot (onward at.slot there.0) is.longest way (omega (arith, whole, last, here))),
+        none_open program lengths at.returns is.longest is.begun.1 (omega (arith, last, here)),
+      );
+    }
+
+pub walked_all : (program : List Slot) (lengths slots : List ℕ) (at : Standing) (count : ℕ) → slice_index lengths 0 ≤ count → (1 ≤ slice_index lengths 0 → count ≤ slice_index lengths 0) → IsWalked program lengths slots at count
+    → IsBudget program (length slots) × IsWhole program slots
 walked_all program lengths slots at count most few walked =
     let is = walked.under_way in
     let budget = budget_of program lengths is.program_is is.lawful is.longest in
     let some = some_path program (outermost 0) (slice_index lengths 0) budget.path in
     let same : slice_index lengths 0 ≡ length slots = omega (arith, most, few some, walked.counted) in
-    subst (IsBudget program) same budget
+    (subst (IsBudget program) same budget, walked_out program lengths slots at count (omega (arith, most, few some, walked.remaining)) walked)

@@ -3,7 +3,7 @@ use Rattle.std.specs.Prelude.{◌≡◌, ℕ, List, [], ◌∷◌, ◌++◌, Som
 use Rattle.bpf_insn.specs.declared.insn.Insn.{Insn}
 use Rattle.bpf_insn.specs.declared.program.Slot.{Slot}
 use Rattle.bpf_insn.specs.Program.{insn_at}
-use Rattle.call_shape.specs.StaticPath.{Standing, LeadsTo, outermost}
+use Rattle.call_shape.specs.StaticPath.{Standing, LeadsTo, IsOutermostExit, outermost}
 
 -- at a slot, where calls are open that go on there, the innermost first
 abbrev pub standing : ℕ → List ℕ → Standing
@@ -20,3 +20,11 @@ pub data Passes (program : List Slot) : List ℕ → Standing → Type 0 where
 
 abbrev pub IsPath : List Slot → List ℕ → Type 0
 IsPath program slots = (at : Standing) × Passes program slots at
+
+-- a path from slot 0 that stands at the outermost exit, the last of its slots
+pub record IsWhole (program : List Slot) (slots : List ℕ) : Type 0 where
+  pub at : Standing
+  pub passes : Passes program slots at
+  pub insn : Insn
+  pub there : insn_at program at.slot ≡ Some insn
+  pub ends : IsOutermostExit at insn

@@ -4,7 +4,7 @@ ghost use Rattle.std.specs.Prelude.{◌≡◌, ◌<◌, ◌≤◌, ℕ, length, 
 ghost use Rattle.call_shape.specs.StaticPath.{StaticPath, outermost};
 ghost use Rattle.call_shape.specs.Tables.{HasEntries};
 ghost use Rattle.call_shape.specs.declared.onward.Onward.TheVariants.{Leaves};
-ghost use Rattle.checked_path.specs.Passes.{IsPath, standing};
+ghost use Rattle.checked_path.specs.Passes.{IsWhole, standing};
 ghost use Rattle.checked_path.specs.Remaining.{left, IsUnderWay, GoesOn, IsLonger, GoesTo};
 
 use bpf_insn::Program;
@@ -14,7 +14,7 @@ use std::alloc::{AllocError, Global};
 
 /// The slots of a longest path through a program of lawful shape, from slot 0 to the exit.
 pub fn longest_path(alloc: Global, shape: &Shape<'_>) -> Result<Vec<usize>, AllocError>
-    ensures path { IfOk result (λ slots. IsPath shape.now slots.items) }
+    ensures path { IfOk result (λ slots. IsWhole shape.now slots.items) }
     // Some path to the exit is so long, and none is longer.
     ensures exit { IfOk result (λ slots. StaticPath shape.now (outermost 0) (length slots.items)) }
     ensures longest { IfOk result (λ slots. (n : ℕ) → StaticPath shape.now (outermost 0) n → n ≤ length slots.items) }

@@ -1,5 +1,5 @@
 -- A write that was interrupted left the writer as it was.
-use Rattle.std.proofs.Common.{◌≡◌, ℕ, List, Option, Some, None, ◌∙◌, ◌++◌, ap, sym, refl, subst}
+use Rattle.std.proofs.Common.{ℕ, List, Option, Some, None, ◌∙◌, ◌++◌, ap, refl}
 use Rattle.std.specs.Io.KnownBytes.{Appends, Keeps}
 
 pub keeps_none : (old : Option (List ℕ)) → Keeps old old

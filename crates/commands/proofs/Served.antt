@@ -1,7 +1,6 @@
 -- What went out of a live engine is a trace that a replay accepts.
 use Rattle.std.proofs.Common.{ℕ, List, Option}
 use Rattle.live.specs.Telling.{IsOut}
-use Rattle.manifest.specs.Meaning.{Means}
 use Rattle.world.specs.World.{version_of}
 use Rattle.commands.specs.Told.{IsServed, IsServing}
 use Rattle.world.specs.World.{Setup}

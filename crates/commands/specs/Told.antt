@@ -94,8 +94,13 @@ IsServing manifest setup = (programs : _) × Means manifest setup programs
 abbrev pub IsServed : List ℕ → Option (List ℕ) → Option (List ℕ) → Type 0
 IsServed manifest old new = (text : List ℕ) × Appends old new text × IsAcceptedTrace manifest text
 
+-- The text is a scenario.
+abbrev pub IsScenario : List ℕ → Type 0
+IsScenario text = (steps : List Step) × Say (lines_of text) steps
+
 -- what a plan's second file is, beside the first, where the plan was carried out
 abbrev pub IsAccepted : Plan → List ℕ → List ℕ → Type 0
+IsAccepted (Run workers watch manifest scenario) first second = IsScenario second
 IsAccepted (Replay manifest trace) first second = IsAcceptedTrace first second
 IsAccepted (Show filter manifest trace) first second = IsAcceptedTrace first second
 IsAccepted (Summarise manifest trace) first second = IsAcceptedTrace first second

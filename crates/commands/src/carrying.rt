@@ -8,7 +8,7 @@ ghost use Rattle.manifest.specs.Migration.{IsMigrated};
 ghost use Rattle.trace.specs.HasText.{AllHaveText};
 ghost use Rattle.workers.specs.declared.serving.TheConstants.{MAX_WORKERS};
 ghost use Rattle.commands.specs.Faults.{status_of};
-ghost use Rattle.commands.specs.Told.{IsText, IsProgram, IsManifest, IsMigratable, IsFaultyText, IsFaultyProgram, IsFaultyManifest, IsFaultyMigration, IsAsAsked, IsAccepted, IsFaulty, IsRejected, IsRejectedScenario};
+ghost use Rattle.commands.specs.Told.{IsText, IsProgram, IsManifest, IsMigratable, IsFaultyText, IsFaultyProgram, IsFaultyManifest, IsFaultyMigration, IsAsAsked, IsAccepted, IsFaulty, IsRejected, IsRejectedScenario, IsScenario};
 
 use crate::explaining::print_explanation;
 use crate::fault::Fault;
@@ -48,7 +48,8 @@ pub fn carry<N: Notices + Sync, R: Threads + Wait + Sync, W: Write, E: Write>(
     ensures no_text { reads_text plan.now ≡ true → (input : _) → Contains inputs.now input → ¬ (IsUtf8 input.items) → result ≡ 2 }
     // Done only where the first file is what the plan asks for.
     ensures done { result ≡ 0 → (input : _) → slice_get inputs.now 0 ≡ Some input → IsAsAsked plan.now input.items }
-    // A replay, and what a trace shows, is done only where the second file is the trace of a history of an engine of the first.
+    // A run is done only where the second file is a scenario; a replay, and what a trace shows, only where it is the trace of a
+    // history of an engine of the first.
     ensures accepted { result ≡ 0 → (first second : _) → slice_get inputs.now 0 ≡ Some first → slice_get inputs.now 1 ≡ Some second → IsAccepted plan.now first.items second.items }
     // Refused only where it has a fault, or a scenario or a trace behind it has one; a manifest that is to be explained is refused too.
     ensures refused { result ≡ 1 → (input : _) → slice_get inputs.now 0 ≡ Some input → IsFaulty plan.now input.items }
@@ -172,6 +173,7 @@ fn print_run<N: Notices + Sync, R: Threads + Wait + Sync, W: Write, E: Write>(
     ensures manifest { ¬ (IsUtf8 manifest.entry.1.now) → result ≡ 2 }
     ensures scenario { ¬ (IsUtf8 scenario.entry.1.now) → result ≡ 2 }
     ensures done { result ≡ 0 → IsManifest manifest.entry.1.now }
+    ensures accepted { result ≡ 0 → IsScenario scenario.entry.1.now }
     ensures rejected { result ≡ 1 → IsRejectedScenario manifest.entry.1.now scenario.entry.1.now }
 {
     match run(rt, alloc, workers, manifest, scenario, notices) {
@@ -205,6 +207,7 @@ fn run<'a, N: Notices + Sync, R: Threads + Wait + Sync>(
     ensures manifest { ¬ (IsUtf8 manifest.entry.1.now) → IsErrAnd result (λ e. status_of e ≡ 2) }
     ensures scenario { ¬ (IsUtf8 scenario.entry.1.now) → IsErrAnd result (λ e. status_of e ≡ 2) }
     ensures done { IfOk result (λ _. IsManifest manifest.entry.1.now) }
+    ensures accepted { IfOk result (λ _. IsScenario scenario.entry.1.now) }
     ensures spelled { IfOk result (λ trace. AllHaveText trace.version trace.records.items) }
     ensures fault { IfErr result (λ e. status_of e ≡ 1 → IsRejectedScenario manifest.entry.1.now scenario.entry.1.now) }
 {

@@ -3,7 +3,7 @@ use Rattle.std.specs.Prelude.{IsUtf8}
 use Rattle.std.specs.Global.{Global}
 use Rattle.command_line.specs.Files.{input_paths}
 use Rattle.command_line.specs.declared.plans.Plan.{Plan}
-use Rattle.commands.specs.Told.{IsAccepted, IsAsAsked, IsFaulty, IsFaultyManifest, IsFaultyMigration, IsFaultyText, IsManifest, IsMigratable, IsRejected, IsRejectedScenario}
+use Rattle.commands.specs.Told.{IsAccepted, IsAsAsked, IsFaulty, IsFaultyManifest, IsFaultyMigration, IsFaultyText, IsManifest, IsMigratable, IsRejected, IsRejectedScenario, IsScenario}
 use Rattle.commands.proofs.Telling.{first_is, of_both, one_of_two}
 use Rattle.commands.proofs.carrying.carry.Goals as goal
 
@@ -34,6 +34,12 @@ returns-in-Run-clause-no_text g c = λ reads input there not_text.
       | inl first ↦ c.print_run.ensures.manifest (λ text. not_text (subst (λ (bytes : List ℕ). IsUtf8 bytes) (c.as_slice-in-Run.ensures.value ∙ ap (λ (bytes : Vec ℕ Global). bytes.items) first) text))
       | inr second ↦ c.print_run.ensures.scenario (λ text. not_text (subst (λ (bytes : List ℕ). IsUtf8 bytes) (c.as_slice-in-Run-2.ensures.value ∙ ap (λ (bytes : Vec ℕ Global). bytes.items) second) text))
     ]
+
+pub returns-in-Run-clause-accepted : goal.returns-in-Run-clause-accepted
+returns-in-Run-clause-accepted g c = λ is first second one other.
+    subst (λ (plan : Plan). IsAccepted plan first.items second.items) (sym c.in-Run.is)
+    (of_both (λ (_ scenario : List ℕ). IsScenario scenario) c.args.inputs.now c.index-inputs-0-in-Run.is c.index-inputs-1.is c.as_slice-in-Run.ensures.value c.as_slice-in-Run-2.ensures.value
+    (c.print_run.ensures.accepted is) first second one other)
 
 pub returns-in-Run-clause-rejected : goal.returns-in-Run-clause-rejected
 returns-in-Run-clause-rejected g c = λ is first second one other.

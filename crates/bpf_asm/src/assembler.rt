@@ -3,7 +3,7 @@
 ghost use Rattle.std.specs.Prelude.{◌≡◌, ◌++◌, option_to_list, OnOk, IfOk, IfErr, MatchResult, List};
 ghost use Rattle.bpf_insn.specs.declared.program.Slot.{Slot};
 ghost use Rattle.bpf_insn.specs.Program.{SparesFramePointer};
-ghost use Rattle.or_memory.specs.declared.OrMemory.TheVariants.{OutOfMemory};
+ghost use Rattle.base.specs.declared.or_memory.OrMemory.TheVariants.{OutOfMemory};
 ghost use Rattle.bpf_asm.specs.Lexemes.{lines};
 ghost use Rattle.bpf_asm.specs.Labels.{label_at};
 ghost use Rattle.bpf_asm.specs.Assembly.{said_in, said, Says, HasFault};
@@ -13,8 +13,8 @@ use crate::fault::AsmFault;
 use crate::labels::{Labels, labels_of};
 use crate::lexeme::first_line;
 use crate::statement::{read_line, slots_of};
+use base::OrMemory;
 use bpf_insn::{Insn, Program, ProgramBuilder};
-use or_memory::OrMemory;
 use std::alloc::{AllocError, Global};
 
 /// Why a text was not assembled: memory was refused, or it says no program.

@@ -13,7 +13,7 @@ use crate::assembler::AsmError;
 use crate::fault::{AsmFault, LineFault};
 use crate::lexeme::{first_lexeme, first_line};
 use crate::number::is_token;
-use or_memory::OrMemory;
+use base::OrMemory;
 use std::alloc::{AllocError, Global};
 
 /// A name, a number without its sign, or a mark. Its text is the slice of the text from `start` to `end`.

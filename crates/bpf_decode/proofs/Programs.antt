@@ -2,8 +2,8 @@
 use Rattle.std.proofs.Common.{◌≡◌, ◌*◌, ℕ, List, [], length, sym, ap, ◌∙◌, arith, Result, Ok, Err, IfOk, IfErr, MatchResult, refl}
 use Rattle.bpf_insn.specs.declared.program.Slot.{Slot}
 use Rattle.bpf_insn.specs.Program.{layout, insns_in}
-use Rattle.or_memory.specs.declared.OrMemory.{OrMemory}
-use Rattle.or_memory.specs.declared.OrMemory.TheVariants.{OutOfMemory, Fault}
+use Rattle.base.specs.declared.or_memory.OrMemory.{OrMemory}
+use Rattle.base.specs.declared.or_memory.OrMemory.TheVariants.{OutOfMemory, Fault}
 use Rattle.bpf_decode.specs.declared.fault.InsnFault.{InsnFault}
 use Rattle.bpf_decode.specs.declared.fault.DecodeFault.{DecodeFault}
 use Rattle.bpf_decode.specs.declared.fault.DecodeFault.TheVariants.{Empty, PartialSlot, TooManySlots, At}

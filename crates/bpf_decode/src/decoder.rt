@@ -6,13 +6,13 @@ ghost use Rattle.bpf_insn.specs.declared.program.Slot.{Slot};
 ghost use Rattle.bpf_decode.specs.Spells.{Spells};
 ghost use Rattle.bpf_decode.specs.FirstFault.{HasFault};
 ghost use Rattle.bpf_decode.specs.Decoded.{IfFault};
-ghost use Rattle.or_memory.specs.declared.OrMemory.TheVariants.{OutOfMemory};
+ghost use Rattle.base.specs.declared.or_memory.OrMemory.TheVariants.{OutOfMemory};
 
 use crate::fault::DecodeFault;
 use crate::fields::SLOT_BYTES;
 use crate::insn::insn;
+use base::OrMemory;
 use bpf_insn::{MAX_SLOTS, Program, ProgramBuilder};
-use or_memory::OrMemory;
 use std::alloc::Global;
 
 /// Why bytes were not decoded: memory was refused, or they spell no program.

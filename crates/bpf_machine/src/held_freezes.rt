@@ -1,12 +1,12 @@
 // The freezes that a run holds, in a place of fixed size, so that a machine is copied and compared without memory. It
-// relies on `padded_list` for how they are kept, and on `bpf_semantics` for how many there may be.
+// relies on `base` for how they are kept, and on `bpf_semantics` for how many there may be.
 
 ghost use Rattle.std.specs.Prelude.{◌≡◌, ◌≤◌, ◌<◌, ◌==◌, ◌↔◌, [], ◌∷◌, ◌++◌, length, nat_eq, IsTrue, not, filter, if◌then◌else◌};
 ghost use Rattle.std.specs.Cmp.Lexicographic.{pointwise, nat_list_eq_equiv};
 ghost use Rattle.std.specs.Cmp.{partial_equiv_from_equiv};
 
+use base::PaddedList;
 use bpf_semantics::MAX_HELD;
-use padded_list::PaddedList;
 use std::marker::Model;
 
 /// The numbers of the freezes that a run holds, from 0 to `MAX_HELD` of them, in the order in which it got them.

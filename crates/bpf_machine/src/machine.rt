@@ -20,10 +20,10 @@ use crate::memory::{CONTEXT_ADDRESS, FRAME_ADDRESS, FRAME_BYTES, FRAME_DISTANCE,
 use crate::open_calls::{OpenCall, OpenCalls};
 use crate::registers::Registers;
 use crate::stepping::advance;
+use base::ShortBytes;
 use bpf_insn::{Callee, Insn, Program, Reg, jump_target};
 use bpf_semantics::Stop;
 use helpers::{Answer, Arguments, Asked, Change, Helper, Request, Tells, Written};
-use short_bytes::ShortBytes;
 use stack_frame::Frames;
 use std::marker::Model;
 

@@ -1,9 +1,9 @@
-// The local calls that have not returned, in a place of fixed size. It relies on `padded_list` for how they are kept, and
+// The local calls that have not returned, in a place of fixed size. It relies on `base` for how they are kept, and
 // on `stack_frame` for how many there may be.
 
 ghost use Rattle.std.specs.Prelude.{◌≡◌, ◌<◌, ◌+◌, ◌↔◌, [], ◌∷◌, IsTrue, None, length, replicate};
 
-use padded_list::{Blank, PaddedList};
+use base::{Blank, PaddedList};
 use stack_frame::MAX_FRAMES;
 use std::marker::Model;
 

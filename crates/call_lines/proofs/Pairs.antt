@@ -7,7 +7,7 @@ use Rattle.std.proofs.lemmas.Bool.Decides.{nat_tests}
 use Rattle.ccb.specs.declared.cam_status.CamStatus.{CamStatus}
 use Rattle.ccb.specs.declared.cam_status.CamStatus.TheVariants.{RequestInProgress, RequestCompleted, RequestAborted, Busy, SelectionTimeout, CommandTimeout, ScsiStatusError, ScsiBusReset, BusDeviceResetSent, RequeueRequest}
 use Rattle.ccb.specs.Status.{code_of, IsDecodedFrom}
-use Rattle.hexadecimal.specs.Hexadecimal.{is_decimal, is_letter, is_digit, digit_value, pair_value, byte_in}
+use Rattle.base.specs.Hexadecimal.{is_decimal, is_letter, is_digit, digit_value, pair_value, byte_in}
 use Rattle.call_lines.specs.Texts.{where_true, pair_text, is_byte, byte_text, status_text}
 use Rattle.call_lines.specs.Written.{Reads}
 use Rattle.call_lines.proofs.Tests.{passed, both}

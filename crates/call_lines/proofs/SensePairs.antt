@@ -11,7 +11,7 @@ use Rattle.std.specs.List.{list_all}
 use Rattle.std.specs.Option.{option_map}
 use Rattle.std.proofs.lemmas.Bool.{ltb-true, lt-ltb}
 use Rattle.std.proofs.lemmas.List.Concat.{flat_map-cons}
-use Rattle.hexadecimal.specs.Hexadecimal.{is_digit, pair_value}
+use Rattle.base.specs.Hexadecimal.{is_digit, pair_value}
 use Rattle.call_lines.specs.Texts.{pair_text, is_byte, bytes_text}
 use Rattle.call_lines.specs.Written.{Reads}
 use Rattle.call_lines.proofs.Tests.{passed, both, three}

@@ -8,10 +8,10 @@ ghost use Rattle.call_lines.specs.Lines.{line_text};
 use crate::kind::Slots;
 use crate::value::{Value, byte_in, bytes_in, long_number_at, number_at, status_in};
 use crate::word::Word;
+use base::ShortBytes;
 use calls::{Call, CompletionRecord};
 use ccb::{CamStatus, CcbId, Completion, QueueId};
 use freeze_ledger::Place;
-use short_bytes::ShortBytes;
 use std::alloc::{AllocError, Global};
 
 /// The word of a call.

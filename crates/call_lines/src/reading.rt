@@ -1,4 +1,4 @@
-// Reads fields: one function a kind, the inverse of the one that prints it. It relies on `kind` and `value`, and on `hexadecimal`
+// Reads fields: one function a kind, the inverse of the one that prints it. It relies on `kind` and `value`, and on `base`
 // for digits.
 
 ghost use Rattle.std.specs.Prelude.{◌≡◌, ◌&&◌, ◌∷◌, ◌++◌, codes, not, MatchOption};
@@ -11,10 +11,10 @@ ghost use Rattle.call_lines.specs.Written.{Reads};
 use crate::kind::Kind;
 use crate::printing::{GREATEST_CODE, MOST_BYTES, MOST_INSTRUCTIONS};
 use crate::value::{Stop, Value};
+use base::ShortBytes;
+use base::hexadecimal::{byte_of, is_digit, pair};
 use ccb::CamStatus;
 use helpers::{Helper, Tells};
-use hexadecimal::{byte_of, is_digit, pair};
-use short_bytes::ShortBytes;
 
 impl Kind {
     /// What a field of this kind holds that is spelled so.

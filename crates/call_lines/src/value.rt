@@ -1,11 +1,11 @@
-// What the fields of a line hold. It relies on `ccb` and `helpers` for statuses and helpers, and on `short_bytes` for bytes.
+// What the fields of a line hold. It relies on `ccb` and `helpers` for statuses and helpers, and on `base` for bytes.
 
 ghost use Rattle.std.specs.Prelude.{◌≡◌, Some};
 ghost use Rattle.call_lines.specs.Values.{byte_in, bytes_in, long_number_at, long_number_in, number_at, number_in, status_in, stop_in};
 
+use base::ShortBytes;
 use ccb::CamStatus;
 use helpers::Helper;
-use short_bytes::ShortBytes;
 
 /// What a field holds.
 #[derive(Clone, Copy)]

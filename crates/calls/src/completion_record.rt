@@ -1,9 +1,9 @@
-// A completion as the history keeps it. It relies on `ccb` for completions and on `short_bytes` for sense bytes.
+// A completion as the history keeps it. It relies on `ccb` for completions and on `base` for sense bytes.
 
 ghost use Rattle.std.specs.Prelude.{◌≡◌, [], IfOk, IsOk};
 
+use base::ShortBytes;
 use ccb::{CamStatus, CcbId, Completion};
-use short_bytes::ShortBytes;
 use std::alloc::{AllocError, Global};
 use std::marker::Model;
 

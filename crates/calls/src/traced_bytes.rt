@@ -1,8 +1,8 @@
-// The bytes of a trace call as the history keeps them. It relies on `short_bytes` for the place in which they stand.
+// The bytes of a trace call as the history keeps them. It relies on `base` for the place in which they stand.
 
 ghost use Rattle.std.specs.Prelude.{◌≡◌, IfOk};
 
-use short_bytes::ShortBytes;
+use base::ShortBytes;
 use std::alloc::{AllocError, Global};
 use std::marker::Model;
 

@@ -1,9 +1,9 @@
-// Who is told on standard error how far a run or a replay is. It relies on `notices` for what there is to tell, and on `stopwatch` for
+// Who is told on standard error how far a run or a replay is. It relies on `calls` for what there is to tell, and on `stopwatch` for
 // when.
 
 use crate::stopwatch::Stopwatch;
+use calls::{Notice, Notices};
 use command_line::{Plan, Watch};
-use notices::{Notice, Notices};
 use std::io::{IsTerminal, Stderr, Write};
 use std::rt::Clock;
 use std::sync::atomic::{AtomicU64, Ordering};

@@ -9,7 +9,7 @@ use Rattle.std.proofs.lemmas.List.Elements.{All-nil, All-cons, All-append, All-r
 use Rattle.byteorder.specs.Endian.{little_bytes}
 use Rattle.sense_record.specs.Sense.{Format, Fixed, Descriptor, Unknown, format_of, response_code, sense_in, sense_of}
 use Rattle.ccb.specs.declared.ccb.Ccb.{Ccb}
-use Rattle.short_bytes.specs.ShortBytes.{padded_bytes}
+use Rattle.base.specs.ShortBytes.{padded_bytes}
 use Rattle.ccb.specs.Context.{context_of}
 use Rattle.ccb.specs.Ccb.{status_word_of}
 

@@ -3,7 +3,7 @@ use Rattle.std.specs.Prelude.{◌≢◌, ◌<◌, ◌≤◌, ℕ, List, length, 
 use Rattle.ccb.specs.declared.CcbId.{CcbId}
 use Rattle.ccb.specs.declared.cam_status.CamStatus.{CamStatus}
 use Rattle.ccb.specs.declared.cam_status.CamStatus.TheVariants.{RequestInProgress}
-use Rattle.short_bytes.specs.ShortBytes.{most_bytes}
+use Rattle.base.specs.ShortBytes.{most_bytes}
 
 -- the answer of a device to a CCB: the CCB's number, its CAM status, the SCSI status byte, and the
 -- sense bytes

@@ -5,7 +5,7 @@ use Rattle.byteorder.specs.Endian.{little_bytes}
 use Rattle.sense_record.specs.Sense.{sense_of}
 use Rattle.ccb.specs.declared.ccb.Ccb.{Ccb}
 use Rattle.ccb.specs.Ccb.{status_word_of}
-use Rattle.short_bytes.specs.ShortBytes.{padded_bytes}
+use Rattle.base.specs.ShortBytes.{padded_bytes}
 
 -- one field: a byte, a word of four bytes with the lowest first, or bytes as they are
 pub data Field : Type 0 where

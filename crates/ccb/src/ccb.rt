@@ -7,8 +7,8 @@ use crate::cam_status::CamStatus;
 use crate::ccb_flags::CcbFlags;
 use crate::completion::Completion;
 use crate::{CcbId, QueueId};
+use base::ShortBytes;
 use bitflags::Flags;
-use short_bytes::ShortBytes;
 
 /// A CAM Control Block (ANSI X3.232): one command for one device queue. Until its first completion,
 /// and again once it is requeued, its status says that it is in progress and nothing has come.

@@ -5,7 +5,7 @@ ghost use Rattle.ccb.specs.Completion.{Outcome, IsCompletion};
 
 use crate::CcbId;
 use crate::cam_status::CamStatus;
-use short_bytes::ShortBytes;
+use base::ShortBytes;
 use std::marker::Model;
 
 /// The completion of a CCB: which CCB, its CAM status (never that it is in progress), its SCSI

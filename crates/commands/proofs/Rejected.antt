@@ -4,8 +4,8 @@ use Rattle.std.specs.Prelude.{Err}
 use Rattle.manifest.specs.Meaning.{HasFault, Means, Named}
 use Rattle.manifest.specs.declared.ManifestFault.{ManifestFault}
 use Rattle.calls.specs.declared.trace.Trace.{Trace}
-use Rattle.or_memory.specs.declared.OrMemory.{OrMemory}
-use Rattle.or_memory.specs.declared.OrMemory.TheVariants.{OutOfMemory, Fault}
+use Rattle.base.specs.declared.or_memory.OrMemory.{OrMemory}
+use Rattle.base.specs.declared.or_memory.OrMemory.TheVariants.{OutOfMemory, Fault}
 use Rattle.replay.specs.Replaying.{Replays}
 use Rattle.replay.specs.declared.fault.ReplayFault.{ReplayFault}
 use Rattle.scenario.specs.Said.{IfFault, IsFaultyLine, Say, lines_of}

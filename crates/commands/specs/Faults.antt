@@ -7,8 +7,8 @@ use Rattle.bpf_decode.specs.declared.fault.DecodeFault.{DecodeFault}
 use Rattle.scenario_host.specs.declared.host.RunFault.{RunFault}
 use Rattle.scenario_host.specs.declared.host.RunFault.TheVariants as run
 use Rattle.manifest.specs.declared.ManifestFault.{ManifestFault}
-use Rattle.or_memory.specs.declared.OrMemory.{OrMemory}
-use Rattle.or_memory.specs.declared.OrMemory.TheVariants as part
+use Rattle.base.specs.declared.or_memory.OrMemory.{OrMemory}
+use Rattle.base.specs.declared.or_memory.OrMemory.TheVariants as part
 use Rattle.replay.specs.declared.fault.ReplayFault.{ReplayFault}
 use Rattle.scenario.specs.declared.reading.FaultyLine.{FaultyLine}
 use Rattle.trace.specs.declared.fault.TraceFault.{TraceFault}

@@ -10,7 +10,7 @@ use Rattle.manifest.specs.declared.ManifestFault.{ManifestFault}
 use Rattle.manifest.specs.Meaning.{Means, HasFault}
 use Rattle.manifest.specs.Migration.{HasMigrationFault, IsMigrated}
 use Rattle.calls.specs.declared.trace.Trace.{Trace}
-use Rattle.or_memory.specs.declared.OrMemory.TheVariants as part
+use Rattle.base.specs.declared.or_memory.OrMemory.TheVariants as part
 use Rattle.replay.specs.Replaying.{IsFaultyAt}
 use Rattle.replay.specs.declared.fault.ReplayFault.{ReplayFault}
 use Rattle.scenario.specs.Said.{IsFaultyLine, Say, lines_of}

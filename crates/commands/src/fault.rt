@@ -3,10 +3,10 @@
 ghost use Rattle.std.specs.Prelude.{◌≡◌, ◌≤◌, ◌⊎◌};
 ghost use Rattle.commands.specs.Faults.{fault_of_manifest, fault_of_program, fault_of_replay, fault_of_run, fault_of_scenario, fault_of_text, fault_of_trace, status_of};
 
+use base::OrMemory;
 use bpf_asm::{AsmError, AsmFault};
 use bpf_decode::{DecodeError, DecodeFault};
 use manifest::{ManifestError, ManifestFault};
-use or_memory::OrMemory;
 use replay::{ReplayError, ReplayFault};
 use scenario::{FaultyLine, ScenarioError};
 use scenario_host::RunFault;

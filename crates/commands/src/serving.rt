@@ -11,11 +11,10 @@ ghost use Rattle.commands.specs.Told.{IsFaultyManifest, IsManifest, IsServed, Is
 use crate::fault::Fault;
 use crate::files::text;
 use crate::handing::Handing;
-use calls::Totals;
+use calls::{Notice, Totals};
 use engine_config::Config;
 use live::{Came, Input, LineFault, LiveFault, Reports};
 use manifest::Manifest;
-use notices::Notice;
 use std::alloc::Global;
 use std::io::Write;
 use trace::Sink;

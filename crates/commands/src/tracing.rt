@@ -8,10 +8,9 @@ ghost use Rattle.commands.specs.Told.{IsAcceptedTrace, IsManifest, IsRejectedTra
 
 use crate::fault::Fault;
 use crate::files::{status, text};
-use calls::Trace;
+use calls::{Notices, Trace};
 use command_line::Plan;
 use manifest::{Manifest, NamedProgram};
-use notices::Notices;
 use replay::replay;
 use std::alloc::{AllocError, Global};
 use std::io;

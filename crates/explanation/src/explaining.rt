@@ -5,8 +5,8 @@ ghost use Rattle.manifest.specs.Meaning.{HasFault, Means};
 ghost use Rattle.manifest.specs.Seen.{named_seen};
 
 use crate::{accepting, refusing};
+use base::OrMemory;
 use manifest::{Manifest, ManifestFault};
-use or_memory::OrMemory;
 use std::alloc::{AllocError, Global};
 
 /// A verdict, and what there is to say beside it: lines of text.

@@ -1,10 +1,10 @@
 // A program's instructions as they are written: lines of an assembler text, or bytes with their disassembly. It relies on `bpf_asm` for
 // tokens and for the disassembly.
 
+use base::OrMemory;
 use bpf_asm::{disassemble, tokens};
 use bpf_insn::Program;
 use manifest_layout::{Span, line_at};
-use or_memory::OrMemory;
 use std::alloc::{AllocError, Global};
 
 /// How many bytes a slot has, and how many digits these are.

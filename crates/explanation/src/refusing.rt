@@ -5,6 +5,7 @@ use crate::listing::{Listing, base_of, hexadecimal, of_bytes, of_text, pairs_of}
 use crate::places::value_span;
 use crate::program::{Told, log_of};
 use crate::{codes, excerpt, form, program};
+use base::OrMemory;
 use bpf_asm::{AsmFault, assemble};
 use bpf_decode::{DecodeFault, decode};
 use bpf_insn::Program;
@@ -12,7 +13,6 @@ use helpers::{HelperLimits, HelperSet, TableLengths};
 use manifest::ManifestFault;
 use manifest_form::{Plan, ProgramEntry, Source};
 use manifest_layout::{Layout, Span, layout};
-use or_memory::OrMemory;
 use std::alloc::{AllocError, Global};
 use toml::Value;
 use verifier::Refusal;

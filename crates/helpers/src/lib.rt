@@ -1,5 +1,5 @@
 // The helper functions that a recovery program may call: their table, what is asked and answered, and the limits of
-// what a call may name. It relies on `short_bytes` for the bytes that a call names.
+// what a call may name. It relies on `base` for the bytes that a call names.
 #![tactic(auto)]
 
 mod columns;

@@ -1,11 +1,11 @@
-// A helper call with its arguments, and its answer. It relies on `table` for the helpers, and on `short_bytes` for the bytes that a call
+// A helper call with its arguments, and its answer. It relies on `table` for the helpers, and on `base` for the bytes that a call
 // names.
 
 ghost use Rattle.std.specs.Prelude.{◌≡◌};
 ghost use Rattle.helpers.specs.Table.{answer_number};
 
 use crate::table::Helper;
-use short_bytes::ShortBytes;
+use base::ShortBytes;
 
 /// The arguments of a helper call, as they stand in R1, R2 and R3; 0 for one that the helper does not take.
 #[derive(Clone, Copy, Debug, PartialEq, Eq)]

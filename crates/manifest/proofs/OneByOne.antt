@@ -6,8 +6,8 @@ use Rattle.bpf_insn.specs.declared.program.Slot.{Slot}
 use Rattle.accepted.specs.Verdict.{Verdict}
 use Rattle.verifier.specs.Verdict.{IsVerdictOn}
 use Rattle.verifier.specs.declared.refusal.Refusal.{Refusal}
-use Rattle.or_memory.specs.declared.OrMemory.{OrMemory}
-use Rattle.or_memory.specs.declared.OrMemory.TheVariants.{OutOfMemory, Fault}
+use Rattle.base.specs.declared.or_memory.OrMemory.{OrMemory}
+use Rattle.base.specs.declared.or_memory.OrMemory.TheVariants.{OutOfMemory, Fault}
 use Rattle.helpers.specs.declared.limits.HelperLimits.{HelperLimits}
 use Rattle.manifest.specs.declared.ManifestFault.{ManifestFault}
 use Rattle.manifest.specs.declared.ManifestFault.TheVariants.{Text, Key, Form, Range, Number, Name, Undecoded, Unassembled, Unaccepted, Migrated}

@@ -16,7 +16,7 @@ use Rattle.manifest.specs.Meaning.{Named, is_named, helpers_with, lowest_fault, 
 use Rattle.std.specs.Prelude.{◌≡◌, ◌<◌, ◌≤◌, ℕ, Option, Some, None, IsSome, length, find, string_bytes, List}
 use Rattle.std.specs.List.{AllByRecursion}
 use Rattle.engine_config.specs.Configured.{Given}
-use Rattle.or_memory.specs.declared.OrMemory.TheVariants.{Fault}
+use Rattle.base.specs.declared.or_memory.OrMemory.TheVariants.{Fault}
 use Rattle.manifest_form.specs.Entries.{QueueLine, ProgramLine, Plan, plan_of}
 use Rattle.toml.specs.Data.{Data}
 

@@ -16,12 +16,12 @@ mod migration;
 mod programs;
 mod setup;
 
+use base::OrMemory;
 use bpf_asm::AsmFault;
 use bpf_decode::DecodeFault;
 use engine_config::Config;
 use helpers::{HelperLimits, HelperSet, TableLengths};
 use manifest_form::{FormFault, Plan, QueueEntry, has_lawful_names, has_lawful_numbers};
-use or_memory::OrMemory;
 pub use programs::NamedProgram;
 use std::alloc::Global;
 use thiserror::Error;

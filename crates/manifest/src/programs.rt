@@ -12,12 +12,12 @@ ghost use Rattle.manifest.specs.Seen.{read_seen, named_seen, IsReadLine, IsAccep
 
 use crate::{ManifestError, ManifestFault};
 use accepted::Accepted;
+use base::OrMemory;
 use bpf_asm::assemble;
 use bpf_decode::decode;
 use bpf_insn::Program;
 use helpers::HelperLimits;
 use manifest_form::{ProgramEntry, Source};
-use or_memory::OrMemory;
 use std::alloc::{AllocError, Global};
 use std::sync::Arc;
 use verifier::verify;

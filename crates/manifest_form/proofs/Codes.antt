@@ -1,6 +1,6 @@
 -- What a text spells, by the blank or the pair that stands first.
 use Rattle.std.proofs.Common.{arith, length, ◌<◌, append_assoc, append-nil, if◌then◌else◌, ◌≡◌, ℕ, Bool, true, false, List, [], ◌∷◌, ◌++◌, Option, Some, None, option_map, refl, ap, ◌∙◌, sym}
-use Rattle.hexadecimal.specs.Hexadecimal.{byte_in}
+use Rattle.base.specs.Hexadecimal.{byte_in}
 use Rattle.manifest_form.specs.Code.{bytes_in, first_in, blank_or, is_blank, with_first}
 
 abbrev pub after : Option ℕ → Option (List ℕ) → Option (List ℕ)

@@ -1,6 +1,6 @@
 -- Bytes as pairs of lower case hexadecimal digits.
 use Rattle.std.specs.Prelude.{ℕ, Bool, true, false, ◌||◌, ◌==◌, List, [], ◌∷◌, Option, Some, None, option_map, if◌then◌else◌}
-use Rattle.hexadecimal.specs.Hexadecimal.{byte_in}
+use Rattle.base.specs.Hexadecimal.{byte_in}
 
 -- a space, a tab or a line feed
 abbrev pub is_blank : ℕ → Bool

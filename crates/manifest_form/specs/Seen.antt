@@ -1,8 +1,8 @@
 -- The entries of a manifest, seen as what they say, and what is said of a fault.
 use Rattle.std.specs.Prelude.{Bool, ◌&&◌, ◌==◌, List, map, count_by, bytes_eq}
 use Rattle.std.specs.List.{list_all, list_any}
-use Rattle.or_memory.specs.declared.OrMemory.{OrMemory}
-use Rattle.or_memory.specs.declared.OrMemory.TheVariants.{OutOfMemory, Fault}
+use Rattle.base.specs.declared.or_memory.OrMemory.{OrMemory}
+use Rattle.base.specs.declared.or_memory.OrMemory.TheVariants.{OutOfMemory, Fault}
 use Rattle.manifest_form.specs.declared.entries.ProgramEntry.{ProgramEntry}
 use Rattle.manifest_form.specs.declared.entries.QueueEntry.{QueueEntry}
 use Rattle.manifest_form.specs.declared.entries.Source.{Source as Written}

@@ -4,7 +4,7 @@
 ghost use Rattle.std.specs.Prelude.{◌≡◌, ◌<◌, length, option_map, IfOk, IfSome};
 ghost use Rattle.manifest_form.specs.Code.{bytes_in, first_in, is_blank};
 
-use hexadecimal::{is_digit, pair};
+use base::hexadecimal::{is_digit, pair};
 use std::alloc::{AllocError, Global};
 
 /// The bytes that a text spells; `None` where it is not of the form.

@@ -11,8 +11,8 @@ ghost use Rattle.manifest_form.specs.Seen.{queue_seen, program_seen, source_seen
 use crate::code;
 use crate::document::{has_keys, integer, text};
 use crate::form_fault::FormFault;
+use base::OrMemory;
 use engine_config::MAX_WORDS;
-use or_memory::OrMemory;
 use std::alloc::Global;
 use toml::Value;
 

@@ -11,8 +11,8 @@ ghost use Rattle.manifest_form.specs.Seen.{queue_seen, program_seen, plan_seen, 
 use crate::document::{array, elements, has, has_keys, integer};
 use crate::entries::{FormError, ProgramEntry, QueueEntry, program, queue, table};
 use crate::form_fault::{FormFault, note};
+use base::OrMemory;
 use engine_config::MAX_CONTROLLERS;
-use or_memory::OrMemory;
 use std::alloc::{AllocError, Global};
 use toml::Value;
 

@@ -1,5 +1,5 @@
 // What a manifest has to be, by its form alone: its keys, the types and ranges of their values, how many entries
-// there are and their names; and what it says then. It relies on `toml` for the document, on `hexadecimal` for code that is
+// there are and their names; and what it says then. It relies on `toml` for the document, on `base` for code that is
 // written as bytes, and on `engine_config` for how much there may be.
 #![tactic(auto)]
 

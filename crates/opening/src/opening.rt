@@ -3,10 +3,10 @@
 ghost use Rattle.std.specs.Prelude.{◌≤◌, length};
 ghost use Rattle.opening.specs.Opened.{Opens};
 
+use base::OrMemory;
 use embedding::{EngineHandle, put_front};
 use engine_core::Engine;
 use manifest::{ManifestFault, read};
-use or_memory::OrMemory;
 use std::alloc::Global;
 
 /// Why no engine was opened.

@@ -12,9 +12,9 @@ ghost use Rattle.private_insns.specs.Enough.{LeavesStored, LiesInContext, LiesIn
 ghost use Rattle.register_kinds.specs.Kinds.{IsNumber, size_of};
 ghost use Rattle.private_insns.specs.Memory.{Gives, Loads, Puts, Reads, ReadsFrame, Stores};
 
+use base::OrMemory;
 use bpf_insn::{LoadForm, Reg, SignExtension, StoreSize};
 use description::Description;
-use or_memory::OrMemory;
 use register_kinds::{Access, Cause, Kind, Offsets, Region, accessed};
 use scalar_domain::{Scalar, extend};
 

@@ -13,9 +13,9 @@ ghost use Rattle.register_kinds.specs.Kinds.{IsNumber};
 
 use crate::memory::{loaded, store};
 use crate::operands::{operand, set};
+use base::OrMemory;
 use bpf_insn::{AluOp, InPlaceOp, LoadForm, Operand, Reg, SignExtension, StoreSize, Width};
 use description::Description;
-use or_memory::OrMemory;
 use register_kinds::{Cause, Kind, changed, computed, extended};
 
 /// Arithmetic on a register and an operand.

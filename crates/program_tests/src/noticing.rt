@@ -1,10 +1,9 @@
 // What is told of a run and of a replay while it is done, where that is wanted, and how it is worded.
 
 use crate::tests::{MANIFEST, SCENARIO, TRACE};
-use calls::Totals;
+use calls::{Notice, Notices, Totals};
 use command_line::{Plan, Watch};
 use commands::carry;
-use notices::{Notice, Notices};
 use std::alloc::{AllocError, Global};
 use std::sync::Wait;
 use std::sync::atomic::{AtomicU64, Ordering};

@@ -3,8 +3,8 @@
 ghost use Rattle.std.specs.Prelude.{◌≤◌, IfOk};
 ghost use Rattle.trace.specs.HasText.{AllHaveText};
 
+use base::OrMemory;
 use calls::Trace;
-use or_memory::OrMemory;
 use std::alloc::{AllocError, Global};
 use std::process::Abort;
 use std::test::Fail;

@@ -1,9 +1,9 @@
 // What no command shows: writers that fail, and memory that is refused.
 // Expected texts are worked out by hand.
 
+use calls::Silent;
 use command_line::{Plan, Watch};
 use commands::carry;
-use notices::Silent;
 use std::alloc::{AllocError, Global};
 use std::io;
 use std::io::{ErrorKind, Write};

@@ -1,8 +1,8 @@
 // Texts that are traces are printed again as they stood. Where all else of a text is in order, its line alone stands here. The texts are
 // worked out by hand. What is no trace stands in the cases of `system_tests`.
 
+use base::OrMemory;
 use commands::Handing;
-use or_memory::OrMemory;
 use std::alloc::{AllocError, Global};
 use std::io::Write;
 use std::process::Abort;

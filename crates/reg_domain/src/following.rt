@@ -15,11 +15,11 @@ ghost use Rattle.private_insns.specs.Follows.{Follows};
 ghost use Rattle.reg_domain.specs.Ways.{HasWay, IsStore, Stays};
 ghost use Rattle.register_kinds.specs.Kinds.{IsNumber};
 
+use base::OrMemory;
 use bpf_insn::{Callee, Insn, Reg};
 use description::{Description, SavedRegisters};
 use helper_calls::call;
 use helpers::HelperLimits;
-use or_memory::OrMemory;
 use private_insns::{Way, change, compute, extend, jump_if, load, load_immediate, store_operand};
 use register_kinds::Cause;
 

@@ -1,4 +1,4 @@
-// The freezes that a run holds, as far as is known, in a place of fixed size. It relies on `padded_list` for how they are
+// The freezes that a run holds, as far as is known, in a place of fixed size. It relies on `base` for how they are
 // kept, and on `freeze_name`.
 
 ghost use Rattle.std.specs.Prelude.{◌≡◌, ◌<◌, ◌≤◌, ◌↔◌, [], ◌∷◌, ◌++◌, length, IsTrue};
@@ -6,8 +6,8 @@ ghost use Rattle.register_kinds.specs.declared.freeze_name.FreezeName.TheVariant
 ghost use Rattle.register_kinds.specs.Freezes.{certainty_of, made_sure as sure_of, open_freeze, with_sure, without};
 
 use crate::freeze_name::FreezeName;
+use base::{Blank, PaddedList};
 use bpf_semantics::MAX_HELD;
-use padded_list::{Blank, PaddedList};
 use std::marker::Model;
 
 /// The greatest number of a freeze.

@@ -1,6 +1,6 @@
 // Why a trace is no history of a configuration, and how that is printed.
 
-use or_memory::OrMemory;
+use base::OrMemory;
 use std::error::Error;
 use std::fmt;
 

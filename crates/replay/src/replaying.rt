@@ -8,11 +8,10 @@ ghost use Rattle.world.specs.World.{version_of};
 use crate::fault::{ReplayError, ReplayFault};
 use crate::following::follows;
 use crate::likeness::{is_same_totals, is_same_version};
-use calls::{Record, Trace, Version};
+use base::OrMemory;
+use calls::{Notice, Notices, Record, Trace, Version};
 use chunked_list::ChunkedList;
 use engine_core::{Config, Unrecorded};
-use notices::{Notice, Notices};
-use or_memory::OrMemory;
 use std::alloc::{AllocError, Global};
 
 /// After how many records it is asked again whether it is to be told how far a replay is.

@@ -1,8 +1,8 @@
 -- What a scenario's text says: for each line that is not skipped the step with its number and its command, in their order.
 use Rattle.std.specs.Prelude.{◌≡◌, ◌≢◌, ◌+◌, ◌==◌, ℕ, Bool, true, false, Option, Some, List, [], ◌∷◌, ◌++◌, length, map, Result, Ok, Err, if◌then◌else◌}
 use Rattle.std.specs.List.{slice_split}
-use Rattle.or_memory.specs.declared.OrMemory.{OrMemory}
-use Rattle.or_memory.specs.declared.OrMemory.TheVariants.{OutOfMemory, Fault}
+use Rattle.base.specs.declared.or_memory.OrMemory.{OrMemory}
+use Rattle.base.specs.declared.or_memory.OrMemory.TheVariants.{OutOfMemory, Fault}
 use Rattle.scenario.specs.Commands.{command_text}
 use Rattle.scenario.specs.declared.reading.FaultyLine.{FaultyLine}
 use Rattle.scenario.specs.declared.steps.Command.{Command}

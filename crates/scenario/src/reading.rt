@@ -7,13 +7,12 @@ ghost use Rattle.scenario.specs.Commands.{clock_read, command_made, command_text
 ghost use Rattle.scenario.specs.Said.{IfFault, IsFaultyLine, Keeps, Say, is_skipped, lines_of};
 
 use crate::steps::{Command, Step};
+use base::{OrMemory, ShortBytes};
 use call_lines::{
     Slots, Value, Word, byte_in, bytes_in, long_number_in, number_in, read_line, status_in,
 };
 use ccb::{CamStatus, CcbId, Completion, QueueId};
 use freeze_ledger::Place;
-use or_memory::OrMemory;
-use short_bytes::ShortBytes;
 use std::alloc::{AllocError, Global};
 
 /// N1: the line of that number, from 1, is not of the form.

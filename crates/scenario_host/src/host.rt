@@ -10,13 +10,13 @@ ghost use Rattle.scenario_host.specs.declared.host.RunFault.TheVariants.{OutOfMe
 
 use crate::asking::Asked;
 use crate::watching::Watching;
+use calls::Notices;
 use ccb::Completion;
 use engine_core::Event;
 use engine_lock::{Caller, Object, Shared};
 use hands::{Hands, Told};
 use inbox::{Inbox, PutPass, TakePass};
 use monitor::Watch;
-use notices::Notices;
 use scenario::{Command, Step};
 use std::alloc::AllocError;
 use std::mem;

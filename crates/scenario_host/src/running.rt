@@ -7,11 +7,11 @@ ghost use Rattle.scenario_host.specs.Traces.{IsTraceOf};
 ghost use Rattle.workers.specs.declared.serving.TheConstants.{MAX_WORKERS};
 
 use crate::host::{Host, RunFault};
+use calls::Notices;
 use engine_core::{Config, Engine, Trace};
 use engine_lock::{Caller, Object, Opened, Shared};
 use hands::Hands;
 use inbox::{Inbox, MAX_CAPACITY, TakePass};
-use notices::Notices;
 use scenario::Step;
 use std::alloc::{AllocError, Global};
 use std::marker::Brand;

@@ -1,9 +1,9 @@
 // Who tells the sums of the engine while workers serve: the thread of a run that comes to a stop, outside the lock. It relies on
 // `engine_lock` for the monitor, and on `notices` for who is told.
 
+use calls::{Notice, Notices};
 use engine_lock::{Object, Shared};
 use monitor::Watch;
-use notices::{Notice, Notices};
 use std::sync::{Mutex, Wait};
 use workers::Gate;
 

@@ -8,7 +8,7 @@ ghost use Rattle.stack_frame.specs.declared.byte_set.TheConstants.{MOST_BYTES};
 ghost use Rattle.stack_domain.specs.Stack.{Covers, Knows, AreWritten};
 ghost use Rattle.stack_domain.specs.Stores.{stored};
 
-use padded_list::PaddedList;
+use base::PaddedList;
 use stack_frame::{ByteSet, MAX_FRAMES};
 use std::marker::Model;
 

@@ -1,7 +1,7 @@
 -- The live frames after one more, or one fewer.
 use Rattle.std.proofs.Common.{◌≡◌, ℕ, ◌+◌, ◌<◌, List, [], ◌∷◌, ◌++◌, Option, None, take, replicate, set, refl, ap, sym, subst, ◌∙◌, arith}
-use Rattle.padded_list.specs.Padded.{IsPadded}
-use Rattle.padded_list.proofs.Places.{kept_none, kept_more, kept_less, more_is}
+use Rattle.base.specs.Padded.{IsPadded}
+use Rattle.base.proofs.Places.{kept_none, kept_more, kept_less, more_is}
 use Rattle.stack_frame.specs.Frame.{unwritten}
 
 pub unwritten_is : unwritten ≡ replicate 512 None

@@ -1,10 +1,10 @@
 // Sets of the bytes of a stack frame, kept as a bit for each byte, so that a word's bytes are added or looked up by
-// masks. It relies on nothing but `padded_list`, for lists of sets.
+// masks. It relies on nothing but `base`, for lists of sets.
 
 ghost use Rattle.std.specs.Prelude.{◌≡◌, ◌<◌, ◌≤◌, ◌+◌, ◌-◌, ◌%◌, ◌^◌, ◌&&◌, ◌↔◌, ℕ, IsTrue, false, length, replicate, slice_index_or};
 ghost use Rattle.stack_frame.specs.ByteSet.{no_bytes, with_all, HasAll};
 
-use padded_list::Blank;
+use base::Blank;
 use std::marker::Model;
 
 /// The most bytes that are added at once.

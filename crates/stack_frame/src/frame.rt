@@ -6,8 +6,8 @@ ghost use Rattle.byteorder.specs.Endian.{little_bytes};
 ghost use Rattle.stack_frame.specs.Frame.{all_written, byte_of, word_at, written_at};
 
 use crate::byte_set::{ByteSet, MOST_BYTES};
+use base::Blank;
 use byteorder::{ByteOrder, LittleEndian};
-use padded_list::Blank;
 use std::marker::Model;
 
 /// The bytes of a stack frame, from offset 0 to 511. Contracts see a list of 512, in which an unwritten byte is `None`.

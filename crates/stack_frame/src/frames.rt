@@ -1,5 +1,5 @@
 // The stack frames of the functions that are open, in a place of fixed size: so a machine is copied and compared without
-// memory. It relies on `frame` for the bytes of each, and on `padded_list` for what it means to keep them so, though in an
+// memory. It relies on `frame` for the bytes of each, and on `base` for what it means to keep them so, though in an
 // array of its own: frames are written in place.
 
 ghost use Rattle.std.specs.Prelude.{◌≡◌, ◌<◌, ◌≤◌, ◌+◌, ◌-◌, ◌++◌, ◌↔◌, [], ◌∷◌, IsTrue, None, length, replicate, take, slice_index_or, slice_set};
@@ -23,7 +23,7 @@ pub struct Frames {
 
 impl Model for Frames {
     ghost use Rattle.std.specs.Prelude.{ℕ, List, Option, take, length};
-    ghost use Rattle.padded_list.specs.Padded.{padded, IsPadded, length-kept};
+    ghost use Rattle.base.specs.Padded.{padded, IsPadded, length-kept};
     ghost use Rattle.stack_frame.specs.declared.frames.TheConstants.{MAX_FRAMES};
     ghost use Rattle.stack_frame.specs.Frame.{unwritten};
 

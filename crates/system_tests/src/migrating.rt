@@ -4,9 +4,9 @@
 ghost use Rattle.std.specs.Prelude.{◌≡◌, length};
 
 use crate::running::words_of;
+use calls::Silent;
 use command_line::{Plan, plan};
 use commands::carry;
-use notices::Silent;
 use std::alloc::{AllocError, Global};
 use std::sync::Wait;
 use std::thread::Threads;

@@ -4,9 +4,9 @@ ghost use Rattle.std.specs.Prelude.{◌≡◌, IfOk, length};
 ghost use Rattle.command_line.specs.Files.{input_paths};
 
 use crate::pieces::Pieces;
+use calls::Silent;
 use command_line::{Plan, not_utf8, plan};
 use commands::{Fault, Handing, carry, report_usage, serve};
-use notices::Silent;
 use std::alloc::{AllocError, Global};
 use std::sync::Wait;
 use std::thread::Threads;

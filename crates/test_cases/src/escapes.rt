@@ -1,9 +1,9 @@
-// Bytes as text with escapes: `\n`, `\r`, `\t`, `\\`, and `\xff` for any byte. It relies on `hexadecimal`.
+// Bytes as text with escapes: `\n`, `\r`, `\t`, `\\`, and `\xff` for any byte. It relies on `base`.
 
 ghost use Rattle.std.specs.Prelude.{◌<◌, IfSome, length};
 
 use crate::fault::LineFault;
-use hexadecimal::{is_digit, pair};
+use base::hexadecimal::{is_digit, pair};
 use std::alloc::AllocError;
 
 /// Adds the bytes that a text spells.

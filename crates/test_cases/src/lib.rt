@@ -1,5 +1,5 @@
 // Cases of a program's tests as data: a command with its files, and what it has to show, in a text that people
-// write by hand. It relies on `hexadecimal` for escapes.
+// write by hand. It relies on `base` for escapes.
 #![tactic(auto)]
 
 mod calls;

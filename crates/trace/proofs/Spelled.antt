@@ -8,7 +8,7 @@ use Rattle.calls.specs.declared.trace.Trace.{Trace}
 use Rattle.calls.specs.declared.trace.Version.{Version}
 use Rattle.call_lines.specs.Written.{IsPut}
 use Rattle.call_lines.proofs.Tests.{parts_of}
-use Rattle.or_memory.specs.declared.OrMemory.{OrMemory}
+use Rattle.base.specs.declared.or_memory.OrMemory.{OrMemory}
 use Rattle.trace.specs.declared.fault.TraceFault.{TraceFault}
 use Rattle.trace.specs.HasText.{AllHaveText, Fits, HasText}
 use Rattle.trace.specs.Reading.{SaysLines}

@@ -13,8 +13,8 @@ use Rattle.call_lines.specs.declared.value.Stop.{Stop}
 use Rattle.call_lines.specs.declared.value.Stop.TheVariants as stops
 use Rattle.call_lines.specs.declared.value.Value.{Value}
 use Rattle.call_lines.specs.declared.word.Word.{Word}
-use Rattle.or_memory.specs.declared.OrMemory.{OrMemory}
-use Rattle.or_memory.specs.declared.OrMemory.TheVariants.{OutOfMemory, Fault}
+use Rattle.base.specs.declared.or_memory.OrMemory.{OrMemory}
+use Rattle.base.specs.declared.or_memory.OrMemory.TheVariants.{OutOfMemory, Fault}
 use Rattle.trace.specs.declared.fault.TraceFault.{TraceFault}
 use Rattle.trace.specs.declared.fault.TraceFault.TheVariants.{Header, Line}
 use Rattle.trace.specs.TraceText.{asked_of, header, lines_text, record_text, records_text, told_text, totals_text, trace_text}

@@ -1,6 +1,6 @@
 // Why a text is no trace, and how each such fault is printed; and why a trace is not printed.
 
-use or_memory::OrMemory;
+use base::OrMemory;
 use std::error::Error;
 use std::fmt;
 

@@ -15,11 +15,11 @@ use crate::page::{Page, RECORD, flush, make_room};
 use crate::sink::Sink;
 use crate::sums::print_totals;
 use crate::version::header;
+use base::ShortBytes;
 use call_lines::{
     NoText, ROOM, Slots, Stop, Text, Value, Word, print_line, print_long_number, values_of, word_of,
 };
 use calls::{Call, CallAnswer, Record, StoppedAt, Trace};
-use short_bytes::ShortBytes;
 
 /// How long a line may be without its line feed.
 const ENTRY: usize = 696;

@@ -10,9 +10,9 @@ use crate::entry::read_record;
 use crate::fault::{TraceError, TraceFault};
 use crate::sums::read_totals;
 use crate::version::header;
+use base::OrMemory;
 use calls::{Trace, Version};
 use chunked_list::ChunkedList;
-use or_memory::OrMemory;
 use std::alloc::Global;
 
 /// Reads a whole trace. Besides the list's chunks it takes memory for sense bytes and traced bytes alone.

@@ -2,9 +2,9 @@
 // texts.
 
 use crate::phrases::Phrase;
+use base::ShortBytes;
 use calls::CallRefusal;
 use ccb::CamStatus;
-use short_bytes::ShortBytes;
 use trace_events::{Cause, Happening};
 
 /// The values of a text, as far as it has them.

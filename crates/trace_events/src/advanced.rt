@@ -4,12 +4,12 @@
 use crate::called::some_freeze;
 use crate::event::{Cause, Event, Happening, Subject};
 use crate::walk::Walk;
+use base::ShortBytes;
 use calls::StoppedAt;
 use ccb::{CamStatus, CcbId, QueueId};
 use engine_core::{QueueInfo, RunInfo};
 use freeze_ledger::Place;
 use helpers::{Arguments, Deed, Helper};
-use short_bytes::ShortBytes;
 use std::alloc::AllocError;
 
 /// A run at its stop: its number, what is recorded of it, and what the call of a helper asks.

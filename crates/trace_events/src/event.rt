@@ -1,11 +1,11 @@
 // An event of a trace: when it was, what it is about, and what happened. It relies on `calls`, `ccb` and `freeze_ledger` for what
 // these name, and on `engine_core` for what a queue has.
 
+use base::ShortBytes;
 use calls::CallRefusal;
 use ccb::CamStatus;
 use engine_core::QueueInfo;
 use freeze_ledger::Place;
-use short_bytes::ShortBytes;
 
 /// What an event is about. What it is not about is absent.
 #[derive(Clone, Copy, Debug, Default, PartialEq, Eq)]

@@ -3,8 +3,8 @@ use Rattle.std.proofs.Common.{◌≡◌, refl, Result, Ok, Err}
 use Rattle.bpf_insn.specs.declared.program.Slot.{Slot}
 use Rattle.std.specs.Prelude.{List, IfErr, IfOk, IsOkAnd, OnOk}
 use Rattle.call_shape.specs.Shape.{IsLawful}
-use Rattle.or_memory.specs.declared.OrMemory.{OrMemory}
-use Rattle.or_memory.specs.declared.OrMemory.TheVariants.{OutOfMemory, Fault as refused}
+use Rattle.base.specs.declared.or_memory.OrMemory.{OrMemory}
+use Rattle.base.specs.declared.or_memory.OrMemory.TheVariants.{OutOfMemory, Fault as refused}
 use Rattle.verifier.specs.Arrives.{FailsUnless, LacksMemoryOrMore, NeverLacks}
 use Rattle.verifier.specs.Verdict.{ToldOfShape}
 use Rattle.verifier.specs.declared.refusal.Refusal.{Refusal}

@@ -10,8 +10,8 @@ use Rattle.description.specs.declared.saved.SavedRegisters.{SavedRegisters}
 use Rattle.private_insns.specs.declared.way.Way.{Way}
 use Rattle.private_insns.specs.declared.way.Way.TheVariants.{FallThrough, Taken}
 use Rattle.reg_domain.specs.Enough.{Enough, Leaves, IsEntryKnown, Agree, JoinsTo}
-use Rattle.or_memory.specs.declared.OrMemory.{OrMemory}
-use Rattle.or_memory.specs.declared.OrMemory.TheVariants.{OutOfMemory, Fault as refused}
+use Rattle.base.specs.declared.or_memory.OrMemory.{OrMemory}
+use Rattle.base.specs.declared.or_memory.OrMemory.TheVariants.{OutOfMemory, Fault as refused}
 use Rattle.verifier.specs.declared.refusal.Refusal.{Refusal}
 use Rattle.verifier.specs.declared.refusal.Refusal.TheVariants.{Shape, Check}
 use Rattle.verifier.specs.Table.{Table, described}

@@ -8,9 +8,9 @@ use Rattle.call_shape.specs.StaticPath.{outermost, Standing, StaticPath, IsFrame
 use Rattle.call_shape.specs.WrittenOut.{IsWrittenOut}
 use Rattle.verifier.specs.Checks.{AreChecks}
 use Rattle.verifier.specs.declared.refusal.Refusal.TheVariants.{Shape, Check}
-use Rattle.or_memory.specs.declared.OrMemory.{OrMemory}
+use Rattle.base.specs.declared.or_memory.OrMemory.{OrMemory}
 use Rattle.verifier.specs.declared.refusal.Refusal.{Refusal}
-use Rattle.or_memory.specs.declared.OrMemory.TheVariants.{OutOfMemory, Fault as refused}
+use Rattle.base.specs.declared.or_memory.OrMemory.TheVariants.{OutOfMemory, Fault as refused}
 
 -- the budget is the length of a static path, and none is longer
 pub record IsBudget (program : List Slot) (budget : ℕ) : Type 0 where

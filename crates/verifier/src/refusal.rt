@@ -3,8 +3,8 @@
 ghost use Rattle.std.specs.Prelude.{◌≡◌};
 ghost use Rattle.verifier.specs.Arrives.{FailsUnless};
 
+use base::OrMemory;
 use call_shape::ShapeFault;
-use or_memory::OrMemory;
 use register_kinds::Cause;
 use std::fmt;
 

@@ -17,10 +17,10 @@ ghost use Rattle.verifier.specs.Table.{HasJoined, HasLed, HasLeft, IsFirstTable,
 use crate::known::{Known, Spare};
 use crate::refusal::{Refusal, VerifyError, refused};
 use crate::witness::{Along, Witness};
+use base::OrMemory;
 use bpf_insn::Insn;
 use description::SavedRegisters;
 use helpers::HelperLimits;
-use or_memory::OrMemory;
 use private_insns::Way;
 use reg_domain::{follow, join};
 use register_kinds::Cause;

@@ -2,7 +2,7 @@
 
 ghost use Rattle.std.specs.Prelude.{◌≡◌, IfOk, IfErr};
 ghost use Rattle.bpf_semantics.specs.Reached.{Safe};
-ghost use Rattle.or_memory.specs.declared.OrMemory.TheVariants.{OutOfMemory};
+ghost use Rattle.base.specs.declared.or_memory.OrMemory.TheVariants.{OutOfMemory};
 ghost use Rattle.verifier.specs.Verdict.{IsVerdictOn, ToldOfShape};
 ghost use Rattle.verifier.specs.Plain.{IsPlain};
 
@@ -11,11 +11,11 @@ use crate::pass::pass;
 use crate::refusal::{Refusal, VerifyError};
 use crate::witness::{Along, Nobody, Witness};
 use accepted::Accepted;
+use base::OrMemory;
 use bpf_insn::Program;
 use budget_path::budget;
 use call_shape::shape;
 use helpers::HelperLimits;
-use or_memory::OrMemory;
 use std::alloc::Global;
 
 /// Accepts a program under these limits, or says why not. A shape fault comes first: it is answered exactly

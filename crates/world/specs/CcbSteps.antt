@@ -6,7 +6,7 @@ use Rattle.ccb.specs.declared.ccb.Ccb.{Ccb}
 use Rattle.ccb.specs.declared.cam_status.CamStatus.{CamStatus}
 use Rattle.ccb.specs.declared.cam_status.CamStatus.TheVariants.{RequestInProgress, RequestCompleted}
 use Rattle.ccb.specs.Status.{code_of}
-use Rattle.short_bytes.specs.ShortBytes.{most_bytes}
+use Rattle.base.specs.ShortBytes.{most_bytes}
 use Rattle.ccb.specs.Completion.{Outcome}
 use Rattle.ccb.specs.Ccb.{submitted, started, completed}
 use Rattle.ccb.specs.Context.{context_of}

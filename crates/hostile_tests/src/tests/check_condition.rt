@@ -1,13 +1,13 @@
 // A CCB that ends with sense data: its recovery run is parked behind its first stop, resumed, and ends. Each call that is refused memory
 // leaves the sums as they were, gives back what it owned, and made again leads to the same text.
 
+use base::OrMemory;
 use calls::{Record, Totals, Trace};
 use ccb::{CamStatus, CcbId, Completion, QueueId};
 use chunked_list::ChunkedList;
 use engine_core::{
     AdvanceAnswer, AdvanceFault, CallFault, CompleteAnswer, Config, Engine, Run, Stopped,
 };
-use or_memory::OrMemory;
 use std::alloc::{AllocError, Global};
 use std::process::Abort;
 use std::test::Fail;

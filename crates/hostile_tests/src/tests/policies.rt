@@ -1,12 +1,12 @@
 // Each byte of a policy by each other value: what is decoded is spelled so, and what is accepted runs to its end within its budget.
 
 use accepted::Accepted;
+use base::OrMemory;
 use bpf_decode::{decode, encode};
 use bpf_insn::Program;
 use ccb::{CamStatus, CcbId, Completion, QueueId};
 use engine_core::{AdvanceAnswer, CompleteAnswer, Config, Engine, Run};
 use helpers::{HelperLimits, HelperSet, TableLengths};
-use or_memory::OrMemory;
 use std::alloc::{AllocError, Global};
 use std::process::Abort;
 use std::sync::Arc;

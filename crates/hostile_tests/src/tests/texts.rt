@@ -5,10 +5,9 @@ ghost use Rattle.std.specs.Prelude.{None};
 ghost use Rattle.trace.specs.HasText.{AllHaveText};
 
 use super::check_condition::{MANIFEST, TEXT};
-use calls::Trace;
+use base::OrMemory;
+use calls::{Silent, Trace};
 use manifest::Manifest;
-use notices::Silent;
-use or_memory::OrMemory;
 use std::alloc::{AllocError, Global};
 use std::process::Abort;
 use std::test::Fail;

@@ -7,6 +7,7 @@ ghost use Rattle.inbox.specs.Views.{IsOf};
 
 use super::engines::{QUEUE, engine_of, opened, put_in};
 use super::serving::{close, dismiss, open, put_completion, seated};
+use base::OrMemory;
 use calls::{Call, Record, Totals, Trace};
 use ccb::{CamStatus, CcbId, Completion};
 use chunked_list::ChunkedList;
@@ -14,7 +15,6 @@ use engine_core::{Engine, Event, Given, Reply, Run};
 use engine_lock::{Caller, Object, Opened, Shared};
 use inbox::{Inbox, PutPass};
 use monitor::Watch;
-use or_memory::OrMemory;
 use std::alloc::{AllocError, Global};
 use std::marker::Brand;
 use std::process::Abort;

@@ -1,7 +1,7 @@
 // What no command shows: want of memory, after which the same call answers.
 
+use base::OrMemory;
 use bpf_decode::decode;
-use or_memory::OrMemory;
 
 /// `mov64 r0, -1; exit`.
 const TEXT: [u8; 16] = [

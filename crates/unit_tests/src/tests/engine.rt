@@ -3,12 +3,12 @@
 
 use super::policies::{limits_of, policy};
 use accepted::Accepted;
+use base::OrMemory;
 use bpf_insn::{Insn, Program};
 use ccb::QueueId;
 use chunked_list::ChunkedList;
 use engine_core::{CallFault, Config, Engine, Record, ReleaseFault, Totals, Trace};
 use freeze_ledger::FreezeToken;
-use or_memory::OrMemory;
 use std::alloc::{AllocError, Global};
 use std::process::Abort;
 use std::sync::Arc;

@@ -3,6 +3,7 @@
 
 use super::engine::{QUEUE, are_told, one_queue, open, queues_with, shut, totals};
 use super::policies::{freezing_policy, tracing_policy};
+use base::ShortBytes;
 use calls::{Call, CallAnswer, CompletionRecord, TracedBytes};
 use ccb::{CamStatus, CcbId, Completion, QueueId};
 use engine_core::{
@@ -10,7 +11,6 @@ use engine_core::{
 };
 use helpers::Helper;
 use interpreter::{Segment, to_stop};
-use short_bytes::ShortBytes;
 use std::alloc::{AllocError, Global};
 use std::process::Abort;
 use std::sync::Arc;

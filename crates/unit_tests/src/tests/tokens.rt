@@ -1,7 +1,7 @@
 // What no command shows: where the tokens of a text stand.
 
+use base::OrMemory;
 use bpf_asm::{Token, tokens};
-use or_memory::OrMemory;
 
 /// Two lines, with a comment behind the first.
 const TEXT: &str = "ja +2 # on\nexit";

@@ -1,8 +1,8 @@
 // What no command shows: want of memory, that the same call answers later, and how many checks a verdict takes.
 
 use super::policies::{jeq, limits, mov, policy, spilling_policy};
+use base::OrMemory;
 use bpf_insn::{Callee, Insn, Operand, Program, Reg};
-use or_memory::OrMemory;
 use std::alloc::{AllocError, Global};
 use std::test::Fail;
 use verifier::{Cause, Refusal, verify};

@@ -1,7 +1,7 @@
 use Rattle.std.proofs.Common.{List, Ok, Err, inl, inr, refl, subst, sym}
 use Rattle.calls.specs.declared.record.Record.{Record}
 use Rattle.world.specs.TotalsOf.{TotalsOf}
-use Rattle.or_memory.specs.declared.OrMemory.TheVariants.{OutOfMemory, Fault}
+use Rattle.base.specs.declared.or_memory.OrMemory.TheVariants.{OutOfMemory, Fault}
 use Rattle.replay.specs.OwnTrace.{OwnTraceIsAccepted}
 use Rattle.replay.proofs.OneVerdict.{not_accepted}
 use Rattle.replay.proofs.laws.own_trace_is_accepted.Goals as goal

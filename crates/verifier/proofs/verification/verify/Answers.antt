@@ -9,7 +9,7 @@ use Rattle.verifier.proofs.Told.{told_of_shape, only_memory}
 use Rattle.verifier.proofs.Plain.Goes.{plain_never_lacks}
 use Rattle.verifier.proofs.Plain.Shape.{plain_lawful}
 use Rattle.verifier.specs.Plain.{IsPlain}
-use Rattle.or_memory.specs.declared.OrMemory.TheVariants.{OutOfMemory}
+use Rattle.base.specs.declared.or_memory.OrMemory.TheVariants.{OutOfMemory}
 use Rattle.verifier.proofs.Within.{safe_within}
 use Rattle.verifier.proofs.verification.verify.Goals as goal
 

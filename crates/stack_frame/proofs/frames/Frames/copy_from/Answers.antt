@@ -1,7 +1,7 @@
 use Rattle.std.proofs.Common.{◌≢◌, ◌<◌, ℕ, List, Option, sym, subst, ap, take, ◌∙◌, arith}
 use Rattle.std.proofs.lemmas.List.{get_or_default, get_or-set_other, length-set}
-use Rattle.padded_list.specs.Padded.{IsPadded}
-use Rattle.padded_list.proofs.Places.{copied_is, copied_more}
+use Rattle.base.specs.Padded.{IsPadded}
+use Rattle.base.proofs.Places.{copied_is, copied_more}
 use Rattle.stack_frame.specs.Frame.{unwritten}
 use Rattle.stack_frame.proofs.frames.Frames.copy_from.Goals as goal
 

@@ -1,5 +1,5 @@
 use Rattle.std.proofs.Common.{arith}
-use Rattle.padded_list.proofs.Places.{len_is, kept_set}
+use Rattle.base.proofs.Places.{len_is, kept_set}
 use Rattle.stack_frame.specs.Frame.{unwritten}
 use Rattle.stack_frame.proofs.frames.Frames.write16.Goals as goal
 

@@ -1,6 +1,6 @@
 use Rattle.std.proofs.Common.{◌<◌, [], ap, ◌∙◌, arith}
 use Rattle.std.specs.Prelude.{slice_set}
-use Rattle.padded_list.proofs.Places.{len_is, kept_set, set_is, there}
+use Rattle.base.proofs.Places.{len_is, kept_set, set_is, there}
 use Rattle.stack_frame.specs.Frame.{unwritten, written_at}
 use Rattle.stack_frame.proofs.frames.Frames.write_bytes.Goals as goal
 

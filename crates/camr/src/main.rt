@@ -1,32 +1,21 @@
 // The program: it reads the words after its name and the files that they name, and carries them out. It relies
-// on `command_line` for the words and on `commands` for all the rest.
+// on `command_line` for the words, on `commands` for what is carried out, and on `program_io` for the machine.
 #![tactic(auto)]
-
-mod clocked;
-mod feed;
-mod reading;
-mod replacing;
-mod stopwatch;
-mod telling;
 
 ghost use Rattle.std.specs.Prelude.{◌≡◌, length, IfOk};
 ghost use Rattle.command_line.specs.Files.{input_paths};
 
-use crate::clocked::Clocked;
-use crate::feed::Feeder;
-use crate::reading::Reading;
-use crate::replacing::replace;
-use crate::telling::Telling;
 use calls::Notices;
-use command_line::{Manner, Plan, not_utf8, plan};
+use command_line::{Manner, Plan, Watch, not_utf8, plan};
 use commands::{Fault, Handing, carry, report_usage, serve};
 use live::Input;
-use std::io::{BufWriter, Stderr, Write};
+use program_io::{Clocked, Feeder, Reading, Telling, replace, words};
+use std::io::{BufWriter, IsTerminal, Stderr, Write};
 use std::process::ExitCode;
-use std::rt::{Env, Files, Runtime};
+use std::rt::{Files, Runtime};
 use std::sync::Wait;
 use std::thread::Threads;
-use std::{env, fs, io, thread};
+use std::{fs, io, thread};
 
 fn main(rt: HostRuntime) -> ExitCode {
     let mut err = rt.stderr();
@@ -66,7 +55,10 @@ fn status<
                     let manifest = (manifest.as_str(), inputs[0].as_slice());
                     serve_line_by_line(rt, *manner, manifest, err, begin)
                 }
-                _ => carry_out(rt, &plan, &inputs, &Telling::new(rt, told, &plan), out, err),
+                _ => {
+                    let is_on = tells(&plan, &told);
+                    carry_out(rt, &plan, &inputs, &Telling::new(rt, told, is_on), out, err)
+                }
             },
             Err(fault) => fault.report(err),
         },
@@ -143,9 +135,18 @@ fn serve_input<R: Runtime + AllocGlobal, I: Input, E: Write>(
     )
 }
 
-// The words after the program's name.
-fn words<R: Env + AllocGlobal>(rt: &R) -> io::Result<Vec<String>> {
-    Ok(env::args(rt)?.skip(1).collect(rt.alloc())?)
+// Whether somebody is told how far the work is: of a run when its line says so, of a replay if standard error is a terminal.
+fn tells(plan: &Plan, err: &Stderr) -> bool {
+    match plan {
+        Plan::Run(_, Watch::Lines, _, _) => true,
+        Plan::Run(_, Watch::Terminal, _, _) | Plan::Replay(..) => err.is_terminal(),
+        Plan::Run(_, Watch::Never, _, _)
+        | Plan::Asm(..)
+        | Plan::Migrate(..)
+        | Plan::Dis(_)
+        | Plan::Check(_)
+        | Plan::Live(..) => false,
+    }
 }
 
 // The bytes of the plan's files, in the order of the line.

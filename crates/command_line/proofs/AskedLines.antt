@@ -7,8 +7,8 @@ use Rattle.clap.specs.Walk.{Held, Walk, arg_by_id, finished, idle, nothing_held,
 use Rattle.clap.specs.Faults.{defaults_fault}
 use Rattle.clap.specs.Kinds.{Kinds}
 use Rattle.command_line.specs.FileLines.{ArePlain, Asked, IsAsked, line_of}
-use Rattle.command_line.specs.FileLines.Asked.{Asm, Dis, Check, Migrate, Live, Replay, Explain, Show, Summarise, Draw}
-use Rattle.command_line.specs.FoundPlan.{HasFound, MakesNoRun, Suffices}
+use Rattle.command_line.specs.FileLines.Asked.{Asm, Dis, Check, Migrate, Live, Replay}
+use Rattle.command_line.specs.FoundPlan.{HasFound, MakesNoRun, PlansFound, Suffices}
 use Rattle.command_line.specs.RunCommand.{camr_command}
 use Rattle.command_line.specs.RunLine.{spelled_out}
 use Rattle.command_line.proofs.AskedRows.{MeetsAsked, asked_in, found_asked}
@@ -27,10 +27,6 @@ word_of (Check manifest) = codes "check"
 word_of (Migrate manifest migrated) = codes "migrate"
 word_of (Live is_clocked is_stepped manifest) = codes "live"
 word_of (Replay manifest trace) = codes "replay"
-word_of (Explain word) = codes "explain"
-word_of (Show manifest trace) = codes "show"
-word_of (Summarise manifest trace) = codes "show"
-word_of (Draw picture manifest trace) = codes "show"
 
 abbrev shape : Asked → Shape
 shape asked = shape_of (word_of asked)
@@ -43,10 +39,6 @@ is_word (Check manifest) = record { stops = refl; faultless = refl; found = refl
 is_word (Migrate manifest migrated) = record { stops = refl; faultless = refl; found = refl; named = refl }
 is_word (Live is_clocked is_stepped manifest) = record { stops = refl; faultless = refl; found = refl; named = refl }
 is_word (Replay manifest trace) = record { stops = refl; faultless = refl; found = refl; named = refl }
-is_word (Explain word) = record { stops = refl; faultless = refl; found = refl; named = refl }
-is_word (Show manifest trace) = record { stops = refl; faultless = refl; found = refl; named = refl }
-is_word (Summarise manifest trace) = record { stops = refl; faultless = refl; found = refl; named = refl }
-is_word (Draw picture manifest trace) = record { stops = refl; faultless = refl; found = refl; named = refl }
 
 -- a line is clear, by its trace
 module _ (asked : Asked) (rest : List Text) (f : Kinds) (end : Walk) (trace : Trace (shape asked) start rest f end) where
@@ -59,11 +51,11 @@ module _ (asked : Asked) (rest : List Text) (f : Kinds) (end : Walk) (trace : Tr
 
   clear : end_fault (shape asked) f end ≡ [] → asked_in (word_of asked) rows ≡ Some asked → Suffices (word_of asked) rows
       → bytes_eq (word_of asked) (codes "run") ≡ false → map spelled_out (word_of asked ∷ rest) ≡ word_of asked ∷ rest
-      → IsClear (word_of asked ∷ rest) (IsAsked asked)
+      → IsClear PlansFound (word_of asked ∷ rest) (IsAsked asked)
   clear fails asks suffices is_other spelled = record {
     out = spelled;
     faultless = command_fault (word_of asked) (shape asked) (is_word asked) rest ∙ (traced_fault (shape asked) rest f end trace ∙ fails);
-    plans = λ plan found. subst (λ o. MeetsAsked o plan) asks (found_asked (word_of asked) rows suffices plan (subst (λ o. HasFound o plan) enters found));
+    plans = λ plan found. subst (λ o. MeetsAsked o plan) asks (found_asked (word_of asked) rows plan (subst (λ o. HasFound o plan) enters found.0));
     some = λ none. subst (λ b. MatchBool b (MakesNoRun rows) (Suffices (word_of asked) rows → ⊥)) is_other (none (word_of asked) rows enters) suffices;
   }
 
@@ -86,29 +78,9 @@ step_walked : (h : Held) → walked live_shape.rules [] (walk_at h idle 1) (code
 unfolding walked
 step_walked h = refl
 
-abbrev show_shape : Shape
-show_shape = shape_of (codes "show")
-
-abbrev counted : Held
-counted = (walked_from show_shape.rules [] None start (codes "--summary")).held
-
-abbrev drawn : Held
-drawn = (walked_from show_shape.rules [] None start (codes "--svg")).held
-
-abbrev drawn_into : Text → Held
-drawn_into picture = (option_word (arg_by_id show_shape.rules (codes "svg")) (codes "svg") picture drawn).0
-
-summary_walked : walked show_shape.rules [] start (codes "--summary") ≡ walk_at counted idle 1
-unfolding walked
-summary_walked = refl
-
-picture_walked : walked show_shape.rules [] start (codes "--svg") ≡ walk_at drawn (option (codes "svg")) 1
-unfolding walked
-picture_walked = refl
-
 -- ---- the lines
 
-pub asked_clear : (asked : Asked) → ArePlain asked → IsClear (line_of asked) (IsAsked asked)
+pub asked_clear : (asked : Asked) → ArePlain asked → IsClear PlansFound (line_of asked) (IsAsked asked)
 unfolding defaults_fault
 asked_clear (Asm text program) plain = clear (Asm text program) _ _ _
     (trace_both nothing_held text program refl plain.0 plain.1)
@@ -139,28 +111,3 @@ asked_clear (Live false false manifest) plain = clear (Live false false manifest
 asked_clear (Replay manifest trace) plain = clear (Replay manifest trace) _ _ _
     (trace_both nothing_held manifest trace refl plain.0 plain.1)
     refl refl ((manifest, refl), ((trace, refl), tt)) refl (λ i. codes "replay" ∷ plain_out manifest plain.0 i ∷ plain_out trace plain.1 i ∷ [])
-asked_clear (Explain word) plain = clear (Explain word) _ _ _
-    (trace_last nothing_held 1 word plain)
-    refl refl ((word, refl), tt) refl (λ i. codes "explain" ∷ plain_out word plain i ∷ [])
-asked_clear (Show manifest trace) plain = clear (Show manifest trace) _ _ _
-    (trace_both nothing_held manifest trace refl plain.0 plain.1)
-    refl refl
-    (((manifest, refl), ((trace, refl), tt)), record { ccb = refl; queue = refl; run = refl; freeze = refl; from = refl; to = refl }, λ asks. refl)
-    refl (λ i. codes "show" ∷ plain_out manifest plain.0 i ∷ plain_out trace plain.1 i ∷ [])
-asked_clear (Summarise manifest trace) plain = clear (Summarise manifest trace) _ _ _
-    (trace_more start (walk_at counted idle 1) _ (codes "--summary") _ [] _ summary_walked refl
-    (trace_both counted manifest trace refl plain.0 plain.1))
-    refl refl
-    (((manifest, refl), ((trace, refl), tt)), record { ccb = refl; queue = refl; run = refl; freeze = refl; from = refl; to = refl }, λ asks. refl)
-    refl (λ i. codes "show" ∷ codes "--summary" ∷ plain_out manifest plain.0 i ∷ plain_out trace plain.1 i ∷ [])
-asked_clear (Draw picture manifest trace) plain = clear (Draw picture manifest trace) _ _ _
-    (trace_more start (walk_at drawn (option (codes "svg")) 1) _ (codes "--svg") _ [] _ picture_walked refl
-    (trace_more (walk_at drawn (option (codes "svg")) 1) (walk_at (drawn_into picture) idle 1) _ picture _ [] _
-    (walked_value show_shape.rules drawn (codes "svg") 1 picture plain.0) (turn_value show_shape drawn (codes "svg") 1 picture plain.0)
-    (trace_both (drawn_into picture) manifest trace refl plain.1 plain.2)))
-    refl refl (
-      ((manifest, refl), ((trace, refl), tt)),
-      record { ccb = refl; queue = refl; run = refl; freeze = refl; from = refl; to = refl },
-      λ asks. absurd (apart (codes "false") (codes "true") refl (ap (λ (o : Option Text). unwrap_or o []) asks)),
-    )
-    refl (λ i. codes "show" ∷ codes "--svg" ∷ plain_out picture plain.0 i ∷ plain_out manifest plain.1 i ∷ plain_out trace plain.2 i ∷ [])

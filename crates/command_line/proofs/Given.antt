@@ -5,7 +5,7 @@ use Rattle.std.specs.Borrow.{Bor}
 use Rattle.clap.specs.Words.{Row, Text, first_of, first_value, rows_of}
 use Rattle.clap.specs.declared.parser.matches.Found.{Found}
 use Rattle.clap.proofs.WalkLemmas.{first_value-rows}
-use Rattle.command_line.specs.FoundPlan.{AsksSummary, IsGiven, ReadsWatch, ReadsWorkers}
+use Rattle.command_line.specs.FoundPlan.{IsGiven, ReadsWatch, ReadsWorkers}
 use Rattle.command_line.specs.RunLine.{IsLawfulNumber, Spells, SpellsNoLawfulNumber, watch_word}
 use Rattle.command_line.specs.declared.plans.Watch.{Watch}
 
@@ -49,8 +49,3 @@ pub flag_told : (rows : List Row) (name word : Text) (b : Bool) → first_of nam
     → MatchBool b (word ≡ codes "true") (word ≡ codes "true" → ⊥) → MatchBool b (IsGiven name rows) (IsGiven name rows → ⊥)
 flag_told rows name word true is same = is ∙ ap Some same
 flag_told rows name word false is differs = λ asked. differs (ap (λ (x : Option Text). unwrap_or x word) (sym is ∙ asked))
-
-pub flag_read : (rows : List Row) (word : Text) (b : Bool) → first_of (codes "summary") rows ≡ Some word
-    → MatchBool b (word ≡ codes "true") (word ≡ codes "true" → ⊥) → MatchBool b (AsksSummary rows) (AsksSummary rows → ⊥)
-flag_read rows word true is same = is ∙ ap Some same
-flag_read rows word false is differs = λ asked. differs (ap (λ (x : Option Text). unwrap_or x word) (sym is ∙ asked))

@@ -10,7 +10,7 @@ use Rattle.command_line.specs.RunCommand.{camr_command}
 use Rattle.command_line.specs.RunLine.{IsPlain, IsRun, RunLine, SpellsNoLawfulNumber}
 use Rattle.command_line.specs.declared.plans.Plan.{Plan}
 use Rattle.command_line.specs.declared.plans.Watch.TheVariants.{Never}
-use Rattle.command_line.specs.declared.plans.Plan.TheVariants.{Asm, Migrate, Dis, Check, Run, Live, Replay, ExplainCode, Explain, Show, Summarise, Draw}
+use Rattle.command_line.specs.declared.plans.Plan.TheVariants.{Asm, Migrate, Dis, Check, Run, Live, Replay}
 use Rattle.command_line.proofs.Numbers.{refused_number}
 use Rattle.command_line.proofs.Planned.{apart}
 use Rattle.command_line.proofs.Readings.{line_reading, one_to_sixteen}
@@ -34,11 +34,6 @@ module _ (words : List Text) (number manifest scenario : Text) (line : RunLine w
       run_found (Check path) rows found = absurd (apart (codes "run") (codes "check") refl found.0)
       run_found (Live manner manifest) rows found = absurd (apart (codes "run") (codes "live") refl found.0)
       run_found (Replay manifest trace) rows found = absurd (apart (codes "run") (codes "replay") refl found.0)
-      run_found (ExplainCode code) rows found = absurd (apart (codes "run") (codes "explain") refl found.0)
-      run_found (Explain path) rows found = absurd (apart (codes "run") (codes "explain") refl found.0)
-      run_found (Show filter manifest trace) rows found = absurd (apart (codes "run") (codes "show") refl found.0)
-      run_found (Summarise manifest trace) rows found = absurd (apart (codes "run") (codes "show") refl found.0)
-      run_found (Draw manifest trace picture) rows found = absurd (apart (codes "run") (codes "show") refl found.0)
 
       go : (plan : Plan) (rows : List Row) → HasFoundIn rows plan → first_of (codes "workers") rows ≡ Some number → first_of (codes "watch") rows ≡ Some (codes "never")
           → first_of (codes "MANIFEST") rows ≡ Some manifest → first_of (codes "SCENARIO") rows ≡ Some scenario → IsRun number (codes "never") manifest scenario plan

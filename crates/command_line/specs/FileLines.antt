@@ -1,11 +1,9 @@
 -- The lines that ask for something other than a run: a word, flags, and the paths of the files; and what each of them asks for.
-use Rattle.std.specs.Prelude.{◌≡◌, Bool, List, [], ◌∷◌, None, Some, codes, if◌then◌else◌, string_bytes}
+use Rattle.std.specs.Prelude.{◌≡◌, Bool, List, [], ◌∷◌, codes, if◌then◌else◌, string_bytes}
 use Rattle.clap.specs.Words.{Text}
 use Rattle.command_line.specs.RunLine.{IsPlain}
 use Rattle.command_line.specs.declared.plans.Plan.{Plan}
 use Rattle.command_line.specs.declared.plans.Plan.TheVariants as plans
-use Rattle.refusal_codes.specs.Names.{code_named}
-use Rattle.trace_filter.specs.declared.Filter.{Filter}
 
 -- what such a line asks for, in its own words: the paths as they stand there
 pub data Asked : Type 0 where
@@ -15,10 +13,6 @@ pub data Asked : Type 0 where
   Migrate : (manifest migrated : Text) → Asked
   Live : (is_clocked is_stepped : Bool) (manifest : Text) → Asked
   Replay : (manifest trace : Text) → Asked
-  Explain : (word : Text) → Asked
-  Show : (manifest trace : Text) → Asked
-  Summarise : (manifest trace : Text) → Asked
-  Draw : (picture manifest trace : Text) → Asked
 
 -- the flag, where it is given, and the words behind it
 abbrev pub flagged : Bool → Text → List Text → List Text
@@ -31,10 +25,6 @@ line_of (Check manifest) = codes "check" ∷ manifest ∷ []
 line_of (Migrate manifest migrated) = codes "migrate" ∷ manifest ∷ migrated ∷ []
 line_of (Live is_clocked is_stepped manifest) = codes "live" ∷ flagged is_clocked (codes "--clock") (flagged is_stepped (codes "--step") (manifest ∷ []))
 line_of (Replay manifest trace) = codes "replay" ∷ manifest ∷ trace ∷ []
-line_of (Explain word) = codes "explain" ∷ word ∷ []
-line_of (Show manifest trace) = codes "show" ∷ manifest ∷ trace ∷ []
-line_of (Summarise manifest trace) = codes "show" ∷ codes "--summary" ∷ manifest ∷ trace ∷ []
-line_of (Draw picture manifest trace) = codes "show" ∷ codes "--svg" ∷ picture ∷ manifest ∷ trace ∷ []
 
 -- none of its paths begins with a hyphen
 abbrev pub ArePlain : Asked → Type 0
@@ -44,16 +34,8 @@ ArePlain (Check manifest) = IsPlain manifest
 ArePlain (Migrate manifest migrated) = IsPlain manifest × IsPlain migrated
 ArePlain (Live is_clocked is_stepped manifest) = IsPlain manifest
 ArePlain (Replay manifest trace) = IsPlain manifest × IsPlain trace
-ArePlain (Explain word) = IsPlain word
-ArePlain (Show manifest trace) = IsPlain manifest × IsPlain trace
-ArePlain (Summarise manifest trace) = IsPlain manifest × IsPlain trace
-ArePlain (Draw picture manifest trace) = IsPlain picture × IsPlain manifest × IsPlain trace
 
--- all events are wanted
-abbrev pub everything : Filter
-everything = record { ccb = None; queue = None; run = None; freeze = None; from = None; to = None }
-
--- the plan is that, of the files at these paths; `explain` explains the code that its word is, and where it is none, the manifest of that path
+-- the plan is that, of the files at these paths
 abbrev pub IsAsked : Asked → Plan → Type 0
 IsAsked (Asm text program) (plans.Asm a b) = (string_bytes a ≡ text) × (string_bytes b ≡ program)
 IsAsked (Dis program) (plans.Dis a) = string_bytes a ≡ program
@@ -62,9 +44,4 @@ IsAsked (Migrate manifest migrated) (plans.Migrate a b) = (string_bytes a ≡ ma
 IsAsked (Live is_clocked is_stepped manifest) (plans.Live manner a) =
     (manner.is_clocked ≡ is_clocked) × (manner.is_stepped ≡ is_stepped) × (string_bytes a ≡ manifest)
 IsAsked (Replay manifest trace) (plans.Replay a b) = (string_bytes a ≡ manifest) × (string_bytes b ≡ trace)
-IsAsked (Explain word) (plans.ExplainCode code) = code_named word ≡ Some code
-IsAsked (Explain word) (plans.Explain a) = (code_named word ≡ None) × (string_bytes a ≡ word)
-IsAsked (Show manifest trace) (plans.Show filter a b) = (filter ≡ everything) × (string_bytes a ≡ manifest) × (string_bytes b ≡ trace)
-IsAsked (Summarise manifest trace) (plans.Summarise a b) = (string_bytes a ≡ manifest) × (string_bytes b ≡ trace)
-IsAsked (Draw picture manifest trace) (plans.Draw a b c) = (string_bytes a ≡ manifest) × (string_bytes b ≡ trace) × (string_bytes c ≡ picture)
 IsAsked asked plan = ⊥

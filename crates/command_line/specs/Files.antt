@@ -1,7 +1,7 @@
 -- The files that a plan reads, and the one that it writes.
 use Rattle.std.specs.Prelude.{ℕ, Bool, true, false, List, [], ◌∷◌, Option, Some, None, string_bytes}
 use Rattle.command_line.specs.declared.plans.Plan.{Plan}
-use Rattle.command_line.specs.declared.plans.Plan.TheVariants.{Asm, Migrate, Dis, Check, Run, Live, Replay, ExplainCode, Explain, Show, Summarise, Draw}
+use Rattle.command_line.specs.declared.plans.Plan.TheVariants.{Asm, Migrate, Dis, Check, Run, Live, Replay}
 
 -- the paths of those that are read, in the order of the line
 abbrev pub input_paths : Plan → List (List ℕ)
@@ -12,13 +12,8 @@ input_paths (Check manifest) = string_bytes manifest ∷ []
 input_paths (Run workers watch manifest scenario) = string_bytes manifest ∷ string_bytes scenario ∷ []
 input_paths (Live manner manifest) = string_bytes manifest ∷ []
 input_paths (Replay manifest trace) = string_bytes manifest ∷ string_bytes trace ∷ []
-input_paths (ExplainCode code) = []
-input_paths (Explain manifest) = string_bytes manifest ∷ []
-input_paths (Show filter manifest trace) = string_bytes manifest ∷ string_bytes trace ∷ []
-input_paths (Summarise manifest trace) = string_bytes manifest ∷ string_bytes trace ∷ []
-input_paths (Draw manifest trace picture) = string_bytes manifest ∷ string_bytes trace ∷ []
 
--- they are text, but for a program's bytes; of a code nothing is read
+-- they are text, but for a program's bytes
 abbrev pub reads_text : Plan → Bool
 reads_text (Asm text program) = true
 reads_text (Migrate manifest migrated) = true
@@ -27,11 +22,6 @@ reads_text (Check manifest) = true
 reads_text (Run workers watch manifest scenario) = true
 reads_text (Live manner manifest) = true
 reads_text (Replay manifest trace) = true
-reads_text (ExplainCode code) = false
-reads_text (Explain manifest) = true
-reads_text (Show filter manifest trace) = true
-reads_text (Summarise manifest trace) = true
-reads_text (Draw manifest trace picture) = true
 
 -- the path of the one that is written, if there is one
 abbrev pub output_path : Plan → Option (List ℕ)
@@ -42,8 +32,3 @@ output_path (Check manifest) = None
 output_path (Run workers watch manifest scenario) = None
 output_path (Live manner manifest) = None
 output_path (Replay manifest trace) = None
-output_path (ExplainCode code) = None
-output_path (Explain manifest) = None
-output_path (Show filter manifest trace) = None
-output_path (Summarise manifest trace) = None
-output_path (Draw manifest trace picture) = Some (string_bytes picture)

@@ -1,15 +1,14 @@
 -- The plan of what `clap` found.
-use Rattle.std.specs.Prelude.{◌≡◌, ℕ, List, [], ◌∷◌, MatchBool, Option, Some, None, codes, if◌then◌else◌, string_bytes}
+use Rattle.std.specs.Prelude.{◌≡◌, ◌⊎◌, ℕ, List, [], ◌∷◌, MatchBool, Option, Some, None, codes, if◌then◌else◌, string_bytes}
 use Rattle.std.specs.Str.{bytes_eq}
-use Rattle.clap.specs.Words.{Row, Text, first_of}
+use Rattle.clap.specs.Words.{HasKind, Row, Text, fault_of, first_of, subcommand_of}
+use Rattle.clap.specs.declared.error.Error.{Error}
+use Rattle.command_line.specs.RunCommand.{camr_command}
 use Rattle.command_line.specs.RunLine.{HasLawfulNumber, IsLawfulNumber, IsRun, Spells, watch_word}
 use Rattle.command_line.specs.RunLine.{SpellsNoLawfulNumber}
-use Rattle.command_line.specs.FileLines.{everything}
 use Rattle.command_line.specs.declared.plans.Plan.{Plan}
 use Rattle.command_line.specs.declared.plans.Watch.{Watch}
-use Rattle.command_line.specs.declared.plans.Plan.TheVariants.{Asm, Migrate, Dis, Check, Run, Live, Replay, ExplainCode, Explain, Show, Summarise, Draw}
-use Rattle.refusal_codes.specs.Names.{code_named}
-use Rattle.trace_filter.specs.declared.Filter.{Filter}
+use Rattle.command_line.specs.declared.plans.Plan.TheVariants.{Asm, Migrate, Dis, Check, Run, Live, Replay}
 
 -- the plan has what `clap` found behind `run` under the arguments' names
 pub record HasFoundIn (rows : List Row) (plan : Plan) : Type 0 where
@@ -22,31 +21,6 @@ pub record HasFoundIn (rows : List Row) (plan : Plan) : Type 0 where
   pub manifest_found : first_of (codes "MANIFEST") rows ≡ Some manifest
   pub scenario_found : first_of (codes "SCENARIO") rows ≡ Some scenario
   pub same : IsRun number when manifest scenario plan
-
--- the number that `clap` found under that name, in decimal digits alone
-abbrev pub FindsNumber : Text → List Row → Option ℕ → Type 0
-FindsNumber name rows None = first_of name rows ≡ None
-FindsNumber name rows (Some n) = (word : Text) × (first_of name rows ≡ Some word) × Spells word n
-
--- the filter has the numbers that `clap` found
-pub record HasFilter (rows : List Row) (filter : Filter) : Type 0 where
-  pub ccb : FindsNumber (codes "ccb") rows filter.ccb
-  pub queue : FindsNumber (codes "queue") rows filter.queue
-  pub run : FindsNumber (codes "run") rows filter.run
-  pub freeze : FindsNumber (codes "freeze") rows filter.freeze
-  pub from : FindsNumber (codes "from") rows filter.from
-  pub to : FindsNumber (codes "to") rows filter.to
-
--- `clap` found a manifest and a trace
-abbrev pub HasBoth : List Row → Text → Text → Type 0
-HasBoth rows manifest trace = (first_of (codes "MANIFEST") rows ≡ Some manifest) × (first_of (codes "TRACE") rows ≡ Some trace)
-
--- it found what stands in place of the account: a flag is found as the word `true`
-abbrev pub AsksSummary : List Row → Type 0
-AsksSummary rows = first_of (codes "summary") rows ≡ Some (codes "true")
-
-abbrev pub AsksPicture : List Row → Text → Type 0
-AsksPicture rows picture = first_of (codes "svg") rows ≡ Some picture
 
 -- a flag is given
 abbrev pub IsGiven : Text → List Row → Type 0
@@ -69,19 +43,6 @@ HasFoundBehind name rows (Live manner manifest) =
     × MatchBool manner.is_stepped (IsGiven (codes "step") rows) (IsGiven (codes "step") rows → ⊥)
 HasFoundBehind name rows (Replay manifest trace) =
     (name ≡ codes "replay") × (first_of (codes "MANIFEST") rows ≡ Some (string_bytes manifest)) × (first_of (codes "TRACE") rows ≡ Some (string_bytes trace))
-HasFoundBehind name rows (ExplainCode code) =
-    (name ≡ codes "explain") × ((word : Text) × (first_of (codes "WORD") rows ≡ Some word) × (code_named word ≡ Some code))
-HasFoundBehind name rows (Explain path) =
-    (name ≡ codes "explain") × (first_of (codes "WORD") rows ≡ Some (string_bytes path)) × (code_named (string_bytes path) ≡ None)
-HasFoundBehind name rows (Show filter manifest trace) =
-    (name ≡ codes "show") × HasBoth rows (string_bytes manifest) (string_bytes trace) × HasFilter rows filter
-    × (AsksSummary rows → ⊥) × (first_of (codes "svg") rows ≡ None)
-HasFoundBehind name rows (Summarise manifest trace) =
-    (name ≡ codes "show") × HasBoth rows (string_bytes manifest) (string_bytes trace) × HasFilter rows everything × AsksSummary rows
-    × (first_of (codes "svg") rows ≡ None)
-HasFoundBehind name rows (Draw manifest trace picture) =
-    (name ≡ codes "show") × HasBoth rows (string_bytes manifest) (string_bytes trace) × HasFilter rows everything
-    × (AsksSummary rows → ⊥) × AsksPicture rows (string_bytes picture)
 
 -- the words asked for something, and the plan is that
 abbrev pub HasFound : Option (Text × List Row) → Plan → Type 0
@@ -113,11 +74,6 @@ abbrev pub AreFound : List Text → List Row → Type 0
 AreFound [] rows = Unit {0}
 AreFound (id ∷ ids) rows = ((word : Text) × (first_of id rows ≡ Some word)) × AreFound ids rows
 
--- behind `show` both paths are found, no number, and not both that stand in place of the account
-abbrev pub MakesAccount : List Row → Type 0
-MakesAccount rows = AreFound (codes "MANIFEST" ∷ codes "TRACE" ∷ []) rows × HasFilter rows everything
-    × (AsksSummary rows → first_of (codes "svg") rows ≡ None)
-
 -- what has to be found behind a word, where nothing else is tested
 abbrev pub paths_of : Text → Option (List Text)
 paths_of name =
@@ -127,8 +83,7 @@ paths_of name =
     else (if bytes_eq name (codes "check") then Some (codes "MANIFEST" ∷ [])
     else (if bytes_eq name (codes "live") then Some (codes "MANIFEST" ∷ [])
     else (if bytes_eq name (codes "replay") then Some (codes "MANIFEST" ∷ codes "TRACE" ∷ [])
-    else (if bytes_eq name (codes "explain") then Some (codes "WORD" ∷ [])
-    else None))))))
+    else None)))))
 
 -- these are found, where it is known which have to be
 abbrev pub AllFound : Option (List Text) → List Row → Type 0
@@ -137,7 +92,7 @@ AllFound (Some ids) rows = AreFound ids rows
 
 -- those rows are enough for a plan behind that word
 abbrev pub Suffices : Text → List Row → Type 0
-Suffices name rows = MatchBool (bytes_eq name (codes "show")) (MakesAccount rows) (AllFound (paths_of name) rows)
+Suffices name rows = AllFound (paths_of name) rows
 
 -- they are none behind it
 abbrev pub MakesNone : Text → List Row → Type 0
@@ -152,3 +107,7 @@ PlansBehind name rows None = MakesNone name rows
 abbrev pub PlansFound : Option (Text × List Row) → Option Plan → Type 0
 PlansFound found (Some plan) = HasFound found plan × HasLawfulNumber plan
 PlansFound found None = (name : Text) (rows : List Row) → found ≡ Some (name, rows) → MakesNone name rows
+
+-- why words are refused: `clap` refuses them so, or memory was refused; or what `clap` found in them is no plan
+abbrev pub IsRefused : List Text → Error → Type 0
+IsRefused words e = HasKind (fault_of camr_command words) e ⊎ PlansFound (subcommand_of camr_command words) None

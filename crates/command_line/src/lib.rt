@@ -1,13 +1,15 @@
-// The words after the program's name, and the plan that they ask for. It relies on `clap`, whose texts are what
-// a user is shown of usage and help.
+// The words after the program's name, and the plan that they ask for. One command line, whose texts of usage and help are those of
+// `clap`, serves two programs: `camr`, whose plans stand here, and `camr_inspect`, which explains and shows.
 #![tactic(auto)]
 
 mod living;
 mod plans;
 mod show_usage;
-mod showing;
 mod usage;
 mod words;
 
+pub use living::is_true;
 pub use plans::{MAX_WORKERS, MIN_WORKERS, Manner, Plan, Watch};
-pub use words::{UsageFault, not_utf8, plan};
+pub use show_usage::show_command;
+pub use usage::camr_command;
+pub use words::{UsageFault, matches, not_utf8, plan, spelled_out};

@@ -1,4 +1,4 @@
-// The subcommand `live`, as `clap` is given it, and the words behind it, read as a plan. It relies on `usage` for paths, and on
+// The subcommand `live`, as `clap` is given it, and the words after it, read as a plan. It relies on `usage` for paths, and on
 // `show_usage` for flags.
 
 ghost use Rattle.std.specs.Prelude.{◌≡◌, IfOk, MatchBool, codes};
@@ -8,7 +8,6 @@ ghost use Rattle.command_line.specs.RunCommand.{IsCommand, live_command};
 
 use crate::plans::{Manner, Plan};
 use crate::show_usage::flag;
-use crate::showing::is_true;
 use crate::usage::manifest;
 use clap::{ArgMatches, Command};
 use std::alloc::{AllocError, Global};
@@ -55,5 +54,15 @@ fn is_given(live: &ArgMatches, name: &str) -> bool
     match live.get_str(name) {
         Some(word) => is_true(word),
         None => false,
+    }
+}
+
+/// Whether a flag is given that was found as that word.
+pub fn is_true(word: &str) -> bool
+    ensures { MatchBool result (word.now ≡ codes "true") (word.now ≡ codes "true" → ⊥) }
+{
+    match word {
+        "true" => true,
+        _ => false,
     }
 }

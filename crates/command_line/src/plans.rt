@@ -1,11 +1,8 @@
-// What the program can be asked to do. It relies on `refusal_codes` and on `trace_filter` for what may be asked of codes and of traces.
+// What the program `camr` can be asked to do. It relies on nothing.
 
 ghost use Rattle.std.specs.Prelude.{◌≡◌, ◌<◌, [], Some, None, MatchOption, length, slice_index_or};
 ghost use Rattle.command_line.specs.Files.{input_paths, output_path};
 ghost use Rattle.command_line.specs.Watching.{watch_of};
-
-use refusal_codes::Code;
-use trace_filter::Filter;
 
 /// The least number of workers that serve completions, and the greatest.
 pub const MIN_WORKERS: u8 = 1;
@@ -48,16 +45,6 @@ pub enum Plan {
     Live(Manner, String),
     /// Replays a trace over a manifest's queues: the manifest, the trace.
     Replay(String, String),
-    /// Tells what a code means.
-    ExplainCode(Code),
-    /// Tells why a manifest is refused, or what is known of its programs.
-    Explain(String),
-    /// Tells in words what happened in a trace: of which events, the manifest, the trace.
-    Show(Filter, String, String),
-    /// Counts what happened in a trace: the manifest, the trace.
-    Summarise(String, String),
-    /// Draws what happened in a trace: the manifest, the trace, and the file that gets the picture.
-    Draw(String, String, String),
 }
 
 impl Plan {
@@ -66,18 +53,8 @@ impl Plan {
         ensures { result ≡ length (input_paths self.now) }
     {
         match self {
-            Plan::ExplainCode(_) => 0,
-            Plan::Asm(..)
-            | Plan::Migrate(..)
-            | Plan::Dis(_)
-            | Plan::Check(_)
-            | Plan::Live(..)
-            | Plan::Explain(_) => 1,
-            Plan::Run(..)
-            | Plan::Replay(..)
-            | Plan::Show(..)
-            | Plan::Summarise(..)
-            | Plan::Draw(..) => 2,
+            Plan::Asm(..) | Plan::Migrate(..) | Plan::Dis(_) | Plan::Check(_) | Plan::Live(..) => 1,
+            Plan::Run(..) | Plan::Replay(..) => 2,
         }
     }
 
@@ -92,23 +69,12 @@ impl Plan {
                 | Plan::Migrate(first, _)
                 | Plan::Dis(first)
                 | Plan::Check(first)
-                | Plan::Explain(first)
                 | Plan::Run(_, _, first, _)
                 | Plan::Live(_, first)
-                | Plan::Replay(first, _)
-                | Plan::Show(_, first, _)
-                | Plan::Summarise(first, _)
-                | Plan::Draw(first, _, _),
+                | Plan::Replay(first, _),
                 0,
             ) => { first.as_str() }
-            (
-                Plan::Run(_, _, _, second)
-                | Plan::Replay(_, second)
-                | Plan::Show(_, _, second)
-                | Plan::Summarise(_, second)
-                | Plan::Draw(_, second, _),
-                1,
-            ) => { second.as_str() }
+            (Plan::Run(_, _, _, second) | Plan::Replay(_, second), 1) => { second.as_str() }
             _ => "",
         }
     }
@@ -118,18 +84,9 @@ impl Plan {
         ensures { MatchOption result (output_path self.now ≡ None) (λ path. output_path self.now ≡ Some path.now) }
     {
         match self {
-            Plan::Asm(_, output) | Plan::Migrate(_, output) | Plan::Draw(_, _, output) => {
-                Some(output.as_str())
-            }
-            Plan::Dis(_)
-            | Plan::Check(_)
-            | Plan::Run(..)
-            | Plan::Live(..)
-            | Plan::Replay(..)
-            | Plan::ExplainCode(_)
-            | Plan::Explain(_)
-            | Plan::Show(..)
-            | Plan::Summarise(..) => None,
+            Plan::Asm(_, output) | Plan::Migrate(_, output) => Some(output.as_str()),
+            Plan::Dis(_) | Plan::Check(_) | Plan::Run(..) | Plan::Live(..) | Plan::Replay(..) =>
+                None,
         }
     }
 
@@ -144,12 +101,7 @@ impl Plan {
             | Plan::Dis(_)
             | Plan::Check(_)
             | Plan::Live(..)
-            | Plan::Replay(..)
-            | Plan::ExplainCode(_)
-            | Plan::Explain(_)
-            | Plan::Show(..)
-            | Plan::Summarise(..)
-            | Plan::Draw(..) => Watch::Never,
+            | Plan::Replay(..) => Watch::Never,
         }
     }
 }

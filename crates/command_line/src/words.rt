@@ -1,10 +1,10 @@
-// The words after the program's name, read as a plan. It relies on `usage` for what `clap` is given of them, on `showing` for
-// those behind `show`, and on `clap` for the rest but the form of a number.
+// The words after the program's name, read as a plan. It relies on `usage` for what `clap` is given of them, and on `clap` for the
+// rest but the form of a number.
 
-ghost use Rattle.std.specs.Prelude.{◌≡◌, IfOk, MatchOption, codes, map, string_bytes};
+ghost use Rattle.std.specs.Prelude.{◌≡◌, IfErr, IfOk, MatchOption, codes, map, string_bytes};
 ghost use Rattle.clap.specs.Words.{FailsBy, Text, fault_of, found_of, kind_of, rows_of};
 ghost use Rattle.clap.specs.Words.{subcommand_of, subcommand_rows_of};
-ghost use Rattle.command_line.specs.FoundPlan.{HasFound, PlansBehind, PlansFound, ReadsWatch, ReadsWorkers};
+ghost use Rattle.command_line.specs.FoundPlan.{HasFound, IsRefused, PlansBehind, PlansFound, ReadsWatch, ReadsWorkers};
 ghost use Rattle.command_line.specs.FileLines.{ArePlain, Asked, IsAsked, line_of};
 ghost use Rattle.command_line.specs.RunCommand.{camr_command};
 ghost use Rattle.command_line.specs.RunLine.{GivesRun, HasLawfulNumber, IsLawfulNumber, IsPlain};
@@ -13,11 +13,9 @@ ghost use Rattle.command_line.specs.UsageFault.{Gives, IsValueFault};
 
 use crate::living::live_plan;
 use crate::plans::{MAX_WORKERS, MIN_WORKERS, Plan, Watch};
-use crate::showing::{show_fault, show_plan};
 use crate::usage::{camr_command, run_command};
 use clap::error::ErrorKind;
 use clap::{ArgMatches, Error};
-use refusal_codes::Code;
 use std::alloc::{AllocError, Global};
 
 /// Why the words are no plan: a mistake in them, or a request for help. Its text is for the user, and
@@ -26,8 +24,9 @@ pub type UsageFault = Error;
 
 /// Reads the words after the program's name. A line that asks for a run gives that run, or an error where its number is none from
 /// 1 to 16 in decimal digits alone or memory is refused; one that asks for anything else gives that, or an error where memory is
-/// refused. A word behind `explain` that is a code is that code. `--watch` by itself stands for `--watch=terminal`. Whatever the words
-/// are, a run has 1 to 16 workers, tells its sums when the word that `clap` found says, and has the paths that it found in their places.
+/// refused. `--watch` by itself stands for `--watch=terminal`. Whatever the words are, a run has 1 to 16 workers, reports its sums when
+/// the word that `clap` found says, and has the paths that it found in their places. A line is refused only if `clap` refuses it,
+/// if a number or a word that it found is none, or if another program carries it out; and for want of memory.
 pub fn plan(alloc: Global, words: &[String]) -> Result<Plan, UsageFault>
     ensures found { IfOk result (HasFound (subcommand_of camr_command (map spelled_out (map string_bytes words.now)))) }
     ensures bounded { IfOk result HasLawfulNumber }
@@ -38,6 +37,7 @@ pub fn plan(alloc: Global, words: &[String]) -> Result<Plan, UsageFault>
     ensures gives { (asked : Asked)
         → map string_bytes words.now ≡ line_of asked → ArePlain asked
         → Gives (IsAsked asked) result }
+    ensures refuses { IfErr result (IsRefused (map spelled_out (map string_bytes words.now))) }
 {
     let spelled = spelled_out(alloc, words)?;
     let matches = matches(alloc, &spelled)?;
@@ -47,8 +47,8 @@ pub fn plan(alloc: Global, words: &[String]) -> Result<Plan, UsageFault>
     }
 }
 
-// The words, with `--watch` by itself spelled out.
-fn spelled_out<'a>(alloc: Global, words: &'a [String]) -> Result<Vec<&'a str>, AllocError>
+/// The words, with `--watch` by itself spelled out.
+pub fn spelled_out<'a>(alloc: Global, words: &'a [String]) -> Result<Vec<&'a str>, AllocError>
     ensures { IfOk result (λ spelled. map (λ word. word.now) spelled.items ≡ map spelled_out (map string_bytes words.entry.now)) }
 {
     let mut spelled = Vec::with_capacity(alloc, words.len())?;
@@ -87,8 +87,8 @@ fn utf8_fault(alloc: Global) -> Result<Error, AllocError>
     )
 }
 
-// What clap makes of the words.
-fn matches<'a>(alloc: Global, words: &'a [&'a str]) -> Result<ArgMatches<'a>, Error>
+/// What clap makes of the words.
+pub fn matches<'a>(alloc: Global, words: &'a [&'a str]) -> Result<ArgMatches<'a>, Error>
     ensures rows { IfOk result (λ m.
         subcommand_rows_of m ≡ subcommand_of camr_command (map (λ word. word.now) words.entry.now)) }
     ensures faults { FailsBy (fault_of camr_command (map (λ word. word.now) words.entry.now)) result }
@@ -116,8 +116,6 @@ fn plan_behind(alloc: Global, name: &str, found: &ArgMatches) -> Result<Option<P
         "check" => check_plan(alloc, found),
         "migrate" => migrate_plan(alloc, found),
         "replay" => replay_plan(alloc, found),
-        "explain" => explain_plan(alloc, found),
-        "show" => show_plan(alloc, found),
         "run" => run_plan(alloc, found),
         "live" => live_plan(alloc, found),
         _ => Ok(None),
@@ -157,19 +155,6 @@ fn check_plan(alloc: Global, check: &ArgMatches) -> Result<Option<Plan>, AllocEr
         return Ok(None);
     };
     Ok(Some(Plan::Check(String::from_str(alloc, manifest)?)))
-}
-
-// The plan of what clap found behind `explain`.
-fn explain_plan(alloc: Global, explain: &ArgMatches) -> Result<Option<Plan>, AllocError>
-    ensures { IfOk result (PlansBehind (codes "explain") (rows_of (found_of explain.now))) }
-{
-    let Some(word) = explain.get_str("WORD") else {
-        return Ok(None);
-    };
-    match Code::of(word) {
-        Some(code) => Ok(Some(Plan::ExplainCode(code))),
-        None => Ok(Some(Plan::Explain(String::from_str(alloc, word)?))),
-    }
 }
 
 // The plan of what clap found behind `migrate`.
@@ -273,7 +258,7 @@ fn no_plan(alloc: Global, matches: &ArgMatches) -> Error
     ensures { IsValueFault result }
 {
     let fault = match matches.subcommand() {
-        Some(("show", show)) => show_fault(alloc, show),
+        Some((name @ ("explain" | "show"), _)) => other_program(alloc, name),
         Some((_, run)) => option_fault(
             alloc,
             run.get_str("workers").unwrap_or(""),
@@ -285,6 +270,14 @@ fn no_plan(alloc: Global, matches: &ArgMatches) -> Error
         Ok(fault) => fault,
         Err(error) => Error::from(error),
     }
+}
+
+// A command that the other program carries out.
+fn other_program(alloc: Global, name: &str) -> Result<Error, AllocError>
+    ensures { IfOk result (λ e. kind_of e ≡ ErrorKind.ValueValidation) }
+{
+    let text = format!(in alloc; "the program camr_inspect carries out '{name}'")?;
+    camr_command(alloc)?.error(ErrorKind::ValueValidation, text.as_str())
 }
 
 // What is wrong with the word of an option of `run`: clap has refused each other that is no number from 1 to 16.

@@ -1,5 +1,5 @@
 -- What went out of a live engine is a trace that a replay accepts.
-use Rattle.std.proofs.Common.{ℕ, List, Option}
+use Rattle.std.proofs.Common.{ℕ, List, Option, refl}
 use Rattle.live.specs.Telling.{IsOut}
 use Rattle.world.specs.World.{version_of}
 use Rattle.commands.specs.Told.{IsServed, IsServing}
@@ -9,5 +9,5 @@ pub served : (manifest : List ℕ) (setup : Setup) (old new : Option (List ℕ))
 served manifest setup old new serving out = (
   out.bytes,
   out.told,
-  (setup, serving.0, record { version = version_of setup; records = record { items = out.records; capacity = 0 }; totals = out.totals }, serving.1, out.is, out.sums),
+  (setup, serving.0, record { version = version_of setup; records = record { items = out.records; capacity = 0 }; totals = out.totals }, serving.1, out.is, refl, out.sums),
 )

@@ -19,10 +19,10 @@ use Rattle.scenario_host.specs.Faults.{IsRelease}
 use Rattle.trace.specs.Reading.{Says as SaysTrace}
 use Rattle.trace.specs.TraceText.{trace_text}
 use Rattle.trace.specs.declared.fault.TraceFault.{TraceFault}
-use Rattle.world.specs.World.{Setup}
+use Rattle.world.specs.World.{Setup, version_of}
 use Rattle.world.specs.TotalsOf.{TotalsOf}
 use Rattle.command_line.specs.declared.plans.Plan.{Plan}
-use Rattle.command_line.specs.declared.plans.Plan.TheVariants.{Asm, Dis, Check, Migrate, Run, Live, Replay, ExplainCode, Explain, Show, Summarise, Draw}
+use Rattle.command_line.specs.declared.plans.Plan.TheVariants.{Asm, Dis, Check, Migrate, Run, Live, Replay}
 
 -- the bytes are the text of a program, spell one, or are a manifest
 abbrev pub IsText : List ℕ → Type 0
@@ -51,7 +51,7 @@ IsFaultyManifest bytes = (fault : ManifestFault) × HasFault bytes fault
 abbrev pub IsFaultyMigration : List ℕ → Type 0
 IsFaultyMigration bytes = (fault : ManifestFault) × HasMigrationFault bytes fault
 
--- a plan's first file is what the plan asks for; for a code nothing is read
+-- a plan's first file is what the plan asks for
 abbrev pub IsAsAsked : Plan → List ℕ → Type 0
 IsAsAsked (Asm text program) bytes = IsText bytes
 IsAsAsked (Dis program) bytes = IsProgram bytes
@@ -60,11 +60,6 @@ IsAsAsked (Migrate manifest migrated) bytes = IsMigratable bytes
 IsAsAsked (Run workers watch manifest scenario) bytes = IsManifest bytes
 IsAsAsked (Live manner manifest) bytes = IsManifest bytes
 IsAsAsked (Replay manifest trace) bytes = IsManifest bytes
-IsAsAsked (ExplainCode code) bytes = Unit {0}
-IsAsAsked (Explain manifest) bytes = IsManifest bytes
-IsAsAsked (Show filter manifest trace) bytes = IsManifest bytes
-IsAsAsked (Summarise manifest trace) bytes = IsManifest bytes
-IsAsAsked (Draw manifest trace picture) bytes = IsManifest bytes
 
 -- it has a fault; where a scenario or a trace is read too, the fault may be there
 abbrev pub IsFaulty : Plan → List ℕ → Type 0
@@ -75,16 +70,13 @@ IsFaulty (Migrate manifest migrated) bytes = IsFaultyMigration bytes
 IsFaulty (Run workers watch manifest scenario) bytes = Unit {0}
 IsFaulty (Live manner manifest) bytes = IsFaultyManifest bytes
 IsFaulty (Replay manifest trace) bytes = Unit {0}
-IsFaulty (ExplainCode code) bytes = Unit {0}
-IsFaulty (Explain manifest) bytes = IsFaultyManifest bytes
-IsFaulty (Show filter manifest trace) bytes = Unit {0}
-IsFaulty (Summarise manifest trace) bytes = Unit {0}
-IsFaulty (Draw manifest trace picture) bytes = Unit {0}
 
--- The one text is a manifest, and the other the trace of a history of an engine of its setup, whose last line has its sums.
+-- The one text is a manifest, and the other the trace of a history of an engine of its setup, of that engine's version, whose last line
+-- has its sums.
 abbrev pub IsAcceptedTrace : List ℕ → List ℕ → Type 0
 IsAcceptedTrace manifest text =
-    (setup : _) × (programs : _) × (trace : Trace) × Means manifest setup programs × (trace_text trace ≡ Some text) × TotalsOf setup trace.records.items trace.totals
+    (setup : _) × (programs : _) × (trace : Trace) × Means manifest setup programs × (trace_text trace ≡ Some text)
+    × (trace.version ≡ version_of setup) × TotalsOf setup trace.records.items trace.totals
 
 -- The text is a manifest of this setup.
 abbrev pub IsServing : List ℕ → Setup → Type 0
@@ -102,9 +94,6 @@ IsScenario text = (steps : List Step) × Say (lines_of text) steps
 abbrev pub IsAccepted : Plan → List ℕ → List ℕ → Type 0
 IsAccepted (Run workers watch manifest scenario) first second = IsScenario second
 IsAccepted (Replay manifest trace) first second = IsAcceptedTrace first second
-IsAccepted (Show filter manifest trace) first second = IsAcceptedTrace first second
-IsAccepted (Summarise manifest trace) first second = IsAcceptedTrace first second
-IsAccepted (Draw manifest trace picture) first second = IsAcceptedTrace first second
 IsAccepted plan first second = Unit {0}
 
 -- The text has this fault of a trace, or this faulty line of a scenario.
@@ -134,7 +123,4 @@ IsRejectedScenario manifest text = IsFaultyManifest manifest ⊎ (IsFaultyScenar
 abbrev pub IsRejected : Plan → List ℕ → List ℕ → Type 0
 IsRejected (Run workers watch manifest scenario) first second = IsRejectedScenario first second
 IsRejected (Replay manifest trace) first second = IsRejectedTrace first second
-IsRejected (Show filter manifest trace) first second = IsRejectedTrace first second
-IsRejected (Summarise manifest trace) first second = IsRejectedTrace first second
-IsRejected (Draw manifest trace picture) first second = IsRejectedTrace first second
 IsRejected plan first second = Unit {0}

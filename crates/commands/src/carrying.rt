@@ -1,6 +1,5 @@
-// A plan, carried out over the bytes of its files. It relies on `tracing` for what is told of a trace, on `explaining` for what is told
-// of a manifest or a code, on the crates that read programs, a manifest and a scenario, on `scenario_host`, and on `trace` and
-// `verdicts` for what goes out.
+// A plan, carried out over the bytes of its files. It relies on the crates that read programs, a manifest and a scenario, on
+// `replaying` for the verdict on a trace, on `scenario_host`, and on `trace` and `verdicts` for what goes out.
 
 ghost use Rattle.std.specs.Prelude.{◌≡◌, ◌≤◌, true, Contains, Some, IfOk, IfErr, IsErrAnd, IsUtf8, length, slice_get, string_bytes};
 ghost use Rattle.command_line.specs.Files.{input_paths, reads_text};
@@ -10,12 +9,11 @@ ghost use Rattle.workers.specs.declared.serving.TheConstants.{MAX_WORKERS};
 ghost use Rattle.commands.specs.Faults.{status_of};
 ghost use Rattle.commands.specs.Told.{IsText, IsProgram, IsManifest, IsMigratable, IsFaultyText, IsFaultyProgram, IsFaultyManifest, IsFaultyMigration, IsAsAsked, IsAccepted, IsFaulty, IsRejected, IsRejectedScenario, IsScenario};
 
-use crate::explaining::print_explanation;
 use crate::fault::Fault;
 use crate::files::{status, text};
 use crate::handing::Handing;
+use crate::replaying::print_verdict;
 use crate::serving::serve_nothing;
-use crate::tracing::{Told, print_traced};
 use crate::verdicts;
 use bpf_asm::{assemble, disassemble};
 use bpf_decode::{decode, encode};
@@ -30,7 +28,7 @@ use std::thread::Threads;
 use workers::MAX_WORKERS;
 
 /// Carries a plan out over the bytes of its input files, in the order of the line, and answers the status:
-/// 0 done; 1 refused, or explained why; 2 for a file that is to be text and is not UTF-8, for want of memory, or where a writer fails. What is to
+/// 0 done; 1 refused; 2 for a file that is to be text and is not UTF-8, for want of memory, or where a writer fails. What is to
 /// go out is written on `out`, and one line for a fault on `err`; where there is a fault, nothing goes out. Where `out` fails for want
 /// of memory that line is written too; some may be out then. How far a run or a replay is, is told where that is wanted.
 pub fn carry<N: Notices + Sync, R: Threads + Wait + Sync, W: Write, E: Write>(
@@ -47,10 +45,10 @@ pub fn carry<N: Notices + Sync, R: Threads + Wait + Sync, W: Write, E: Write>(
     ensures no_text { reads_text plan.now ≡ true → (input : _) → Contains inputs.now input → ¬ (IsUtf8 input.items) → result ≡ 2 }
     // Done only where the first file is what the plan asks for.
     ensures done { result ≡ 0 → (input : _) → slice_get inputs.now 0 ≡ Some input → IsAsAsked plan.now input.items }
-    // A run is done only where the second file is a scenario; a replay, and what a trace shows, only where it is the trace of a
-    // history of an engine of the first.
+    // A run is done only where the second file is a scenario; a replay, only where it is the trace of a history of an engine of the
+    // first.
     ensures accepted { result ≡ 0 → (first second : _) → slice_get inputs.now 0 ≡ Some first → slice_get inputs.now 1 ≡ Some second → IsAccepted plan.now first.items second.items }
-    // Refused only where it has a fault, or a scenario or a trace behind it has one; a manifest that is to be explained is refused too.
+    // Refused only where it has a fault, or a scenario or a trace behind it has one.
     ensures refused { result ≡ 1 → (input : _) → slice_get inputs.now 0 ≡ Some input → IsFaulty plan.now input.items }
     // Of two files, refused only where one has a fault, a line of the trace does not follow, or the scenario has a release.
     ensures rejected { result ≡ 1 → (first second : _) → slice_get inputs.now 0 ≡ Some first → slice_get inputs.now 1 ≡ Some second → IsRejected plan.now first.items second.items }
@@ -82,17 +80,10 @@ pub fn carry<N: Notices + Sync, R: Threads + Wait + Sync, W: Write, E: Write>(
             let manifest = (manifest.as_str(), inputs[0].as_slice());
             serve_nothing(alloc, manifest, manner.is_stepped, out, err)
         }
-        Plan::Replay(..) => print_traced(alloc, Told::Verdict, plan, inputs, notices, out, err),
-        Plan::Show(filter, ..) => {
-            let told = Told::Account(*filter);
-            print_traced(alloc, told, plan, inputs, notices, out, err)
-        }
-        Plan::Summarise(..) => print_traced(alloc, Told::Summary, plan, inputs, notices, out, err),
-        Plan::Draw(..) => print_traced(alloc, Told::Picture, plan, inputs, notices, out, err),
-        Plan::ExplainCode(code) => status(refusal_codes::print(*code, out), err),
-        Plan::Explain(manifest) => {
+        Plan::Replay(manifest, trace) => {
             let manifest = (manifest.as_str(), inputs[0].as_slice());
-            print_explanation(alloc, manifest, out, err)
+            let trace = (trace.as_str(), inputs[1].as_slice());
+            print_verdict(alloc, manifest, trace, notices, out, err)
         }
         Plan::Migrate(manifest, _) => {
             let manifest = (manifest.as_str(), inputs[0].as_slice());

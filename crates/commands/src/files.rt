@@ -8,7 +8,7 @@ use std::io;
 use std::io::Write;
 
 /// What is to go out went out, or a writer failed. That it failed for want of memory is told.
-pub(crate) fn status<E: Write>(written: io::Result<()>, err: &mut E) -> u8
+pub fn status<E: Write>(written: io::Result<()>, err: &mut E) -> u8
     ensures { MatchResult written (λ _. result ≡ 0) (λ _. result ≡ 2) }
 {
     match written {
@@ -18,7 +18,7 @@ pub(crate) fn status<E: Write>(written: io::Result<()>, err: &mut E) -> u8
 }
 
 /// The writer failed so.
-pub(crate) fn unwritten<E: Write>(error: io::Error, err: &mut E) -> u8
+pub fn unwritten<E: Write>(error: io::Error, err: &mut E) -> u8
     ensures { result ≡ 2 }
 {
     if error.kind() == io::ErrorKind::OutOfMemory {
@@ -29,7 +29,7 @@ pub(crate) fn unwritten<E: Write>(error: io::Error, err: &mut E) -> u8
 }
 
 /// A file, a path and its bytes, as text.
-pub(crate) fn text<'a, 'b>(file: (&'a str, &'b [u8])) -> Result<&'b str, Fault<'a>>
+pub fn text<'a, 'b>(file: (&'a str, &'b [u8])) -> Result<&'b str, Fault<'a>>
     ensures { MatchResult result (λ t. (t.now ≡ file.entry.1.now) × IsUtf8 file.entry.1.now)
         (λ e. (status_of e ≡ 2) × ¬ (IsUtf8 file.entry.1.now)) }
 {

@@ -1,12 +1,16 @@
-// Carries a case out as `camr` does. It relies on `command_line` for the words and on `commands` for the rest.
+// Carries a case out as the script `camr` does, which hands what explains and shows to the second program. It relies on `command_line` and
+// `commands` for the one program, and on `inspect_line` and `inspection` for the other.
 
 ghost use Rattle.std.specs.Prelude.{◌≡◌, IfOk, length};
 ghost use Rattle.command_line.specs.Files.{input_paths};
+ghost use Rattle.inspect_line.specs.Files.{input_paths as inspected_paths};
 
 use crate::pieces::Pieces;
 use calls::Silent;
 use command_line::{Plan, not_utf8, plan};
 use commands::{Fault, Handing, carry, report_usage, serve};
+use inspect_line::Plan as InspectPlan;
+use inspection::carry as inspect;
 use std::alloc::{AllocError, Global};
 use std::sync::Wait;
 use std::thread::Threads;
@@ -21,16 +25,54 @@ pub fn run<R: Threads + Wait + Sync>(
     let mut out = Vec::new(alloc);
     let mut err = Vec::new(alloc);
     let status = match words_of(alloc, case)? {
-        Some(words) => match plan(alloc, words.as_slice()) {
-            Ok(plan) => match read_inputs(alloc, &plan, case) {
-                Ok(inputs) => carry_out(rt, alloc, &plan, &inputs, case, &mut out, &mut err),
-                Err(fault) => fault.report(&mut err),
-            },
-            Err(fault) => report_usage(&fault, &mut out, &mut err),
-        },
+        Some(words) if is_inspected(&words) => inspected(alloc, &words, case, &mut out, &mut err),
+        Some(words) => carried(rt, alloc, &words, case, &mut out, &mut err),
         None => report_usage(&not_utf8(alloc), &mut out, &mut err),
     };
     Ok(Outcome { out, err, status })
+}
+
+// Whether the second program carries these words out.
+fn is_inspected(words: &[String]) -> bool {
+    match words.first() {
+        Some(word) => matches!(word.as_str(), "explain" | "show"),
+        None => false,
+    }
+}
+
+// Carries out what the words ask of the first program.
+fn carried<R: Threads + Wait + Sync>(
+    rt: &R,
+    alloc: Global,
+    words: &[String],
+    case: &Case<'_>,
+    out: &mut Vec<u8>,
+    err: &mut Vec<u8>,
+) -> u8 {
+    match plan(alloc, words) {
+        Ok(plan) => match read_inputs(alloc, &plan, case) {
+            Ok(inputs) => carry_out(rt, alloc, &plan, &inputs, case, out, err),
+            Err(fault) => fault.report(err),
+        },
+        Err(fault) => report_usage(&fault, out, err),
+    }
+}
+
+// Carries out what they ask of the second.
+fn inspected(
+    alloc: Global,
+    words: &[String],
+    case: &Case<'_>,
+    out: &mut Vec<u8>,
+    err: &mut Vec<u8>,
+) -> u8 {
+    match inspect_line::plan(alloc, words) {
+        Ok(plan) => match read_inspected(alloc, &plan, case) {
+            Ok(inputs) => inspect(alloc, &plan, &inputs, &Silent, out, err),
+            Err(fault) => fault.report(err),
+        },
+        Err(fault) => report_usage(&fault, out, err),
+    }
 }
 
 // Carries the plan out; what a live engine is asked is what comes on standard input.
@@ -85,12 +127,31 @@ fn read_inputs<'a>(
 {
     let mut inputs = Vec::new(alloc);
     for place in 0..plan.input_count() {
-        let path = plan.input(place);
-        let Some(file) = case.files.iter().find(|file| file.name == path) else {
-            return Err(Fault::File(path));
-        };
-        let bytes = file.bytes.to_vec(alloc).map_err(|_| Fault::OutOfMemory)?;
-        inputs.push(bytes).map_err(|_| Fault::OutOfMemory)?;
+        let input = read_input(alloc, plan.input(place), case)?;
+        inputs.push(input).map_err(|_| Fault::OutOfMemory)?;
     }
     Ok(inputs)
+}
+
+fn read_inspected<'a>(
+    alloc: Global,
+    plan: &'a InspectPlan,
+    case: &Case<'_>,
+) -> Result<Vec<Vec<u8>>, Fault<'a>>
+    ensures { IfOk result (λ inputs. length inputs.items ≡ length (inspected_paths plan.entry.now)) }
+{
+    let mut inputs = Vec::new(alloc);
+    for place in 0..plan.input_count() {
+        let input = read_input(alloc, plan.input(place), case)?;
+        inputs.push(input).map_err(|_| Fault::OutOfMemory)?;
+    }
+    Ok(inputs)
+}
+
+// The bytes of the case's file of that name.
+fn read_input<'a>(alloc: Global, path: &'a str, case: &Case<'_>) -> Result<Vec<u8>, Fault<'a>> {
+    let Some(file) = case.files.iter().find(|file| file.name == path) else {
+        return Err(Fault::File(path));
+    };
+    file.bytes.to_vec(alloc).map_err(|_| Fault::OutOfMemory)
 }

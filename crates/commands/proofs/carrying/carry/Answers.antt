@@ -3,8 +3,8 @@ use Rattle.std.specs.Prelude.{IsUtf8}
 use Rattle.std.specs.Global.{Global}
 use Rattle.command_line.specs.Files.{input_paths}
 use Rattle.command_line.specs.declared.plans.Plan.{Plan}
-use Rattle.commands.specs.Told.{IsAccepted, IsAsAsked, IsFaulty, IsFaultyManifest, IsFaultyMigration, IsFaultyText, IsManifest, IsMigratable, IsRejected, IsRejectedScenario, IsScenario}
-use Rattle.commands.proofs.Telling.{first_is, of_both, one_of_two}
+use Rattle.commands.specs.Told.{IsAccepted, IsAcceptedTrace, IsAsAsked, IsFaulty, IsFaultyManifest, IsFaultyMigration, IsFaultyText, IsManifest, IsMigratable, IsRejected, IsRejectedScenario, IsRejectedTrace, IsScenario}
+use Rattle.commands.proofs.Telling.{first_is, of_both, one_of_two, over_manifest}
 use Rattle.commands.proofs.carrying.carry.Goals as goal
 
 pub returns-in-Err-check-clause-refused : goal.returns-in-Err-check-clause-refused
@@ -61,63 +61,30 @@ returns-in-Migrate-clause-refused g c = λ is input there.
 
 pub returns-in-Replay-clause-done : goal.returns-in-Replay-clause-done
 returns-in-Replay-clause-done g c = λ is input there.
-    subst (λ (plan : Plan). IsAsAsked plan input.items) (sym c.in-Replay.is) (c.print_traced.ensures.manifest is input there)
+    let read = first_is c.args.inputs.now c.index-inputs-0-in-Replay.result input c.index-inputs-0-in-Replay.is there in
+    let same : c.as_slice-in-Replay.result.now ≡ input.items = c.as_slice-in-Replay.ensures.value ∙ ap (λ (bytes : Vec ℕ Global). bytes.items) read in
+    subst (λ (plan : Plan). IsAsAsked plan input.items) (sym c.in-Replay.is)
+    (subst (λ (bytes : List ℕ). IsManifest bytes) same (over_manifest c.as_slice-in-Replay.result.now c.as_slice-in-Replay-2.result.now (c.print_verdict.ensures.done is)))
+
+pub returns-in-Replay-clause-no_text : goal.returns-in-Replay-clause-no_text
+returns-in-Replay-clause-no_text g c = λ reads input there not_text.
+    let two : length c.args.inputs.now ≡ 2 = c.requires ∙ ap (λ (plan : Plan). length (input_paths plan)) c.in-Replay.is in
+    elim (one_of_two c.args.inputs.now c.index-inputs-0-in-Replay.result c.index-inputs-1-in-Replay.result input two c.index-inputs-0-in-Replay.is c.index-inputs-1-in-Replay.is there) [
+      | inl first ↦ c.print_verdict.ensures.manifest (λ text. not_text (subst (λ (bytes : List ℕ). IsUtf8 bytes) (c.as_slice-in-Replay.ensures.value ∙ ap (λ (bytes : Vec ℕ Global). bytes.items) first) text))
+      | inr second ↦ c.print_verdict.ensures.trace (λ text. not_text (subst (λ (bytes : List ℕ). IsUtf8 bytes) (c.as_slice-in-Replay-2.ensures.value ∙ ap (λ (bytes : Vec ℕ Global). bytes.items) second) text))
+    ]
 
 pub returns-in-Replay-clause-accepted : goal.returns-in-Replay-clause-accepted
 returns-in-Replay-clause-accepted g c = λ is first second one other.
-    subst (λ (plan : Plan). IsAccepted plan first.items second.items) (sym c.in-Replay.is) (c.print_traced.ensures.done is first second one other)
+    subst (λ (plan : Plan). IsAccepted plan first.items second.items) (sym c.in-Replay.is)
+    (of_both IsAcceptedTrace c.args.inputs.now c.index-inputs-0-in-Replay.is c.index-inputs-1-in-Replay.is c.as_slice-in-Replay.ensures.value c.as_slice-in-Replay-2.ensures.value
+    (c.print_verdict.ensures.done is) first second one other)
 
 pub returns-in-Replay-clause-rejected : goal.returns-in-Replay-clause-rejected
 returns-in-Replay-clause-rejected g c = λ is first second one other.
-    subst (λ (plan : Plan). IsRejected plan first.items second.items) (sym c.in-Replay.is) (c.print_traced.ensures.rejected is first second one other)
-
-pub returns-in-Show-clause-done : goal.returns-in-Show-clause-done
-returns-in-Show-clause-done g c = λ is input there.
-    subst (λ (plan : Plan). IsAsAsked plan input.items) (sym c.in-Show.is) (c.print_traced-in-Show.ensures.manifest is input there)
-
-pub returns-in-Show-clause-accepted : goal.returns-in-Show-clause-accepted
-returns-in-Show-clause-accepted g c = λ is first second one other.
-    subst (λ (plan : Plan). IsAccepted plan first.items second.items) (sym c.in-Show.is) (c.print_traced-in-Show.ensures.done is first second one other)
-
-pub returns-in-Show-clause-rejected : goal.returns-in-Show-clause-rejected
-returns-in-Show-clause-rejected g c = λ is first second one other.
-    subst (λ (plan : Plan). IsRejected plan first.items second.items) (sym c.in-Show.is) (c.print_traced-in-Show.ensures.rejected is first second one other)
-
-pub returns-in-Summarise-clause-done : goal.returns-in-Summarise-clause-done
-returns-in-Summarise-clause-done g c = λ is input there.
-    subst (λ (plan : Plan). IsAsAsked plan input.items) (sym c.in-Summarise.is) (c.print_traced-in-Summarise.ensures.manifest is input there)
-
-pub returns-in-Summarise-clause-accepted : goal.returns-in-Summarise-clause-accepted
-returns-in-Summarise-clause-accepted g c = λ is first second one other.
-    subst (λ (plan : Plan). IsAccepted plan first.items second.items) (sym c.in-Summarise.is) (c.print_traced-in-Summarise.ensures.done is first second one other)
-
-pub returns-in-Summarise-clause-rejected : goal.returns-in-Summarise-clause-rejected
-returns-in-Summarise-clause-rejected g c = λ is first second one other.
-    subst (λ (plan : Plan). IsRejected plan first.items second.items) (sym c.in-Summarise.is) (c.print_traced-in-Summarise.ensures.rejected is first second one other)
-
-pub returns-in-Draw-clause-done : goal.returns-in-Draw-clause-done
-returns-in-Draw-clause-done g c = λ is input there.
-    subst (λ (plan : Plan). IsAsAsked plan input.items) (sym c.in-Draw.is) (c.print_traced-in-Draw.ensures.manifest is input there)
-
-pub returns-in-Draw-clause-accepted : goal.returns-in-Draw-clause-accepted
-returns-in-Draw-clause-accepted g c = λ is first second one other.
-    subst (λ (plan : Plan). IsAccepted plan first.items second.items) (sym c.in-Draw.is) (c.print_traced-in-Draw.ensures.done is first second one other)
-
-pub returns-in-Draw-clause-rejected : goal.returns-in-Draw-clause-rejected
-returns-in-Draw-clause-rejected g c = λ is first second one other.
-    subst (λ (plan : Plan). IsRejected plan first.items second.items) (sym c.in-Draw.is) (c.print_traced-in-Draw.ensures.rejected is first second one other)
-
-pub returns-in-Explain-clause-done : goal.returns-in-Explain-clause-done
-returns-in-Explain-clause-done g c = λ is input there.
-    let read = first_is c.args.inputs.now c.index-inputs-0-in-Explain.result input c.index-inputs-0-in-Explain.is there in
-    let same : c.as_slice-in-Explain.result.now ≡ input.items = c.as_slice-in-Explain.ensures.value ∙ ap (λ (bytes : Vec ℕ Global). bytes.items) read in
-    subst (λ (plan : Plan). IsAsAsked plan input.items) (sym c.in-Explain.is) (subst (λ (bytes : List ℕ). IsManifest bytes) same (c.print_explanation.ensures.done is))
-
-pub returns-in-Explain-clause-refused : goal.returns-in-Explain-clause-refused
-returns-in-Explain-clause-refused g c = λ is input there.
-    let read = first_is c.args.inputs.now c.index-inputs-0-in-Explain.result input c.index-inputs-0-in-Explain.is there in
-    let same : c.as_slice-in-Explain.result.now ≡ input.items = c.as_slice-in-Explain.ensures.value ∙ ap (λ (bytes : Vec ℕ Global). bytes.items) read in
-    subst (λ (plan : Plan). IsFaulty plan input.items) (sym c.in-Explain.is) (subst (λ (bytes : List ℕ). IsFaultyManifest bytes) same (c.print_explanation.ensures.refused is))
+    subst (λ (plan : Plan). IsRejected plan first.items second.items) (sym c.in-Replay.is)
+    (of_both IsRejectedTrace c.args.inputs.now c.index-inputs-0-in-Replay.is c.index-inputs-1-in-Replay.is c.as_slice-in-Replay.ensures.value c.as_slice-in-Replay-2.ensures.value
+    (c.print_verdict.ensures.rejected is) first second one other)
 
 pub returns-in-Live-clause-done : goal.returns-in-Live-clause-done
 returns-in-Live-clause-done g c = λ is input there.

@@ -1,0 +1,116 @@
+// The program that explains manifests and codes, and shows traces: it reads the words after its name and the files that they name, and
+// carries them out. It relies on `inspect_line` for the words, on `inspection` for what is carried out, and on `program_io` for the
+// machine.
+#![tactic(auto)]
+
+ghost use Rattle.std.specs.Prelude.{◌≡◌, length, IfOk};
+ghost use Rattle.inspect_line.specs.Files.{input_paths};
+
+use calls::Notices;
+use command_line::not_utf8;
+use commands::{Fault, report_usage};
+use inspect_line::{Plan, plan};
+use inspection::carry;
+use program_io::{Telling, replace, words};
+use std::io::{BufWriter, IsTerminal, Stderr, Write};
+use std::process::ExitCode;
+use std::rt::{Files, Runtime};
+use std::{fs, io};
+
+fn main(rt: HostRuntime) -> ExitCode {
+    let mut err = rt.stderr();
+    ExitCode::from(match BufWriter::new(rt.alloc(), io::writer(&rt)) {
+        Ok(mut out) => {
+            let status = status(&rt, err, &mut out, &mut err);
+            if out.flush().is_ok() { status } else { 2 }
+        }
+        Err(_) => Fault::OutOfMemory.report(&mut err),
+    })
+}
+
+// Does what the words say, and answers the status to end with.
+fn status<R: Runtime + AllocGlobal, W: Write, E: Write>(
+    rt: &R,
+    told: Stderr,
+    out: &mut W,
+    err: &mut E,
+) -> u8 {
+    let words = match words(rt) {
+        Ok(words) => words,
+        Err(error) if error.kind() == io::ErrorKind::OutOfMemory => {
+            return Fault::OutOfMemory.report(err);
+        }
+        // of words nothing else is reported but that one is not UTF-8
+        Err(_) => return report_usage(&not_utf8(rt.alloc()), out, err),
+    };
+    match plan(rt.alloc(), words.as_slice()) {
+        Ok(plan) => match read_inputs(rt, &plan) {
+            Ok(inputs) => {
+                let is_on = tells(&plan, &told);
+                carry_out(rt, &plan, &inputs, &Telling::new(rt, told, is_on), out, err)
+            }
+            Err(fault) => fault.report(err),
+        },
+        Err(fault) => report_usage(&fault, out, err),
+    }
+}
+
+// Whether somebody is told how far the work is: of what replays a trace, if standard error is a terminal.
+fn tells(plan: &Plan, err: &Stderr) -> bool {
+    match plan {
+        Plan::Show(..) | Plan::Summarise(..) | Plan::Draw(..) => err.is_terminal(),
+        Plan::ExplainCode(_) | Plan::Explain(_) => false,
+    }
+}
+
+// Carries the plan out. What goes out goes into the plan's file, if it has one, where all went well.
+fn carry_out<R: Runtime + AllocGlobal, N: Notices, W: Write, E: Write>(
+    rt: &R,
+    plan: &Plan,
+    inputs: &[Vec<u8>],
+    notices: &N,
+    out: &mut W,
+    err: &mut E,
+) -> u8
+    requires { length inputs.now ≡ length (input_paths plan.now) }
+{
+    let Some(path) = plan.output() else {
+        return carry(rt.alloc(), plan, inputs, notices, out, err);
+    };
+    let mut bytes = Vec::new(rt.alloc());
+    let status = carry(rt.alloc(), plan, inputs, notices, &mut bytes, err);
+    if status != 0 {
+        return status;
+    }
+    match replace(rt, path, &bytes) {
+        Ok(()) => 0,
+        Err(error) => unread(&error, path).report(err),
+    }
+}
+
+// The bytes of the plan's files, in the order of the line.
+fn read_inputs<'a, R: Files + AllocGlobal>(
+    rt: &R,
+    plan: &'a Plan,
+) -> Result<Vec<Vec<u8>>, Fault<'a>>
+    ensures { IfOk result (λ inputs. length inputs.items ≡ length (input_paths plan.entry.now)) }
+{
+    let mut inputs = Vec::new(rt.alloc());
+    for place in 0..plan.input_count() {
+        let path = plan.input(place);
+        match fs::read(rt, path) {
+            Ok(input) => inputs.push(input).map_err(|_| Fault::OutOfMemory)?,
+            Err(error) => return Err(unread(&error, path)),
+        }
+    }
+    Ok(inputs)
+}
+
+// Why that file could not be read or written.
+fn unread<'a>(error: &io::Error, path: &'a str) -> Fault<'a> {
+    if error.kind() == io::ErrorKind::OutOfMemory {
+        Fault::OutOfMemory
+    } else {
+        Fault::File(path)
+    }
+}

@@ -1,0 +1,55 @@
+// The verdict on a trace. It relies on `replay`.
+
+ghost use Rattle.std.specs.Prelude.{◌≡◌, ◌≤◌, IfErr, IfOk, IsErrAnd, IsUtf8};
+ghost use Rattle.commands.specs.Faults.{status_of};
+ghost use Rattle.commands.specs.Told.{IsAcceptedTrace, IsRejectedTrace};
+
+use crate::fault::Fault;
+use crate::files::{status, text};
+use calls::{Notices, Trace};
+use manifest::Manifest;
+use replay::replay;
+use std::alloc::Global;
+use std::io::Write;
+
+/// Prints that a trace is accepted over a manifest, each a path and its bytes, if it is, and answers the status.
+pub(crate) fn print_verdict<N: Notices, W: Write, E: Write>(
+    alloc: Global,
+    manifest: (&str, &[u8]),
+    trace: (&str, &[u8]),
+    notices: &N,
+    out: &mut W,
+    err: &mut E,
+) -> u8
+    ensures status { result ≤ 2 }
+    ensures manifest { ¬ (IsUtf8 manifest.entry.1.now) → result ≡ 2 }
+    ensures trace { ¬ (IsUtf8 trace.entry.1.now) → result ≡ 2 }
+    ensures done { result ≡ 0 → IsAcceptedTrace manifest.entry.1.now trace.entry.1.now }
+    ensures rejected { result ≡ 1 → IsRejectedTrace manifest.entry.1.now trace.entry.1.now }
+{
+    match replayed(alloc, manifest, trace, notices) {
+        Ok(_) => status(out.write_all(b"accepted\n"), err),
+        Err(fault) => fault.report(err),
+    }
+}
+
+/// A manifest and a trace, each a path and its bytes, if the trace is accepted over the manifest; else what is wrong with the first
+/// of them that has a fault.
+pub fn replayed<'a, N: Notices>(
+    alloc: Global,
+    manifest: (&'a str, &[u8]),
+    trace: (&'a str, &[u8]),
+    notices: &N,
+) -> Result<(Manifest, Trace), Fault<'a>>
+    ensures manifest { ¬ (IsUtf8 manifest.entry.1.now) → IsErrAnd result (λ e. status_of e ≡ 2) }
+    ensures trace { ¬ (IsUtf8 trace.entry.1.now) → IsErrAnd result (λ e. status_of e ≡ 2) }
+    ensures done { IfOk result (λ _. IsAcceptedTrace manifest.entry.1.now trace.entry.1.now) }
+    ensures fault { IfErr result (λ e. status_of e ≡ 1 → IsRejectedTrace manifest.entry.1.now trace.entry.1.now) }
+{
+    let manifest = text(manifest)?;
+    let trace = text(trace)?;
+    let manifest = manifest::read(alloc, manifest)?;
+    let trace = trace::read(alloc, trace)?;
+    replay(alloc, &manifest.config, &trace, notices)?;
+    Ok((manifest, trace))
+}

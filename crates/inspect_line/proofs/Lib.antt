@@ -1,0 +1,3 @@
+pub mod AskedLines
+pub mod AskedRows
+pub mod Planned

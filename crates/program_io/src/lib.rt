@@ -1,0 +1,18 @@
+// The machine's side of the programs: files that are written whole, standard input as it comes, the machine's clock, the words of the
+// line, and notices on standard error. It relies on `live` for what an input is, and on `calls` for notices.
+#![tactic(auto)]
+
+mod clocked;
+mod feed;
+mod reading;
+mod replacing;
+mod stopwatch;
+mod telling;
+mod words;
+
+pub use clocked::Clocked;
+pub use feed::Feeder;
+pub use reading::Reading;
+pub use replacing::replace;
+pub use telling::Telling;
+pub use words::words;

@@ -1,8 +1,7 @@
-use Rattle.std.proofs.Common.{◌≡◌, ◌∙◌, Bool, true, false, None, Some, ap, codes, refl, rules, subst, sym}
+use Rattle.std.proofs.Common.{◌≡◌, ◌∙◌, Bool, true, false, None, Some, ap, codes, inl, inr, refl, rules, subst, sym}
 use Rattle.std.specs.Prelude.{IsTrue, MatchBool}
 use Rattle.clap.specs.Words.{Text, found_of, rows_of}
 use Rattle.inspect_line.specs.FoundPlan.{AsksOne, AsksSummary, HasFilter}
-use Rattle.inspect_line.specs.InspectLines.{everything}
 use Rattle.trace_events.specs.declared.filter.Filter.{Filter}
 use Rattle.command_line.proofs.Given.{no_text, none_given, nothing_given, text_given}
 use Rattle.inspect_line.proofs.AskedRows.{same_filter}
@@ -65,4 +64,27 @@ returns-in_default-2 c = λ makes.
     let rows = rows_of (found_of c.args.show.now) in
     let same = same_filter rows c.in-Some-filter_given.filter makes.1.0 c.in-Some-filter_given.ensures makes.1.2 in
     let asks : AsksOne rows c.in-Some-filter_given.filter = subst (λ (f : Filter). AsksOne rows f) (sym same) makes.1.3 in
-    excluded c asks
+    elim c.in_default-2.branch [
+      | in_default-2-via-in-None+then-asks_summary+else-is_everything w ↦
+          let flag : c.asks_summary.result ≡ true = search rules in
+          let bad : c.is_everything.result ≡ false = search rules in
+          let asked : AsksSummary rows = subst (λ (b : Bool). MatchBool b (AsksSummary rows) (AsksSummary rows → ⊥)) flag c.asks_summary.ensures in
+          elim asks [ | inl account ↦ account.0 asked | inr all ↦ clash (c.is_everything.ensures.1 all.0) bad ]
+      | in_default-2-via-in-Some+then-this w ↦
+          let flag : c.asks_summary.result ≡ true = search rules in
+          let asked : AsksSummary rows = subst (λ (b : Bool). MatchBool b (AsksSummary rows) (AsksSummary rows → ⊥)) flag c.asks_summary.ensures in
+          elim asks [
+            | inl account ↦ account.0 asked
+            | inr all ↦
+                let none : c.get_str-3.result ≡ None = none_given (found_of c.args.show.now) (codes "svg") c.get_str-3.result c.get_str-3.ensures (all.1 asked) in
+                search rules
+          ]
+      | in_default-2-via-in-Some+else-this+else-this-2 w ↦
+          let bad : c.is_everything.result ≡ false = search rules in
+          elim asks [
+            | inl account ↦
+                let none : c.get_str-3.result ≡ None = none_given (found_of c.args.show.now) (codes "svg") c.get_str-3.result c.get_str-3.ensures account.1 in
+                search rules
+            | inr all ↦ clash (c.is_everything.ensures.1 all.0) bad
+          ]
+    ]

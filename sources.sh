@@ -1,6 +1,6 @@
-# For the scripts `camr`, `bench/run` and `.ci/must-not-compile`, which read it: copies of crates with all below them, in
-# which rt works apart from the repository. It relies on crates.txt, where a crate's line stands behind those of the
-# crates that it needs.
+# For the scripts that read it, as `camr`, `bench/run` and `.ci/must-not-compile`: which crates are below others, copies of
+# crates with all below them, in which rt works apart from the repository, and whether what was made of crates is still of
+# their sources. It relies on crates.txt, where a crate's line stands after those of the crates that it needs.
 
 # Prints the lines of the repository's crates.txt, read from standard input, of the crates that are named and of all
 # below them.
@@ -36,4 +36,15 @@ copy_sources() {
             esac
         done
     done
+}
+
+# is_current TOP MADE CRATE: succeeds if the executable MADE is there and was made of this crate and all below it as they
+# stand. MADE.built beside it has their lines of crates.txt, and no source of theirs is newer than that file, whose time is
+# the one at which the build began. MADE is a whole path.
+is_current() {
+    [ -x "$2" ] && lines_below "$3" <"$1/crates.txt" | cmp -s - "$2.built" || return 1
+    # shellcheck disable=SC2046 # the folders are words
+    newer=$(cd "$1" && find HANDLES $(lines_below "$3" <crates.txt | sed 's/[ :].*//; s|^|crates/|') -name out -prune -o \
+        \( -name '*.rt' -o -name '*.antt' -o -name HANDLES \) -newer "$2.built" -print) || return 1
+    [ -z "$newer" ]
 }

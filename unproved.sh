@@ -1,103 +1,53 @@
-# For the script `camr`, which reads it: the program without any proof, as a quick look. rt compiles it from its sources
-# with checks, runs it in a folder of its own, and tells how it ended.
+# For the script `camr`, which reads it: the program without any proof, as a quick look. It is compiled from its sources with
+# checks as it runs, and what was compiled is kept in .camr-build/unproved until a source changes.
 
-# Prints standard input with the names of inputs turned back into the words that were given.
-with_words() {
-    awk '{
-        for (at = 1; at <= ENVIRON["inputs"]; at++) {
-            name = "camr-input-" at "-"
-            rest = $0; line = ""
-            while (place = index(rest, name)) {
-                line = line substr(rest, 1, place - 1) ENVIRON["input_" at]
-                rest = substr(rest, place + length(name))
-            }
-            $0 = line rest
-        }
-        print
-    }'
+# Takes a copy of the executable that `rt try` made in "$work": while the program waits at "$work/manifest" the executable is
+# there, and with the end of `rt try` it is gone.
+take_executable() {
+    exec 3>"$work/manifest"
+    found=$(find "$work" -type f -perm -u+x -print | head -n 1)
+    [ -z "$found" ] || cp "$found" "$work/program"
 }
 
-# Prints what the program wrote on standard error: all but the lines at the end in which rt tells of the run.
-without_report() {
-    awk '
-        { line[NR] = $0 }
-        END {
-            last = NR - 1
-            while (last > 0 && line[last] ~ /^(interpreter|checked|races): /) last--
-            for (at = 1; at <= last; at++) print line[at]
-        }'
-}
-
-# Tries the program with these words: its inputs are those in "$work", by their names there.
-try_program() {
-    for name in "$work"/camr-input-*; do
-        [ -e "$name" ] && set -- --data "${name##*/}=$name" "$@"
-    done
-    cd "$top/crates/camr" && rt try --seconds 3600 "$@"
-}
-
-# Succeeds where a word behind the command is a path: it is no option, nor the value of one, nor a code.
-is_path() {
-    case $command in
-    check | dis | explain | live | replay | run | show) ;;
-    *) return 1 ;;
-    esac
-    [ "$place" -gt 1 ] && [ "$1" != -- ] || return 1
-    case $before in
-    --workers | --ccb | --queue | --run | --freeze | --from | --to) return 1 ;;
-    esac
-    case $command-$1 in
-    explain-[A-Z][0-9] | explain-[A-Z][0-9][0-9]) return 1 ;;
-    esac
+# compile PROGRAM: compiles the program. `rt try` keeps nothing of what it compiled, and has no option to: it runs the program
+# in a folder that it removes. So it is given a manifest to be read that is a pipe, at which the program waits.
+compile() {
+    mkdir -p "$kept/unproved" && work=$(mktemp -d "$kept/unproved/try.XXXXXX") && mkfifo "$work/manifest" || return 1
+    take_executable &
+    taker=$!
+    trap 'kill "$taker"; rm -rf "$work"; exit 2' HUP INT TERM
+    lines_below "$1" <"$top/crates.txt" >"$work/begun"
     case $1 in
-    -*) [ "$options" = ended ] ;;
+    camr_inspect) command=explain ;;
+    *) command=check ;;
     esac
-}
-
-# Puts a copy of the file of that path, if it can be read, where the program finds it by a name of its own.
-take_input() {
-    inputs=$((inputs + 1))
-    input=camr-input-$inputs-
-    export "input_$inputs=$1"
-    [ -d "$1" ] || cat <"$1" >"$work/$input" || rm -f "$work/$input"
-}
-
-# unproved WORD..: answers as the proved program does, and with its status.
-unproved() {
-    for word; do
-        case $1-$word in
-        asm-* | migrate-* | show---svg | show---svg=*)
-            echo "camr: $1 with a file to be written wants the proved program" >&2
-            return 2
-            ;;
-        esac
-    done
-    echo 'camr: nothing is proved here: the program is compiled from its sources as they stand, which takes a minute or two' >&2
-    work=$(mktemp -d) || return 2
-    trap 'rm -rf "$work"; exit 2' HUP INT TERM
-    command=${1-} before='' options='' place=0 inputs=0
-    for word; do
-        shift
-        place=$((place + 1))
-        if is_path "$word"; then
-            take_input "$word" 2>"$work/unread"
-            set -- "$@" "$input"
-        else
-            set -- "$@" "$word"
-        fi
-        [ "$word" != -- ] || options=ended
-        before=$word
-    done
-    export inputs
-    try_program -- "$@" </dev/null >"$work/out" 2>"$work/err"
-    status=$(sed -n '$s/^run=ended status=\([0-9]*\) .*/\1/p' "$work/err")
-    if [ -n "$status" ]; then
-        with_words <"$work/out"
-        without_report <"$work/err" | with_words >&2
-    else
-        grep -v '^run=none' "$work/err" | tail -n 1 | sed 's/^/camr: no answer: /' >&2
-        status=2
+    (cd "$top/crates/$1" && TMPDIR=$work rt try --seconds 3600 -- "$command" "$work/manifest") </dev/null >"$work/said" 2>&1
+    # if the program was not run, nobody else opens the pipe
+    : <>"$work/manifest"
+    wait "$taker"
+    trap - HUP INT TERM
+    if [ -x "$work/program" ] && mv "$work/program" "$kept/unproved/$1" && mv "$work/begun" "$kept/unproved/$1.built"; then
+        rm -rf "$work"
+        return 0
     fi
+    mv "$work/said" "$kept/unproved/log"
     rm -rf "$work"
-    return "$status"
+    grep -v '^run=' "$kept/unproved/log" | tail -n 1 | sed 's/^/camr: no program: /'
+    echo "camr: rt try made none that can be kept; $kept/unproved/log has all that it said"
+    return 1
+}
+
+# unproved PROGRAM WORD..: runs the program with these words. A check that fails as it runs ends it with SIGABRT. As in the proved
+# program a request for more memory than there is gives none.
+unproved() {
+    made=$kept/unproved/$1
+    if is_current "$top" "$made" "$1"; then
+        echo 'camr: nothing is proved here: the program was compiled from its sources as they stand' >&2
+    else
+        echo 'camr: nothing is proved here: the program is compiled from its sources as they stand, which takes a minute or two' >&2
+        compile "$1" >&2 || return 2
+    fi
+    shift
+    export ASAN_OPTIONS=abort_on_error=1:allocator_may_return_null=1:symbolize=0
+    exec "$made" "$@"
 }

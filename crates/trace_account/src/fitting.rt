@@ -5,7 +5,7 @@ use ccb::QueueId;
 use engine_config::Config;
 use freeze_ledger::Place;
 use trace_events::Event;
-use trace_filter::Filter;
+use trace_events::Filter;
 
 /// Whether the event fits all that is wanted.
 pub(crate) fn fits(filter: &Filter, event: &Event, config: &Config) -> bool {

@@ -8,7 +8,7 @@ use std::alloc::Global;
 use std::io;
 use std::io::Write;
 use trace_events::{NamedAccepted, Programs, Walk};
-use trace_filter::Filter;
+use trace_events::Filter;
 
 /// What is written where no event is wanted.
 const NOTHING: &[u8] = b"no event fits\n";

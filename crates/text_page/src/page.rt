@@ -2,6 +2,7 @@
 
 use itoa::Buffer;
 use std::alloc::{AllocError, Global};
+use std::fmt::Display;
 use std::io;
 use std::io::Write;
 
@@ -64,6 +65,28 @@ impl Page {
     pub fn byte(&mut self, byte: u8) {
         self.text(DIGITS[usize::from(byte / 16)]);
         self.text(DIGITS[usize::from(byte % 16)]);
+    }
+
+    /// Puts a number with blanks before it, so that it is so wide at least.
+    pub fn aligned(&mut self, number: u64, width: usize) {
+        let mut digits = Buffer::new();
+        let digits = digits.format(number);
+        self.blanks(width.saturating_sub(digits.len()));
+        self.text(digits);
+    }
+
+    /// Puts a word as a number of base 16, with `0x` before it.
+    pub fn word(&mut self, word: u64) {
+        if write!(self.text, "{word:#x}").is_err() {
+            self.is_torn = true;
+        }
+    }
+
+    /// Puts the text of a value of the program's own, as of a code or a fault.
+    pub fn shown<T: Display>(&mut self, value: &T) {
+        if write!(self.text, "{value}").is_err() {
+            self.is_torn = true;
+        }
     }
 
     /// Puts a byte as the character that it is; a dot, if it is none of the printable ones of ASCII.

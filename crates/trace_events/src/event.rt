@@ -8,7 +8,7 @@ use engine_core::QueueInfo;
 use freeze_ledger::Place;
 
 /// What an event is about. What it is not about is absent.
-#[derive(Clone, Copy, Debug, Default, PartialEq, Eq)]
+#[derive(Clone, Copy, Default)]
 pub struct Subject {
     /// A CCB, by its number.
     pub ccb: Option<u32>,
@@ -21,7 +21,7 @@ pub struct Subject {
 }
 
 /// Why there is a freeze.
-#[derive(Clone, Copy, Debug, PartialEq, Eq)]
+#[derive(Clone, Copy)]
 pub enum Cause {
     /// A CCB failed with that status, and a run of that number took the freeze.
     Failure {
@@ -34,7 +34,7 @@ pub enum Cause {
 }
 
 /// What happened. Times are milliseconds of the trace's clock; `frozen` is how often the event's place is frozen behind it.
-#[derive(Clone, Copy, Debug, PartialEq, Eq)]
+#[derive(Clone, Copy)]
 pub enum Happening {
     /// The CCB waits.
     Submitted {
@@ -164,7 +164,7 @@ pub enum Happening {
 }
 
 /// Something that happened.
-#[derive(Clone, Copy, Debug, PartialEq, Eq)]
+#[derive(Clone, Copy)]
 pub struct Event {
     /// What the clock read last, in milliseconds.
     pub clock: u64,

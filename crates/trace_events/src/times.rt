@@ -8,7 +8,7 @@ use std::alloc::{AllocError, Global};
 use std::collections::BTreeMap;
 
 /// Of a freeze: its place, since when it is there, and why.
-#[derive(Clone, Copy, Debug, PartialEq, Eq)]
+#[derive(Clone, Copy)]
 pub struct FreezeTimes {
     pub place: Place,
     pub since: u64,
@@ -16,7 +16,7 @@ pub struct FreezeTimes {
 }
 
 /// Of a run: its CCB, with which status that failed, since when the run is live, and how many instructions it executed.
-#[derive(Clone, Copy, Debug, PartialEq, Eq)]
+#[derive(Clone, Copy)]
 pub struct RunTimes {
     pub ccb: u32,
     pub status: CamStatus,

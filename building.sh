@@ -42,7 +42,7 @@ time_left() {
                 else if (passed[name] == "proved") took += part[name]
             }
             if (!kept && there > 0) left = after * here / there
-            else left *= (now + 60) / (took + 60)
+            else if (proved) left *= (now + 60) / (took + 60)
             minutes = int(left / 60 + 0.5)
             print ", " (minutes > 1 ? "about " minutes " minutes left" : minutes == 1 ? "about a minute left" : "less than a minute left")
         }' what=times "$1" what=crates "$work/sources/crates.txt" what=passed "$work/passed"

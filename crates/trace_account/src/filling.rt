@@ -1,16 +1,19 @@
-// What stands in the text of an event: which text it is, and its values. It relies on `trace_events` for events, and on `phrases` for
-// texts.
+// What stands in the text of an event: its words, and its values. It relies on `trace_events` for events.
 
-use crate::phrases::Phrase;
 use base::ShortBytes;
 use calls::CallRefusal;
 use ccb::CamStatus;
 use trace_events::{Cause, Happening};
 
-/// The values of a text, as far as it has them.
+/// The text of an event, and its values as far as it has them. In its words stand, each after a `%`:
+///
+/// - `c`, `r`, `f`: the CCB, the run and the freeze that it is about, with the word for it;
+/// - `1` to `4`: numbers; `t`: so many times; `z`: that the place is frozen so many times still, or thawed;
+/// - `s`: a status by its name; `v`: what became of the CCB; `k`: a final code by its name; `x`: why not;
+/// - `g`: a guest; `n`: the name of the queue's program; `w`: why the freeze was there; `b`: bytes, as digits and as text.
 #[derive(Clone, Copy)]
 pub(crate) struct Filling {
-    pub(crate) phrase: Phrase,
+    pub(crate) words: &'static str,
     pub(crate) numbers: [u64; 4],
     /// How often the place is frozen.
     pub(crate) frozen: u32,
@@ -25,9 +28,9 @@ pub(crate) struct Filling {
 
 impl Filling {
     // Of this text, without values.
-    fn new(phrase: Phrase) -> Self {
+    fn new(words: &'static str) -> Self {
         Filling {
-            phrase,
+            words,
             numbers: [0; 4],
             frozen: 0,
             guest: 0,
@@ -40,26 +43,26 @@ impl Filling {
         }
     }
 
-    fn with_numbers(phrase: Phrase, numbers: [u64; 4]) -> Self {
-        let mut filling = Filling::new(phrase);
+    fn with_numbers(words: &'static str, numbers: [u64; 4]) -> Self {
+        let mut filling = Filling::new(words);
         filling.numbers = numbers;
         filling
     }
 
-    fn with_frozen(phrase: Phrase, frozen: u32, held: u64) -> Self {
-        let mut filling = Filling::with_numbers(phrase, [held, 0, 0, 0]);
+    fn with_frozen(words: &'static str, frozen: u32, held: u64) -> Self {
+        let mut filling = Filling::with_numbers(words, [held, 0, 0, 0]);
         filling.frozen = frozen;
         filling
     }
 
-    fn refused(phrase: Phrase, refusal: CallRefusal) -> Self {
-        let mut filling = Filling::new(phrase);
+    fn refused(words: &'static str, refusal: CallRefusal) -> Self {
+        let mut filling = Filling::new(words);
         filling.refusal = refusal;
         filling
     }
 
-    fn of_guest(self, guest: u32) -> Self {
-        let mut filling = self;
+    fn with_guest(words: &'static str, guest: u32, frozen: u32, held: u64) -> Self {
+        let mut filling = Filling::with_frozen(words, frozen, held);
         filling.guest = guest;
         filling
     }
@@ -68,23 +71,32 @@ impl Filling {
     pub(crate) fn of(happening: &Happening) -> Self {
         match happening {
             Happening::Submitted { priority, retries } => Filling::with_numbers(
-                Phrase::Submitted,
+                "%c waits: priority %1, retries %2",
                 [u64::from(*priority), u64::from(*retries), 0, 0],
             ),
-            Happening::NotSubmitted(refusal) => Filling::refused(Phrase::NotSubmitted, *refusal),
+            Happening::NotSubmitted(refusal) => Filling::refused(
+                "no ccb is submitted: %x",
+                *refusal,
+            ),
             Happening::Started { waited, attempt } => {
-                Filling::with_numbers(Phrase::Started, [u64::from(*attempt), *waited, 0, 0])
+                Filling::with_numbers(
+                    "%c starts: attempt %1, it waited %2 ms",
+                    [u64::from(*attempt), *waited, 0, 0],
+                )
             }
             Happening::NotStarted { refusal, frozen } => not_started(*refusal, *frozen),
             Happening::Completed { active } => {
-                Filling::with_numbers(Phrase::Completed, [*active, 0, 0, 0])
+                Filling::with_numbers(
+                    "%c is finished: request completed (01) after %1 ms",
+                    [*active, 0, 0, 0],
+                )
             }
             Happening::Failed { .. } | Happening::NotCompleted { .. } => of_completion(happening),
-            Happening::ClockRead => Filling::new(Phrase::ClockRead),
-            Happening::NotRead(refusal) => Filling::refused(Phrase::NotRead, *refusal),
-            Happening::Parked => Filling::new(Phrase::Parked),
-            Happening::Resumed => Filling::new(Phrase::Resumed),
-            Happening::NotResumed(refusal) => Filling::refused(Phrase::NotResumed, *refusal),
+            Happening::ClockRead => Filling::new("no timer came"),
+            Happening::NotRead(refusal) => Filling::refused("not read: %x", *refusal),
+            Happening::Parked => Filling::new("%r is parked"),
+            Happening::Resumed => Filling::new("%r goes on"),
+            Happening::NotResumed(refusal) => Filling::refused("%r does not go on: %x", *refusal),
             Happening::FrozenByGuest { .. }
             | Happening::NotFrozenByGuest { .. }
             | Happening::GivenBackByGuest { .. }
@@ -99,11 +111,11 @@ impl Filling {
 }
 
 fn not_started(refusal: CallRefusal, frozen: u32) -> Filling {
-    let phrase = match refusal {
-        CallRefusal::Frozen | CallRefusal::ControllerFrozen => Phrase::NotStartedFrozen,
-        _ => Phrase::NotStarted,
+    let words = match refusal {
+        CallRefusal::Frozen | CallRefusal::ControllerFrozen => "no ccb starts: %x, %t",
+        _ => "no ccb starts: %x",
     };
-    let mut filling = Filling::refused(phrase, refusal);
+    let mut filling = Filling::refused(words, refusal);
     filling.frozen = frozen;
     filling
 }
@@ -119,23 +131,23 @@ fn of_completion(happening: &Happening) -> Filling {
             frozen,
             has_freeze,
         } => {
-            let phrase = if *has_freeze {
-                Phrase::Failed
+            let words = if *has_freeze {
+                "%c %v after %1 ms: frozen %t by %f, and %r of %n begins"
             } else {
-                Phrase::FailedUnfrozen
+                "%c %v after %1 ms: no freeze at a limit, and %r of %n begins"
             };
-            let mut filling = Filling::with_frozen(phrase, *frozen, *active);
+            let mut filling = Filling::with_frozen(words, *frozen, *active);
             filling.status = *status;
             filling.scsi = *scsi;
             filling.bytes = *sense;
             filling
         }
         Happening::NotCompleted { status, refusal } => {
-            let mut filling = Filling::refused(Phrase::NotCompleted, *refusal);
+            let mut filling = Filling::refused("no completion of %c (%s): %x", *refusal);
             filling.status = *status;
             filling
         }
-        _ => Filling::new(Phrase::ClockRead),
+        _ => Filling::new("no timer came"),
     }
 }
 
@@ -143,36 +155,54 @@ fn of_completion(happening: &Happening) -> Filling {
 fn of_freeze(happening: &Happening) -> Filling {
     match happening {
         Happening::FrozenByGuest { guest, frozen } => {
-            Filling::with_frozen(Phrase::FrozenByGuest, *frozen, 0).of_guest(*guest)
+            Filling::with_guest("frozen %t: guest %g took %f", *guest, *frozen, 0)
         }
         Happening::NotFrozenByGuest { guest, refusal } => {
-            Filling::refused(Phrase::NotFrozenByGuest, *refusal).of_guest(*guest)
+            let mut filling = Filling::refused("no freeze for guest %g: %x", *refusal);
+            filling.guest = *guest;
+            filling
         }
         Happening::GivenBackByGuest {
             guest,
             frozen,
             held,
-        } => Filling::with_frozen(Phrase::GivenBackByGuest, *frozen, *held).of_guest(*guest),
+        } => Filling::with_guest(
+            "%z: guest %g gave %f back after %1 ms",
+            *guest,
+            *frozen,
+            *held,
+        ),
         Happening::TimerCame {
             frozen,
             held,
             cause,
         } => {
-            let mut filling = Filling::with_frozen(Phrase::TimerCame, *frozen, *held);
+            let mut filling = Filling::with_frozen(
+                "%z: the timer of %f came (%1 ms after %w)",
+                *frozen,
+                *held,
+            );
             filling.cause = *cause;
             filling
         }
-        Happening::FrozenByRun { frozen } => Filling::with_frozen(Phrase::FrozenByRun, *frozen, 0),
+        Happening::FrozenByRun { frozen } => Filling::with_frozen(
+            "frozen %t: %r took %f",
+            *frozen,
+            0,
+        ),
         Happening::NotFrozenByRun { frozen } => {
-            Filling::with_frozen(Phrase::NotFrozenByRun, *frozen, 0)
+            Filling::with_frozen("no freeze for %r: a limit is reached", *frozen, 0)
         }
         Happening::GivenBackByRun { frozen, held } => {
-            Filling::with_frozen(Phrase::GivenBackByRun, *frozen, *held)
+            Filling::with_frozen("%z: %r gave %f back after %1 ms", *frozen, *held)
         }
         Happening::LeftToTimer { due } => {
-            Filling::with_numbers(Phrase::LeftToTimer, [*due, 0, 0, 0])
+            Filling::with_numbers(
+                "%f of %r is left to a timer, which comes at %1 ms",
+                [*due, 0, 0, 0],
+            )
         }
-        _ => Filling::new(Phrase::ClockRead),
+        _ => Filling::new("no timer came"),
     }
 }
 
@@ -180,51 +210,71 @@ fn of_freeze(happening: &Happening) -> Filling {
 fn of_call(happening: &Happening) -> Filling {
     match happening {
         Happening::Requeued { before, now } => Filling::with_numbers(
-            Phrase::Requeued,
+            "%c waits again: %r requeued it, retries %1, then %2",
             [u64::from(*before), u64::from(*now), 0, 0],
         ),
         Happening::Finished { code } => {
-            let mut filling = Filling::new(Phrase::Finished);
+            let mut filling = Filling::new("%c is finished: %r finished it, %k");
             filling.code = *code;
             filling
         }
         Happening::WordRead { table, index, word } => {
-            Filling::with_numbers(Phrase::WordRead, [*table, *index, *word, 0])
+            Filling::with_numbers(
+                "%r read word %2 of table %1: %3",
+                [*table, *index, *word, 0],
+            )
         }
         Happening::WordPut {
             table,
             index,
             old,
             new,
-        } => Filling::with_numbers(Phrase::WordPut, [*table, *index, *old, *new]),
+        } => Filling::with_numbers(
+            "%r put word %2 of table %1: %3, then %4",
+            [*table, *index, *old, *new],
+        ),
         Happening::WordAdded {
             table,
             index,
             old,
             new,
-        } => Filling::with_numbers(Phrase::WordAdded, [*table, *index, *old, *new]),
+        } => Filling::with_numbers(
+            "%r added to word %2 of table %1: %3, then %4",
+            [*table, *index, *old, *new],
+        ),
         Happening::QueueTold(info) => {
-            let numbers = [info.active, info.waiting, info.openings, 0].map(u64::from);
-            let mut filling = Filling::with_numbers(Phrase::QueueTold, numbers);
+            let numbers = [
+                u64::from(info.active),
+                u64::from(info.waiting),
+                u64::from(info.openings),
+                0,
+            ];
+            let mut filling = Filling::with_numbers(
+                "%r read its queue: frozen %t, %1 active, %2 waiting, %3 openings",
+                numbers,
+            );
             filling.frozen = info.frozen;
             filling
         }
         Happening::Traced(bytes) => {
-            let mut filling = Filling::new(Phrase::Traced);
+            let mut filling = Filling::new("%r traced %b");
             filling.bytes = *bytes;
             filling
         }
-        Happening::ClockTold => Filling::new(Phrase::ClockTold),
+        Happening::ClockTold => Filling::new("%r read the clock"),
         Happening::OpeningsSet { old, new } => {
-            Filling::with_numbers(Phrase::OpeningsSet, [*old, *new, 0, 0])
+            Filling::with_numbers("%r set the openings: %1, then %2", [*old, *new, 0, 0])
         }
         Happening::ControllerTold { frozen } => {
             let frozen = u32::try_from(*frozen).unwrap_or(u32::MAX);
-            Filling::with_frozen(Phrase::ControllerTold, frozen, 0)
+            Filling::with_frozen("%r read how often it is frozen: %t", frozen, 0)
         }
         Happening::Ended { r0, instructions } => {
-            Filling::with_numbers(Phrase::Ended, [*instructions, *r0, 0, 0])
+            Filling::with_numbers(
+                "%r ended: %1 instructions, R0 is %2",
+                [*instructions, *r0, 0, 0],
+            )
         }
-        _ => Filling::new(Phrase::ClockRead),
+        _ => Filling::new("no timer came"),
     }
 }

@@ -1,11 +1,10 @@
-// Whether an event is wanted. It relies on `trace_filter` for what is wanted, and on `engine_config` for which queues are under a
+// Whether an event is wanted. It relies on `trace_events` for what is wanted, and on `engine_config` for which queues are under a
 // controller.
 
 use ccb::QueueId;
 use engine_config::Config;
 use freeze_ledger::Place;
-use trace_events::Event;
-use trace_filter::Filter;
+use trace_events::{Event, Filter};
 
 /// Whether the event fits all that is wanted.
 pub(crate) fn fits(filter: &Filter, event: &Event, config: &Config) -> bool {

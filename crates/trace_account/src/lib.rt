@@ -1,12 +1,11 @@
-// The account of a trace: what its records tell in words and times, a line an event. It relies on `trace_events` for the events, and on
-// `trace_filter` for which of them are wanted.
+// The account of a trace: what its records tell in words and times, a line an event. It relies on `trace_events` for the events and for
+// which of them are wanted, and on `text_page` for the page that the lines are put on.
 #![tactic(auto)]
 
 mod filling;
 mod fitting;
 mod line;
 mod names;
-mod phrases;
 mod writing;
 
 pub use names::{failure_of, helper_name, name_of_code, refusal_words, status_name};

@@ -1,213 +1,176 @@
-// The line of an event: when, where, and what. It relies on `filling` and `phrases` for the text, and on `names` for names.
+// The line of an event: when, where, and what. It relies on `filling` for the text, and on `names` for names.
 
 use crate::filling::Filling;
 use crate::names::{failure_of, name_of_code, refusal_words, status_name};
 use ccb::CamStatus;
 use freeze_ledger::Place;
-use itoa::Buffer;
-use std::alloc::AllocError;
+use text_page::Page;
 use trace_events::{Cause, Event, Programs, Subject};
 
-/// How many digits a time has at least.
+/// How many digits a time has at least, and the bytes after it.
 const TIME: usize = 6;
 
-/// The digits of base 16.
-const DIGITS: &[u8; 16] = b"0123456789abcdef";
-
-/// Puts the line of an event behind what is there; the place of each is padded to that many bytes.
-pub(crate) fn put_line(
-    event: &Event,
-    programs: &Programs<'_>,
-    width: usize,
-    line: &mut Vec<u8>,
-) -> Result<(), AllocError> {
-    put_time(event.clock, line)?;
-    line.extend_from_slice(b" ms  ")?;
-    put_place(&event.subject, width, line)?;
-    line.extend_from_slice(b"  ")?;
-    put_text(event, programs, line)?;
-    line.push(b'\n')?;
-    Ok(())
+/// Puts the line of an event after what is there; the place of each is padded to that many bytes.
+pub(crate) fn put_line(event: &Event, programs: &Programs<'_>, width: usize, page: &mut Page) {
+    put_time(event.clock, page);
+    put_place(&event.subject, width, page);
+    put_text(event, programs, page);
 }
 
-// A time, padded in front.
-fn put_time(clock: u64, line: &mut Vec<u8>) -> Result<(), AllocError> {
-    let mut digits = Buffer::new();
-    let digits = digits.format(clock).as_bytes();
-    for _ in digits.len()..TIME {
-        line.push(b' ')?;
+// A time, with blanks before it.
+fn put_time(clock: u64, page: &mut Page) {
+    let mut least = 10u64;
+    for _ in 1..TIME {
+        page.text(if clock < least { " " } else { "" });
+        least = least.saturating_mul(10);
     }
-    line.extend_from_slice(digits)
+    page.fill("{} ms  ", &[clock]);
 }
 
-fn put_number(number: u64, line: &mut Vec<u8>) -> Result<(), AllocError> {
-    let mut digits = Buffer::new();
-    line.extend_from_slice(digits.format(number).as_bytes())
-}
-
-// Where it was, padded behind: `clock`, where it is about nothing else, and `-`, where the place is not known.
-fn put_place(subject: &Subject, width: usize, line: &mut Vec<u8>) -> Result<(), AllocError> {
-    let before = line.len();
+// Where it was, with blanks after it: `clock`, if it is about nothing else, and `-`, if the place is not known.
+fn put_place(subject: &Subject, width: usize, page: &mut Page) {
+    let before = page.len();
     match subject.place {
-        Some(Place::Device(queue)) => put_named(b"queue ", u64::from(queue.0), line)?,
-        Some(Place::Controller(controller)) => {
-            put_named(b"controller ", u64::from(controller), line)?;
-        }
-        None if subject.ccb.is_none() && subject.run.is_none() => {
-            line.extend_from_slice(b"clock")?;
-        }
-        None => line.extend_from_slice(b"-")?,
+        Some(Place::Device(queue)) => page.fill("queue {}", &[u64::from(queue.0)]),
+        Some(Place::Controller(controller)) => page.fill("controller {}", &[u64::from(controller)]),
+        None => page.text(if subject.ccb.is_none() && subject.run.is_none() {
+            "clock"
+        } else {
+            "-"
+        }),
     }
-    for _ in line.len().saturating_sub(before)..width {
-        line.push(b' ')?;
-    }
-    Ok(())
-}
-
-fn put_named(name: &[u8], number: u64, line: &mut Vec<u8>) -> Result<(), AllocError> {
-    line.extend_from_slice(name)?;
-    put_number(number, line)
+    let wide = page.len().saturating_sub(before);
+    page.blanks(width.saturating_sub(wide));
+    page.text("  ");
 }
 
 // The text of the event, with its values.
-fn put_text(event: &Event, programs: &Programs<'_>, line: &mut Vec<u8>) -> Result<(), AllocError> {
+fn put_text(event: &Event, programs: &Programs<'_>, page: &mut Page) {
     let filling = Filling::of(&event.happening);
-    let mut is_value = false;
-    for byte in filling.phrase.text().as_bytes() {
-        if is_value {
-            put_value(*byte, event, &filling, programs, line)?;
-            is_value = false;
-        } else if *byte == b'%' {
-            is_value = true;
+    for (place, part) in filling.words.split('%').enumerate() {
+        if place == 0 {
+            page.text(part);
         } else {
-            line.push(*byte)?;
+            put_value(part, event, &filling, programs, page);
         }
     }
-    Ok(())
+    page.text("\n");
 }
 
-// The value that stands for that letter.
+// The value that stands for the first letter of a part, and the words after it.
 fn put_value(
-    letter: u8,
+    part: &str,
     event: &Event,
     filling: &Filling,
     programs: &Programs<'_>,
-    line: &mut Vec<u8>,
-) -> Result<(), AllocError> {
+    page: &mut Page,
+) {
     let subject = &event.subject;
-    match letter {
-        b'c' => put_named(b"ccb ", u64::from(subject.ccb.unwrap_or(0)), line),
-        b'r' => put_named(b"run ", u64::from(subject.run.unwrap_or(0)), line),
-        b'f' => put_named(b"freeze ", u64::from(subject.freeze.unwrap_or(0)), line),
-        b'n' => {
+    match part.as_bytes().first() {
+        Some(b'c') => page.fill("ccb {}", &[u64::from(subject.ccb.unwrap_or(0))]),
+        Some(b'r') => page.fill("run {}", &[u64::from(subject.run.unwrap_or(0))]),
+        Some(b'f') => page.fill("freeze {}", &[u64::from(subject.freeze.unwrap_or(0))]),
+        Some(b'n') => {
             let program = programs.of(event.queue().unwrap_or(u32::MAX));
-            line.extend_from_slice(programs.name(program).as_bytes())
+            page.foreign(programs.name(program));
         }
-        b'1' => put_number(filling.numbers[0], line),
-        b'2' => put_number(filling.numbers[1], line),
-        b'3' => put_number(filling.numbers[2], line),
-        b'4' => put_number(filling.numbers[3], line),
-        b't' => put_times(filling.frozen, line),
-        b'z' => put_state(filling.frozen, line),
-        b'g' => put_number(u64::from(filling.guest), line),
-        b's' => line.extend_from_slice(status_name(filling.status).as_bytes()),
-        b'v' => put_failure(filling, line),
-        b'k' => put_code(filling.code, line),
-        b'x' => line.extend_from_slice(refusal_words(filling.refusal).as_bytes()),
-        b'w' => put_cause(filling.cause, line),
-        b'b' => put_traced(filling.bytes.as_slice(), line),
-        _ => Ok(()),
+        Some(letter) => put_filled(*letter, filling, page),
+        None => {}
+    }
+    page.text(part.get(1..).unwrap_or(""));
+}
+
+// The value of the filling that stands for that letter.
+fn put_filled(letter: u8, filling: &Filling, page: &mut Page) {
+    match letter {
+        b'1' => page.number(filling.numbers[0]),
+        b'2' => page.number(filling.numbers[1]),
+        b'3' => page.number(filling.numbers[2]),
+        b'4' => page.number(filling.numbers[3]),
+        b't' => put_times(filling.frozen, page),
+        b'z' => put_state(filling.frozen, page),
+        b'g' => page.number(u64::from(filling.guest)),
+        b's' => page.text(status_name(filling.status)),
+        b'v' => put_failure(filling, page),
+        b'k' => put_code(filling.code, page),
+        b'x' => page.text(refusal_words(filling.refusal)),
+        b'w' => put_cause(filling.cause, page),
+        b'b' => put_traced(filling.bytes.as_slice(), page),
+        _ => {}
     }
 }
 
 // So many times.
-fn put_times(count: u32, line: &mut Vec<u8>) -> Result<(), AllocError> {
-    put_number(u64::from(count), line)?;
-    line.extend_from_slice(if count == 1 {
-        b" time" as &[u8]
-    } else {
-        b" times"
-    })
+fn put_times(count: u32, page: &mut Page) {
+    let words = if count == 1 { "{} time" } else { "{} times" };
+    page.fill(words, &[u64::from(count)]);
 }
 
 // Whether a place is frozen still, after a freeze went.
-fn put_state(frozen: u32, line: &mut Vec<u8>) -> Result<(), AllocError> {
+fn put_state(frozen: u32, page: &mut Page) {
     if frozen == 0 {
-        return line.extend_from_slice(b"thawed");
+        page.text("thawed");
+    } else {
+        page.text("still frozen ");
+        put_times(frozen, page);
     }
-    line.extend_from_slice(b"still frozen ")?;
-    put_times(frozen, line)
 }
 
 // What became of a CCB that failed: with the SCSI status and the sense bytes that came, if any did.
-fn put_failure(filling: &Filling, line: &mut Vec<u8>) -> Result<(), AllocError> {
-    line.extend_from_slice(failure_of(filling.status).as_bytes())?;
+fn put_failure(filling: &Filling, page: &mut Page) {
+    page.text(failure_of(filling.status));
     if filling.status == CamStatus::ScsiStatusError || filling.scsi != 0 {
-        line.extend_from_slice(b" (")?;
-        put_byte(filling.scsi, line)?;
-        line.push(b')')?;
+        page.text(" (");
+        page.byte(filling.scsi);
+        page.text(")");
     }
     if !filling.bytes.is_empty() {
-        line.extend_from_slice(b" with sense ")?;
-        put_bytes(filling.bytes.as_slice(), line)?;
+        page.text(" with sense ");
+        put_bytes(filling.bytes.as_slice(), page);
     }
-    Ok(())
 }
 
 // A final code: the name of the status that it is, and its two digits.
-fn put_code(code: u8, line: &mut Vec<u8>) -> Result<(), AllocError> {
+fn put_code(code: u8, page: &mut Page) {
     let name = name_of_code(code);
-    if name.is_empty() {
-        line.extend_from_slice(b"code ")?;
-        return put_byte(code, line);
-    }
-    line.extend_from_slice(name.as_bytes())?;
-    line.extend_from_slice(b" (")?;
-    put_byte(code, line)?;
-    line.push(b')')?;
-    Ok(())
+    let (before, after) = if name.is_empty() {
+        ("code ", "")
+    } else {
+        (" (", ")")
+    };
+    page.text(name);
+    page.text(before);
+    page.byte(code);
+    page.text(after);
 }
 
 // What there was before a freeze: a failure, or a guest that took it.
-fn put_cause(cause: Cause, line: &mut Vec<u8>) -> Result<(), AllocError> {
+fn put_cause(cause: Cause, page: &mut Page) {
     match cause {
         Cause::Failure {
             ccb,
             status,
             run: _,
         } => {
-            put_named(b"ccb ", u64::from(ccb), line)?;
-            line.push(b' ')?;
-            line.extend_from_slice(failure_of(status).as_bytes())
+            page.fill("ccb {} ", &[u64::from(ccb)]);
+            page.text(failure_of(status));
         }
-        Cause::Guest(guest) => {
-            put_named(b"guest ", u64::from(guest), line)?;
-            line.extend_from_slice(b" took it")
-        }
+        Cause::Guest(guest) => page.fill("guest {} took it", &[u64::from(guest)]),
     }
 }
 
-fn put_byte(byte: u8, line: &mut Vec<u8>) -> Result<(), AllocError> {
-    line.push(DIGITS[usize::from(byte / 16)])?;
-    line.push(DIGITS[usize::from(byte % 16)])?;
-    Ok(())
-}
-
-fn put_bytes(bytes: &[u8], line: &mut Vec<u8>) -> Result<(), AllocError> {
+fn put_bytes(bytes: &[u8], page: &mut Page) {
     for byte in bytes {
-        put_byte(*byte, line)?;
+        page.byte(*byte);
     }
-    Ok(())
 }
 
 // Bytes as digits, and as text, in which what is no printable ASCII is a dot.
-fn put_traced(bytes: &[u8], line: &mut Vec<u8>) -> Result<(), AllocError> {
-    put_bytes(bytes, line)?;
-    line.extend_from_slice(b" \"")?;
+fn put_traced(bytes: &[u8], page: &mut Page) {
+    put_bytes(bytes, page);
+    page.text(" \"");
     for byte in bytes {
-        let is_plain = (b' '..=b'~').contains(byte);
-        line.push(if is_plain { *byte } else { b'.' })?;
+        page.ascii(*byte);
     }
-    line.push(b'"')?;
-    Ok(())
+    page.text("\"");
 }

@@ -4,85 +4,36 @@ use calls::CallRefusal;
 use ccb::CamStatus;
 use helpers::Helper;
 
-/// A status in words: its name, and what became of a CCB that failed with it.
-#[derive(Clone, Copy)]
-struct StatusWords {
-    status: CamStatus,
-    name: &'static str,
-    failure: &'static str,
-}
-
-/// The statuses, in the order of their codes.
-const STATUSES: [StatusWords; 10] = [
-    StatusWords {
-        status: CamStatus::RequestInProgress,
-        name: "request in progress",
-        failure: "was in progress",
-    },
-    StatusWords {
-        status: CamStatus::RequestCompleted,
-        name: "request completed",
-        failure: "was completed",
-    },
-    StatusWords {
-        status: CamStatus::RequestAborted,
-        name: "request aborted",
-        failure: "was aborted",
-    },
-    StatusWords {
-        status: CamStatus::Busy,
-        name: "busy",
-        failure: "found the transport busy",
-    },
-    StatusWords {
-        status: CamStatus::SelectionTimeout,
-        name: "selection timeout",
-        failure: "was not selected in time",
-    },
-    StatusWords {
-        status: CamStatus::CommandTimeout,
-        name: "command timeout",
-        failure: "timed out",
-    },
-    StatusWords {
-        status: CamStatus::ScsiStatusError,
-        name: "SCSI status error",
-        failure: "got a SCSI status",
-    },
-    StatusWords {
-        status: CamStatus::ScsiBusReset,
-        name: "SCSI bus reset",
-        failure: "met a bus reset",
-    },
-    StatusWords {
-        status: CamStatus::BusDeviceResetSent,
-        name: "bus device reset sent",
-        failure: "met a device reset",
-    },
-    StatusWords {
-        status: CamStatus::RequeueRequest,
-        name: "requeue request",
-        failure: "was handed back",
-    },
-];
-
-fn words_of(status: CamStatus) -> StatusWords {
-    for words in STATUSES {
-        if words.status == status {
-            return words;
-        }
-    }
-    STATUSES[0]
-}
-
 /// The name of a status, in words.
 pub fn status_name(status: CamStatus) -> &'static str {
-    words_of(status).name
+    match status {
+        CamStatus::RequestInProgress => "request in progress",
+        CamStatus::RequestCompleted => "request completed",
+        CamStatus::RequestAborted => "request aborted",
+        CamStatus::Busy => "busy",
+        CamStatus::SelectionTimeout => "selection timeout",
+        CamStatus::CommandTimeout => "command timeout",
+        CamStatus::ScsiStatusError => "SCSI status error",
+        CamStatus::ScsiBusReset => "SCSI bus reset",
+        CamStatus::BusDeviceResetSent => "bus device reset sent",
+        CamStatus::RequeueRequest => "requeue request",
+    }
 }
 
 /// What became of a CCB that failed with that status, as `timed out`.
 pub fn failure_of(status: CamStatus) -> &'static str {
-    words_of(status).failure
+    match status {
+        CamStatus::RequestInProgress => "was in progress",
+        CamStatus::RequestCompleted => "was completed",
+        CamStatus::RequestAborted => "was aborted",
+        CamStatus::Busy => "found the transport busy",
+        CamStatus::SelectionTimeout => "was not selected in time",
+        CamStatus::CommandTimeout => "timed out",
+        CamStatus::ScsiStatusError => "got a SCSI status",
+        CamStatus::ScsiBusReset => "met a bus reset",
+        CamStatus::BusDeviceResetSent => "met a device reset",
+        CamStatus::RequeueRequest => "was handed back",
+    }
 }
 
 /// The name of the status that a final code is; nothing where it is none.

@@ -5,12 +5,14 @@
 mod advanced;
 mod called;
 mod event;
+mod filter;
 mod programs;
 mod timers;
 mod times;
 mod walk;
 
 pub use event::{Cause, Event, Happening, Subject};
+pub use filter::Filter;
 pub use programs::{NamedAccepted, Programs};
 pub use times::{FreezeTimes, RunTimes};
 pub use walk::Walk;

@@ -9,6 +9,7 @@ use std::alloc::{AllocError, Global};
 use std::io;
 use std::io::Write;
 use std::mem::replace;
+use text_page::Page;
 
 /// The rows of a lane.
 const ALL_ROWS: [Row; ROWS] = [
@@ -32,7 +33,7 @@ pub(crate) struct Drawing {
     lanes: Lanes,
     wide: Vec<Stretch>,
     // from how many columns on a stretch is drawn by itself, and how many are thinner
-    limit: u32,
+    limit: u64,
     thinner: u64,
     thin: Vec<ThinRow>,
 }
@@ -57,7 +58,7 @@ impl Drawing {
         })
     }
 
-    /// Takes a stretch. Where there are twice as many as are drawn each by itself, the thinner half joins those that are drawn together.
+    /// Takes a stretch. If there are twice as many as are drawn each by itself, the thinner half joins those that are drawn together.
     pub(crate) fn add(&mut self, stretch: &Stretch) -> Result<(), AllocError> {
         self.sort(stretch)?;
         if self.wide.len() / 2 >= MOST {
@@ -90,64 +91,52 @@ impl Drawing {
     }
 
     /// From how many columns on stretches are drawn each by itself, and how many are thinner.
-    pub(crate) fn limit(&self) -> (u32, u64) {
+    pub(crate) fn limit(&self) -> (u64, u64) {
         (self.limit, self.thinner)
     }
 
-    /// Draws all.
-    pub(crate) fn draw<W: Write>(&self, out: &mut W) -> io::Result<()> {
-        self.draw_thin(out)?;
+    /// Writes all, a stretch or a row at a time.
+    pub(crate) fn write<W: Write>(&self, page: &mut Page, out: &mut W) -> io::Result<()> {
+        for lane in 0..self.lanes.count() {
+            for row in ALL_ROWS {
+                self.put_row(lane, row, page);
+                page.write_to(out)?;
+            }
+        }
         for stretch in &self.wide {
-            self.draw_wide(stretch, out)?;
+            self.put_wide(stretch, page);
+            page.write_to(out)?;
         }
         Ok(())
     }
 
-    fn draw_wide<W: Write>(&self, stretch: &Stretch, out: &mut W) -> io::Result<()> {
-        let lane = self.lanes.lane(stretch.place);
+    // Puts a stretch by itself.
+    fn put_wide(&self, stretch: &Stretch, page: &mut Page) {
         let (below, height) = stretch.row.extent();
         let x = self.scale.column(stretch.from).saturating_add(LEFT);
+        let lane = self.lanes.lane(stretch.place);
         let y = self.lanes.top(lane).saturating_add(below);
         let width = width_of(stretch, &self.scale);
-        let class = stretch.row.class();
-        write!(
-            out,
-            "<rect class=\"{class}\" x=\"{x}\" y=\"{y}\" width=\"{width}\" height=\"{height}\"><title>"
-        )?;
-        self.write_title(stretch, out)?;
-        out.write_all(b"</title></rect>\n")
-    }
-
-    // What the stretch is, and from when to when.
-    fn write_title<W: Write>(&self, stretch: &Stretch, out: &mut W) -> io::Result<()> {
-        match (stretch.what, stretch.row) {
-            (What::Ccb(ccb), Row::Active) => write!(out, "ccb {ccb} is active")?,
-            (What::Ccb(ccb), _) => write!(out, "ccb {ccb} waits")?,
-            (What::OfRun { freeze, run, ccb }, Row::HeldByTimer) => write!(
-                out,
-                "freeze {freeze} is held by a timer, left by run {run} of ccb {ccb}"
-            )?,
-            (What::OfRun { freeze, run, ccb }, _) => {
-                write!(out, "freeze {freeze} is held by run {run} of ccb {ccb}")?
-            }
-            (What::OfGuest { freeze, guest }, _) => {
-                write!(out, "freeze {freeze} is held by guest {guest}")?
-            }
-        }
-        let (from, to) = (stretch.from, stretch.to);
-        if self.scale.by_records {
-            write!(out, ", record {from} to {to}")
-        } else {
-            write!(out, ", {from} to {to} ms")
-        }
+        page.text("<rect class=\"");
+        page.text(stretch.row.class());
+        page.fill(
+            "\" x=\"{}\" y=\"{}\" width=\"{}\" height=\"{}\"><title>",
+            &[x, y, width, height],
+        );
+        stretch.put_what(page);
+        page.fill(
+            if self.scale.by_records {
+                ", record {} to {}</title></rect>\n"
+            } else {
+                ", {} to {} ms</title></rect>\n"
+            },
+            &[stretch.from, stretch.to],
+        );
     }
 
     // Marks the columns of a thin stretch, one at least.
     fn mark(&mut self, stretch: &Stretch) {
-        let lane = self.lanes.lane(stretch.place) as usize;
-        let at = lane
-            .saturating_mul(ROWS)
-            .saturating_add(stretch.row.index());
+        let at = place_of(self.lanes.lane(stretch.place), stretch.row);
         let from = self.scale.column(stretch.from) as usize;
         let to = (self.scale.column(stretch.to) as usize).max(from.saturating_add(1));
         if let Some(row) = self.thin.as_mut_slice().get_mut(at) {
@@ -159,52 +148,41 @@ impl Drawing {
         }
     }
 
-    // Draws the thin ones, together.
-    fn draw_thin<W: Write>(&self, out: &mut W) -> io::Result<()> {
-        for lane in 0..self.lanes.count() {
-            for row in ALL_ROWS {
-                let at = (lane as usize)
-                    .saturating_mul(ROWS)
-                    .saturating_add(row.index());
-                if let Some(thin) = self.thin.get(at) {
-                    self.draw_row(lane, row, &thin.columns, out)?;
-                }
-            }
-        }
-        Ok(())
-    }
-
-    // The path of a row, a rectangle for each run of marked columns.
-    fn draw_row<W: Write>(
-        &self,
-        lane: u32,
-        row: Row,
-        columns: &[bool],
-        out: &mut W,
-    ) -> io::Result<()> {
+    // Puts the path of a row, a rectangle for each run of marked columns.
+    fn put_row(&self, lane: u32, row: Row, page: &mut Page) {
+        let Some(thin) = self.thin.get(place_of(lane, row)) else {
+            return;
+        };
         let (below, height) = row.extent();
         let y = self.lanes.top(lane).saturating_add(below);
         let mut has_any = false;
-        let mut from: Option<usize> = None;
-        for (column, is_marked) in columns.iter().enumerate() {
+        let mut width = 0u64;
+        let mut x = LEFT;
+        for is_marked in &thin.columns {
             if *is_marked {
-                if from.is_none() {
-                    from = Some(column);
-                }
-            } else if let Some(begin) = from {
+                width = width.saturating_add(1);
+            } else if width > 0 {
                 if !has_any {
-                    write!(out, "<path class=\"{}\" d=\"", row.class())?;
+                    page.text("<path class=\"");
+                    page.text(row.class());
+                    page.text("\" d=\"");
                     has_any = true;
                 }
-                let x = begin.saturating_add(LEFT as usize);
-                let width = column.saturating_sub(begin);
-                write!(out, "M{x} {y}h{width}v{height}h-{width}z")?;
-                from = None;
+                let begin = x.saturating_sub(width);
+                page.fill("M{} {}h{}v{}h-{}z", &[begin, y, width, height, width]);
+                width = 0;
             }
+            x = x.saturating_add(1);
         }
         if has_any {
-            out.write_all(b"\"/>\n")?;
+            page.text("\"/>\n");
         }
-        Ok(())
     }
+}
+
+// Which row of all lanes that is.
+fn place_of(lane: u32, row: Row) -> usize {
+    (lane as usize)
+        .saturating_mul(ROWS)
+        .saturating_add(row.index())
 }

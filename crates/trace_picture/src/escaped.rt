@@ -1,19 +1,17 @@
-// Text in a picture, in which the characters are escaped that mean something there. It relies on nothing.
+// Text in a picture, in which the characters are escaped that mean something there. It relies on `text_page`.
 
-use std::io;
-use std::io::Write;
+use text_page::Page;
 
-/// Writes a text, escaped.
-pub(crate) fn write_escaped<W: Write>(text: &str, out: &mut W) -> io::Result<()> {
-    for byte in text.as_bytes() {
-        match *byte {
-            b'&' => out.write_all(b"&amp;")?,
-            b'<' => out.write_all(b"&lt;")?,
-            b'>' => out.write_all(b"&gt;")?,
-            b'"' => out.write_all(b"&quot;")?,
-            b'\'' => out.write_all(b"&#39;")?,
-            other => out.write_all(&[other])?,
+/// Puts a text that came from outside, escaped.
+pub(crate) fn put_escaped(text: &str, page: &mut Page) {
+    for character in text.chars() {
+        match character {
+            '&' => page.text("&amp;"),
+            '<' => page.text("&lt;"),
+            '>' => page.text("&gt;"),
+            '"' => page.text("&quot;"),
+            '\'' => page.text("&#39;"),
+            other => page.foreign_character(other),
         }
     }
-    Ok(())
 }

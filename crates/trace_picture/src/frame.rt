@@ -1,15 +1,14 @@
 // What stands around the stretches: the head of the picture, the names of the lanes, the scale and what the colours mean. It relies on
 // `lanes` and `scale` for where, and on `escaped` for names.
 
-use crate::escaped::write_escaped;
+use crate::escaped::put_escaped;
 use crate::lanes::{HEIGHT, LEFT, Lanes};
 use crate::scale::{COLUMNS, Scale};
-use std::io;
-use std::io::Write;
+use text_page::Page;
 use trace_events::Programs;
 
 /// How wide the picture is.
-const WIDTH: u32 = LEFT + COLUMNS + 20;
+const WIDTH: u64 = LEFT + COLUMNS + 20;
 
 /// The colours, and the forms of text.
 const STYLE: &str =
@@ -27,87 +26,78 @@ const LEGEND: [(&str, &str); 5] = [
 /// How many marks the scale has beside that at its beginning.
 const MARKS: u64 = 8;
 
-/// Writes all that stands below the stretches.
-pub(crate) fn begin<W: Write>(
-    lanes: &Lanes,
-    scale: &Scale,
-    programs: &Programs<'_>,
-    out: &mut W,
-) -> io::Result<()> {
+/// Puts all that stands below the stretches.
+pub(crate) fn begin(lanes: &Lanes, scale: &Scale, programs: &Programs<'_>, page: &mut Page) {
     let height = lanes.bottom().saturating_add(48);
-    writeln!(
-        out,
-        "<svg xmlns=\"http://www.w3.org/2000/svg\" width=\"{WIDTH}\" height=\"{height}\" viewBox=\"0 0 {WIDTH} {height}\">"
-    )?;
-    out.write_all(STYLE.as_bytes())?;
-    writeln!(
-        out,
-        "<rect width=\"{WIDTH}\" height=\"{height}\" fill=\"#fff\"/>"
-    )?;
-    write_legend(out)?;
+    page.fill(
+        "<svg xmlns=\"http://www.w3.org/2000/svg\" width=\"{}\" height=\"{}\" viewBox=\"0 0 {} {}\">\n",
+        &[WIDTH, height, WIDTH, height],
+    );
+    page.text(STYLE);
+    page.fill(
+        "<rect width=\"{}\" height=\"{}\" fill=\"#fff\"/>\n",
+        &[WIDTH, height],
+    );
+    put_legend(page);
     for lane in 0..lanes.count() {
-        write_lane(lanes, lane, programs, out)?;
+        put_lane(lanes, lane, programs, page);
     }
     for mark in 0..=MARKS {
-        write_mark(lanes, scale, mark, out)?;
+        put_mark(lanes, scale, mark, page);
     }
-    Ok(())
 }
 
-fn write_legend<W: Write>(out: &mut W) -> io::Result<()> {
-    for (place, (class, words)) in LEGEND.iter().enumerate() {
-        let x = place.saturating_mul(160).saturating_add(LEFT as usize);
-        let behind = x.saturating_add(18);
-        write!(
-            out,
-            "<rect class=\"{class}\" x=\"{x}\" y=\"12\" width=\"12\" height=\"12\"/><text x=\"{behind}\" y=\"22\">"
-        )?;
-        write_escaped(words, out)?;
-        out.write_all(b"</text>\n")?;
+fn put_legend(page: &mut Page) {
+    let mut x = LEFT;
+    for (class, words) in &LEGEND {
+        page.text("<rect class=\"");
+        page.text(class);
+        page.fill(
+            "\" x=\"{}\" y=\"12\" width=\"12\" height=\"12\"/><text x=\"{}\" y=\"22\">",
+            &[x, x.saturating_add(18)],
+        );
+        page.text(words);
+        page.text("</text>\n");
+        x = x.saturating_add(160);
     }
-    Ok(())
 }
 
 // The ground of a lane, and its name.
-fn write_lane<W: Write>(
-    lanes: &Lanes,
-    lane: u32,
-    programs: &Programs<'_>,
-    out: &mut W,
-) -> io::Result<()> {
+fn put_lane(lanes: &Lanes, lane: u32, programs: &Programs<'_>, page: &mut Page) {
     let y = lanes.top(lane);
-    let height = HEIGHT.saturating_sub(2);
-    let base = y.saturating_add(15);
-    write!(
-        out,
-        "<rect class=\"l\" x=\"{LEFT}\" y=\"{y}\" width=\"{COLUMNS}\" height=\"{height}\"/><text x=\"8\" y=\"{base}\">"
-    )?;
-    if lane >= lanes.queues {
+    page.fill(
+        "<rect class=\"l\" x=\"{}\" y=\"{}\" width=\"{}\" height=\"{}\"/><text x=\"8\" y=\"{}\">",
+        &[LEFT, y, COLUMNS, HEIGHT - 2, y.saturating_add(15)],
+    );
+    if lane < lanes.queues {
+        page.fill(
+            "queue {}</text><text class=\"s\" x=\"8\" y=\"{}\">",
+            &[u64::from(lane), y.saturating_add(29)],
+        );
+        put_escaped(programs.name(programs.of(lane)), page);
+    } else {
         let controller = lane.saturating_sub(lanes.queues);
-        return writeln!(out, "controller {controller}</text>");
+        page.fill("controller {}", &[u64::from(controller)]);
     }
-    let below = y.saturating_add(29);
-    write!(
-        out,
-        "queue {lane}</text><text class=\"s\" x=\"8\" y=\"{below}\">"
-    )?;
-    write_escaped(programs.name(programs.of(lane)), out)?;
-    out.write_all(b"</text>\n")
+    page.text("</text>\n");
 }
 
 // A mark of the scale, with its time or its record.
-fn write_mark<W: Write>(lanes: &Lanes, scale: &Scale, mark: u64, out: &mut W) -> io::Result<()> {
+fn put_mark(lanes: &Lanes, scale: &Scale, mark: u64, page: &mut Page) {
     let place = marked(scale, mark);
     if mark > 0 && place == marked(scale, mark.saturating_sub(1)) {
-        return Ok(());
+        return;
     }
     let x = scale.column(place).saturating_add(LEFT);
-    let bottom = lanes.bottom();
-    let unit = if scale.by_records { "" } else { " ms" };
-    writeln!(
-        out,
-        "<path class=\"x\" d=\"M{x} 48V{bottom}\"/><text class=\"s\" x=\"{x}\" y=\"44\" text-anchor=\"middle\">{place}{unit}</text>"
-    )
+    page.fill(
+        "<path class=\"x\" d=\"M{} 48V{}\"/><text class=\"s\" x=\"{}\" y=\"44\" text-anchor=\"middle\">{}",
+        &[x, lanes.bottom(), x, place],
+    );
+    page.text(if scale.by_records {
+        "</text>\n"
+    } else {
+        " ms</text>\n"
+    });
 }
 
 // The place of the clock where a mark stands.
@@ -118,26 +108,20 @@ fn marked(scale: &Scale, mark: u64) -> u64 {
     scale.first.saturating_add(part)
 }
 
-/// Writes all that stands above the stretches: what they go by, and that some are drawn together.
-pub(crate) fn end<W: Write>(
-    lanes: &Lanes,
-    scale: &Scale,
-    columns: u32,
-    thinner: u64,
-    out: &mut W,
-) -> io::Result<()> {
+/// Puts all that stands above the stretches: what they go by, and that some are drawn together.
+pub(crate) fn end(lanes: &Lanes, scale: &Scale, columns: u64, thinner: u64, page: &mut Page) {
     let y = lanes.bottom().saturating_add(20);
-    let by = if scale.by_records {
+    page.fill("<text class=\"s\" x=\"{}\" y=\"{}\">", &[LEFT, y]);
+    page.text(if scale.by_records {
         "By records, since no clock was read."
     } else {
         "By the clock, in milliseconds."
-    };
-    write!(out, "<text class=\"s\" x=\"{LEFT}\" y=\"{y}\">{by}")?;
+    });
     if thinner > 0 {
-        write!(
-            out,
-            " {thinner} stretches narrower than {columns} columns are drawn together, and have no texts."
-        )?;
+        page.fill(
+            " {} stretches narrower than {} columns are drawn together, and have no texts.",
+            &[thinner, columns],
+        );
     }
-    out.write_all(b"</text>\n</svg>\n")
+    page.text("</text>\n</svg>\n");
 }

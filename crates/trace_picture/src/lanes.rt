@@ -5,14 +5,14 @@ use engine_config::Config;
 use freeze_ledger::Place;
 
 /// How high a lane is, where the first begins, and where the columns begin.
-pub(crate) const HEIGHT: u32 = 36;
+pub(crate) const HEIGHT: u64 = 36;
 
-pub(crate) const TOP: u32 = 64;
+pub(crate) const TOP: u64 = 64;
 
-pub(crate) const LEFT: u32 = 190;
+pub(crate) const LEFT: u64 = 190;
 
 /// How many lanes there are of each kind.
-#[derive(Clone, Copy, Debug, PartialEq, Eq)]
+#[derive(Clone, Copy)]
 pub(crate) struct Lanes {
     pub(crate) queues: u32,
     pub(crate) controllers: u32,
@@ -32,7 +32,7 @@ impl Lanes {
         self.queues.saturating_add(self.controllers)
     }
 
-    /// Which lane is that of a place, from 0; behind the last where none is.
+    /// Which lane is that of a place, from 0; after the last if none is.
     pub(crate) fn lane(&self, place: Place) -> u32 {
         match place {
             Place::Device(queue) => queue.0.min(self.count()),
@@ -43,12 +43,12 @@ impl Lanes {
     }
 
     /// Where a lane begins, from the upper edge of the picture.
-    pub(crate) fn top(&self, lane: u32) -> u32 {
-        lane.saturating_mul(HEIGHT).saturating_add(TOP)
+    pub(crate) fn top(&self, lane: u32) -> u64 {
+        u64::from(lane) * HEIGHT + TOP
     }
 
     /// Where the last lane ends.
-    pub(crate) fn bottom(&self) -> u32 {
+    pub(crate) fn bottom(&self) -> u64 {
         self.top(self.count())
     }
 }

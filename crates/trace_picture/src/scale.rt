@@ -1,13 +1,13 @@
-// Where on the picture a place of the clock is. Where a trace reads no clock its records stand for it. It relies on `calls` for what a
+// Where on the picture a place of the clock is. If a trace reads no clock, its records stand for it. It relies on `calls` for what a
 // trace reads.
 
 use calls::{Call, CallAnswer, Record, Trace};
 
 /// How many columns the picture has for its time.
-pub(crate) const COLUMNS: u32 = 1200;
+pub(crate) const COLUMNS: u64 = 1200;
 
 /// By what the picture goes from left to right, and from where to where.
-#[derive(Clone, Copy, Debug, PartialEq, Eq)]
+#[derive(Clone, Copy)]
 pub(crate) struct Scale {
     /// Whether it goes by records, since no clock was read.
     pub(crate) by_records: bool,
@@ -16,7 +16,7 @@ pub(crate) struct Scale {
 }
 
 impl Scale {
-    /// That of a trace: from 0, or from its first clock reading where nothing is before it, to its last one; or over its records.
+    /// That of a trace: from 0, or from its first clock reading if nothing is before it, to its last one; or over its records.
     pub(crate) fn of(trace: &Trace) -> Self {
         let mut first = 0;
         let mut last = 0;
@@ -54,7 +54,7 @@ impl Scale {
     }
 
     /// Its column, 0 to COLUMNS.
-    pub(crate) fn column(&self, place: u64) -> u32 {
+    pub(crate) fn column(&self, place: u64) -> u64 {
         let span = self.last.saturating_sub(self.first);
         let from = place.saturating_sub(self.first);
         if span == 0 {
@@ -64,7 +64,7 @@ impl Scale {
             return COLUMNS;
         }
         let column = u128::from(from) * u128::from(COLUMNS) / u128::from(span);
-        u32::try_from(column).unwrap_or(COLUMNS).min(COLUMNS)
+        u64::try_from(column).unwrap_or(COLUMNS).min(COLUMNS)
     }
 }
 

@@ -1,9 +1,10 @@
 // A stretch of the picture: how long something was so. It relies on `freeze_ledger` for places.
 
 use freeze_ledger::Place;
+use text_page::Page;
 
 /// What a lane has rows for, from above.
-#[derive(Clone, Copy, Debug, PartialEq, Eq)]
+#[derive(Clone, Copy, PartialEq, Eq)]
 pub(crate) enum Row {
     /// A device works on a CCB.
     Active,
@@ -38,7 +39,7 @@ impl Row {
     }
 
     /// How far below the lane's upper edge it begins, and how high it is.
-    pub(crate) fn extent(self) -> (u32, u32) {
+    pub(crate) fn extent(self) -> (u64, u64) {
         match self {
             Row::Active => (2, 10),
             Row::Waiting => (13, 7),
@@ -50,7 +51,7 @@ impl Row {
 }
 
 /// What is so.
-#[derive(Clone, Copy, Debug, PartialEq, Eq)]
+#[derive(Clone, Copy)]
 pub(crate) enum What {
     /// A CCB, by its number, is where its row says.
     Ccb(u32),
@@ -61,11 +62,33 @@ pub(crate) enum What {
 }
 
 /// Something was so from one place of the clock to another.
-#[derive(Clone, Copy, Debug, PartialEq, Eq)]
+#[derive(Clone, Copy)]
 pub(crate) struct Stretch {
     pub(crate) place: Place,
     pub(crate) row: Row,
     pub(crate) what: What,
     pub(crate) from: u64,
     pub(crate) to: u64,
+}
+
+impl Stretch {
+    /// Puts what it is.
+    pub(crate) fn put_what(&self, page: &mut Page) {
+        match (self.what, self.row) {
+            (What::Ccb(ccb), Row::Active) => page.fill("ccb {} is active", &[u64::from(ccb)]),
+            (What::Ccb(ccb), _) => page.fill("ccb {} waits", &[u64::from(ccb)]),
+            (What::OfRun { freeze, run, ccb }, row) => page.fill(
+                if row == Row::HeldByTimer {
+                    "freeze {} is held by a timer, left by run {} of ccb {}"
+                } else {
+                    "freeze {} is held by run {} of ccb {}"
+                },
+                &[u64::from(freeze), u64::from(run), u64::from(ccb)],
+            ),
+            (What::OfGuest { freeze, guest }, _) => page.fill(
+                "freeze {} is held by guest {}",
+                &[u64::from(freeze), u64::from(guest)],
+            ),
+        }
+    }
 }

@@ -1,5 +1,6 @@
-// Follows what is so along a trace, and tells each stretch at its end. It relies on `trace_events` for the events.
+// Follows what is so along a trace, and reports each stretch at its end. It relies on `trace_events` for the events.
 
+use crate::drawing::Drawing;
 use crate::stretch::{Row, Stretch, What};
 use std::alloc::{AllocError, Global};
 use std::collections::BTreeMap;
@@ -53,13 +54,13 @@ impl Tracking {
         }
     }
 
-    /// What is so at the end, each as a stretch up to there, put behind the others.
-    pub(crate) fn end(&self, at: u64, stretches: &mut Vec<Stretch>) -> Result<(), AllocError> {
+    /// Draws what is so at the end, each as a stretch up to there.
+    pub(crate) fn end(&self, at: u64, drawing: &mut Drawing) -> Result<(), AllocError> {
         for (_, stretch) in self.ccbs.iter() {
-            stretches.push(ended(*stretch, at))?;
+            drawing.add(&ended(*stretch, at))?;
         }
         for (_, stretch) in self.freezes.iter() {
-            stretches.push(ended(*stretch, at))?;
+            drawing.add(&ended(*stretch, at))?;
         }
         Ok(())
     }

@@ -9,7 +9,7 @@ use std::alloc::{AllocError, Global};
 pub(crate) const MOST: usize = 6000;
 
 /// How wide a stretch has to be for that, at least.
-pub(crate) const LEAST: u32 = 2;
+pub(crate) const LEAST: u64 = 2;
 
 /// How many stretches there are of each width in columns.
 #[derive(Drop)]
@@ -18,7 +18,7 @@ pub(crate) struct Widths {
 }
 
 /// How many columns a stretch takes.
-pub(crate) fn width_of(stretch: &Stretch, scale: &Scale) -> u32 {
+pub(crate) fn width_of(stretch: &Stretch, scale: &Scale) -> u64 {
     let to = scale.column(stretch.to);
     to.saturating_sub(scale.column(stretch.from))
 }
@@ -41,7 +41,7 @@ impl Widths {
     }
 
     /// The least width of which, with all wider ones, there are no more than may be.
-    pub(crate) fn limit(&self) -> u32 {
+    pub(crate) fn limit(&self) -> u64 {
         let mut wide = 0u64;
         let mut limit = COLUMNS.saturating_add(1);
         for width in (LEAST..=COLUMNS).rev() {

@@ -1,7 +1,6 @@
 // How long places were frozen. It relies on `trace_events` for when a freeze comes and goes.
 
 use freeze_ledger::Place;
-use std::alloc::{AllocError, Global};
 use trace_events::{Event, Happening};
 
 /// How long a place was frozen, in milliseconds.
@@ -35,18 +34,21 @@ impl Frozen {
     }
 }
 
+/// How many numbers of places there may be: two for each of 64 queues.
+const PLACES: usize = 128;
+
 /// How long each queue and each controller was frozen, by the places' numbers.
-#[derive(Drop)]
+#[derive(Clone, Copy)]
 pub(crate) struct FrozenPlaces {
-    places: Vec<Frozen>,
+    places: [Frozen; PLACES],
 }
 
 impl FrozenPlaces {
-    /// No place was frozen, of so many.
-    pub(crate) fn new(alloc: Global, places: usize) -> Result<Self, AllocError> {
-        Ok(FrozenPlaces {
-            places: vec![in alloc; Frozen::default(); places]?,
-        })
+    /// No place was frozen.
+    pub(crate) fn new() -> Self {
+        FrozenPlaces {
+            places: [Frozen::default(); PLACES],
+        }
     }
 
     /// Takes what an event says of its place.
@@ -54,7 +56,7 @@ impl FrozenPlaces {
         let Some(place) = event.subject.place else {
             return;
         };
-        let Some(frozen) = self.places.as_mut_slice().get_mut(place.index()) else {
+        let Some(frozen) = self.places.get_mut(place.index()) else {
             return;
         };
         let freeze = event.subject.freeze.unwrap_or(0);

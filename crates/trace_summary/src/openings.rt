@@ -1,96 +1,91 @@
 // How many openings queues had over time. It relies on `trace_events` for when they change.
 
 use engine_config::Config;
-use std::alloc::{AllocError, Global};
-use std::io;
-use std::io::Write;
+use text_page::Page;
 use trace_events::{Event, Happening};
 
 /// How many changes of a queue are told one by one.
 const TOLD: usize = 8;
 
+/// How many queues there are at most.
+const QUEUES: usize = 64;
+
+/// A change: when, and to how many.
+#[derive(Clone, Copy, Default)]
+struct Change {
+    clock: u64,
+    openings: u64,
+}
+
 /// The openings of a queue.
-#[derive(Drop)]
+#[derive(Clone, Copy, Default)]
 struct Openings {
     first: u64,
-    // the first changes: when, and to how many
-    changes: Vec<(u64, u64)>,
-    // how many more there were, and how many openings there were behind the last
-    more: u64,
+    changes: [Change; TOLD],
+    // how many changes there were, and how many openings there were after the last
+    count: u64,
     last: u64,
 }
 
 /// The openings of all queues, in the order of their numbers.
-#[derive(Drop)]
+#[derive(Clone, Copy)]
 pub(crate) struct AllOpenings {
-    queues: Vec<Openings>,
+    queues: [Openings; QUEUES],
 }
 
 impl AllOpenings {
     /// Those at the opening of a configuration.
-    pub(crate) fn new(alloc: Global, config: &Config) -> Result<Self, AllocError> {
-        let mut queues = Vec::new(alloc);
+    pub(crate) fn new(config: &Config) -> Self {
+        let mut queues = [Openings::default(); QUEUES];
         for queue in 0..config.queues() {
-            let first = u64::from(config.openings(queue));
-            queues.push(Openings {
-                first,
-                changes: Vec::new(alloc),
-                more: 0,
-                last: first,
-            })?;
+            if let Some(openings) = queues.get_mut(queue as usize) {
+                openings.first = u64::from(config.openings(queue));
+            }
         }
-        Ok(AllOpenings { queues })
+        AllOpenings { queues }
     }
 
     /// Takes what an event says.
-    pub(crate) fn see(&mut self, event: &Event) -> Result<(), AllocError> {
+    pub(crate) fn see(&mut self, event: &Event) {
         let Happening::OpeningsSet { old, new } = event.happening else {
-            return Ok(());
+            return;
         };
-        if old == new {
-            return Ok(());
-        }
-        let Some(queue) = event.queue() else {
-            return Ok(());
-        };
-        match self.queues.as_mut_slice().get_mut(queue as usize) {
-            Some(openings) => openings.set(event.clock, new),
-            None => Ok(()),
+        let queue = event.queue().unwrap_or(u32::MAX);
+        if old != new {
+            if let Some(openings) = self.queues.get_mut(queue as usize) {
+                openings.set(event.clock, new);
+            }
         }
     }
 
-    /// Writes how many openings the queue had, one behind the other.
-    pub(crate) fn print<W: Write>(&self, queue: u32, out: &mut W) -> io::Result<()> {
-        match self.queues.get(queue as usize) {
-            Some(openings) => openings.print(out),
-            None => Ok(()),
+    /// Puts how many openings the queue had, one after the other.
+    pub(crate) fn print(&self, queue: u32, page: &mut Page) {
+        if let Some(openings) = self.queues.get(queue as usize) {
+            openings.print(page);
         }
     }
 }
 
 impl Openings {
-    fn set(&mut self, clock: u64, new: u64) -> Result<(), AllocError> {
-        self.last = new;
-        if self.changes.len() < TOLD {
-            self.changes.push((clock, new))?;
-        } else {
-            self.more = self.more.saturating_add(1);
+    fn set(&mut self, clock: u64, openings: u64) {
+        if let Some(change) = self.changes.get_mut(self.count as usize) {
+            *change = Change { clock, openings };
         }
-        Ok(())
+        self.count = self.count.saturating_add(1);
+        self.last = openings;
     }
 
-    fn print<W: Write>(&self, out: &mut W) -> io::Result<()> {
-        write!(out, "{}", self.first)?;
-        for change in &self.changes {
-            write!(out, ", {} at {} ms", change.1, change.0)?;
+    fn print(&self, page: &mut Page) {
+        page.number(self.first);
+        for change in self.changes.iter().take(self.count as usize) {
+            page.fill(", {} at {} ms", &[change.openings, change.clock]);
         }
-        if self.more > 0 {
-            write!(
-                out,
+        let more = self.count.saturating_sub(TOLD as u64);
+        if more > 0 {
+            page.fill(
                 ", and behind {} further changes {}",
-                self.more, self.last
-            )?;
+                &[more, self.last],
+            );
         }
-        Ok(())
     }
 }

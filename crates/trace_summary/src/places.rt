@@ -2,31 +2,25 @@
 
 use crate::sums::Sums;
 use freeze_ledger::Place;
-use std::io;
-use std::io::Write;
+use text_page::Page;
 
-/// Writes how long the place was frozen.
-pub(crate) fn print_frozen<W: Write>(sums: &Sums<'_>, place: Place, out: &mut W) -> io::Result<()> {
+/// Puts how long the place was frozen.
+pub(crate) fn print_frozen(sums: &Sums<'_>, place: Place, page: &mut Page) {
     let frozen = sums.frozen.of(place, sums.walk.clock());
     if frozen.by == 0 {
-        return writeln!(out, "  frozen        never");
+        page.text("  frozen        never\n");
+    } else {
+        page.fill(
+            "  frozen        {} ms in all, {} ms at the longest, from freeze {} on\n",
+            &[frozen.all, frozen.longest, u64::from(frozen.by)],
+        );
     }
-    let (all, longest, by) = (frozen.all, frozen.longest, frozen.by);
-    writeln!(
-        out,
-        "  frozen        {all} ms in all, {longest} ms at the longest, from freeze {by} on"
-    )
 }
 
-/// Writes of each controller how long it was frozen.
-pub(crate) fn print_controllers<W: Write>(
-    sums: &Sums<'_>,
-    controllers: u32,
-    out: &mut W,
-) -> io::Result<()> {
+/// Puts of each controller how long it was frozen.
+pub(crate) fn print_controllers(sums: &Sums<'_>, controllers: u32, page: &mut Page) {
     for controller in 0..controllers {
-        writeln!(out, "controller {controller}")?;
-        print_frozen(sums, Place::Controller(controller), out)?;
+        page.fill("controller {}\n", &[u64::from(controller)]);
+        print_frozen(sums, Place::Controller(controller), page);
     }
-    Ok(())
 }

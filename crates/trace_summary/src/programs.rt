@@ -1,15 +1,15 @@
 // How many instructions the runs of programs executed. It relies on `trace_events` for when a run ends.
 
-use std::alloc::{AllocError, Global};
+use text_page::Page;
 use trace_events::{Event, Happening, Programs};
 
 /// Of the runs of a program that ended: how many, and how many instructions they executed, the least, the most and in all.
 #[derive(Clone, Copy, Default)]
 pub(crate) struct Instructions {
-    pub(crate) ended: u64,
-    pub(crate) least: u64,
-    pub(crate) most: u64,
-    pub(crate) all: u64,
+    ended: u64,
+    least: u64,
+    most: u64,
+    all: u64,
 }
 
 impl Instructions {
@@ -24,28 +24,37 @@ impl Instructions {
         self.ended = self.ended.saturating_add(1);
     }
 
-    /// How many of a run, in the mean.
-    pub(crate) fn mean(&self) -> u64 {
-        if self.ended == 0 {
-            0
-        } else {
-            self.all / self.ended
+    /// Puts of a program with this budget how many runs it had, and how many instructions those executed that ended.
+    pub(crate) fn print(&self, runs: u64, budget: u32, page: &mut Page) {
+        page.fill(
+            "\n  runs          {}, ended {}\n",
+            &[runs, self.ended],
+        );
+        if self.ended > 0 {
+            let mean = self.all / self.ended;
+            page.fill(
+                "  instructions  {} least, {} mean, {} most, budget {}\n",
+                &[self.least, mean, self.most, u64::from(budget)],
+            );
         }
     }
 }
 
+/// How many programs there are at most.
+const PROGRAMS: usize = 64;
+
 /// Those of all programs, in their order.
-#[derive(Drop)]
+#[derive(Clone, Copy)]
 pub(crate) struct AllInstructions {
-    programs: Vec<Instructions>,
+    programs: [Instructions; PROGRAMS],
 }
 
 impl AllInstructions {
     /// No run ended.
-    pub(crate) fn new(alloc: Global, programs: &Programs<'_>) -> Result<Self, AllocError> {
-        Ok(AllInstructions {
-            programs: vec![in alloc; Instructions::default(); programs.len()]?,
-        })
+    pub(crate) fn new() -> Self {
+        AllInstructions {
+            programs: [Instructions::default(); PROGRAMS],
+        }
     }
 
     /// Takes what an event says.
@@ -58,7 +67,7 @@ impl AllInstructions {
             return;
         };
         let place = programs.of(event.queue().unwrap_or(u32::MAX));
-        if let Some(program) = self.programs.as_mut_slice().get_mut(place) {
+        if let Some(program) = self.programs.get_mut(place) {
             program.add(instructions);
         }
     }

@@ -5,63 +5,53 @@ use crate::sums::Sums;
 use ccb::QueueId;
 use freeze_ledger::Place;
 use helpers::Helper;
-use std::io;
-use std::io::Write;
+use text_page::Page;
 use trace_account::name_of_code;
 use trace_counts::{CODES, Counts, HELPERS};
-use trace_events::Programs;
 
-/// Writes the table of a queue.
-pub(crate) fn print_queue<W: Write>(
-    sums: &Sums<'_>,
-    programs: &Programs<'_>,
-    queue: u32,
-    out: &mut W,
-) -> io::Result<()> {
-    let at = queue as usize;
-    let counts = &sums.counts;
-    writeln!(
-        out,
-        "queue {queue}, program {}",
-        programs.name(programs.of(queue))
-    )?;
-    writeln!(
-        out,
-        "  submissions   {}",
-        Counts::at(&counts.submissions, at)
-    )?;
-    writeln!(out, "  starts        {}", Counts::at(&counts.starts, at))?;
-    write!(out, "  completions   ")?;
-    print_codes(&counts.completions, at, out)?;
-    writeln!(
-        out,
-        "  recoveries    {}",
-        Counts::at(&counts.recoveries, at)
-    )?;
-    let requeues = cell(at, HELPERS, u32::from(Helper::Requeue.number()));
-    writeln!(
-        out,
-        "  requeues      {}",
-        Counts::at(&counts.calls, requeues)
-    )?;
-    write!(out, "  finishes      ")?;
-    print_codes(&counts.finishes, at, out)?;
-    print_frozen(sums, Place::Device(QueueId(queue)), out)?;
-    write!(out, "  openings      ")?;
-    sums.openings.print(queue, out)?;
-    writeln!(out)?;
-    print_left(sums, queue, out)
+/// Puts the table of a queue.
+pub(crate) fn print_queue(sums: &Sums<'_>, queue: u32, page: &mut Page) {
+    page.fill("queue {}, program ", &[u64::from(queue)]);
+    page.foreign(sums.programs.name(sums.programs.of(queue)));
+    print_counts(&sums.counts, queue as usize, page);
+    print_frozen(sums, Place::Device(QueueId(queue)), page);
+    page.text("  openings      ");
+    sums.openings.print(queue, page);
+    print_left(sums, queue, page);
+}
+
+// What was counted of the queue.
+fn print_counts(counts: &Counts, queue: usize, page: &mut Page) {
+    let submissions = Counts::at(&counts.submissions, queue);
+    let starts = Counts::at(&counts.starts, queue);
+    page.fill(
+        "\n  submissions   {}\n  starts        {}\n  completions   ",
+        &[submissions, starts],
+    );
+    print_codes(&counts.completions, queue, page);
+    let recoveries = Counts::at(&counts.recoveries, queue);
+    let requeues = cell(queue, HELPERS, u32::from(Helper::Requeue.number()));
+    let requeues = Counts::at(&counts.calls, requeues);
+    page.fill(
+        "\n  recoveries    {}\n  requeues      {}\n  finishes      ",
+        &[recoveries, requeues],
+    );
+    print_codes(&counts.finishes, queue, page);
+    page.text("\n");
 }
 
 // How many CCBs of the queue wait and are active at the end.
-fn print_left<W: Write>(sums: &Sums<'_>, queue: u32, out: &mut W) -> io::Result<()> {
-    match sums.walk.engine().queue_info(QueueId(queue)) {
-        Some(info) => writeln!(
-            out,
-            "  at the end    waiting {}, active {}, freezes {}",
-            info.waiting, info.active, info.frozen
-        ),
-        None => Ok(()),
+fn print_left(sums: &Sums<'_>, queue: u32, page: &mut Page) {
+    page.text("\n");
+    if let Some(info) = sums.walk.engine().queue_info(QueueId(queue)) {
+        page.fill(
+            "  at the end    waiting {}, active {}, freezes {}\n",
+            &[
+                u64::from(info.waiting),
+                u64::from(info.active),
+                u64::from(info.frozen),
+            ],
+        );
     }
 }
 
@@ -73,30 +63,31 @@ pub(crate) fn cell(queue: usize, columns: u32, column: u32) -> usize {
 }
 
 // The codes that there were, each with its name and how often it was.
-fn print_codes<W: Write>(counts: &[u64], queue: usize, out: &mut W) -> io::Result<()> {
+fn print_codes(counts: &[u64], queue: usize, page: &mut Page) {
     let mut has_any = false;
     for code in 0..CODES {
         let count = Counts::at(counts, cell(queue, CODES, code));
         if count > 0 {
-            if has_any {
-                write!(out, ", ")?;
-            }
-            print_code(code, count, out)?;
+            page.text(if has_any { ", " } else { "" });
+            print_code(code, count, page);
             has_any = true;
         }
     }
     if !has_any {
-        write!(out, "0")?;
+        page.text("0");
     }
-    writeln!(out)
 }
 
-fn print_code<W: Write>(code: u32, count: u64, out: &mut W) -> io::Result<()> {
+fn print_code(code: u32, count: u64, page: &mut Page) {
     let code = u8::try_from(code).unwrap_or(u8::MAX);
     let name = name_of_code(code);
-    if name.is_empty() {
-        write!(out, "code {code:02x} {count}")
+    let (before, behind) = if name.is_empty() {
+        ("code ", " {}")
     } else {
-        write!(out, "{name} ({code:02x}) {count}")
-    }
+        (" (", ") {}")
+    };
+    page.text(name);
+    page.text(before);
+    page.byte(code);
+    page.fill(behind, &[count]);
 }

@@ -8,14 +8,13 @@ use calls::Trace;
 use engine_config::Config;
 use std::alloc::{AllocError, Global};
 use trace_counts::{Counts, count_records};
-use trace_events::{Programs, Walk};
-
-/// How many numbers of places there may be: two for each of 64 queues.
-const PLACES: usize = 128;
+use trace_events::{Event, NamedAccepted, Programs, Walk};
 
 /// The sums of a trace, and the world at its end.
 #[derive(Drop)]
 pub(crate) struct Sums<'a> {
+    pub(crate) config: &'a Config,
+    pub(crate) programs: Programs<'a>,
     pub(crate) counts: Counts,
     pub(crate) frozen: FrozenPlaces,
     pub(crate) openings: AllOpenings,
@@ -23,33 +22,43 @@ pub(crate) struct Sums<'a> {
     pub(crate) walk: Walk<'a>,
 }
 
-/// Those of a trace of this configuration.
-pub(crate) fn add_up<'a>(
-    alloc: Global,
-    config: &'a Config,
-    programs: &Programs<'_>,
-    trace: &Trace,
-) -> Result<Sums<'a>, AllocError> {
-    let counts = count_records(alloc, config.queues(), &trace.records)?;
-    let mut frozen = FrozenPlaces::new(alloc, PLACES)?;
-    let mut openings = AllOpenings::new(alloc, config)?;
-    let mut instructions = AllInstructions::new(alloc, programs)?;
-    let mut walk = Walk::open(alloc, config)?;
-    let mut events = Vec::new(alloc);
-    for record in trace.records.iter() {
-        events.clear();
-        walk.step(record, &mut events)?;
-        for event in &events {
-            frozen.see(event);
-            openings.see(event)?;
-            instructions.see(event, programs);
-        }
+impl<'a> Sums<'a> {
+    /// Those of a trace of this configuration.
+    pub(crate) fn of(
+        alloc: Global,
+        config: &'a Config,
+        named: &'a [NamedAccepted<'a>],
+        trace: &Trace,
+    ) -> Result<Self, AllocError> {
+        let mut sums = Sums {
+            config,
+            programs: Programs::new(alloc, config, named)?,
+            counts: count_records(alloc, config.queues(), &trace.records)?,
+            frozen: FrozenPlaces::new(),
+            openings: AllOpenings::new(config),
+            instructions: AllInstructions::new(),
+            walk: Walk::open(alloc, config)?,
+        };
+        sums.see_all(alloc, trace)?;
+        Ok(sums)
     }
-    Ok(Sums {
-        counts,
-        frozen,
-        openings,
-        instructions,
-        walk,
-    })
+
+    // Takes what the events of all records say.
+    fn see_all(&mut self, alloc: Global, trace: &Trace) -> Result<(), AllocError> {
+        let mut events = Vec::new(alloc);
+        for record in trace.records.iter() {
+            events.clear();
+            self.walk.step(record, &mut events)?;
+            for event in &events {
+                self.see(event);
+            }
+        }
+        Ok(())
+    }
+
+    fn see(&mut self, event: &Event) {
+        self.frozen.see(event);
+        self.openings.see(event);
+        self.instructions.see(event, &self.programs);
+    }
 }

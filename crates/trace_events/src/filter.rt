@@ -1,6 +1,4 @@
 // What of a trace somebody wants to see. It relies on nothing.
-#![tactic(auto)]
-
 /// Which events of a trace are wanted: those that fit all that is given. Where nothing is given, all are.
 #[derive(Clone, Copy, Debug, Default, PartialEq, Eq)]
 pub struct Filter {

@@ -38,7 +38,7 @@ pub fn carry<N: Notices, W: Write, E: Write>(
     ensures rejected { result ≡ 1 → (first second : _) → slice_get inputs.now 0 ≡ Some first → slice_get inputs.now 1 ≡ Some second → IsRejected plan.now first.items second.items }
 {
     match plan {
-        Plan::ExplainCode(code) => status(refusal_codes::print(*code, out), err),
+        Plan::ExplainCode(code) => status(refusal_codes::print(alloc, *code, out), err),
         Plan::Explain(manifest) => {
             let manifest = (manifest.as_str(), inputs[0].as_slice());
             print_explanation(alloc, manifest, out, err)

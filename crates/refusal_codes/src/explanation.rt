@@ -3,11 +3,13 @@
 
 use crate::code::Code;
 use crate::{calls, files, policies, programs};
+use std::alloc::Global;
 use std::io;
 use std::io::Write;
+use text_page::Page;
 
 /// By what an example is shown.
-#[derive(Clone, Copy, Debug, PartialEq, Eq)]
+#[derive(Clone, Copy, PartialEq, Eq)]
 pub enum Shown {
     /// `check`, of the beginning of a manifest, with the program p1 behind it, which is POLICY.
     Manifest,
@@ -30,7 +32,7 @@ pub enum Shown {
 }
 
 /// What there is to say of a code. A line of an example with `# N times` behind it stands for N such lines.
-#[derive(Clone, Copy, Debug)]
+#[derive(Clone, Copy)]
 pub struct Explanation {
     /// What it means, with its numbers: a sentence without its full stop.
     pub meaning: &'static str,
@@ -127,23 +129,34 @@ impl Shown {
     }
 }
 
-/// Writes what the code means, its commonest cause, the smallest text that gives it, and that text mended.
-pub fn print<W: Write>(code: Code, out: &mut W) -> io::Result<()> {
-    let row = code.explanation();
-    writeln!(out, "{code}: {}.", row.meaning)?;
-    writeln!(out, "Most often: {}.", row.cause)?;
-    writeln!(out, "\n{} that gives it:\n", row.shown.title())?;
-    print_lines(row.example, out)?;
-    writeln!(out, "\nMended:\n")?;
-    print_lines(row.mended, out)
+/// Writes what the code means, its commonest cause, the smallest text that gives it, and that text mended. It fails if memory is refused,
+/// as such an error and with nothing out, or if the writer does.
+pub fn print<W: Write>(alloc: Global, code: Code, out: &mut W) -> io::Result<()> {
+    let mut page = Page::new(alloc);
+    put(code, &mut page);
+    page.write_to(out)
 }
 
-fn print_lines<W: Write>(text: &str, out: &mut W) -> io::Result<()> {
-    if text.is_empty() {
-        return writeln!(out, "    (nothing)");
-    }
+fn put(code: Code, page: &mut Page) {
+    let row = code.explanation();
+    page.shown(&code);
+    page.text(": ");
+    page.text(row.meaning);
+    page.text(".\nMost often: ");
+    page.text(row.cause);
+    page.text(".\n\n");
+    page.text(row.shown.title());
+    page.text(" that gives it:\n\n");
+    put_lines(row.example, page);
+    page.text("\nMended:\n\n");
+    put_lines(row.mended, page);
+}
+
+fn put_lines(text: &str, page: &mut Page) {
+    let text = if text.is_empty() { "(nothing)" } else { text };
     for line in text.split('\n') {
-        writeln!(out, "    {line}")?;
+        page.text("    ");
+        page.text(line);
+        page.text("\n");
     }
-    Ok(())
 }

@@ -1,4 +1,5 @@
-// All codes by which the program tells refusals, and what there is to say of each. It relies on nothing.
+// All codes by which the program tells refusals, and what there is to say of each. It relies on `text_page` for the page that this is
+// put on.
 #![tactic(auto)]
 
 mod calls;

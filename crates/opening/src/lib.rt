@@ -5,6 +5,3 @@
 mod opening;
 
 pub use opening::{OpenFault, open, put_fault};
-
-#[cfg(test)]
-mod tests;

@@ -1,13 +1,12 @@
 // What is told of a run and of a replay while it is done, where that is wanted, and how it is worded.
 
-use crate::tests::{MANIFEST, SCENARIO, TRACE};
+use crate::writers::{MANIFEST, SCENARIO, TRACE};
 use calls::{Notice, Notices, Totals};
 use command_line::{Plan, Watch};
 use commands::carry;
 use std::alloc::{AllocError, Global};
 use std::sync::Wait;
 use std::sync::atomic::{AtomicU64, Ordering};
-use std::test::Fail;
 use std::thread::Threads;
 
 /// A replay tells how far it is after so many records.
@@ -71,30 +70,35 @@ fn carried<R: Threads + Wait + Sync>(
     })
 }
 
-// The words are worked out by hand.
-#[test]
-fn words_of_notices(rt: HostRuntime) -> Result<(), Fail> {
+// The text of a notice is that.
+fn is_worded(alloc: Global, notice: Notice, words: &str) -> Result<bool, AllocError> {
+    Ok(format!(in alloc; "{notice}")?.as_str() == words)
+}
+
+/// The words are worked out by hand.
+pub fn words_of_notices(alloc: Global) -> Result<bool, AllocError> {
     let totals = Totals {
         history: 120034,
         frozen: 3,
         active: 5,
         runs: 2,
     };
-    let sums = format!(in rt.alloc(); "{}", Notice::Sums(totals))?;
-    let replayed = format!(in rt.alloc(); "{}", Notice::Replayed(81920, 500000))?;
-    assert_eq!(rt;
-        sums.as_str(),
-        "120034 records, 3 freezes, 5 active CCBs, 2 live runs"
-    );
-    assert_eq!(rt; replayed.as_str(), "81920 of 500000 records");
-    Ok(())
+    let sums = is_worded(
+        alloc,
+        Notice::Sums(totals),
+        "120034 records, 3 freezes, 5 active CCBs, 2 live runs",
+    )?;
+    let replayed = is_worded(
+        alloc,
+        Notice::Replayed(81920, 500000),
+        "81920 of 500000 records",
+    )?;
+    Ok(sums && replayed)
 }
 
-// A run tells the sums before each of its three stops, the last when seven records were there and the run was live. The trace is what it
-// is without.
-#[test]
-fn a_run_tells(rt: HostRuntime) -> Result<(), Fail> {
-    let alloc = rt.alloc();
+/// A run tells the sums before each of its three stops, the last when seven records were there and the run was live. The trace is what
+/// it is without.
+pub fn a_run_tells<R: Threads + Wait + Sync>(rt: &R, alloc: Global) -> Result<bool, AllocError> {
     let plan = Plan::Run(
         1,
         Watch::Never,
@@ -103,35 +107,41 @@ fn a_run_tells(rt: HostRuntime) -> Result<(), Fail> {
     );
     let notices = Wanting::new();
     let mut out = Vec::new(alloc);
-    let status = carried(&rt, alloc, &plan, SCENARIO.as_bytes(), &notices, &mut out)?;
-    assert_eq!(rt; status, 0);
-    assert_eq!(rt; out.as_slice(), TRACE.as_bytes());
-    assert_eq!(rt; notices.told.load(Ordering::SeqCst), 3);
-    assert_eq!(rt; notices.records.load(Ordering::SeqCst), 7);
-    assert_eq!(rt; notices.runs.load(Ordering::SeqCst), 1);
-    Ok(())
+    let status = carried(rt, alloc, &plan, SCENARIO.as_bytes(), &notices, &mut out)?;
+    Ok(
+        status == 0
+            && out.as_slice() == TRACE.as_bytes()
+            && notices.told.load(Ordering::SeqCst) == 3
+            && notices.records.load(Ordering::SeqCst) == 7
+            && notices.runs.load(Ordering::SeqCst) == 1,
+    )
 }
 
-// A replay of one record more than it takes to tell tells once.
-#[test]
-fn a_replay_tells(rt: HostRuntime) -> Result<(), Fail> {
-    let alloc = rt.alloc();
+// The trace of so many calls that are refused.
+fn trace_of_refusals(alloc: Global, count: u64) -> Result<Vec<u8>, AllocError> {
+    let mut trace = b"camr-trace 1\n".to_vec(alloc)?;
+    for _ in 0..count {
+        trace.extend_from_slice(b"dispatch 1 = C1\n")?;
+    }
+    trace.extend_from_slice(b"end 4097 0 0 0\n")?;
+    Ok(trace)
+}
+
+/// A replay of one record more than it takes to tell tells once.
+pub fn a_replay_tells<R: Threads + Wait + Sync>(rt: &R, alloc: Global) -> Result<bool, AllocError> {
     let plan = Plan::Replay(
         String::from_str(alloc, "m.toml")?,
         String::from_str(alloc, "t.txt")?,
     );
-    let mut trace = b"camr-trace 1\n".to_vec(alloc)?;
-    for _ in 0..=OFTEN {
-        trace.extend_from_slice(b"dispatch 1 = C1\n")?;
-    }
-    trace.extend_from_slice(b"end 4097 0 0 0\n")?;
+    let trace = trace_of_refusals(alloc, OFTEN + 1)?;
     let notices = Wanting::new();
     let mut out = Vec::new(alloc);
-    let status = carried(&rt, alloc, &plan, &trace, &notices, &mut out)?;
-    assert_eq!(rt; status, 0);
-    assert_eq!(rt; out.as_slice(), b"accepted\n".as_slice());
-    assert_eq!(rt; notices.told.load(Ordering::SeqCst), 1);
-    assert_eq!(rt; notices.records.load(Ordering::SeqCst), OFTEN);
-    assert_eq!(rt; notices.all.load(Ordering::SeqCst), OFTEN + 1);
-    Ok(())
+    let status = carried(rt, alloc, &plan, &trace, &notices, &mut out)?;
+    Ok(
+        status == 0
+            && out.as_slice() == b"accepted\n".as_slice()
+            && notices.told.load(Ordering::SeqCst) == 1
+            && notices.records.load(Ordering::SeqCst) == OFTEN
+            && notices.all.load(Ordering::SeqCst) == OFTEN + 1,
+    )
 }

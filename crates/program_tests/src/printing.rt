@@ -1,13 +1,10 @@
 // A trace goes to a sink: one that takes few bytes at a time, and one whose write of any number fails.
 
-ghost use Rattle.std.specs.Prelude.{◌≤◌, IfOk};
+ghost use Rattle.std.specs.Prelude.{◌≤◌, IfSome};
 ghost use Rattle.trace.specs.HasText.{AllHaveText};
 
-use base::OrMemory;
 use calls::Trace;
-use std::alloc::{AllocError, Global};
-use std::process::Abort;
-use std::test::Fail;
+use std::alloc::Global;
 use trace::{PrintFault, Sink, WriteFailed, print, read};
 
 // Sense bytes, traced bytes, and the greatest numbers.
@@ -68,63 +65,75 @@ fn sink_of(alloc: Global, most: usize, fails_at: u32) -> Counting {
 }
 
 // The trace of the text.
-fn trace_of(alloc: Global) -> Result<Trace, Fail>
-    ensures { IfOk result (λ trace. AllHaveText trace.version trace.records.items) }
+fn trace_of(alloc: Global) -> Option<Trace>
+    ensures { IfSome result (λ trace. AllHaveText trace.version trace.records.items) }
 {
     match read(alloc, TEXT) {
-        Ok(trace) => Ok(trace),
-        Err(OrMemory::OutOfMemory) => Err(Fail::from(AllocError)),
-        Err(OrMemory::Fault(_)) => Err(Fail::from("no trace")),
+        Ok(trace) => Some(trace),
+        Err(_) => None,
     }
 }
 
-// However few bytes a sink takes at a time, all of the text comes.
-#[test]
-fn few_bytes_at_a_time(rt: HostRuntime) -> Result<(), Fail> {
-    let alloc = rt.alloc();
+// Whether all of the text comes, if a sink takes so many bytes at a time.
+fn comes_by(alloc: Global, trace: &Trace, most: usize) -> bool
+    requires { AllHaveText trace.now.version trace.now.records.items }
+{
+    let mut sink = sink_of(alloc, most, 0);
+    print(trace, &mut sink).is_ok()
+        && sink.taken.as_slice() == TEXT.as_bytes()
+        && sink.failures == 0
+}
+
+/// However few bytes a sink takes at a time, all of the text comes.
+pub fn few_bytes_at_a_time(alloc: Global) -> Option<bool> {
     let trace = trace_of(alloc)?;
-    for most in [1, 2, 7, 4096] {
-        let mut sink = sink_of(alloc, most, 0);
-        assert_eq!(rt; print(&trace, &mut sink), Ok(()), "{most}");
-        assert_eq!(rt; sink.taken.as_slice(), TEXT.as_bytes(), "{most}");
-        assert_eq!(rt; sink.failures, 0, "{most}");
-    }
-    Ok(())
+    Some(
+        comes_by(alloc, &trace, 1)
+            && comes_by(alloc, &trace, 2)
+            && comes_by(alloc, &trace, 7)
+            && comes_by(alloc, &trace, 4096),
+    )
 }
 
-// At the write of this number a sink fails: what is out is just what was told to be out, the beginning of the text.
-fn fail_at(rt: &impl Abort, alloc: Global, trace: &Trace, most: usize, write: u32) -> bool
+// Whether a sink failed at the write of this number: what is out is just what was told to be out, the beginning of the text. Nothing is
+// told if it is another.
+fn fails_at(alloc: Global, trace: &Trace, most: usize, write: u32) -> Option<bool>
     requires { AllHaveText trace.now.version trace.now.records.items }
 {
     let mut sink = sink_of(alloc, most, write);
-    match print(trace, &mut sink) {
-        Ok(()) => {
-            assert_eq!(rt; sink.taken.as_slice(), TEXT.as_bytes(), "{most}, {write}");
-            false
-        }
+    let (failed, holds) = match print(trace, &mut sink) {
+        Ok(()) => (false, sink.taken.as_slice() == TEXT.as_bytes()),
         Err(fault) => {
             let written = sink.taken.len() as u128;
-            assert_eq!(rt; fault, PrintFault { written }, "{most}, {write}");
-            assert!(rt; TEXT.as_bytes().starts_with(&sink.taken), "{most}, {write}");
-            assert_eq!(rt; sink.failures, 1, "{most}, {write}");
-            true
+            let begins = TEXT.as_bytes().starts_with(&sink.taken);
+            (
+                true,
+                fault == PrintFault { written } && begins && sink.failures == 1,
+            )
         }
-    }
+    };
+    if holds { Some(failed) } else { None }
 }
 
-// Each write of a small trace fails in its turn: of so many bytes at most there are so many writes.
-#[test]
-fn each_write_fails_once(rt: HostRuntime) -> Result<(), Fail> {
-    let alloc = rt.alloc();
-    let trace = trace_of(alloc)?;
-    for (most, writes) in [(1, 160), (7, 23), (4096, 1)] {
-        let mut failed = 0u32;
-        for write in 1..=200 {
-            if fail_at(&rt, alloc, &trace, most, write) {
-                failed = failed.saturating_add(1);
-            }
+// How many writes there are of so many bytes at most, each of which fails in its turn.
+fn writes_of(alloc: Global, trace: &Trace, most: usize) -> Option<u32>
+    requires { AllHaveText trace.now.version trace.now.records.items }
+{
+    let mut failed = 0u32;
+    for write in 1..=200 {
+        if fails_at(alloc, trace, most, write)? {
+            failed = failed.saturating_add(1);
         }
-        assert_eq!(rt; failed, writes, "{most}");
     }
-    Ok(())
+    Some(failed)
+}
+
+/// Each write of a small trace fails in its turn: of so many bytes at most there are so many writes.
+pub fn each_write_fails_once(alloc: Global) -> Option<bool> {
+    let trace = trace_of(alloc)?;
+    Some(
+        writes_of(alloc, &trace, 1)? == 160
+            && writes_of(alloc, &trace, 7)? == 23
+            && writes_of(alloc, &trace, 4096)? == 1,
+    )
 }

@@ -1,62 +1,28 @@
-// Texts that are traces are printed again as they stood. Where all else of a text is in order, its line alone stands here. The texts are
-// worked out by hand. What is no trace stands in the cases of `system_tests`.
+// Texts that are traces are printed again as they stood. If all else of a text is in order, its line alone stands in data/: in
+// records.txt those of both versions, in of_controllers.txt those of the second alone. What is no trace stands in the cases of
+// `system_tests`.
 
 use base::OrMemory;
 use commands::Handing;
 use std::alloc::{AllocError, Global};
+use std::fs;
 use std::io::Write;
-use std::process::Abort;
-use std::test::Fail;
+use std::rt::Files;
 use trace::{print, read};
 
-/// Lines of both versions.
-const RECORDS: [&str; 34] = [
-    "submit 0 0 0 = ccb 1",
-    "submit 4294967295 4294967295 4294967295 = C1",
-    "submit 0 10 3 = C2",
-    "dispatch 0 = ccb 4294967295",
-    "dispatch 0 = C1",
-    "dispatch 0 = Q2",
-    "dispatch 0 = Q3",
-    "dispatch 0 = Q4",
-    "complete 1 01 00 - = done",
-    "complete 1 0c 02 700006 = run 1 freeze 1",
-    "complete 1 0b ff 000000000000000000000000000000000000000000000000000000000000000000000000000000000000000000000000000000000000000000000000000000ff = run 4294967295 freeze 0",
-    "complete 1 1b 00 00 = C1",
-    "complete 1 02 00 - = C2",
-    "complete 1 17 00 - = C3",
-    "advance 1 1 exit = 0",
-    "advance 4294967295 65536 exit = 18446744073709551615",
-    "advance 1 3 helper 1 = 1",
-    "advance 1 3 helper 4 = 0",
-    "advance 1 3 helper 12 = 255",
-    "advance 1 3 helper 5 00 = 0",
-    "advance 1 3 helper 5 3f = 0",
-    "advance 1 3 helper 10 00 = 0",
-    "advance 1 3 helper 10 000000000000000000000000000000000000000000000000000000000000000000000000000000000000000000000000000000000000000000000000000000ff = 0",
-    "clock 0 = 1024",
-    "clock 18446744073709551615 = C2",
-    "clock 5 = C5",
-    "gfreeze 0 7 = freeze 1",
-    "gfreeze 0 4294967295 = C1",
-    "gfreeze 0 0 = C2",
-    "cfreeze 0 7 = C1",
-    "grelease 1 = 254",
-    "park 1 = ok",
-    "resume 1 = ok",
-    "resume 1 = C1",
-];
+/// The lines of both versions, and how many there are.
+const RECORDS: &str = "records.txt";
 
-/// Lines of the second version alone.
-const OF_CONTROLLERS: [&str; 7] = [
-    "dispatch 0 = Q5",
-    "cfreeze 0 7 = freeze 1",
-    "cfreeze 4294967295 4294967295 = C2",
-    "advance 1 1 helper 13 = 0",
-    "advance 1 3 helper 13 = 4294967295",
-    "advance 1 1 helper 14 = 0",
-    "advance 1 3 helper 14 = 255",
-];
+const MANY: u32 = 34;
+
+/// The lines of the second version alone.
+const OF_CONTROLLERS: &str = "of_controllers.txt";
+
+const FEW: u32 = 7;
+
+/// A small trace.
+const SMALL: &str =
+    "camr-trace 1\ncomplete 1 0c 02 700006 = run 1 freeze 1\nadvance 1 3 helper 10 00ff = 0\nend 2 1 0 1\n";
 
 // What is read of a text, printed again, or what is wrong with it.
 fn told(alloc: Global, text: &str) -> Result<Vec<u8>, AllocError> {
@@ -78,52 +44,51 @@ fn told(alloc: Global, text: &str) -> Result<Vec<u8>, AllocError> {
 }
 
 // The trace of the version that has this line alone.
-fn around(alloc: Global, version: u32, line: &str) -> Result<String, Fail> {
-    Ok(format!(in alloc;
-        "camr-trace {version}\n{line}\nend 18446744073709551615 0 4294967295 1\n"
-    )?)
+fn around(alloc: Global, version: u32, line: &str) -> Result<String, AllocError> {
+    format!(in alloc; "camr-trace {version}\n{line}\nend 18446744073709551615 0 4294967295 1\n")
 }
 
-// The line stands in a trace of the version.
-fn is_read(rt: &impl Abort, alloc: Global, version: u32, line: &str) -> Result<(), Fail> {
+// Whether the line stands in a trace of the version.
+fn is_read(alloc: Global, version: u32, line: &str) -> Result<bool, AllocError> {
     let text = around(alloc, version, line)?;
-    assert_eq!(rt;
-        told(alloc, text.as_str())?.as_slice(),
-        text.as_bytes(),
-        "{version}: {line}"
-    );
-    Ok(())
+    Ok(told(alloc, text.as_str())?.as_slice() == text.as_bytes())
 }
 
-#[test]
-fn lines_of_records(rt: HostRuntime) -> Result<(), Fail> {
-    let alloc = rt.alloc();
-    for line in RECORDS {
-        is_read(&rt, alloc, 1, line)?;
-        is_read(&rt, alloc, 2, line)?;
+// How many lines of the text there are, if each stands in a trace of each of these versions.
+fn all_read(alloc: Global, text: &str, versions: &[u32]) -> Result<Option<u32>, AllocError> {
+    let mut count = 0u32;
+    for line in text.lines() {
+        for version in versions {
+            if !is_read(alloc, *version, line)? {
+                return Ok(None);
+            }
+        }
+        count = count.saturating_add(1);
     }
-    Ok(())
+    Ok(Some(count))
 }
 
-#[test]
-fn lines_of_controllers(rt: HostRuntime) -> Result<(), Fail> {
-    let alloc = rt.alloc();
-    for line in OF_CONTROLLERS {
-        is_read(&rt, alloc, 2, line)?;
+// The same of a file.
+fn all_read_of<R: Files + AllocGlobal>(rt: &R, path: &str, versions: &[u32]) -> Option<u32> {
+    match fs::read_to_string(rt, path) {
+        Ok(text) => all_read(rt.alloc(), text.as_str(), versions).ok()?,
+        Err(_) => None,
     }
-    Ok(())
 }
 
-// Where memory is refused that alone is told, and the same text is read then. Which call for memory is refused is set from outside.
-#[test]
-fn read_and_memory_refused_once(rt: HostRuntime) -> Result<(), Fail> {
-    let alloc = rt.alloc();
-    let text =
-        "camr-trace 1\ncomplete 1 0c 02 700006 = run 1 freeze 1\nadvance 1 3 helper 10 00ff = 0\nend 2 1 0 1\n";
-    let said = match told(alloc, text) {
+pub fn lines_of_records<R: Files + AllocGlobal>(rt: &R) -> Option<bool> {
+    Some(all_read_of(rt, RECORDS, &[1, 2])? == MANY)
+}
+
+pub fn lines_of_controllers<R: Files + AllocGlobal>(rt: &R) -> Option<bool> {
+    Some(all_read_of(rt, OF_CONTROLLERS, &[2])? == FEW)
+}
+
+/// If memory is refused that alone is told, and the same text is read then. Which call for memory is refused is set from outside.
+pub fn read_and_memory_refused_once(alloc: Global) -> Option<bool> {
+    let said = match told(alloc, SMALL) {
         Ok(said) => said,
-        Err(AllocError) => told(alloc, text)?,
+        Err(AllocError) => told(alloc, SMALL).ok()?,
     };
-    assert_eq!(rt; said.as_slice(), text.as_bytes());
-    Ok(())
+    Some(said.as_slice() == SMALL.as_bytes())
 }

@@ -1,0 +1,156 @@
+// The checks of what threads share, which no command shows, with wrong bodies that no contract refuses. It prints the name of each check
+// that fails, and how many pass; with words it runs the checks of these names alone. What it prints hangs on no schedule.
+#![tactic(auto)]
+
+mod crew;
+mod engines;
+mod inboxes;
+mod on_engine;
+mod recoveries;
+mod refusals;
+mod services;
+mod serving;
+mod settling;
+mod sharing;
+mod watching;
+
+use check_tally::{Tally, is_wanted, words};
+use on_engine::{OfEngine, holds_of_engine};
+use std::alloc::Global;
+use std::io;
+use std::process::ExitCode;
+use std::sync::Wait;
+use std::thread::Threads;
+
+/// A check.
+#[derive(Clone, Copy, Debug, PartialEq, Eq)]
+enum Check {
+    /// Bodies that never give, or never take in, with one pass of each kind, and with four.
+    OnePass,
+    FourPasses,
+    /// Capacities of 1 and 256.
+    LeastCapacity,
+    MostCapacity,
+    WhatIsLeft,
+    PassMissing,
+    WhyNotClosed,
+    ManyThreads,
+    WhyNoCaller,
+    /// One of an engine that is shared.
+    Engine(OfEngine),
+}
+
+/// All checks, with their names.
+const CHECKS: [(&str, Check); 26] = [
+    ("finds_out_bodies_of_one_pass", Check::OnePass),
+    ("finds_out_bodies_of_four_passes", Check::FourPasses),
+    ("holds_one_in_order", Check::LeastCapacity),
+    (
+        "holds_as_many_as_its_capacity_in_order",
+        Check::MostCapacity,
+    ),
+    ("gives_back_what_is_left_in_order", Check::WhatIsLeft),
+    ("refuses_to_close_without_a_pass", Check::PassMissing),
+    ("says_why_it_was_not_closed", Check::WhyNotClosed),
+    (
+        "many_threads_take_each_completion_once_in_order",
+        Check::ManyThreads,
+    ),
+    (
+        "says_why_it_gives_no_caller_or_is_not_closed",
+        Check::WhyNoCaller,
+    ),
+    (
+        "drives_two_runs_in_threads_of_their_own",
+        Check::Engine(OfEngine::TwoRuns),
+    ),
+    (
+        "drives_each_run_in_a_thread_of_its_own",
+        Check::Engine(OfEngine::SixteenRuns),
+    ),
+    (
+        "finds_out_a_body_of_one_thread",
+        Check::Engine(OfEngine::OneThread),
+    ),
+    (
+        "finds_out_a_body_of_no_thread",
+        Check::Engine(OfEngine::Nobody),
+    ),
+    (
+        "serves_completions_of_each_kind_by_one",
+        Check::Engine(OfEngine::EachKindByOne),
+    ),
+    (
+        "serves_completions_of_each_kind_by_four",
+        Check::Engine(OfEngine::EachKindByFour),
+    ),
+    (
+        "parks_a_run_that_goes_on_later",
+        Check::Engine(OfEngine::Parked),
+    ),
+    (
+        "gives_back_a_run_of_another_engine",
+        Check::Engine(OfEngine::OfAnother),
+    ),
+    (
+        "served_and_memory_refused_once",
+        Check::Engine(OfEngine::Served),
+    ),
+    (
+        "traced_and_memory_refused_once",
+        Check::Engine(OfEngine::Traced),
+    ),
+    (
+        "parks_no_run_where_there_is_memory",
+        Check::Engine(OfEngine::ParksNone),
+    ),
+    ("gives_out_64_callers", Check::Engine(OfEngine::AllCallers)),
+    (
+        "ends_with_all_callers_alone",
+        Check::Engine(OfEngine::CallerMissing),
+    ),
+    (
+        "shows_two_runs_while_they_are_held_up",
+        Check::Engine(OfEngine::HeldUp),
+    ),
+    (
+        "is_read_while_a_call_is_held_up_in_its_section",
+        Check::Engine(OfEngine::ReadBeside),
+    ),
+    (
+        "finds_out_a_monitor_that_takes_the_lock",
+        Check::Engine(OfEngine::ReadUnderLock),
+    ),
+    (
+        "shows_ten_thousand_recoveries_in_their_order",
+        Check::Engine(OfEngine::Recoveries),
+    ),
+];
+
+// Whether a check holds; nothing if it came to no end, as if memory is refused.
+fn holds<R: Threads + Wait + Sync>(rt: &R, alloc: Global, check: Check) -> Option<bool> {
+    match check {
+        Check::OnePass => inboxes::finds_out_bodies(rt, alloc, 1),
+        Check::FourPasses => inboxes::finds_out_bodies(rt, alloc, 4),
+        Check::LeastCapacity => inboxes::holds_as_many(rt, alloc, 1),
+        Check::MostCapacity => inboxes::holds_as_many(rt, alloc, 256),
+        Check::WhatIsLeft => inboxes::gives_back_what_is_left(rt, alloc),
+        Check::PassMissing => inboxes::refuses_to_close_without_a_pass(rt, alloc),
+        Check::WhyNotClosed => inboxes::says_why(alloc).ok(),
+        Check::ManyThreads => inboxes::many::many_threads(rt, alloc),
+        Check::WhyNoCaller => sharing::says_why(alloc).ok(),
+        Check::Engine(check) => holds_of_engine(rt, alloc, check),
+    }
+}
+
+fn main(rt: HostRuntime) -> io::Result<ExitCode> {
+    let wanted = words(&rt)?;
+    let mut tally = Tally::default();
+    for (name, check) in CHECKS {
+        if is_wanted(&wanted, name) {
+            let holds = holds(&rt, rt.alloc(), check) == Some(true);
+            tally.see(&rt, name, holds)?;
+        }
+    }
+    tally.end(&rt)
+}

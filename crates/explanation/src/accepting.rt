@@ -13,22 +13,23 @@ use bpf_insn::{Insn, Program, Reg};
 use call_shape::shape;
 use checked_path::{Log, Sighting, longest_path};
 use helpers::Helper;
-use manifest::Manifest;
+use manifest::{Manifest, NamedProgram};
 use manifest_form::Source;
 use manifest_layout::{Layout, Span, layout};
 use register_kinds::{Kind, Region};
 use std::alloc::{AllocError, Global};
+use text_page::Page;
 use toml::Value;
 
 /// How many bytes a frame has.
 const FRAME_BYTES: u16 = 512;
 
-/// Writes what is known of each program.
+/// Puts what is known of each program.
 pub fn print(
     alloc: Global,
     text: &str,
     manifest: &Manifest,
-    out: &mut String,
+    page: &mut Page,
 ) -> Result<(), AllocError> {
     let document = match toml::table_from_str(alloc, text) {
         Ok(table) => Value::Table(table),
@@ -39,15 +40,28 @@ pub fn print(
     };
     let layout = layout(alloc, text)?;
     for (number, named) in manifest.programs.iter().enumerate() {
-        let Some(entry) = plan.programs.get(number) else {
-            continue;
-        };
-        let value = place_of(&layout, number, &entry.source);
-        if let Some((program, listing)) = read(alloc, text, value, &entry.source)? {
-            writeln!(out)?;
-            writeln!(out, "{}:", named.name.as_str())?;
-            print_program(alloc, &named.accepted, &program, &listing, out)?;
+        if let Some(entry) = plan.programs.get(number) {
+            let value = place_of(&layout, number, &entry.source);
+            print_named(alloc, text, value, &entry.source, named, page)?;
         }
+    }
+    Ok(())
+}
+
+// Puts what is known of a program whose source stands there.
+fn print_named(
+    alloc: Global,
+    text: &str,
+    value: Span,
+    source: &Source<'_>,
+    named: &NamedProgram,
+    page: &mut Page,
+) -> Result<(), AllocError> {
+    if let Some((program, listing)) = read(alloc, text, value, source)? {
+        page.text("\n");
+        page.foreign(named.name.as_str());
+        page.text(":\n");
+        print_program(alloc, &named.accepted, &program, &listing, page)?;
     }
     Ok(())
 }
@@ -65,82 +79,78 @@ fn place_of(layout: &Layout, number: usize, source: &Source<'_>) -> Span {
     )
 }
 
-// Writes what is known of a program.
+// Puts what is known of a program.
 fn print_program(
     alloc: Global,
     accepted: &Accepted,
     program: &Program,
     listing: &Listing,
-    out: &mut String,
+    page: &mut Page,
 ) -> Result<(), AllocError> {
-    print_budget(alloc, accepted, program, out)?;
+    print_budget(alloc, accepted, program, page)?;
     let log = log_of(alloc, program, accepted.limits())?;
-    print_stack(program, &log, out)?;
-    print_tables(program, &log, out)?;
-    for sighting in log.sightings() {
-        if let Some(insn) = program.fetch(sighting.slot) {
-            if let Some(helper) = helper_of(insn) {
-                print_call(listing, &log, sighting, insn, helper, out)?;
-            }
-        }
-    }
+    print_stack(program, &log, page);
+    print_tables(program, &log, page);
+    print_calls(program, listing, &log, page);
     Ok(())
 }
 
-// Writes a path that is as long as the budget, by its slots.
+// Puts a path that is as long as the budget, by its slots.
 fn print_budget(
     alloc: Global,
     accepted: &Accepted,
     program: &Program,
-    out: &mut String,
+    page: &mut Page,
 ) -> Result<(), AllocError> {
-    write!(
-        out,
+    page.fill(
         "  {} instructions at most, by slots ",
-        accepted.budget()
-    )?;
+        &[u64::from(accepted.budget())],
+    );
     let Ok(shape) = shape(program) else {
         return Err(AllocError);
     };
     let path = longest_path(alloc, &shape)?;
-    let mut ranges = 0u32;
+    print_ranges(&path, page);
+    Ok(())
+}
+
+// Puts slots, those that follow one another as a range.
+fn print_ranges(path: &[usize], page: &mut Page) {
+    let mut before = "";
     let mut first = 0usize;
     let mut last = 0usize;
     for (place, slot) in path.iter().enumerate() {
         if place > 0 && *slot != last.saturating_add(1) {
-            put_range(out, ranges, first, last)?;
-            ranges = ranges.saturating_add(1);
+            put_range(page, before, first, last);
+            before = ", ";
             first = *slot;
         }
         last = *slot;
     }
-    put_range(out, ranges, first, last)?;
-    writeln!(out)
+    put_range(page, before, first, last);
+    page.text("\n");
 }
 
-fn put_range(out: &mut String, before: u32, first: usize, last: usize) -> Result<(), AllocError> {
-    if before > 0 {
-        out.push_str(", ")?;
-    }
-    write!(out, "{first}")?;
+fn put_range(page: &mut Page, before: &str, first: usize, last: usize) {
+    page.text(before);
+    page.number(first as u64);
     if last != first {
-        write!(out, "-{last}")?;
+        page.fill("-{}", &[last as u64]);
     }
-    Ok(())
 }
 
-// Writes how many bytes of a frame are written at most.
-fn print_stack(program: &Program, log: &Log, out: &mut String) -> Result<(), AllocError> {
+// Puts how many bytes of a frame are written at most.
+fn print_stack(program: &Program, log: &Log, page: &mut Page) {
     let mut used = 0u16;
     for sighting in log.sightings() {
         if let Some(insn) = program.fetch(sighting.slot) {
             used = used.max(written(sighting, insn));
         }
     }
-    writeln!(
-        out,
-        "  {used} of {FRAME_BYTES} bytes of a frame are written"
-    )
+    page.fill(
+        "  {} of {} bytes of a frame are written\n",
+        &[u64::from(used), u64::from(FRAME_BYTES)],
+    );
 }
 
 // How far below the end of a frame an instruction may write.
@@ -160,24 +170,20 @@ fn written(sighting: &Sighting, insn: Insn) -> u16 {
     }
 }
 
-// Writes which tables are read, and which are written.
-fn print_tables(program: &Program, log: &Log, out: &mut String) -> Result<(), AllocError> {
+// Puts which tables are read, and which are written.
+fn print_tables(program: &Program, log: &Log, page: &mut Page) {
     for table in 0u64..16 {
         let read = has_call(program, log, table, false);
         let written = has_call(program, log, table, true);
         if read || written {
-            writeln!(
-                out,
-                "  table {table} is {}",
-                match (read, written) {
-                    (true, false) => "read",
-                    (false, true) => "written",
-                    _ => "read and written",
-                }
-            )?;
+            let pattern = match (read, written) {
+                (true, false) => "  table {} is read\n",
+                (false, true) => "  table {} is written\n",
+                _ => "  table {} is read and written\n",
+            };
+            page.fill(pattern, &[table]);
         }
     }
-    Ok(())
 }
 
 // Whether a word of that table is read, or written.
@@ -200,25 +206,38 @@ fn has_call(program: &Program, log: &Log, table: u64, writes: bool) -> bool {
     false
 }
 
-// Writes a helper call, with what is known there of its arguments and of freezes.
+// Puts all helper calls.
+fn print_calls(program: &Program, listing: &Listing, log: &Log, page: &mut Page) {
+    for sighting in log.sightings() {
+        if let Some(insn) = program.fetch(sighting.slot) {
+            if let Some(helper) = helper_of(insn) {
+                print_call(listing, log, sighting, insn, helper, page);
+            }
+        }
+    }
+}
+
+// Puts a helper call, with what is known there of its arguments and of freezes.
 fn print_call(
     listing: &Listing,
     log: &Log,
     sighting: &Sighting,
     insn: Insn,
     helper: Helper,
-    out: &mut String,
-) -> Result<(), AllocError> {
-    write!(out, "  slot {}", sighting.slot)?;
+    page: &mut Page,
+) {
+    page.fill("  slot {}", &[sighting.slot as u64]);
     if let Some(written) = listing.at(sighting.slot) {
-        write!(out, ", line {}", written.standing.line)?;
+        page.fill(", line {}", &[written.standing.line as u64]);
     }
-    write!(out, ": {}: ", signature(helper))?;
+    page.text(": ");
+    page.text(signature(helper));
+    page.text(": ");
     let registers = mattering(insn);
     if registers.count() > 0 {
-        put_registers(out, log, &sighting.known, registers)?;
-        out.push_str("; ")?;
+        put_registers(page, log, &sighting.known, registers);
+        page.text("; ");
     }
-    put_held(out, log, &sighting.known)?;
-    writeln!(out)
+    put_held(page, log, &sighting.known);
+    page.text("\n");
 }

@@ -6,7 +6,7 @@ use checked_path::Log;
 use description::Description;
 use helpers::{Asked, Helper, HelperLimits};
 use register_kinds::{Certainty, Kind};
-use std::alloc::AllocError;
+use text_page::Page;
 
 /// How the helpers are written for people, in the order of their numbers.
 const SIGNATURES: [&str; 14] = [
@@ -49,74 +49,65 @@ pub fn asked(helper: Helper) -> [(Reg, Option<Asked>); 3] {
     ]
 }
 
-/// Writes of each argument what is asked, and what is known of it where that is against it.
+/// Puts of each argument what is asked, and what is known of it where that is against it.
 pub fn put_breach(
-    out: &mut String,
+    page: &mut Page,
     log: &Log,
     known: &Description,
     limits: &HelperLimits,
     helper: Helper,
-) -> Result<(), AllocError> {
-    write!(out, "helper {}, {}", helper.number(), signature(helper))?;
+) {
+    page.fill("helper {}, ", &[u64::from(helper.number())]);
+    page.text(signature(helper));
     for (reg, asked) in asked(helper) {
         let Some(asked) = asked else {
             continue;
         };
-        write!(out, "; r{} is asked to be ", reg.number())?;
-        put_asked(out, limits, known, asked)?;
+        page.fill("; r{} is asked to be ", &[u64::from(reg.number())]);
+        put_asked(page, limits, known, asked);
         let kind = known.kind(reg);
-        out.push_str(if is_fit(known, limits, asked, kind) {
+        page.text(if is_fit(known, limits, asked, kind) {
             ", as it is"
         } else {
             ", and is "
-        })?;
+        });
         if !is_fit(known, limits, asked, kind) {
-            put_kind(out, log, known, kind)?;
+            put_kind(page, log, known, kind);
         }
     }
-    Ok(())
 }
 
-// Writes what is asked of an argument.
-fn put_asked(
-    out: &mut String,
-    limits: &HelperLimits,
-    known: &Description,
-    asked: Asked,
-) -> Result<(), AllocError> {
+// Puts what is asked of an argument.
+fn put_asked(page: &mut Page, limits: &HelperLimits, known: &Description, asked: Asked) {
     match asked {
-        Asked::HeldFreeze => out.push_str("a freeze that the run holds, and sure not to be 0")?,
-        Asked::Word => out.push_str("a number")?,
-        Asked::Room { bytes } => write!(
-            out,
-            "an address with {bytes} bytes of a live frame behind it"
-        )?,
-        Asked::Bytes => out.push_str(
+        Asked::HeldFreeze => page.text("a freeze that the run holds, and sure not to be 0"),
+        Asked::Word => page.text("a number"),
+        Asked::Room { bytes } => page.fill(
+            "an address with {} bytes of a live frame behind it",
+            &[u64::from(bytes)],
+        ),
+        Asked::Bytes => page.text(
             "the address of so many written bytes of a live frame as r2 may say",
-        )?,
-        _ => put_range(out, range(limits, known, asked), asked)?,
+        ),
+        _ => put_range(page, range(limits, known, asked), asked),
     }
-    Ok(())
 }
 
-// Writes a range that is asked for.
-fn put_range(out: &mut String, range: Option<(u64, u64)>, asked: Asked) -> Result<(), AllocError> {
-    out.push_str(match asked {
+// Puts a range that is asked for.
+fn put_range(page: &mut Page, range: Option<(u64, u64)>, asked: Asked) {
+    page.text(match asked {
         Asked::Queue => "a queue",
         Asked::Table => "a table",
         Asked::Index => "an index",
         _ => "a number",
-    })?;
+    });
     match range {
-        Some((least, most)) if least == most => write!(out, ", which is {least}"),
-        Some((least, most)) => write!(out, ", {least} to {most}"),
-        None => {
-            out.push_str(match asked {
-                Asked::Index => " of a table that is known by one number in r1",
-                _ => ", of which there is none",
-            })?;
-            Ok(())
-        }
+        Some((least, most)) if least == most => page.fill(", which is {}", &[least]),
+        Some((least, most)) => page.fill(", {} to {}", &[least, most]),
+        None => page.text(match asked {
+            Asked::Index => " of a table that is known by one number in r1",
+            _ => ", of which there is none",
+        }),
     }
 }
 

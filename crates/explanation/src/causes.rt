@@ -10,104 +10,78 @@ use checked_path::{Open, Registers};
 use description::Description;
 use helpers::Helper;
 use register_kinds::{Cause, Kind, Region};
-use std::alloc::AllocError;
+use text_page::Page;
 
-/// Writes what breaks the rule, where that is known before the instruction.
-pub fn put_values(
-    out: &mut String,
-    told: &Told<'_>,
-    cause: Cause,
-    insn: Insn,
-    known: &Description,
-) -> Result<(), AllocError> {
+/// Puts what breaks the rule, where that is known before the instruction.
+pub fn put_values(page: &mut Page, told: &Told<'_>, cause: Cause, insn: Insn, known: &Description) {
     match cause {
-        Cause::UnwrittenRegister => put_unwritten(out, insn, known),
-        Cause::UnwrittenByte => put_bytes(out, told, insn, known),
+        Cause::UnwrittenRegister => put_unwritten(page, insn, known),
+        Cause::UnwrittenByte => put_bytes(page, told, insn, known),
         Cause::AccessOutside | Cause::StoreToContext | Cause::AddressStored => {
-            put_access(out, told, insn, known)
+            put_access(page, told, insn, known)
         }
-        Cause::AddressAsNumber => { put_registers(out, told.log, known, Registers::read_by(insn)) }
-        Cause::UnknownHelper => put_number(out, told, insn),
-        Cause::ArgumentAgainstRule => put_arguments(out, told, insn, known),
-        Cause::FreezeHeld | Cause::TooManyFreezes => put_held(out, told.log, known),
-        Cause::NotDisposed => put_text(
-            out,
+        Cause::AddressAsNumber => { put_registers(page, told.log, known, Registers::read_by(insn)) }
+        Cause::UnknownHelper => put_number(page, told, insn),
+        Cause::ArgumentAgainstRule => put_arguments(page, told, insn, known),
+        Cause::FreezeHeld | Cause::TooManyFreezes => put_held(page, told.log, known),
+        Cause::NotDisposed => page.text(
             "neither requeue (4) nor finish (5) was called on the way here",
         ),
-        Cause::DisposedTwice => put_text(
-            out,
+        Cause::DisposedTwice => page.text(
             "requeue (4) or finish (5) was called on the way here already",
         ),
-        Cause::PathsDisagree => Ok(()),
-        Cause::NoResult => put_registers(out, told.log, known, Registers::only(Reg::R0)),
+        Cause::PathsDisagree => {}
+        Cause::NoResult => put_registers(page, told.log, known, Registers::only(Reg::R0)),
     }
 }
 
-fn put_text(out: &mut String, text: &str) -> Result<(), AllocError> {
-    out.push_str(text)?;
-    Ok(())
-}
-
-// Writes which registers are read and may be unwritten.
-fn put_unwritten(out: &mut String, insn: Insn, known: &Description) -> Result<(), AllocError> {
+// Puts which registers are read and may be unwritten.
+fn put_unwritten(page: &mut Page, insn: Insn, known: &Description) {
     let mut count = 0u32;
     for number in 0u8..11 {
         let Some(reg) = Reg::from_number(number) else {
             continue;
         };
         if mattering(insn).has(reg) && !known.kind(reg).is_written() {
-            out.push_str(if count > 0 { ", " } else { "" })?;
-            write!(
-                out,
-                "r{number} is read, and on some path here it is unwritten, or of another kind than on others"
-            )?;
+            page.text(if count > 0 { ", " } else { "" });
+            page.fill(
+                "r{} is read, and on some path here it is unwritten, or of another kind than on others",
+                &[u64::from(number)],
+            );
             count = count.saturating_add(1);
         }
     }
-    Ok(())
 }
 
-// Writes which bytes are read and may be unwritten.
-fn put_bytes(
-    out: &mut String,
-    told: &Told<'_>,
-    insn: Insn,
-    known: &Description,
-) -> Result<(), AllocError> {
+// Puts which bytes are read and may be unwritten.
+fn put_bytes(page: &mut Page, told: &Told<'_>, insn: Insn, known: &Description) {
     match insn {
         Insn::Load {
             form,
             src,
             offset,
             ..
-        } => put_unwritten_bytes(out, known, known.kind(src), offset, load_bytes(form)),
-        _ => put_arguments(out, told, insn, known),
+        } => put_unwritten_bytes(page, known, known.kind(src), offset, load_bytes(form)),
+        _ => put_arguments(page, told, insn, known),
     }
 }
 
-// Writes which of so many bytes behind an address may be unwritten.
-fn put_unwritten_bytes(
-    out: &mut String,
-    known: &Description,
-    base: Kind,
-    offset: i16,
-    count: u16,
-) -> Result<(), AllocError> {
+// Puts which of so many bytes behind an address may be unwritten.
+fn put_unwritten_bytes(page: &mut Page, known: &Description, base: Kind, offset: i16, count: u16) {
     let Kind::Address(Region::Frame(frame), offsets) = base else {
-        return Ok(());
+        return;
     };
     let first = moved(offsets.least, offset);
     let end = moved(offsets.most, offset).saturating_add(count);
-    out.push_str("unwritten on some path here:")?;
+    page.text("unwritten on some path here:");
     let mut told = 0u32;
     for byte in first..end.min(512) {
         if !is_written(known, frame, byte) && told < 8 {
-            out.push_str(" ")?;
-            put_place(out, byte)?;
+            page.text(" ");
+            put_place(page, byte);
             told = told.saturating_add(1);
         }
     }
-    Ok(())
 }
 
 // An offset in a frame, moved.
@@ -121,13 +95,8 @@ fn is_written(known: &Description, frame: u8, offset: u16) -> bool {
     frame < known.stack.depth() && offset < 512 && known.stack.is_written(frame, offset, offset, 1)
 }
 
-// Writes through what an instruction reads or writes memory, and how many bytes.
-fn put_access(
-    out: &mut String,
-    told: &Told<'_>,
-    insn: Insn,
-    known: &Description,
-) -> Result<(), AllocError> {
+// Puts through what an instruction reads or writes memory, and how many bytes.
+fn put_access(page: &mut Page, told: &Told<'_>, insn: Insn, known: &Description) {
     match insn {
         Insn::Load {
             form,
@@ -135,8 +104,8 @@ fn put_access(
             offset,
             ..
         } => {
-            put_bytes_at(out, "read", load_bytes(form), src, offset)?;
-            put_base(out, told, known, src)
+            put_bytes_at(page, " bytes are read at r", load_bytes(form), src, offset);
+            put_base(page, told, known, src)
         }
         Insn::Store {
             size,
@@ -144,115 +113,100 @@ fn put_access(
             src,
             offset,
         } => {
-            put_bytes_at(out, "written", store_bytes(size), dst, offset)?;
-            put_base(out, told, known, dst)?;
-            put_stored(out, told, known, src)
+            put_bytes_at(
+                page,
+                " bytes are written at r",
+                store_bytes(size),
+                dst,
+                offset,
+            );
+            put_base(page, told, known, dst);
+            put_stored(page, told, known, src)
         }
-        Insn::Call(_) => put_arguments(out, told, insn, known),
-        _ => put_registers(out, told.log, known, Registers::read_by(insn)),
+        Insn::Call(_) => put_arguments(page, told, insn, known),
+        _ => put_registers(page, told.log, known, Registers::read_by(insn)),
     }
 }
 
-fn put_bytes_at(
-    out: &mut String,
-    what: &str,
-    count: u16,
-    base: Reg,
-    offset: i16,
-) -> Result<(), AllocError> {
-    write!(out, "{count} bytes are {what} at r{}", base.number())?;
+fn put_bytes_at(page: &mut Page, what: &str, count: u16, base: Reg, offset: i16) {
+    page.number(u64::from(count));
+    page.text(what);
+    page.number(u64::from(base.number()));
+    page.text(if offset > 0 { "+" } else { "" });
     if offset != 0 {
-        write!(out, "{offset:+}")?;
+        page.signed(i64::from(offset));
     }
-    out.push_str("; ")?;
-    Ok(())
+    page.text("; ");
 }
 
-fn put_base(
-    out: &mut String,
-    told: &Told<'_>,
-    known: &Description,
-    reg: Reg,
-) -> Result<(), AllocError> {
-    put_registers(out, told.log, known, Registers::only(reg))?;
+fn put_base(page: &mut Page, told: &Told<'_>, known: &Description, reg: Reg) {
+    put_registers(page, told.log, known, Registers::only(reg));
     match known.kind(reg) {
-        Kind::Address(Region::Context, _) => put_text(
-            out,
+        Kind::Address(Region::Context, _) => page.text(
             ", of a context of 96 bytes that is only read",
         ),
-        Kind::Address(Region::Frame(_), _) => put_text(out, ", of a frame that ends at r10"),
-        _ => put_text(out, ", which is no address"),
+        Kind::Address(Region::Frame(_), _) => page.text(", of a frame that ends at r10"),
+        _ => page.text(", which is no address"),
     }
 }
 
-fn put_stored(
-    out: &mut String,
-    told: &Told<'_>,
-    known: &Description,
-    src: Operand,
-) -> Result<(), AllocError> {
+fn put_stored(page: &mut Page, told: &Told<'_>, known: &Description, src: Operand) {
     let Operand::Register(reg) = src else {
-        return Ok(());
+        return;
     };
-    write!(out, "; r{} = ", reg.number())?;
-    put_kind(out, told.log, known, known.kind(reg))
+    page.fill("; r{} = ", &[u64::from(reg.number())]);
+    put_kind(page, told.log, known, known.kind(reg));
 }
 
-// Writes the number of a helper that there is not.
-fn put_number(out: &mut String, told: &Told<'_>, insn: Insn) -> Result<(), AllocError> {
-    match insn {
-        Insn::Call(Callee::Helper(number)) => write!(
-            out,
-            "helper {number} is called; this manifest's programs have helpers 1 to {}",
-            told.limits.helpers.count()
-        ),
-        _ => Ok(()),
+// Puts the number of a helper that there is not.
+fn put_number(page: &mut Page, told: &Told<'_>, insn: Insn) {
+    if let Insn::Call(Callee::Helper(number)) = insn {
+        page.text("helper ");
+        page.signed(i64::from(number));
+        page.fill(
+            " is called; this manifest's programs have helpers 1 to {}",
+            &[u64::from(told.limits.helpers.count())],
+        );
     }
 }
 
-fn put_arguments(
-    out: &mut String,
-    told: &Told<'_>,
-    insn: Insn,
-    known: &Description,
-) -> Result<(), AllocError> {
+fn put_arguments(page: &mut Page, told: &Told<'_>, insn: Insn, known: &Description) {
     match helper_of(insn) {
         Some(helper) => {
-            put_breach(out, told.log, known, told.limits, helper)?;
-            put_traced(out, known, helper)
+            put_breach(page, told.log, known, told.limits, helper);
+            put_traced(page, known, helper)
         }
-        None => Ok(()),
+        None => {}
     }
 }
 
-// Writes which bytes may be unwritten that are to be traced.
-fn put_traced(out: &mut String, known: &Description, helper: Helper) -> Result<(), AllocError> {
+// Puts which bytes may be unwritten that are to be traced.
+fn put_traced(page: &mut Page, known: &Description, helper: Helper) {
     if !matches!(helper, Helper::Trace) {
-        return Ok(());
+        return;
     }
     match known.kind(Reg::R2) {
         Kind::Number(length) if length.most() <= 64 => {
-            out.push_str("; ")?;
-            put_unwritten_bytes(out, known, known.kind(Reg::R1), 0, length.most() as u16)
+            page.text("; ");
+            put_unwritten_bytes(page, known, known.kind(Reg::R1), 0, length.most() as u16)
         }
-        _ => Ok(()),
+        _ => {}
     }
 }
 
-/// Writes what one of the ways says that disagree.
-pub fn put_side(out: &mut String, told: &Told<'_>, open: &Open) -> Result<(), AllocError> {
+/// Puts what one of the ways says that disagree.
+pub fn put_side(page: &mut Page, told: &Told<'_>, open: &Open) {
     let from = match told.log.sightings().get(open.from) {
         Some(sighting) => sighting.slot,
         None => 0,
     };
-    write!(out, "  = from slot {from}: ")?;
-    put_held(out, told.log, &open.known)?;
-    out.push_str(if open.known.disposed {
-        ", the CCB disposed of"
+    page.fill("  = from slot {}: ", &[from as u64]);
+    put_held(page, told.log, &open.known);
+    page.text(if open.known.disposed {
+        ", the CCB disposed of\n"
     } else {
-        ", the CCB not disposed of"
-    })?;
-    writeln!(out)
+        ", the CCB not disposed of\n"
+    });
 }
 
 fn load_bytes(form: LoadForm) -> u16 {

@@ -2,26 +2,33 @@
 
 use crate::mending::mend;
 use refusal_codes::Code;
-use std::alloc::AllocError;
+use text_page::Page;
 
 /// The code with which a fault's text begins.
 pub fn code_in(text: &str) -> Option<Code> {
     Code::of(text.split(' ').next()?)
 }
 
-/// Writes the rule that a code stands for.
-pub fn put_rule(out: &mut String, code: Code) -> Result<(), AllocError> {
-    writeln!(out, "  = rule {code}: {}", code.explanation().meaning)
+/// Puts the rule that a code stands for.
+pub fn put_rule(page: &mut Page, code: Code) {
+    page.text("  = rule ");
+    page.shown(&code);
+    page.text(": ");
+    page.text(code.explanation().meaning);
+    page.text("\n");
 }
 
-/// Writes its commonest cause, and how it is usually mended.
-pub fn put_mending(out: &mut String, code: Code) -> Result<(), AllocError> {
-    writeln!(out, "  = most often: {}", code.explanation().cause)?;
-    writeln!(out, "  = to mend it: {}", mend(code))
+/// Puts its commonest cause, and how it is usually mended.
+pub fn put_mending(page: &mut Page, code: Code) {
+    page.text("  = most often: ");
+    page.text(code.explanation().cause);
+    page.text("\n  = to mend it: ");
+    page.text(mend(code));
+    page.text("\n");
 }
 
-/// Writes all three.
-pub fn print(out: &mut String, code: Code) -> Result<(), AllocError> {
-    put_rule(out, code)?;
-    put_mending(out, code)
+/// Puts all three.
+pub fn print(page: &mut Page, code: Code) {
+    put_rule(page, code);
+    put_mending(page, code);
 }

@@ -8,6 +8,7 @@ use crate::{accepting, refusing};
 use base::OrMemory;
 use manifest::{Manifest, ManifestFault};
 use std::alloc::{AllocError, Global};
+use text_page::Page;
 
 /// A verdict, and what there is to say beside it: lines of text.
 #[derive(Drop)]
@@ -21,10 +22,11 @@ pub struct Explanation {
 pub fn explain(alloc: Global, path: &str, text: &str) -> Result<Explanation, AllocError>
     ensures { IfOk result (λ told. MatchResult told.verdict (λ manifest. Means text.now manifest.config (map named_seen manifest.programs.items)) (HasFault text.now)) }
 {
-    let mut told = String::new(alloc);
     match manifest::read(alloc, text) {
         Ok(manifest) => {
-            accepting::print(alloc, text, &manifest, &mut told)?;
+            let mut page = Page::new(alloc);
+            accepting::print(alloc, text, &manifest, &mut page)?;
+            let told = page.finish()?;
             Ok(Explanation {
                 verdict: Ok(manifest),
                 text: told,
@@ -32,7 +34,9 @@ pub fn explain(alloc: Global, path: &str, text: &str) -> Result<Explanation, All
         }
         Err(OrMemory::OutOfMemory) => Err(AllocError),
         Err(OrMemory::Fault(fault)) => {
-            refusing::print(alloc, path, text, &fault, &mut told)?;
+            let mut page = Page::new(alloc);
+            refusing::print(alloc, path, text, &fault, &mut page)?;
+            let told = page.finish()?;
             Ok(Explanation {
                 verdict: Err(fault),
                 text: told,

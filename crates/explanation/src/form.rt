@@ -9,6 +9,7 @@ use manifest_form::{Plan, has_lawful_numbers};
 use manifest_layout::{Entry, Layout, Span};
 use std::alloc::{AllocError, Global};
 use strsim::levenshtein;
+use text_page::Page;
 use toml::Value;
 use toml_parser::{ParseError, Scalar, quoted, starts_string, unquoted};
 
@@ -20,7 +21,7 @@ const MOST: usize = 64;
 
 const MOST_TABLES: usize = 16;
 
-/// Writes which key, which type or which number is wrong in a manifest that has such a fault.
+/// Puts which key, which type or which number is wrong in a manifest that has such a fault.
 pub fn print(
     alloc: Global,
     path: &str,
@@ -28,13 +29,13 @@ pub fn print(
     layout: &Layout,
     document: &Value,
     fault: &ManifestFault,
-    out: &mut String,
+    page: &mut Page,
 ) -> Result<(), AllocError> {
     let is_second = !matches!(document.get("version"), Some(Value::Integer(1)));
     match fault {
-        ManifestFault::Key => print_key(alloc, path, text, layout, is_second, out),
-        ManifestFault::Form => print_form(alloc, path, text, layout, is_second, out),
-        _ => print_range(alloc, path, text, layout, is_second, out),
+        ManifestFault::Key => print_key(alloc, path, text, layout, is_second, page),
+        ManifestFault::Form => print_form(alloc, path, text, layout, is_second, page),
+        _ => print_range(alloc, path, text, layout, is_second, page),
     }
 }
 
@@ -46,75 +47,72 @@ fn table_of<'a>(layout: &'a Layout, entry: &Entry) -> &'a str {
     }
 }
 
-// Writes which key is not known, or is missing.
+// Puts which key is not known, or is missing.
 fn print_key(
     alloc: Global,
     path: &str,
     text: &str,
     layout: &Layout,
     is_second: bool,
-    out: &mut String,
+    page: &mut Page,
 ) -> Result<(), AllocError> {
     for entry in &layout.entries {
         let table = table_of(layout, entry);
-        if is_table(table) && find(table, entry.name.as_str(), is_second).is_none() {
-            excerpt::print(out, path, text, entry.key)?;
-            write!(
-                out,
-                "  = here: {} has no key `{}`",
-                called(table),
-                entry.name.as_str()
-            )?;
-            put_nearest_key(alloc, out, table, entry.name.as_str(), is_second)?;
-            return writeln!(out);
+        let name = entry.name.as_str();
+        if is_table(table) && find(table, name, is_second).is_none() {
+            excerpt::print(page, path, text, entry.key);
+            return put_unknown(alloc, page, table, name, is_second);
         }
     }
     for table in &layout.tables {
         if !is_table(table.name.as_str()) {
-            excerpt::print(out, path, text, table.span)?;
-            write!(
-                out,
-                "  = here: the manifest has no key `{}`",
-                table.name.as_str()
-            )?;
-            put_nearest_key(alloc, out, "", table.name.as_str(), is_second)?;
-            return writeln!(out);
+            excerpt::print(page, path, text, table.span);
+            return put_unknown(alloc, page, "", table.name.as_str(), is_second);
         }
     }
-    print_missing(path, text, layout, is_second, out)
+    print_missing(path, text, layout, is_second, page);
+    Ok(())
 }
 
-// Writes which key is missing.
-fn print_missing(
-    path: &str,
-    text: &str,
-    layout: &Layout,
+// Puts that a table has no key of that name, and which is near.
+fn put_unknown(
+    alloc: Global,
+    page: &mut Page,
+    table: &str,
+    name: &str,
     is_second: bool,
-    out: &mut String,
 ) -> Result<(), AllocError> {
+    page.text("  = here: ");
+    page.text(called(table));
+    page.text(" has no key `");
+    page.foreign(name);
+    page.text("`");
+    put_near(page, nearest_key(alloc, table, name, is_second)?);
+    Ok(())
+}
+
+// Puts which key is missing.
+fn print_missing(path: &str, text: &str, layout: &Layout, is_second: bool, page: &mut Page) {
     for (place, table) in layout.tables.iter().enumerate() {
         let name = table.name.as_str();
         for key in &KEYS {
             if key.table == name && key.must_stand(is_second) && !stands(layout, place, key) {
-                excerpt::print(out, path, text, table.span)?;
-                return writeln!(
-                    out,
-                    "  = here: the key `{}` of {} is missing",
-                    key.name,
-                    called(name)
-                );
+                excerpt::print(page, path, text, table.span);
+                page.text("  = here: the key `");
+                page.text(key.name);
+                page.text("` of ");
+                page.foreign(called(name));
+                page.text(" is missing\n");
+                return;
             }
         }
         let sources = count_either(layout, place, name);
         if name == "program" && sources != 1 {
-            excerpt::print(out, path, text, table.span)?;
-            return writeln!(
-                out,
-                "  = here: a program has either `asm` or `code`, just one of them"
-            );
+            excerpt::print(page, path, text, table.span);
+            page.text("  = here: a program has either `asm` or `code`, just one of them\n");
+            return;
         }
     }
-    Ok(())
 }
 
 // Whether a key stands in that table, or tables of its name have headers.
@@ -131,14 +129,13 @@ fn count_either(layout: &Layout, table: usize, name: &str) -> usize {
         .count()
 }
 
-// Writes the key of a table that is nearest to a word, if one is near.
-fn put_nearest_key(
+// The key of a table that is nearest to a word; nothing if none is near.
+fn nearest_key(
     alloc: Global,
-    out: &mut String,
     table: &str,
     word: &str,
     is_second: bool,
-) -> Result<(), AllocError> {
+) -> Result<&'static str, AllocError> {
     let mut nearest = KEYS.len();
     let mut least = NEAR + 1;
     for (place, key) in KEYS.iter().enumerate() {
@@ -150,36 +147,37 @@ fn put_nearest_key(
             }
         }
     }
-    match KEYS.get(nearest) {
-        Some(key) => put_near(out, key.name),
-        None => Ok(()),
-    }
+    Ok(match KEYS.get(nearest) {
+        Some(key) => key.name,
+        None => "",
+    })
 }
 
-fn put_near(out: &mut String, name: &str) -> Result<(), AllocError> {
+// Puts that a name is near, if one is, and ends the line.
+fn put_near(page: &mut Page, name: &str) {
     if !name.is_empty() {
-        write!(out, "; `{name}` is near")?;
+        page.text("; `");
+        page.foreign(name);
+        page.text("` is near");
     }
-    Ok(())
+    page.text("\n");
 }
 
-// Writes which value is of another type.
+// Puts which value is of another type.
 fn print_form(
     alloc: Global,
     path: &str,
     text: &str,
     layout: &Layout,
     is_second: bool,
-    out: &mut String,
+    page: &mut Page,
 ) -> Result<(), AllocError> {
     for table in &layout.tables {
         let name = table.name.as_str();
         if !name.is_empty() && is_single(text, table.span) {
-            excerpt::print(out, path, text, table.span)?;
-            return writeln!(
-                out,
-                "  = here: there may be several of {name}: its header has two brackets, [[{name}]]"
-            );
+            excerpt::print(page, path, text, table.span);
+            put_single(page, name);
+            return Ok(());
         }
     }
     for entry in &layout.entries {
@@ -188,13 +186,21 @@ fn print_form(
         };
         let value = written(text, entry.value);
         if !is_of_form(alloc, key.wants, value)? {
-            excerpt::print(out, path, text, entry.value)?;
-            write!(out, "  = here: `{}` is ", key.name)?;
-            put_wants(out, key.wants)?;
-            return writeln!(out);
+            excerpt::print(page, path, text, entry.value);
+            put_wants(page, key);
+            return Ok(());
         }
     }
     Ok(())
+}
+
+// Puts that tables of that name want a header in two pairs of brackets.
+fn put_single(page: &mut Page, name: &str) {
+    page.text("  = here: there may be several of ");
+    page.foreign(name);
+    page.text(": its header has two brackets, [[");
+    page.foreign(name);
+    page.text("]]\n");
 }
 
 // Whether it is a header in one pair of brackets.
@@ -245,35 +251,39 @@ fn is_of_code(byte: u8) -> bool {
     matches!(byte, b'0'..=b'9' | b'a'..=b'f' | b' ' | b'\t' | b'\n')
 }
 
-// Writes of which type a value is.
-fn put_wants(out: &mut String, wants: Wants) -> Result<(), AllocError> {
-    match wants {
-        Wants::Number { least, most } => write!(out, "a whole number, {least} to {most}"),
-        Wants::Text => {
-            out.push_str("a text in quotes")?;
-            Ok(())
+// Puts of which type the value of a key is.
+fn put_wants(page: &mut Page, key: &Key) {
+    page.text("  = here: `");
+    page.text(key.name);
+    page.text("` is ");
+    match key.wants {
+        Wants::Number { least, most } => {
+            page.text("a whole number, ");
+            put_between(page, least, most);
         }
-        Wants::Code => {
-            out.push_str(
-                "a text of pairs of the digits 0 to 9 and a to f, with blanks and line feeds between them",
-            )?;
-            Ok(())
-        }
-        Wants::Tables => {
-            out.push_str("an array of tables")?;
-            Ok(())
-        }
+        Wants::Text => page.text("a text in quotes"),
+        Wants::Code => page.text(
+            "a text of pairs of the digits 0 to 9 and a to f, with blanks and line feeds between them",
+        ),
+        Wants::Tables => page.text("an array of tables"),
     }
+    page.text("\n");
 }
 
-// Writes which number is out of its range.
+fn put_between(page: &mut Page, least: i64, most: i64) {
+    page.signed(least);
+    page.text(" to ");
+    page.signed(most);
+}
+
+// Puts which number is out of its range.
 fn print_range(
     alloc: Global,
     path: &str,
     text: &str,
     layout: &Layout,
     is_second: bool,
-    out: &mut String,
+    page: &mut Page,
 ) -> Result<(), AllocError> {
     let controllers = match layout.entry(0, "controllers") {
         Some(entry) => number_in(alloc, written(text, entry.value))?,
@@ -288,12 +298,15 @@ fn print_range(
         };
         match number_in(alloc, written(text, entry.value))? {
             Some(number) if number < least || most < number => {
-                excerpt::print(out, path, text, entry.value)?;
-                return writeln!(
-                    out,
-                    "  = here: `{}` is {least} to {most}, and not {number}",
-                    key.name
-                );
+                excerpt::print(page, path, text, entry.value);
+                page.text("  = here: `");
+                page.text(key.name);
+                page.text("` is ");
+                put_between(page, least, most);
+                page.text(", and not ");
+                page.signed(number);
+                page.text("\n");
+                return Ok(());
             }
             _ => {}
         }
@@ -312,30 +325,25 @@ fn range_of(key: &Key, controllers: Option<i64>) -> Option<(i64, i64)> {
     }
 }
 
-/// Writes what is wrong with a manifest whose keys, types and ranges are lawful: how many tables there are, or a name.
+/// Puts what is wrong with a manifest whose keys, types and ranges are lawful: how many tables there are, or a name.
 pub fn print_plan(
     alloc: Global,
     path: &str,
     text: &str,
     layout: &Layout,
     plan: &Plan<'_>,
-    out: &mut String,
+    page: &mut Page,
 ) -> Result<(), AllocError> {
     if has_lawful_numbers(plan) {
-        print_names(alloc, path, text, layout, plan, out)
+        print_names(alloc, path, text, layout, plan, page)
     } else {
-        print_count(path, text, layout, plan, out)
+        print_count(path, text, layout, plan, page);
+        Ok(())
     }
 }
 
-// Writes of what there is none, or there are too many.
-fn print_count(
-    path: &str,
-    text: &str,
-    layout: &Layout,
-    plan: &Plan<'_>,
-    out: &mut String,
-) -> Result<(), AllocError> {
+// Puts of what there is none, or there are too many.
+fn print_count(path: &str, text: &str, layout: &Layout, plan: &Plan<'_>, page: &mut Page) {
     let counts = [
         ("queue", plan.queues.len(), 1usize, MOST),
         ("program", plan.programs.len(), 1usize, MOST),
@@ -347,24 +355,23 @@ fn print_count(
                 Some(table) => table_span(layout, table),
                 None => Span { start: 0, end: 0 },
             };
-            excerpt::print(out, path, text, place)?;
-            return writeln!(
-                out,
-                "  = here: there are {count} of {name}, and may be {least} to {most}"
-            );
+            excerpt::print(page, path, text, place);
+            page.fill("  = here: there are {} of ", &[count as u64]);
+            page.text(name);
+            page.fill(", and may be {} to {}\n", &[least as u64, most as u64]);
+            return;
         }
     }
-    Ok(())
 }
 
-// Writes which name is not of the form, is there twice, or is of no program.
+// Puts which name is not of the form, is there twice, or is of no program.
 fn print_names(
     alloc: Global,
     path: &str,
     text: &str,
     layout: &Layout,
     plan: &Plan<'_>,
-    out: &mut String,
+    page: &mut Page,
 ) -> Result<(), AllocError> {
     for (number, program) in plan.programs.iter().enumerate() {
         let twice = plan
@@ -373,21 +380,14 @@ fn print_names(
             .take(number)
             .any(|other| other.name == program.name);
         if twice || !is_name(program.name) {
-            excerpt::print(
-                out,
-                path,
-                text,
-                value_span(layout, "program", number, "name"),
-            )?;
-            return writeln!(
-                out,
-                "{}",
-                if twice {
-                    "  = here: an earlier program has this name"
-                } else {
-                    "  = here: a name has 1 to 32 of the characters a to z, 0 to 9, `_` and `-`"
-                }
-            );
+            let place = value_span(layout, "program", number, "name");
+            excerpt::print(page, path, text, place);
+            page.text(if twice {
+                "  = here: an earlier program has this name\n"
+            } else {
+                "  = here: a name has 1 to 32 of the characters a to z, 0 to 9, `_` and `-`\n"
+            });
+            return Ok(());
         }
     }
     for (number, queue) in plan.queues.iter().enumerate() {
@@ -396,15 +396,11 @@ fn print_names(
             .iter()
             .any(|program| program.name == queue.program)
         {
-            excerpt::print(
-                out,
-                path,
-                text,
-                value_span(layout, "queue", number, "program"),
-            )?;
-            write!(out, "  = here: no program has this name")?;
-            put_nearest_program(alloc, out, plan, queue.program)?;
-            return writeln!(out);
+            let place = value_span(layout, "queue", number, "program");
+            excerpt::print(page, path, text, place);
+            page.text("  = here: no program has this name");
+            put_near(page, nearest_program(alloc, plan, queue.program)?);
+            return Ok(());
         }
     }
     Ok(())
@@ -415,13 +411,8 @@ fn is_name(name: &str) -> bool {
         && name.bytes().all(|byte| matches!(byte, b'a'..=b'z' | b'0'..=b'9' | b'_' | b'-'))
 }
 
-// Writes the program whose name is nearest, if one is near.
-fn put_nearest_program(
-    alloc: Global,
-    out: &mut String,
-    plan: &Plan<'_>,
-    word: &str,
-) -> Result<(), AllocError> {
+// The program whose name is nearest to a word; nothing if none is near.
+fn nearest_program<'a>(alloc: Global, plan: &Plan<'a>, word: &str) -> Result<&'a str, AllocError> {
     let mut nearest = "";
     let mut least = NEAR + 1;
     for program in &plan.programs {
@@ -431,5 +422,5 @@ fn put_nearest_program(
             nearest = program.name;
         }
     }
-    put_near(out, nearest)
+    Ok(nearest)
 }

@@ -6,7 +6,7 @@ use checked_path::{Log, Registers};
 use description::Description;
 use register_kinds::{Certainty, FreezeName, HeldFreeze, Kind, Offsets, Region};
 use scalar_domain::Scalar;
-use std::alloc::AllocError;
+use text_page::Page;
 
 /// What distinguishes the signed order of words from the unsigned one.
 const SIGN: u64 = 1 << 63;
@@ -14,62 +14,61 @@ const SIGN: u64 = 1 << 63;
 /// How many bytes a frame has: R10 points behind them.
 const FRAME_BYTES: u16 = 512;
 
-/// Writes what is known of a register.
-pub fn put_kind(
-    out: &mut String,
-    log: &Log,
-    known: &Description,
-    kind: Kind,
-) -> Result<(), AllocError> {
+/// Puts what is known of a register.
+pub fn put_kind(page: &mut Page, log: &Log, known: &Description, kind: Kind) {
     match kind {
-        Kind::Unwritten => out.push_str("unwritten, or of several kinds")?,
-        Kind::Number(scalar) => put_number(out, scalar)?,
-        Kind::Address(region, offsets) => put_address(out, known, region, offsets)?,
-        Kind::Freeze(name) => put_copy(out, log, known, name)?,
+        Kind::Unwritten => page.text("unwritten, or of several kinds"),
+        Kind::Number(scalar) => put_number(page, scalar),
+        Kind::Address(region, offsets) => put_address(page, known, region, offsets),
+        Kind::Freeze(name) => put_copy(page, log, known, name),
     }
-    Ok(())
 }
 
-// Writes which numbers these are.
-fn put_number(out: &mut String, scalar: Scalar) -> Result<(), AllocError> {
+// Puts which numbers these are.
+fn put_number(page: &mut Page, scalar: Scalar) {
     let (least, most) = (scalar.least(), scalar.most());
     if least == most {
-        return put_word(out, least);
+        put_word(page, least);
+        return;
     }
     if least == 0 && most == u64::MAX {
-        put_signed(out, scalar)?;
+        put_signed(page, scalar);
     } else {
-        put_word(out, least)?;
-        out.push_str(" to ")?;
-        put_word(out, most)?;
+        put_word(page, least);
+        page.text(" to ");
+        put_word(page, most);
     }
-    put_bits(out, scalar)
+    put_bits(page, scalar);
 }
 
-// Writes a word; one whose sign bit is set as a negative number too.
-fn put_word(out: &mut String, word: u64) -> Result<(), AllocError> {
-    write!(out, "{word}")?;
+// Puts a word; one whose sign bit is set as a negative number too.
+fn put_word(page: &mut Page, word: u64) {
+    page.number(word);
     if word >= SIGN {
-        write!(out, " (signed {})", word.cast_signed())?;
+        page.text(" (signed ");
+        page.signed(word.cast_signed());
+        page.text(")");
     }
-    Ok(())
 }
 
-// Writes the signed range, where that says anything.
-fn put_signed(out: &mut String, scalar: Scalar) -> Result<(), AllocError> {
+// Puts the signed range, where that says anything.
+fn put_signed(page: &mut Page, scalar: Scalar) {
     let (least, most) = (scalar.signed.least, scalar.signed.most);
     if least == 0 && most == u64::MAX {
-        out.push_str("any number")?;
-        return Ok(());
+        page.text("any number");
+        return;
     }
     let least = least.wrapping_sub(SIGN).cast_signed();
     let most = most.wrapping_sub(SIGN).cast_signed();
-    write!(out, "{least} to {most}, signed")
+    page.signed(least);
+    page.text(" to ");
+    page.signed(most);
+    page.text(", signed");
 }
 
-// Writes what the bits are that are known, by a mask, where the range does not say so: those that are alike in all numbers of it are
+// Puts what the bits are that are known, by a mask, where the range does not say so: those that are alike in all numbers of it are
 // left out.
-fn put_bits(out: &mut String, scalar: Scalar) -> Result<(), AllocError> {
+fn put_bits(page: &mut Page, scalar: Scalar) {
     let fixed = !(scalar.bits.must ^ scalar.bits.may);
     let differing = scalar.least() ^ scalar.most();
     let below = match differing.leading_zeros() {
@@ -81,122 +80,99 @@ fn put_bits(out: &mut String, scalar: Scalar) -> Result<(), AllocError> {
     let told = fixed & below;
     if told != 0 {
         let set = scalar.bits.must & told;
-        write!(out, ", bits {told:#x} are {set:#x}")?;
+        page.text(", bits ");
+        page.word(told);
+        page.text(" are ");
+        page.word(set);
     }
-    Ok(())
 }
 
-// Writes where an address lies.
-fn put_address(
-    out: &mut String,
-    known: &Description,
-    region: Region,
-    offsets: Offsets,
-) -> Result<(), AllocError> {
+// Puts where an address lies.
+fn put_address(page: &mut Page, known: &Description, region: Region, offsets: Offsets) {
     match region {
         Region::Context => {
-            write!(out, "address context+{}", offsets.least)?;
+            page.fill("address context+{}", &[u64::from(offsets.least)]);
             if offsets.least != offsets.most {
-                write!(out, " to context+{}", offsets.most)?;
+                page.fill(" to context+{}", &[u64::from(offsets.most)]);
             }
         }
-        Region::Frame(frame) => put_stack_address(out, known, frame, offsets)?,
+        Region::Frame(frame) => put_stack_address(page, known, frame, offsets),
     }
-    Ok(())
 }
 
-fn put_stack_address(
-    out: &mut String,
-    known: &Description,
-    frame: u8,
-    offsets: Offsets,
-) -> Result<(), AllocError> {
-    out.push_str("address ")?;
-    put_place(out, offsets.least)?;
+fn put_stack_address(page: &mut Page, known: &Description, frame: u8, offsets: Offsets) {
+    page.text("address ");
+    put_place(page, offsets.least);
     if offsets.least != offsets.most {
-        out.push_str(" to ")?;
-        put_place(out, offsets.most)?;
+        page.text(" to ");
+        put_place(page, offsets.most);
     }
     if usize::from(frame) + 1 < known.stack.depth() {
-        write!(out, " of frame {frame}, a caller's")?;
+        page.fill(" of frame {}, a caller's", &[u64::from(frame)]);
     }
-    Ok(())
 }
 
-/// Writes an offset in a frame, as a policy has it: from R10.
-pub fn put_place(out: &mut String, offset: u16) -> Result<(), AllocError> {
-    if offset == FRAME_BYTES {
-        out.push_str("r10")?;
-        return Ok(());
+/// Puts an offset in a frame, as a policy has it: from R10.
+pub fn put_place(page: &mut Page, offset: u16) {
+    page.text("r10");
+    if offset != FRAME_BYTES {
+        page.fill("-{}", &[u64::from(FRAME_BYTES.saturating_sub(offset))]);
     }
-    write!(out, "r10-{}", FRAME_BYTES.saturating_sub(offset))
 }
 
-// Writes which freeze it is a copy of.
-fn put_copy(
-    out: &mut String,
-    log: &Log,
-    known: &Description,
-    name: FreezeName,
-) -> Result<(), AllocError> {
-    put_name(out, log, name)?;
+// Puts which freeze it is a copy of.
+fn put_copy(page: &mut Page, log: &Log, known: &Description, name: FreezeName) {
+    put_name(page, log, name);
     match known.held.certainty(name) {
-        Some(Certainty::Sure) => out.push_str(", sure")?,
-        Some(Certainty::Open) => out.push_str(", or 0")?,
-        None => out.push_str(", held no more")?,
+        Some(Certainty::Sure) => page.text(", sure"),
+        Some(Certainty::Open) => page.text(", or 0"),
+        None => page.text(", held no more"),
     }
-    Ok(())
 }
 
-// Writes the name of a freeze: where it was taken.
-fn put_name(out: &mut String, log: &Log, name: FreezeName) -> Result<(), AllocError> {
+// Puts the name of a freeze: where it was taken.
+fn put_name(page: &mut Page, log: &Log, name: FreezeName) {
     match name {
-        FreezeName::Start => out.push_str("the freeze of the start")?,
+        FreezeName::Start => page.text("the freeze of the start"),
         FreezeName::Call(number) => match log.sightings().get(number as usize) {
-            Some(sighting) => write!(out, "the freeze taken at slot {}", sighting.slot)?,
-            None => out.push_str("a freeze")?,
+            Some(sighting) => page.fill("the freeze taken at slot {}", &[sighting.slot as u64]),
+            None => page.text("a freeze"),
         },
     }
-    Ok(())
 }
 
-/// Writes which freezes are held: open ones may be none, sure ones are some.
-pub fn put_held(out: &mut String, log: &Log, known: &Description) -> Result<(), AllocError> {
+/// Puts which freezes are held: open ones may be none, sure ones are some.
+pub fn put_held(page: &mut Page, log: &Log, known: &Description) {
     let held = known.held.as_slice();
     if held.is_empty() {
-        return out.push_str("holds no freeze");
+        page.text("holds no freeze");
+        return;
     }
-    out.push_str("holds ")?;
+    page.text("holds ");
     for (place, freeze) in held.iter().enumerate() {
         if place > 0 {
-            out.push_str(", ")?;
+            page.text(", ");
         }
-        put_freeze(out, log, *freeze)?;
+        put_freeze(page, log, *freeze);
     }
-    Ok(())
 }
 
-fn put_freeze(out: &mut String, log: &Log, freeze: HeldFreeze) -> Result<(), AllocError> {
+fn put_freeze(page: &mut Page, log: &Log, freeze: HeldFreeze) {
     match freeze.name {
-        FreezeName::Start => out.push_str("that of the start")?,
+        FreezeName::Start => page.text("that of the start"),
         FreezeName::Call(number) => match log.sightings().get(number as usize) {
-            Some(sighting) => write!(out, "that of slot {}", sighting.slot)?,
-            None => out.push_str("one")?,
+            Some(sighting) => page.fill("that of slot {}", &[sighting.slot as u64]),
+            None => page.text("one"),
         },
     }
-    out.push_str(match freeze.certainty {
+    page.text(match freeze.certainty {
         Certainty::Sure => " (sure)",
         Certainty::Open => " (open)",
-    })
+    });
 }
 
-/// Writes what is known of these registers, in their order.
-pub fn put_registers(
-    out: &mut String,
-    log: &Log,
-    known: &Description,
-    registers: Registers,
-) -> Result<(), AllocError> {
+/// Puts what is known of these registers, in their order.
+pub fn put_registers(page: &mut Page, log: &Log, known: &Description, registers: Registers) {
     let mut first = true;
     for number in 0u8..11 {
         let Some(reg) = Reg::from_number(number) else {
@@ -206,11 +182,10 @@ pub fn put_registers(
             continue;
         }
         if !first {
-            out.push_str("; ")?;
+            page.text("; ");
         }
         first = false;
-        write!(out, "r{number} = ")?;
-        put_kind(out, log, known, known.kind(reg))?;
+        page.fill("r{} = ", &[u64::from(number)]);
+        put_kind(page, log, known, known.kind(reg));
     }
-    Ok(())
 }

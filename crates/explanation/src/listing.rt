@@ -6,6 +6,7 @@ use bpf_asm::{disassemble, tokens};
 use bpf_insn::Program;
 use manifest_layout::{Span, line_at};
 use std::alloc::{AllocError, Global};
+use text_page::Page;
 
 /// How many bytes a slot has, and how many digits these are.
 const SLOT_BYTES: usize = 8;
@@ -259,14 +260,11 @@ pub fn pairs_of(
 
 /// The bytes of a slot, as pairs of digits.
 pub fn hexadecimal(alloc: Global, bytes: &[u8], slot: usize) -> Result<String, AllocError> {
-    let mut text = String::new(alloc);
+    let mut page = Page::new(alloc);
     let first = slot.saturating_mul(SLOT_BYTES);
     for (place, byte) in bytes.iter().skip(first).take(SLOT_BYTES).enumerate() {
-        if place > 0 {
-            text.push_str(" ")?;
-        }
-        let pair = format!(in alloc; "{byte:02x}")?;
-        text.push_str(pair.as_str())?;
+        page.text(if place > 0 { " " } else { "" });
+        page.byte(*byte);
     }
-    Ok(text)
+    page.finish()
 }

@@ -13,6 +13,7 @@ use helpers::HelperLimits;
 use manifest_layout::Span;
 use register_kinds::Cause;
 use std::alloc::{AllocError, Global};
+use text_page::Page;
 use verifier::{Refusal, verify_before};
 
 /// A program that is told of, with what is needed for that.
@@ -39,29 +40,29 @@ pub fn log_of(alloc: Global, program: &Program, limits: &HelperLimits) -> Result
     }
 }
 
-/// Writes why the program is refused.
+/// Puts why the program is refused.
 pub fn print(
     alloc: Global,
-    out: &mut String,
+    page: &mut Page,
     told: &Told<'_>,
     refusal: Refusal,
 ) -> Result<(), AllocError> {
     let slot = slot_of(refusal);
-    put_place(out, told, slot)?;
+    put_place(page, told, slot);
     let text = format!(in alloc; "{refusal}")?;
     let code = code_in(text.as_str());
     if let Some(code) = code {
-        codes::put_rule(out, code)?;
+        codes::put_rule(page, code);
     }
     match refusal {
-        Refusal::Shape(_) => put_target(out, told, slot)?,
-        Refusal::Check(Cause::PathsDisagree, _) => put_sides(alloc, out, told, slot)?,
-        Refusal::Check(cause, _) => put_check(alloc, out, told, cause)?,
+        Refusal::Shape(_) => put_target(page, told, slot),
+        Refusal::Check(Cause::PathsDisagree, _) => put_sides(alloc, page, told, slot)?,
+        Refusal::Check(cause, _) => put_check(alloc, page, told, cause)?,
     }
-    match code {
-        Some(code) => codes::put_mending(out, code),
-        None => Ok(()),
+    if let Some(code) = code {
+        codes::put_mending(page, code);
     }
+    Ok(())
 }
 
 // The slot that a refusal names.
@@ -86,52 +87,45 @@ fn shape_slot(fault: ShapeFault) -> usize {
     }
 }
 
-// Writes where the instruction of a slot stands, and what it is.
-fn put_place(out: &mut String, told: &Told<'_>, slot: usize) -> Result<(), AllocError> {
-    match told.listing.at(slot) {
-        Some(written) => {
-            excerpt::print(out, told.path, told.text, written.standing.part)?;
-            writeln!(out, "  = slot {slot}: {}", written.text.as_str())
-        }
-        None => {
-            excerpt::print(out, told.path, told.text, told.value)?;
-            writeln!(out, "  = slot {slot}")
-        }
+// Puts where the instruction of a slot stands, and what it is.
+fn put_place(page: &mut Page, told: &Told<'_>, slot: usize) {
+    let (part, text) = match told.listing.at(slot) {
+        Some(written) => (written.standing.part, written.text.as_str()),
+        None => (told.value, ""),
+    };
+    excerpt::print(page, told.path, told.text, part);
+    page.fill("  = slot {}", &[slot as u64]);
+    if !text.is_empty() {
+        page.text(": ");
+        page.foreign(text);
     }
+    page.text("\n");
 }
 
-// Writes where an instruction leads.
-fn put_target(out: &mut String, told: &Told<'_>, slot: usize) -> Result<(), AllocError> {
+// Puts where an instruction leads.
+fn put_target(page: &mut Page, told: &Told<'_>, slot: usize) {
     if slot >= bpf_insn::MAX_SLOTS {
-        return Ok(());
+        return;
     }
     let Some(insn) = told.program.fetch(slot) else {
-        return Ok(());
+        return;
     };
-    let count = told.program.len();
-    match Onward::of(slot, insn) {
-        Onward::Branches(_, to) | Onward::Enters(to, _) => {
-            writeln!(
-                out,
-                "  = here: it leads to slot {to}; the program has slots 0 to {}",
-                count.saturating_sub(1)
-            )
-        }
-        Onward::Continues(to) if matches!(insn, Insn::Jump(_)) => {
-            writeln!(
-                out,
-                "  = here: it leads to slot {to}; the program has slots 0 to {}",
-                count.saturating_sub(1)
-            )
-        }
-        Onward::Continues(_) | Onward::Leaves => Ok(()),
-    }
+    let to = match Onward::of(slot, insn) {
+        Onward::Branches(_, to) | Onward::Enters(to, _) => to,
+        Onward::Continues(to) if matches!(insn, Insn::Jump(_)) => to,
+        Onward::Continues(_) | Onward::Leaves => return,
+    };
+    let last = told.program.len().saturating_sub(1);
+    page.fill(
+        "  = here: it leads to slot {}; the program has slots 0 to {}\n",
+        &[to as u64, last as u64],
+    );
 }
 
-// Writes what is known where the last check failed, and by which path control comes there.
+// Puts what is known where the last check failed, and by which path control comes there.
 fn put_check(
     alloc: Global,
-    out: &mut String,
+    page: &mut Page,
     told: &Told<'_>,
     cause: Cause,
 ) -> Result<(), AllocError> {
@@ -142,33 +136,33 @@ fn put_check(
     let Some(insn) = told.program.fetch(sighting.slot) else {
         return Ok(());
     };
-    out.push_str("  = here: ")?;
-    put_values(out, told, cause, insn, &sighting.known)?;
-    writeln!(out)?;
-    put_path(alloc, out, told, number, insn, None)
+    page.text("  = here: ");
+    put_values(page, told, cause, insn, &sighting.known);
+    page.text("\n");
+    put_path(alloc, page, told, number, insn, None)
 }
 
-// Writes a path to a check, and on to a slot behind it.
+// Puts a path to a check, and on to a slot behind it.
 fn put_path(
     alloc: Global,
-    out: &mut String,
+    page: &mut Page,
     told: &Told<'_>,
     number: usize,
     insn: Insn,
     behind: Option<usize>,
 ) -> Result<(), AllocError> {
     let matter = steps::mattering(insn);
-    let Some(path) = path_to(alloc, told.program, told.log, number, matter)? else {
-        return Ok(());
-    };
-    writeln!(out, "  = path:")?;
-    steps::print(out, told, &path, behind)
+    if let Some(path) = path_to(alloc, told.program, told.log, number, matter)? {
+        page.text("  = path:\n");
+        steps::print(page, told, &path, behind);
+    }
+    Ok(())
 }
 
-// Writes what both ways say that disagree where they join, and by which paths they come there.
+// Puts what both ways say that disagree where they join, and by which paths they come there.
 fn put_sides(
     alloc: Global,
-    out: &mut String,
+    page: &mut Page,
     told: &Told<'_>,
     slot: usize,
 ) -> Result<(), AllocError> {
@@ -179,12 +173,12 @@ fn put_sides(
     let ways = told.log.open();
     for open in ways {
         if open.slot == slot && open.depth == depth {
-            put_side(out, told, open)?;
+            put_side(page, told, open);
         }
     }
     for open in ways {
         if open.slot == slot && open.depth == depth {
-            put_path(alloc, out, told, open.from, Insn::Exit, Some(slot))?;
+            put_path(alloc, page, told, open.from, Insn::Exit, Some(slot))?;
         }
     }
     Ok(())

@@ -14,19 +14,21 @@ use manifest::ManifestFault;
 use manifest_form::{Plan, ProgramEntry, Source};
 use manifest_layout::{Layout, Span, layout};
 use std::alloc::{AllocError, Global};
+use std::fmt::Display;
+use text_page::Page;
 use toml::Value;
 use verifier::Refusal;
 
-/// Writes what there is to say of a manifest, a path and its text, that has that fault.
+/// Puts what there is to say of a manifest, a path and its text, that has that fault.
 pub fn print(
     alloc: Global,
     path: &str,
     text: &str,
     fault: &ManifestFault,
-    out: &mut String,
+    page: &mut Page,
 ) -> Result<(), AllocError> {
     match toml::table_from_str(alloc, text) {
-        Ok(table) => print_document(alloc, path, text, &Value::Table(table), fault, out),
+        Ok(table) => print_document(alloc, path, text, &Value::Table(table), fault, page),
         Err(error) => {
             let part = match error.span() {
                 Some(span) => Span {
@@ -35,19 +37,28 @@ pub fn print(
                 },
                 None => return Err(AllocError),
             };
-            excerpt::print(out, path, text, part)?;
-            writeln!(out, "  = here: {}", error.message())?;
-            put_rule(out, "M1")
+            excerpt::print(page, path, text, part);
+            page.text("  = here: ");
+            page.text(error.message());
+            page.text("\n");
+            put_rule(page, "M1");
+            Ok(())
         }
     }
 }
 
-// Writes what a code means.
-fn put_rule(out: &mut String, text: &str) -> Result<(), AllocError> {
-    match code_in(text) {
-        Some(code) => codes::print(out, code),
-        None => Ok(()),
+// Puts what the code means with which a fault's text begins.
+fn put_rule(page: &mut Page, text: &str) {
+    if let Some(code) = code_in(text) {
+        codes::print(page, code);
     }
+}
+
+// Puts what the code means of a fault.
+fn put_rule_of<T: Display>(alloc: Global, page: &mut Page, fault: &T) -> Result<(), AllocError> {
+    let text = format!(in alloc; "{fault}")?;
+    put_rule(page, text.as_str());
+    Ok(())
 }
 
 // The same of a text that is TOML.
@@ -57,16 +68,15 @@ fn print_document(
     text: &str,
     document: &Value,
     fault: &ManifestFault,
-    out: &mut String,
+    page: &mut Page,
 ) -> Result<(), AllocError> {
     let layout = layout(alloc, text)?;
     match manifest_form::read(alloc, document) {
-        Ok(plan) => print_plan(alloc, path, text, &layout, &plan, fault, out),
+        Ok(plan) => print_plan(alloc, path, text, &layout, &plan, fault, page),
         Err(OrMemory::OutOfMemory) => Err(AllocError),
         Err(OrMemory::Fault(_)) => {
-            form::print(alloc, path, text, &layout, document, fault, out)?;
-            let code = format!(in alloc; "{fault}")?;
-            put_rule(out, code.as_str())
+            form::print(alloc, path, text, &layout, document, fault, page)?;
+            put_rule_of(alloc, page, fault)
         }
     }
 }
@@ -79,13 +89,13 @@ fn print_plan(
     layout: &Layout,
     plan: &Plan<'_>,
     fault: &ManifestFault,
-    out: &mut String,
+    page: &mut Page,
 ) -> Result<(), AllocError> {
     match fault {
         ManifestFault::Undecoded(name, fault) => {
             match named(layout, plan, name.as_str()) {
                 Some((value, entry)) => print_undecoded(
-                    alloc, path, text, value, entry, *fault, out,
+                    alloc, path, text, value, entry, *fault, page,
                 ),
                 None => Ok(()),
             }
@@ -93,7 +103,7 @@ fn print_plan(
         ManifestFault::Unassembled(name, fault) => {
             match named(layout, plan, name.as_str()) {
                 Some((value, entry)) => print_unassembled(
-                    alloc, path, text, value, entry, *fault, out,
+                    alloc, path, text, value, entry, *fault, page,
                 ),
                 None => Ok(()),
             }
@@ -101,15 +111,14 @@ fn print_plan(
         ManifestFault::Unaccepted(name, refusal) => {
             match named(layout, plan, name.as_str()) {
                 Some((value, entry)) => print_unaccepted(
-                    alloc, path, text, value, plan, entry, *refusal, out,
+                    alloc, path, text, value, plan, entry, *refusal, page,
                 ),
                 None => Ok(()),
             }
         }
         _ => {
-            form::print_plan(alloc, path, text, layout, plan, out)?;
-            let code = format!(in alloc; "{fault}")?;
-            put_rule(out, code.as_str())
+            form::print_plan(alloc, path, text, layout, plan, page)?;
+            put_rule_of(alloc, page, fault)
         }
     }
 }
@@ -132,7 +141,7 @@ fn named<'a, 'b>(
     None
 }
 
-// Writes why bytes are no program.
+// Puts why bytes are no program.
 fn print_undecoded(
     alloc: Global,
     path: &str,
@@ -140,27 +149,28 @@ fn print_undecoded(
     value: Span,
     entry: &ProgramEntry<'_>,
     fault: DecodeFault,
-    out: &mut String,
+    page: &mut Page,
 ) -> Result<(), AllocError> {
     let Source::Code(bytes) = &entry.source else {
         return Ok(());
     };
     match fault {
         DecodeFault::At { slot, .. } => {
-            excerpt::print(out, path, text, pairs_of(alloc, text, value, slot)?)?;
+            excerpt::print(page, path, text, pairs_of(alloc, text, value, slot)?);
             let pairs = hexadecimal(alloc, bytes, slot)?;
-            writeln!(out, "  = slot {slot}: {}", pairs.as_str())?;
+            page.fill("  = slot {}: ", &[slot as u64]);
+            page.text(pairs.as_str());
+            page.text("\n");
         }
         _ => {
-            excerpt::print(out, path, text, value)?;
-            writeln!(out, "  = here: {} bytes", bytes.len())?;
+            excerpt::print(page, path, text, value);
+            page.fill("  = here: {} bytes\n", &[bytes.len() as u64]);
         }
     }
-    let code = format!(in alloc; "{fault}")?;
-    put_rule(out, code.as_str())
+    put_rule_of(alloc, page, &fault)
 }
 
-// Writes why a text is no program.
+// Puts why a text is no program.
 fn print_unassembled(
     alloc: Global,
     path: &str,
@@ -168,33 +178,32 @@ fn print_unassembled(
     value: Span,
     entry: &ProgramEntry<'_>,
     fault: AsmFault,
-    out: &mut String,
+    page: &mut Page,
 ) -> Result<(), AllocError> {
     let Source::Asm(asm) = &entry.source else {
         return Ok(());
     };
     match fault {
-        AsmFault::At { line, .. } => {
-            let part = line_part(asm, line);
-            match base_of(text, value, asm) {
-                Some(base) => excerpt::print(
-                    out,
-                    path,
-                    text,
-                    Span {
-                        start: base.saturating_add(part.start),
-                        end: base.saturating_add(part.end),
-                    },
-                )?,
-                None => excerpt::print(out, path, text, value)?,
-            }
-            let written = asm.get(part.start..part.end).unwrap_or("");
-            writeln!(out, "  = line {line} of the program: {written}")?;
-        }
-        AsmFault::NoProgram => excerpt::print(out, path, text, value)?,
+        AsmFault::At { line, .. } => print_line(path, text, value, asm, line, page),
+        AsmFault::NoProgram => excerpt::print(page, path, text, value),
     }
-    let code = format!(in alloc; "{fault}")?;
-    put_rule(out, code.as_str())
+    put_rule_of(alloc, page, &fault)
+}
+
+// Puts the line of that number of an assembler text, which stands there.
+fn print_line(path: &str, text: &str, value: Span, asm: &str, line: usize, page: &mut Page) {
+    let part = line_part(asm, line);
+    let place = match base_of(text, value, asm) {
+        Some(base) => Span {
+            start: base.saturating_add(part.start),
+            end: base.saturating_add(part.end),
+        },
+        None => value,
+    };
+    excerpt::print(page, path, text, place);
+    page.fill("  = line {} of the program: ", &[line as u64]);
+    page.foreign(asm.get(part.start..part.end).unwrap_or(""));
+    page.text("\n");
 }
 
 // Where the line of that number, from 1, stands in a text, without blanks around it.
@@ -212,7 +221,7 @@ fn line_part(text: &str, number: usize) -> Span {
     }
 }
 
-// Writes why a program is not accepted.
+// Puts why a program is not accepted.
 fn print_unaccepted(
     alloc: Global,
     path: &str,
@@ -221,7 +230,7 @@ fn print_unaccepted(
     plan: &Plan<'_>,
     entry: &ProgramEntry<'_>,
     refusal: Refusal,
-    out: &mut String,
+    page: &mut Page,
 ) -> Result<(), AllocError> {
     let Some((program, listing)) = read(alloc, text, value, &entry.source)? else {
         return Ok(());
@@ -237,7 +246,7 @@ fn print_unaccepted(
         log: &log,
         limits: &limits,
     };
-    program::print(alloc, out, &told, refusal)
+    program::print(alloc, page, &told, refusal)
 }
 
 /// A program as it is written, with how its instructions stand there.

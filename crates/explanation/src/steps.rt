@@ -7,7 +7,7 @@ use crate::program::Told;
 use bpf_insn::{Callee, Insn, Reg, jump_target};
 use checked_path::{Path, Registers, Sighting};
 use helpers::Helper;
-use std::alloc::AllocError;
+use text_page::Page;
 
 /// How many instructions a path may have that is told whole.
 const WHOLE: usize = 48;
@@ -16,16 +16,11 @@ const WHOLE: usize = 48;
 /// exits.
 const LAST: usize = 16;
 
-/// Writes a path, an instruction a line, which goes on to a slot behind it.
-pub fn print(
-    out: &mut String,
-    told: &Told<'_>,
-    path: &Path,
-    behind: Option<usize>,
-) -> Result<(), AllocError> {
-    writeln!(out, "  slot   line")?;
+/// Puts a path, an instruction a line, which goes on to a slot behind it.
+pub fn print(page: &mut Page, told: &Told<'_>, path: &Path, behind: Option<usize>) {
+    page.text("  slot   line\n");
     let count = path.checks.len();
-    let mut left_out = 0usize;
+    let mut left_out = 0u64;
     for (place, check) in path.checks.iter().enumerate() {
         let Some(sighting) = told.log.sightings().get(*check) else {
             continue;
@@ -37,15 +32,16 @@ pub fn print(
             left_out = left_out.saturating_add(1);
             continue;
         }
-        put_gap(out, left_out)?;
+        if left_out > 0 {
+            page.fill("              .. {} more\n", &[left_out]);
+        }
         left_out = 0;
         let next = match path.slots.get(place.saturating_add(1)) {
             Some(next) => Some(*next),
             None => behind,
         };
-        put_step(out, told, sighting, insn, next)?;
+        put_step(page, told, sighting, insn, next);
     }
-    Ok(())
 }
 
 // Whether an instruction may lead elsewhere than behind it.
@@ -53,58 +49,44 @@ fn is_turn(insn: Insn) -> bool {
     matches!(insn, Insn::JumpIf { .. } | Insn::Call(_) | Insn::Exit)
 }
 
-// Writes how many instructions are left out.
-fn put_gap(out: &mut String, count: usize) -> Result<(), AllocError> {
-    if count > 0 {
-        writeln!(out, "              .. {count} more")?;
-    }
-    Ok(())
-}
-
-// Writes an instruction of the path, with the slot to which it leads on it.
+// Puts an instruction of the path, with the slot to which it leads on it.
 fn put_step(
-    out: &mut String,
+    page: &mut Page,
     told: &Told<'_>,
     sighting: &Sighting,
     insn: Insn,
     next: Option<usize>,
-) -> Result<(), AllocError> {
+) {
     let slot = sighting.slot;
+    page.aligned(slot as u64, 6);
     let text = match told.listing.at(slot) {
         Some(written) => {
-            let line = written.standing.line;
-            write!(out, "{slot:>6} {line:>6}  ")?;
+            page.text(" ");
+            page.aligned(written.standing.line as u64, 6);
+            page.text("  ");
             written.text.as_str()
         }
         None => {
-            write!(out, "{slot:>6}         ")?;
+            page.blanks(9);
             ""
         }
     };
-    let wide = put_indented(out, sighting.depth, text)?;
+    let wide = put_indented(page, sighting.depth, text);
     if tells_more(insn) {
-        put_blanks(out, wide, told.listing.width)?;
-        put_way(out, slot, insn, next)?;
-        put_known(out, told, sighting, insn)?;
+        page.blanks(told.listing.width.saturating_sub(wide));
+        put_way(page, slot, insn, next);
+        put_known(page, told, sighting, insn);
     }
-    writeln!(out)
+    page.text("\n");
 }
 
-// Writes an instruction, further in by each function that waits, and answers how wide that is.
-fn put_indented(out: &mut String, depth: usize, text: &str) -> Result<usize, AllocError> {
+// Puts an instruction, further in by each function that waits, and answers how wide that is.
+fn put_indented(page: &mut Page, depth: usize, text: &str) -> usize {
     for _caller in 1..depth {
-        out.push_str("  ")?;
+        page.text("  ");
     }
-    out.push_str(text)?;
-    Ok(depth.saturating_mul(2).saturating_add(text.len()))
-}
-
-// Writes blanks behind what is so wide, up to a width.
-fn put_blanks(out: &mut String, wide: usize, width: usize) -> Result<(), AllocError> {
-    for _blank in wide..width {
-        out.push_str(" ")?;
-    }
-    Ok(())
+    page.foreign(text);
+    depth.saturating_mul(2).saturating_add(text.len())
 }
 
 // Whether there is more to tell of an instruction than how it is written.
@@ -112,49 +94,38 @@ fn tells_more(insn: Insn) -> bool {
     is_turn(insn) || mattering(insn).count() > 0
 }
 
-// Writes which way a conditional jump goes, and what a call calls.
-fn put_way(
-    out: &mut String,
-    slot: usize,
-    insn: Insn,
-    next: Option<usize>,
-) -> Result<(), AllocError> {
+// Puts which way a conditional jump goes, and what a call calls.
+fn put_way(page: &mut Page, slot: usize, insn: Insn, next: Option<usize>) {
     match insn {
         Insn::JumpIf { offset, .. } if slot < bpf_insn::MAX_SLOTS => {
             let target = jump_target(slot, i32::from(offset));
-            out.push_str(match next {
+            page.text(match next {
                 Some(to) if to == target => "  taken",
                 Some(_) => "  not taken",
                 None => "",
-            })?;
+            });
         }
-        Insn::Call(Callee::Local(_)) => out.push_str("  into the function")?,
+        Insn::Call(Callee::Local(_)) => page.text("  into the function"),
         _ => {
             if let Some(helper) = helper_of(insn) {
-                write!(out, "  {}", signature(helper))?;
+                page.text("  ");
+                page.text(signature(helper));
             }
         }
     }
-    Ok(())
 }
 
-// Writes what is known of the registers that matter to an instruction, and of freezes where it may end the run or move one.
-fn put_known(
-    out: &mut String,
-    told: &Told<'_>,
-    sighting: &Sighting,
-    insn: Insn,
-) -> Result<(), AllocError> {
+// Puts what is known of the registers that matter to an instruction, and of freezes where it may end the run or move one.
+fn put_known(page: &mut Page, told: &Told<'_>, sighting: &Sighting, insn: Insn) {
     let registers = mattering(insn);
     if registers.count() > 0 {
-        out.push_str("  ")?;
-        put_registers(out, told.log, &sighting.known, registers)?;
+        page.text("  ");
+        put_registers(page, told.log, &sighting.known, registers);
     }
     if tells_freezes(insn) {
-        out.push_str("  ")?;
-        put_held(out, told.log, &sighting.known)?;
+        page.text("  ");
+        put_held(page, told.log, &sighting.known);
     }
-    Ok(())
 }
 
 /// The registers that matter to an instruction: those that it reads; of a helper, those that are its arguments.

@@ -9,7 +9,7 @@ use Rattle.freeze_ledger.specs.declared.place.Place.{Place}
 use Rattle.freeze_ledger.specs.Deadlines.{some_timer}
 use Rattle.transport.specs.Freezing.{IsNextDue}
 use Rattle.calls.specs.declared.call.Call.{Call}
-use Rattle.calls.specs.declared.call.Call.TheVariants.{Complete, Resume}
+use Rattle.calls.specs.declared.call.Call.TheVariants.{Complete}
 use Rattle.calls.specs.declared.call_answer.CallAnswer.{CallAnswer}
 use Rattle.calls.specs.declared.totals.Totals.{Totals}
 use Rattle.engine_core.specs.EngineState.{EngineState}
@@ -45,12 +45,12 @@ Stays (Some it) new Told = (new ≡ Some it) × Told it
 
 -- ---- calls that name no run
 
--- the number of what was opened, and what the slot holds then
-abbrev pub IsOpened : Result (Box EngineState) OpenFault → ℕ → Option EngineState → Type 0
-IsOpened (Ok handle) number new = (number ≡ number_of Done) × (new ≡ Some handle.value)
-IsOpened (Err faults.OutOfMemory) number new = number ≡ number_of OutOfMemory
-IsOpened (Err faults.NotUtf8) number new = number ≡ number_of NotUtf8
-IsOpened (Err (faults.Manifest fault)) number new = number ≡ number_of Faulty
+-- the number of what was opened, and what the slot held before and holds then: if nothing was opened, what it held
+abbrev pub IsOpened : Result (Box EngineState) OpenFault → ℕ → Option EngineState → Option EngineState → Type 0
+IsOpened (Ok handle) number old new = (number ≡ number_of Done) × (new ≡ Some handle.value)
+IsOpened (Err faults.OutOfMemory) number old new = (number ≡ number_of OutOfMemory) × (new ≡ old)
+IsOpened (Err faults.NotUtf8) number old new = (number ≡ number_of NotUtf8) × (new ≡ old)
+IsOpened (Err (faults.Manifest fault)) number old new = (number ≡ number_of Faulty) × (new ≡ old)
 
 -- a call of the engine
 abbrev pub Called : ℕ → EngineSlot → EngineSlot → CallAnswer → Call → Type 0
@@ -95,25 +95,26 @@ ReportOf (Some status) ccb scsi sense report =
 abbrev pub IsReported : ℕ → ℕ → ℕ → List ℕ → Option Outcome → Type 0
 IsReported ccb code scsi sense report = (status : Option CamStatus) × IsDecodedFrom code status × ReportOf status ccb scsi sense report
 
--- the number of a completion's result, whether a run started, and what the run's slot holds then
-abbrev pub Starts : Result (Option (Box RunHandle)) CallResult → ℕ → Bool → Option RunHandle → Type 0
-Starts (Ok None) number started run = (number ≡ number_of Done) × (started ≡ false)
-Starts (Ok (Some handle)) number started run = (number ≡ number_of Done) × (started ≡ true) × (run ≡ Some handle.value)
-Starts (Err its) number started run = (number ≡ number_of its) × (started ≡ false)
+-- the number of a completion's result, whether a run started, and what the run's slot held before and holds then: if none started,
+-- what it held
+abbrev pub Starts : Result (Option (Box RunHandle)) CallResult → ℕ → Bool → Option RunHandle → Option RunHandle → Type 0
+Starts (Ok None) number started was run = (number ≡ number_of Done) × (started ≡ false) × (run ≡ was)
+Starts (Ok (Some handle)) number started was run = (number ≡ number_of Done) × (started ≡ true) × (run ≡ Some handle.value)
+Starts (Err its) number started was run = (number ≡ number_of its) × (started ≡ false) × (run ≡ was)
 
--- what was reported is answered so; where nothing was, the engine is as before
-abbrev pub Completed : Option Outcome → EngineState → EngineState → ℕ → Bool → Option RunHandle → Type 0
-Completed None before after number started run = (number ≡ number_of NoCompletion) × (started ≡ false) × (after ≡ before)
-Completed (Some completion) before after number started run =
+-- what was reported is answered so; if nothing was, the engine is as before, and so is the run's slot
+abbrev pub Completed : Option Outcome → EngineState → EngineState → ℕ → Bool → Option RunHandle → Option RunHandle → Type 0
+Completed None before after number started was run = (number ≡ number_of NoCompletion) × (started ≡ false) × (after ≡ before) × (run ≡ was)
+Completed (Some completion) before after number started was run =
     (answer : Result (Option (Box RunHandle)) CallResult) × IsCompleted answer before after (Complete completion)
-    × Starts answer number started run
+    × Starts answer number started was run
 
--- the number of a resume's result, whether the run is out again, and what the run's slot holds then
-abbrev pub GoesOut : Result (Box RunHandle) CallResult → ℕ → Bool → Option RunHandle → Type 0
-GoesOut (Ok handle) number resumed run = (number ≡ number_of Done) × (resumed ≡ true) × (run ≡ Some handle.value)
-GoesOut (Err its) number resumed run = (number ≡ number_of its) × (resumed ≡ false)
+-- the number of a resume's result, whether the run is out again, and what the run's slot held before and holds then
+abbrev pub GoesOut : Result (Box RunHandle) CallResult → ℕ → Bool → Option RunHandle → Option RunHandle → Type 0
+GoesOut (Ok handle) number resumed was run = (number ≡ number_of Done) × (resumed ≡ true) × (run ≡ Some handle.value)
+GoesOut (Err its) number resumed was run = (number ≡ number_of its) × (resumed ≡ false) × (run ≡ was)
 
-abbrev pub Resumed : ℕ → EngineState → EngineState → ℕ → Bool → Option RunHandle → Type 0
-Resumed parked before after number resumed run =
-    (answer : Result (Box RunHandle) CallResult) × IsResumed answer before after (Resume parked)
-    × GoesOut answer number resumed run
+abbrev pub Resumed : ℕ → EngineState → EngineState → ℕ → Bool → Option RunHandle → Option RunHandle → Type 0
+Resumed parked before after number resumed was run =
+    (answer : Result (Box RunHandle) CallResult) × IsResumed answer before after parked
+    × GoesOut answer number resumed was run

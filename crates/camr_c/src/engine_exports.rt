@@ -37,7 +37,7 @@ pub extern "C" fn camr_raw_open(
     fault: &mut [u8],
     written: &mut usize,
 ) -> u32
-    ensures opened { (answer : Result (Box EngineState) TheFault) × Opens manifest.now answer × IsOpened answer result engine.new.held }
+    ensures opened { (answer : Result (Box EngineState) TheFault) × Opens manifest.now answer × IsOpened answer result engine.old.held engine.new.held }
     ensures few { result < 22 }
     ensures text { written.new ≤ length fault.new }
 {

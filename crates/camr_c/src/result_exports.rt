@@ -1,16 +1,19 @@
 // The texts of results. It relies on `embedding` for them.
 
-ghost use Rattle.std.specs.Prelude.{◌≤◌, length};
+ghost use Rattle.std.specs.Prelude.{◌<◌, ◌≤◌, MatchBool, length};
 
 use embedding::{CallResult, put_front};
 
 /// Puts the front of a result's text, as much as finds room: whether there is a result of that number.
 #[unsafe(no_mangle)]
 pub extern "C" fn camr_raw_result_text(number: u32, place: &mut [u8], written: &mut usize) -> bool
-    ensures { written.new ≤ length place.new }
+    ensures known { MatchBool result (number < 22) (22 ≤ number) }
+    ensures text { written.new ≤ length place.new }
 {
     match CallResult::numbered(number) {
         Some(result) => {
+            // The proof knows that its number is one of few once it is asked for.
+            let _number = result.number();
             *written = put_front(result.text().as_bytes(), place);
             true
         }

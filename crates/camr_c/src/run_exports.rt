@@ -35,7 +35,7 @@ pub extern "C" fn camr_raw_complete(
 ) -> u32
     requires { IsSome engine.old.held }
     ensures did { (report : Option Outcome) × IsReported ccb status scsi sense.now report
-        × Turns engine.old.held engine.new.held (λ before after. Completed report before after result started.new run.new.held) }
+        × Turns engine.old.held engine.new.held (λ before after. Completed report before after result started.new run.old.held run.new.held) }
     ensures few { result < 22 }
 {
     *started = false;
@@ -117,7 +117,7 @@ pub extern "C" fn camr_raw_resume(
     resumed: &mut bool,
 ) -> u32
     requires { IsSome engine.old.held }
-    ensures did { Turns engine.old.held engine.new.held (λ before after. Resumed number before after result resumed.new run.new.held) }
+    ensures did { Turns engine.old.held engine.new.held (λ before after. Resumed number before after result resumed.new run.old.held run.new.held) }
     ensures few { result < 22 }
 {
     *resumed = false;

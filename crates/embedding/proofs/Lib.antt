@@ -2,3 +2,4 @@ pub mod Driving
 pub mod Going
 pub mod Lines
 pub mod Guests
+pub mod Taking

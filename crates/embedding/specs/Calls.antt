@@ -4,7 +4,8 @@ use Rattle.std.specs.Global.{Box}
 use Rattle.freeze_ledger.specs.declared.place.Place.{Place}
 use Rattle.freeze_ledger.specs.Freezes.{entry_of}
 use Rattle.calls.specs.declared.call.Call.{Call}
-use Rattle.calls.specs.declared.call.Call.TheVariants.{GuestFreeze, GuestRelease, Park}
+use Rattle.bpf_semantics.specs.declared.stop.Stop.TheVariants as stops
+use Rattle.calls.specs.declared.call.Call.TheVariants.{GuestFreeze, GuestRelease, Park, Resume}
 use Rattle.calls.specs.declared.call_answer.CallAnswer.{CallAnswer}
 use Rattle.calls.specs.declared.call_answer.CallAnswer.TheVariants as answers
 use Rattle.calls.specs.declared.record.Record.{Record}
@@ -12,7 +13,7 @@ use Rattle.calls.specs.declared.record.Record.TheVariants.{Called, Advance}
 use Rattle.engine_core.specs.Answers.{stopped_at}
 use Rattle.engine_core.specs.EngineState.{EngineState, Records}
 use Rattle.engine_core.specs.Unrecorded.{guests_of}
-use Rattle.engine_core.specs.RunState.{RunState, StoppedState, before_stop}
+use Rattle.engine_core.specs.RunState.{RunState, StoppedState, before_stop, IsOut, IsOutUnder}
 use Rattle.embedding.specs.declared.call_result.CallResult.{CallResult}
 use Rattle.embedding.specs.declared.call_result.CallResult.TheVariants.{Done, OutOfMemory, Refused, NotOut, NoToken, NotStretched}
 use Rattle.embedding.specs.declared.call_result.CallResult.TheVariants as results
@@ -47,37 +48,50 @@ IsReleased OutOfMemory old new left freeze = (new ≡ old) × IsSome (entry_of f
 IsReleased NoToken old new left freeze = (new ≡ old) × (entry_of freeze (guests_of old.world.transport.freezes) ≡ None)
 IsReleased result old new left freeze = ⊥
 
--- what the handle of a run that goes out holds
-abbrev pub HoldsRun : RunHandle → RunState → Type 0
-HoldsRun handle run = (handle.number ≡ run.number) × (handle.held ≡ Out run)
+-- The handle holds this run, which is out in the engine with the recorded program: so the engine takes it over at its next stop.
+pub record HoldsRun (state : EngineState) (handle : RunHandle) (run : RunState) : Type 0 where
+  pub number : handle.number ≡ run.number
+  pub held : handle.held ≡ Out run
+  pub out : IsOutUnder state.setup state.world run
 
 -- a completion with this result: the CCB is finished, or a run is started, which is in the handle
 abbrev pub IsCompleted : Result (Option (Box RunHandle)) CallResult → EngineState → EngineState → Call → Type 0
 IsCompleted (Ok None) old new call = Records old new (Called answers.Done call)
 IsCompleted (Ok (Some handle)) old new call =
-    Records old new (Called (answers.Started handle.value.number handle.value.freeze) call) × ((run : RunState) × HoldsRun handle.value run)
+    Records old new (Called (answers.Started handle.value.number handle.value.freeze) call) × ((run : RunState) × HoldsRun new handle.value run)
 IsCompleted (Err result) old new call = IsFaulted result old new call
 
--- a resume with this result: the run is in the handle
-abbrev pub IsResumed : Result (Box RunHandle) CallResult → EngineState → EngineState → Call → Type 0
-IsResumed (Ok handle) old new call = Records old new (Called answers.Ok call) × ((run : RunState) × HoldsRun handle.value run)
-IsResumed (Err result) old new call = IsFaulted result old new call
+-- a resume of the run of this number with this result: that run is in the handle
+abbrev pub IsResumed : Result (Box RunHandle) CallResult → EngineState → EngineState → ℕ → Type 0
+IsResumed (Ok handle) old new number =
+    Records old new (Called answers.Ok (Resume number)) × (handle.value.number ≡ number) × ((run : RunState) × HoldsRun new handle.value run)
+IsResumed (Err result) old new number = IsFaulted result old new (Resume number)
 
 -- what the run at a stop tells, with R0 behind it
 abbrev pub advance_of : StoppedState → ℕ → Record
 advance_of stopped r0 = Advance stopped.number stopped.segment.steps (stopped_at stopped.segment.stop) r0
 
--- what becomes of a run that was taken over at its stop: it is spent where it has ended, else the same run goes on
-abbrev pub GoesOrIsSpent : Bool → StoppedState → HeldRun → Type 0
-GoesOrIsSpent true stopped held = held ≡ Spent
-GoesOrIsSpent false stopped held = (again : RunState) × (held ≡ Out again) × (again.number ≡ stopped.number)
+-- The same run goes on, and is out in the engine; with the recorded program if it came with that.
+pub record GoesFurther (old new : EngineState) (run again : RunState) : Type 0 where
+  pub number : again.number ≡ run.number
+  pub program : again.program ≡ run.program
+  pub out : IsOut new.world again
+  pub under : IsOutUnder old.setup old.world run → IsOutUnder new.setup new.world again
 
--- an advance with this result, of a run at its stop: done, it is one record more; where the run is not out in this engine, or
--- memory was refused, the engine is as before, and the run where its stretch began
+-- what becomes of a run that was taken over at its stop: it is spent if it has ended, at the exit that its segment came to, else the
+-- same run goes on
+abbrev pub GoesOrIsSpent : Bool → StoppedState → HeldRun → EngineState → EngineState → ℕ → Type 0
+GoesOrIsSpent true stopped held old new r0 = (held ≡ Spent) × (stopped.segment.stop ≡ stops.Exit r0)
+GoesOrIsSpent false stopped held old new r0 = (again : RunState) × (held ≡ Out again) × GoesFurther old new (before_stop stopped) again
+
+-- An advance with this result, of a run at its stop: done, it was out in this engine, and it is one record more. If it is not out
+-- there, or memory was refused, the engine is as before, and the run where its stretch began; the one is reported only if it is so.
 abbrev pub IsTakenOver : CallResult → StoppedState → HeldRun → EngineState → EngineState → ℕ → Bool → Type 0
-IsTakenOver Done stopped held old new r0 ended = Records old new (advance_of stopped r0) × GoesOrIsSpent ended stopped held
+IsTakenOver Done stopped held old new r0 ended =
+    Records old new (advance_of stopped r0) × IsOut old.world (before_stop stopped) × GoesOrIsSpent ended stopped held old new r0
 IsTakenOver OutOfMemory stopped held old new r0 ended = (new ≡ old) × (held ≡ Out (before_stop stopped))
-IsTakenOver NotOut stopped held old new r0 ended = (new ≡ old) × (held ≡ Out (before_stop stopped))
+IsTakenOver NotOut stopped held old new r0 ended =
+    (new ≡ old) × (held ≡ Out (before_stop stopped)) × (IsOut old.world (before_stop stopped) → ⊥)
 IsTakenOver result stopped held old new r0 ended = ⊥
 
 -- an advance with this result, of a run that was held so, and how it is held then
@@ -86,11 +100,12 @@ IsAdvanced result (Stopped stopped) held old new r0 ended = IsTakenOver result s
 IsAdvanced result (Out run) held old new r0 ended = (result ≡ NotStretched) × (held ≡ Out run) × (new ≡ old)
 IsAdvanced result Spent held old new r0 ended = (result ≡ results.Spent) × (held ≡ Spent) × (new ≡ old)
 
--- a park with this result, of the run that was out, if one was, and how it is held then
+-- a park with this result, of the run that was out, if one was, and how it is held then: that it is not out in this engine is
+-- reported exactly if it is so
 abbrev pub IsParked : CallResult → Option RunState → HeldRun → EngineState → EngineState → Type 0
 IsParked result None held old new = (result ≡ results.Spent) × (held ≡ Spent) × (new ≡ old)
-IsParked Done (Some run) held old new = Records old new (Called answers.Ok (Park run.number)) × (held ≡ Spent)
-IsParked NotOut (Some run) held old new = (held ≡ Out run) × (new ≡ old)
+IsParked Done (Some run) held old new = Records old new (Called answers.Ok (Park run.number)) × (held ≡ Spent) × IsOut old.world run
+IsParked NotOut (Some run) held old new = (held ≡ Out run) × (new ≡ old) × (IsOut old.world run → ⊥)
 IsParked result (Some run) held old new = ⊥
 
 -- as many records more as there were advances

@@ -1,5 +1,5 @@
 -- What of a trace stands in a place.
-use Rattle.std.specs.Prelude.{◌≡◌, ◌≢◌, ◌≤◌, ◌==◌, ◌++◌, ℕ, Option, Some, List, [], ◌∷◌, if◌then◌else◌, length, take, slice_range}
+use Rattle.std.specs.Prelude.{◌≡◌, ◌≢◌, ◌≤◌, ◌<◌, ◌+◌, ◌⊎◌, ◌==◌, ◌++◌, ℕ, Option, Some, List, [], ◌∷◌, if◌then◌else◌, length, slice_get, take, slice_range}
 use Rattle.std.specs.Fmt.{option_append, with_newline}
 use Rattle.calls.specs.declared.record.Record.{Record}
 use Rattle.calls.specs.declared.totals.Totals.{Totals}
@@ -24,13 +24,22 @@ pub record AddsLines (records : List Record) (before : List ℕ) (from : ℕ) (t
 abbrev pub first_line : Version → ℕ → List ℕ
 first_line version from = if from == 0 then header version else []
 
--- lines that are put with this result, of the records from one on: where none of a record is, none finds room, or no record is left
+-- after so many bytes of a place the line of the record of that number finds no room, if there is such a record
+abbrev pub FindsNoRoom : List Record → ℕ → List ℕ → ℕ → Type 0
+FindsNoRoom records number place written = (entry : Record) → slice_get records number ≡ Some entry
+    → (line : List ℕ) × (with_newline (line_of entry) ≡ Some line) × (length place < written + length line)
+
+-- Lines that are put with this result, of the records from one on: as many as find room. Done, the line of the next record finds none,
+-- or no record is left. Where the first line, or that of the first record after it, finds no room, nothing is put.
 abbrev pub PutsLines : CallResult → Version → List Record → ℕ → List ℕ → ℕ → ℕ → Type 0
 PutsLines result version records from place written next =
     (result ≢ NoRoom → AddsLines records (first_line version from) from (take written place) next)
-    × (result ≡ NoRoom → (written ≡ 0) × (next ≡ from)) × (result ≡ Done → next ≡ from → length records ≤ next)
+    × (result ≡ NoRoom → (written ≡ 0) × (next ≡ from)
+    × ((length place < length (first_line version from)) ⊎ ((from < length records) × FindsNoRoom records from place (length (first_line version from)))))
+    × (result ≡ Done → FindsNoRoom records next place written)
 
 -- the last line that is put with this result: where it is not, it finds no room
 abbrev pub PutsSums : CallResult → Totals → List ℕ → ℕ → Type 0
 PutsSums result totals place written =
-    (result ≡ Done → totals_text totals ≡ Some (take written place)) × (result ≢ Done → (result ≡ NoRoom) × (written ≡ 0))
+    (result ≡ Done → totals_text totals ≡ Some (take written place))
+    × (result ≢ Done → (result ≡ NoRoom) × (written ≡ 0) × ((line : List ℕ) → totals_text totals ≡ Some line → length place < length line))

@@ -2,7 +2,7 @@
 // `engine_core` for each call.
 
 ghost use Rattle.std.specs.Prelude.{◌≡◌, true};
-ghost use Rattle.calls.specs.declared.call.Call.TheVariants.{Complete, Resume};
+ghost use Rattle.calls.specs.declared.call.Call.TheVariants.{Complete};
 ghost use Rattle.embedding.specs.Calls.{IsAdvanced, IsCompleted, IsDriven, IsParked, IsResumed, GoesOn};
 ghost use Rattle.embedding.specs.Held.{is_same_run, out_of};
 
@@ -119,7 +119,7 @@ impl EngineHandle {
     /// Lets a run that is parked go on. Its handle's place is made first: where memory for it is refused, the engine is not asked.
     #[tactic(auto, using(crate::proofs::Guests::stay, crate::proofs::Guests::stay_faulted))]
     pub fn resume(&mut self, alloc: Global, run: u32) -> Result<Box<RunHandle>, CallResult>
-        ensures recorded { IsResumed result self.old self.new (Resume run) }
+        ensures recorded { IsResumed result self.old self.new run }
     {
         let Ok(mut handle) = Box::new(alloc, RunHandle::none()) else {
             return Err(CallResult::OutOfMemory);

@@ -1,11 +1,11 @@
 // The trace of an engine as text, in whole lines, from a record on. It relies on `trace` for lines.
 
-ghost use Rattle.std.specs.Prelude.{◌≡◌, ◌≢◌, ◌+◌, ◌++◌, ◌≤◌, Some, IfSome, IfNone, length, take};
+ghost use Rattle.std.specs.Prelude.{◌≡◌, ◌≢◌, ◌+◌, ◌++◌, ◌≤◌, ◌<◌, Some, IfSome, IfNone, length, take};
 ghost use Rattle.std.specs.Fmt.{with_newline};
 ghost use Rattle.trace.specs.TraceText.{line_of};
 ghost use Rattle.world.specs.World.{version_of};
 ghost use Rattle.world.specs.TotalsOf.{totals_in};
-ghost use Rattle.embedding.specs.Lines.{AddsLines, PutsLines, PutsSums};
+ghost use Rattle.embedding.specs.Lines.{AddsLines, FindsNoRoom, PutsLines, PutsSums};
 
 use crate::call_result::CallResult;
 use crate::engine_handle::EngineHandle;
@@ -28,6 +28,8 @@ fn put_behind(text: &[u8], place: &mut [u8], written: usize) -> Option<usize>
     requires { written ≤ length place.old }
     ensures put { IfSome result (λ count. (count ≡ written + length text.now) × (count ≤ length place.new) × (take count place.new ≡ take written place.old ++ text.now)) }
     ensures same { IfNone result (place.new ≡ place.old) }
+    ensures none { IfNone result (length place.old < written + length text.now) }
+    ensures size { length place.new ≡ length place.old }
 {
     if place.len() - written < text.len() {
         return None;
@@ -53,7 +55,7 @@ fn line(entry: &Record) -> Option<Text>
 
 impl EngineHandle {
     /// Puts whole lines of the trace into a place, as many as find room: those of the records from this number on, and before
-    /// that of record 0 the first line of a trace. Where a record is left one line more is put, or none finds room.
+    /// that of record 0 the first line of a trace. If the line of the first of these records finds no room, nothing is put.
     pub fn put_lines(&self, from: u64, place: &mut [u8], put: &mut PutLines) -> CallResult
         ensures room { put.new.written ≤ length place.new }
         ensures lines { PutsLines result (version_of self.now.setup) self.now.history from place.new put.new.written put.new.next }
@@ -95,8 +97,8 @@ fn put_records(records: &ChunkedList<Record>, place: &mut [u8], put: &mut PutLin
     requires { put.old.written ≤ length place.old }
     ensures room { put.new.written ≤ length place.new }
     ensures lines { result ≢ CallResult.NoRoom → AddsLines records.now.items (take put.old.written place.old) put.old.next (take put.new.written place.new) put.new.next }
-    ensures none { result ≡ CallResult.NoRoom → (put.new.written ≡ 0) × (put.new.next ≡ put.old.next) }
-    ensures all { result ≡ CallResult.Done → put.new.next ≡ put.old.next → length records.now.items ≤ put.new.next }
+    ensures none { result ≡ CallResult.NoRoom → (put.new.written ≡ 0) × (put.new.next ≡ put.old.next) × (put.old.next < length records.now.items) × FindsNoRoom records.now.items put.old.next place.new put.old.written }
+    ensures full { result ≡ CallResult.Done → FindsNoRoom records.now.items put.new.next place.new put.new.written }
 {
     let all = records.len() as u64;
     let from = put.next;

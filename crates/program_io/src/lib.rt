@@ -4,15 +4,15 @@
 
 mod clocked;
 mod feed;
+mod line;
 mod reading;
 mod replacing;
 mod stopwatch;
 mod telling;
-mod words;
 
 pub use clocked::Clocked;
 pub use feed::Feeder;
+pub use line::words;
 pub use reading::Reading;
 pub use replacing::replace;
 pub use telling::Telling;
-pub use words::words;

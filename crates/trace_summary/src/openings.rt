@@ -82,10 +82,7 @@ impl Openings {
         }
         let more = self.count.saturating_sub(TOLD as u64);
         if more > 0 {
-            page.fill(
-                ", and behind {} further changes {}",
-                &[more, self.last],
-            );
+            page.fill(", and behind {} further changes {}", &[more, self.last]);
         }
     }
 }

@@ -26,10 +26,7 @@ impl Instructions {
 
     /// Puts of a program with this budget how many runs it had, and how many instructions those executed that ended.
     pub(crate) fn print(&self, runs: u64, budget: u32, page: &mut Page) {
-        page.fill(
-            "\n  runs          {}, ended {}\n",
-            &[runs, self.ended],
-        );
+        page.fill("\n  runs          {}, ended {}\n", &[runs, self.ended]);
         if self.ended > 0 {
             let mean = self.all / self.ended;
             page.fill(

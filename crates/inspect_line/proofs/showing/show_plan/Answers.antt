@@ -69,7 +69,7 @@ returns-in_default-2 c = λ makes.
           let flag : c.asks_summary.result ≡ true = search rules in
           let bad : c.is_everything.result ≡ false = search rules in
           let asked : AsksSummary rows = subst (λ (b : Bool). MatchBool b (AsksSummary rows) (AsksSummary rows → ⊥)) flag c.asks_summary.ensures in
-          elim asks [ | inl account ↦ account.0 asked | inr all ↦ clash (c.is_everything.ensures.1 all.0) bad ]
+          elim asks [ inl account ↦ account.0 asked | inr all ↦ clash (c.is_everything.ensures.1 all.0) bad ]
       | in_default-2-via-in-Some+then-this w ↦
           let flag : c.asks_summary.result ≡ true = search rules in
           let asked : AsksSummary rows = subst (λ (b : Bool). MatchBool b (AsksSummary rows) (AsksSummary rows → ⊥)) flag c.asks_summary.ensures in

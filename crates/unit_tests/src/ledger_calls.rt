@@ -4,8 +4,6 @@
 use ccb::QueueId;
 use freeze_ledger::{Freeze, FreezeToken, Holder, Ledger, Place};
 use std::alloc::{AllocError, Global};
-use std::process::Abort;
-use std::test::Fail;
 use timer_events::expire_due;
 
 const CALLS: u32 = 10_000;
@@ -186,6 +184,16 @@ struct Both {
     greatest: u32,
     tokens: Vec<FreezeToken>,
     other: Ledger,
+    differs: bool,
+}
+
+impl Both {
+    // Whether both answer alike so far.
+    fn see(&mut self, alike: bool) {
+        if !alike {
+            self.differs = true;
+        }
+    }
 }
 
 fn freeze_of(token: &FreezeToken) -> Freeze {
@@ -210,71 +218,71 @@ fn forfeit_all(mut tokens: Vec<FreezeToken>) {
     tokens.destroy_empty();
 }
 
-// One freeze more, where neither answer meets a limit.
-fn takes(rt: &impl Abort, both: &mut Both, place: Place, holder: Holder) -> Result<(), AllocError> {
+// One freeze more, if neither answer meets a limit.
+fn takes(both: &mut Both, place: Place, holder: Holder) -> Result<(), AllocError> {
     let full = plain_count(&both.plain, place) >= MAX_OF_PLACE || both.plain.len() >= MAX;
     match take(&mut both.ledger, place, holder) {
         Some(token) => {
             let freeze = freeze_of(&token);
             keep(&mut both.tokens, token);
             let number = both.greatest.wrapping_add(1);
-            assert!(rt; !full);
-            assert_eq!(rt;
-                freeze,
-                Freeze {
-                    number,
-                    place,
-                    holder
-                }
-            );
+            let wanted = Freeze {
+                number,
+                place,
+                holder,
+            };
+            both.see(!full && freeze == wanted);
             both.greatest = number;
-            both.plain.push(freeze).map_err(|_| AllocError)?;
+            both.plain.push(freeze).map_err(|_| AllocError)
         }
-        None => assert!(rt; full),
+        None => {
+            both.see(full);
+            Ok(())
+        }
     }
-    Ok(())
 }
 
 // A token's freeze goes in both, or in neither.
-fn goes_back(rt: &impl Abort, both: &mut Both, token: FreezeToken) {
+fn goes_back(both: &mut Both, token: FreezeToken) {
     let freeze = freeze_of(&token);
     let place = plain_place(&both.plain, freeze);
     match give_back(&mut both.ledger, token) {
         Ok(left) => match place {
             Some(place) => {
                 plain_remove(&mut both.plain, place);
-                assert_eq!(rt; left as usize, plain_count(&both.plain, freeze.place));
+                let wanted = plain_count(&both.plain, freeze.place);
+                both.see(left as usize == wanted);
             }
-            None => assert!(rt; false, "{freeze:?} is not there"),
+            None => both.see(false),
         },
         Err(token) => {
             token.forfeit();
-            assert_eq!(rt; place, None);
+            both.see(place.is_none());
         }
     }
 }
 
 // The same of a freeze that is handed over to a timer.
-fn goes_over(rt: &impl Abort, both: &mut Both, token: FreezeToken, due: u64) {
-    let freeze = freeze_of(&token);
-    let place = plain_place(&both.plain, freeze);
+fn goes_over(both: &mut Both, token: FreezeToken, due: u64) {
+    let place = plain_place(&both.plain, freeze_of(&token));
     match hand_over(&mut both.ledger, token, due) {
         Ok(()) => match place {
             Some(place) => plain_hand_over(&mut both.plain, place, due),
-            None => assert!(rt; false, "{freeze:?} is not there"),
+            None => both.see(false),
         },
         Err(token) => {
             token.forfeit();
-            assert_eq!(rt; place, None);
+            both.see(place.is_none());
         }
     }
 }
 
-fn clock_reads(rt: &impl Abort, both: &mut Both, reading: u64) {
+fn clock_reads(both: &mut Both, reading: u64) {
     let before = both.plain.len();
     both.plain.retain(|held| !is_due(*held, reading));
     let gone = before.wrapping_sub(both.plain.len());
-    assert_eq!(rt; all_go(&mut both.ledger, reading) as usize, gone);
+    let went = all_go(&mut both.ledger, reading);
+    both.see(went as usize == gone);
 }
 
 // A token by its place among those that are out.
@@ -288,87 +296,82 @@ fn token_at(tokens: &mut Vec<FreezeToken>, place: u64) -> Option<FreezeToken> {
 }
 
 // One call of both, drawn by chance.
-fn calls(
-    rt: &impl Abort,
-    both: &mut Both,
-    random: &mut Random,
-    reading: u64,
-) -> Result<(), AllocError> {
+fn calls(both: &mut Both, random: &mut Random, reading: u64) -> Result<(), AllocError> {
     let drawn = random.below(both.tokens.len() as u64);
     match random.below(16) {
         0 | 1 | 2 => {
             if let Some(token) = token_at(&mut both.tokens, drawn) {
-                goes_back(rt, both, token);
+                goes_back(both, token);
             }
         }
         3 | 4 => {
             if let Some(token) = token_at(&mut both.tokens, drawn) {
-                goes_over(rt, both, token, reading.wrapping_add(random.below(300)));
+                goes_over(both, token, reading.wrapping_add(random.below(300)));
             }
         }
         5 => {
             if let Some(token) = take(&mut both.other, random.place(), random.holder()) {
-                goes_back(rt, both, token);
+                goes_back(both, token);
             }
         }
         6 => {
             if let Some(token) = take(&mut both.other, random.place(), random.holder()) {
-                goes_over(rt, both, token, reading);
+                goes_over(both, token, reading);
             }
         }
-        7 => clock_reads(rt, both, reading),
-        _ => takes(rt, both, random.place(), random.holder())?,
+        7 => clock_reads(both, reading),
+        _ => takes(both, random.place(), random.holder())?,
     }
     Ok(())
 }
 
 // What can be asked of both is answered alike.
-fn are_alike(rt: &impl Abort, both: &Both, place: Place) {
-    assert_eq!(rt; len(&both.ledger), both.plain.len());
-    assert_eq!(rt;
-        count(&both.ledger, place).map(|count| count as usize),
-        Some(plain_count(&both.plain, place))
-    );
-    assert_eq!(rt; first_deadline(&both.ledger), plain_first(&both.plain));
+fn are_alike(both: &Both, place: Place) -> bool {
+    let counted = match count(&both.ledger, place) {
+        Some(count) => count as usize == plain_count(&both.plain, place),
+        None => false,
+    };
+    counted
+        && len(&both.ledger) == both.plain.len()
+        && first_deadline(&both.ledger) == plain_first(&both.plain)
 }
 
-fn all_calls(rt: &impl Abort, both: &mut Both) -> Result<(), AllocError> {
+fn all_calls(both: &mut Both) -> Result<(), AllocError> {
     let mut random = Random(1);
     for call in 0..CALLS {
-        let reading = (call / 4) as u64;
-        calls(rt, both, &mut random, reading)?;
+        calls(both, &mut random, (call / 4) as u64)?;
         let place = random.place();
-        are_alike(rt, both, place);
-        if call % 50 == 0 {
-            assert!(rt; same_holders(&both.ledger, &both.plain, place));
-        }
+        let alike = are_alike(both, place)
+            && (call % 50 != 0 || same_holders(&both.ledger, &both.plain, place));
+        both.see(alike);
     }
     Ok(())
 }
 
-#[test]
-fn a_ledger_answers_as_a_plain_list(rt: HostRuntime) -> Result<(), Fail> {
-    let alloc = rt.alloc();
+pub fn a_ledger_answers_as_a_plain_list(alloc: Global) -> Result<bool, AllocError> {
     let ledger = with_room(alloc)?;
     let other = with_room(alloc)?;
+    let plain = room_for_list(alloc)?;
     let mut both = Both {
         ledger,
-        plain: room_for_list(alloc)?,
+        plain,
         greatest: 0,
         tokens: room_for_tokens(alloc)?,
         other,
+        differs: false,
     };
-    let done = all_calls(&rt, &mut both);
+    let done = all_calls(&mut both);
     let Both {
         ledger: _,
         plain: _,
         greatest: _,
         tokens,
         other: _,
+        differs,
     } = both;
     forfeit_all(tokens);
     done?;
-    Ok(())
+    Ok(!differs)
 }
 
 // Whether the token's freeze went; a token that comes back is forfeited.
@@ -391,7 +394,7 @@ fn guest_takes(ledger: &mut Ledger, guest: u32) -> Option<FreezeToken> {
 
 // Freeze 1 goes by the token of the same freeze of another ledger, and freeze 2 comes under its key: the token that is left
 // of the first is refused.
-fn use_a_key_again(rt: &impl Abort, one: &mut Ledger, other: &mut Ledger) {
+fn uses_a_key_again(one: &mut Ledger, other: &mut Ledger) -> bool {
     let guest = 7;
     let own = guest_takes(one, guest);
     let twin = guest_takes(other, guest);
@@ -400,11 +403,11 @@ fn use_a_key_again(rt: &impl Abort, one: &mut Ledger, other: &mut Ledger) {
     let stale = goes(one, own);
     let left = len(one);
     let last = goes(one, next);
-    assert_eq!(rt; (first, stale, left, last), (true, false, 1, true));
+    first && !stale && left == 1 && last
 }
 
 // Freeze 3 stands under the first key, and in the other ledger under the second: its token there stands for it here.
-fn find_under_another_key(rt: &impl Abort, one: &mut Ledger, other: &mut Ledger) {
+fn finds_under_another_key(one: &mut Ledger, other: &mut Ledger) -> bool {
     let guest = 7;
     let twin_before = guest_takes(other, guest);
     let own = guest_takes(one, guest);
@@ -413,15 +416,12 @@ fn find_under_another_key(rt: &impl Abort, one: &mut Ledger, other: &mut Ledger)
     let stale = goes(one, own);
     let left = len(one);
     let foreign = goes(one, twin_before);
-    assert_eq!(rt; (found, stale, left, foreign), (true, false, 0, false));
+    found && !stale && left == 0 && !foreign
 }
 
-#[test]
-fn keys_are_used_again(rt: HostRuntime) -> Result<(), Fail> {
-    let alloc = rt.alloc();
+pub fn keys_are_used_again(alloc: Global) -> Result<bool, AllocError> {
     let mut one = with_room(alloc)?;
     let mut other = with_room(alloc)?;
-    use_a_key_again(&rt, &mut one, &mut other);
-    find_under_another_key(&rt, &mut one, &mut other);
-    Ok(())
+    let again = uses_a_key_again(&mut one, &mut other);
+    Ok(finds_under_another_key(&mut one, &mut other) && again)
 }

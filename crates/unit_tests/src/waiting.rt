@@ -3,8 +3,6 @@
 use ccb::CcbId;
 use dev_queue::{DevQueue, Frozen, MAX_LIVE, QueueFault, WaitingCcb};
 use std::alloc::{AllocError, Global};
-use std::process::Abort;
-use std::test::Fail;
 
 /// How many calls are made.
 const CALLS: u32 = 10_000;
@@ -145,6 +143,7 @@ struct Both {
     plain: PlainQueue,
     freezes: Freezes,
     numbers: Numbers,
+    differs: bool,
 }
 
 impl Both {
@@ -154,36 +153,43 @@ impl Both {
         WaitingCcb { priority, number }
     }
 
-    // One more, where none of that number waits. A refusal leaves the count of comparisons as it was.
-    fn insert(&mut self, rt: &impl Abort) -> Result<(), Fail> {
+    // Whether both answer alike so far.
+    fn see(&mut self, alike: bool) {
+        if !alike {
+            self.differs = true;
+        }
+    }
+
+    // One more, if none of that number waits. A refusal leaves the count of comparisons as it was.
+    fn insert(&mut self) -> Result<(), AllocError> {
         let pair = self.next_pair();
         let there = self.queue.waits(pair.number);
-        assert_eq!(rt; there, self.plain.waits(pair.number));
+        let alike = there == self.plain.waits(pair.number);
         if there {
+            self.see(alike);
             return Ok(());
         }
         let before = self.queue.steps();
+        let is_full = self.plain.is_full();
         match self.queue.insert(pair.number, pair.priority) {
             Ok(()) => {
-                assert!(rt; !self.plain.is_full());
-                self.plain.add(pair)?;
+                self.see(alike && !is_full);
+                self.plain.add(pair)
             }
             Err(fault) => {
-                assert!(rt; self.plain.is_full());
-                assert_eq!(rt; fault, QueueFault::Full);
-                assert_eq!(rt; self.queue.steps(), before);
+                let after = self.queue.steps();
+                self.see(alike && is_full && fault == QueueFault::Full && after == before);
+                Ok(())
             }
         }
-        Ok(())
     }
 
-    fn start(&mut self, rt: &impl Abort) {
+    fn start(&mut self) {
         let before = self.queue.steps();
         let started = self.queue.start(&self.freezes);
-        assert_eq!(rt; started, self.plain.start(&self.freezes));
-        if started.is_err() {
-            assert_eq!(rt; self.queue.steps(), before);
-        }
+        let wanted = self.plain.start(&self.freezes);
+        let after = self.queue.steps();
+        self.see(started == wanted && (started.is_ok() || after == before));
     }
 
     fn stop(&mut self) {
@@ -199,7 +205,7 @@ impl Both {
         }
     }
 
-    fn put_back(&mut self) -> Result<(), Fail> {
+    fn put_back(&mut self) -> Result<(), AllocError> {
         let pair = self.next_pair();
         let (_, _, recovering) = self.queue.counts();
         if recovering == 0 || self.queue.waits(pair.number) {
@@ -207,8 +213,7 @@ impl Both {
         }
         self.queue.put_back(pair.number, pair.priority);
         self.plain.recovering = self.plain.recovering.saturating_sub(1);
-        self.plain.add(pair)?;
-        Ok(())
+        self.plain.add(pair)
     }
 
     fn leave(&mut self) {
@@ -226,8 +231,8 @@ impl Both {
         self.plain.openings = openings;
     }
 
-    // One call, and the counts behind it.
-    fn call(&mut self, rt: &impl Abort, fills: bool) -> Result<(), Fail> {
+    // One call, and the counts after it.
+    fn call(&mut self, fills: bool) -> Result<(), AllocError> {
         match self.numbers.next() % 16 {
             0 => self.set_openings(),
             1 => {
@@ -239,53 +244,56 @@ impl Both {
             2 | 3 => self.put_back()?,
             4 => self.stop(),
             5 => self.leave(),
-            6 | 7 => self.start(rt),
-            _ if fills => self.insert(rt)?,
-            8 | 9 | 10 => self.start(rt),
+            6 | 7 => self.start(),
+            _ if fills => self.insert()?,
+            8 | 9 | 10 => self.start(),
             11 | 12 | 13 => self.stop(),
             _ => self.leave(),
         }
-        assert_eq!(rt; self.queue.counts(), self.plain.counts());
-        assert_eq!(rt; self.queue.openings(), self.plain.openings);
+        let counted = self.queue.counts() == self.plain.counts();
+        let opened = self.queue.openings() == self.plain.openings;
+        self.see(counted && opened);
         Ok(())
     }
 }
 
 // What comes last starts all that still wait.
-fn start_all(rt: &impl Abort, both: &mut Both) {
+fn start_all(both: &mut Both) {
     both.freezes = NONE;
     both.queue.set_openings(u8::MAX);
     both.plain.openings = u8::MAX;
     for _turn in 0..MAX_LIVE {
-        both.start(rt);
+        both.start();
         both.stop();
     }
     let (waiting, _, _) = both.queue.counts();
-    assert_eq!(rt; waiting, 0);
+    both.see(waiting == 0);
 }
 
-#[test]
-fn a_heap_answers_as_a_plain_list_does(rt: HostRuntime) -> Result<(), Fail> {
-    let mut both = Both {
-        queue: DevQueue::with_room(rt.alloc(), 2)?,
-        plain: PlainQueue::new(rt.alloc(), 2),
-        freezes: NONE,
-        numbers: Numbers(42),
-    };
-    assert_eq!(rt; both.queue.steps(), 0);
+// Makes the calls. Whether the heap was deep, and the queue full often.
+fn call_all(both: &mut Both) -> Result<bool, AllocError> {
     let mut most = 0;
-    let mut full = 0;
+    let mut full = 0u32;
     for turn in 0..CALLS {
-        both.call(&rt, turn / TURN % 2 == 0)?;
-        if both.queue.steps() > most {
-            most = both.queue.steps();
-        }
-        if both.plain.is_full() && full < CALLS {
-            full += 1;
+        both.call(turn / TURN % 2 == 0)?;
+        most = most.max(both.queue.steps());
+        if both.plain.is_full() {
+            full = full.wrapping_add(1);
         }
     }
-    assert!(rt; most >= 13, "{most}");
-    assert!(rt; full >= 100, "{full}");
-    start_all(&rt, &mut both);
-    Ok(())
+    Ok(most >= 13 && full >= 100)
+}
+
+pub fn a_heap_answers_as_a_plain_list_does(alloc: Global) -> Result<bool, AllocError> {
+    let mut both = Both {
+        queue: DevQueue::with_room(alloc, 2)?,
+        plain: PlainQueue::new(alloc, 2),
+        freezes: NONE,
+        numbers: Numbers(42),
+        differs: false,
+    };
+    let begins = both.queue.steps() == 0;
+    let reached = call_all(&mut both)?;
+    start_all(&mut both);
+    Ok(begins && reached && !both.differs)
 }

@@ -229,7 +229,7 @@ enum Came {
     Otherwise,
 }
 
-fn came(status: Result<u8, AllocError>, out: &[u8], err: &[u8], whole: &[u8]) -> Came {
+fn made_of(status: Result<u8, AllocError>, out: &[u8], err: &[u8], whole: &[u8]) -> Came {
     match status {
         Ok(0) if out == whole && err.is_empty() => Came::Done,
         Ok(2) if err == WANT.as_bytes() && whole.starts_with(out) => Came::Refused,
@@ -252,15 +252,15 @@ fn done<R: Threads + Wait + Sync>(rt: &R, alloc: Global, task: Task) -> Came {
     match task {
         Task::Run => {
             let status = run(rt, alloc, SCENARIO, &mut out, &mut err);
-            came(status, &out, &err, TRACE.as_bytes())
+            made_of(status, &out, &err, TRACE.as_bytes())
         }
         Task::Replay => {
             let status = replay(rt, alloc, &mut out, &mut err);
-            came(status, &out, &err, b"accepted\n")
+            made_of(status, &out, &err, b"accepted\n")
         }
         Task::Assembly => {
             let status = assemble(rt, alloc, &mut out, &mut err);
-            came(status, &out, &err, &PROGRAM)
+            made_of(status, &out, &err, &PROGRAM)
         }
     }
 }

@@ -1,20 +1,21 @@
 -- The shared history, one record longer.
-use Rattle.std.proofs.Common.{◌≡◌, ℕ, true, Option, List, [], ◌∷◌, ◌++◌, refl, ap, sym, subst, ◌∙◌}
+use Rattle.std.proofs.Common.{◌≡◌, ℕ, true, false, Option, List, [], ◌∷◌, ◌++◌, refl, ap, sym, subst, ◌∙◌}
 use Rattle.std.specs.Prelude.{MatchOption}
 use Rattle.calls.specs.declared.record.Record.{Record}
 use Rattle.monitor.specs.declared.knowledge.Pair.{Pair}
 use Rattle.monitor.specs.LegalHistory.{pair, records}
 use Rattle.monitor.specs.LegalHistory.{LegalHistory}
-use Rattle.monitor.specs.Telling.{CallerState, Joins, KeeperState, new_caller}
+use Rattle.monitor.specs.Telling.{CallerState, Joins, KeeperState, Looks, new_caller}
 use Rattle.world.specs.World.{Setup}
 use Rattle.world.specs.WorldRun.{WorldRun}
 use Rattle.world.specs.Flat.{flat}
 use Rattle.engine_core.specs.EngineState.{EngineState, Records}
 use Rattle.engine_core.specs.declared.event.Event.{Event}
 use Rattle.engine_core.specs.declared.reply.Reply.{Reply}
+use Rattle.engine_core.specs.declared.reply.Reply.TheVariants.{Given, Refused, Unfit, OutOfMemory}
 use Rattle.engine_core.specs.Replies.{Fits, Gives, IsRecorded, ToldFit, is_recorded}
 use Rattle.engine_lock.specs.Publishing.{last_of}
-use Rattle.engine_lock.specs.Sharing.{Answers, IsNewCaller, IsSince, Tells, TellsUnrecorded}
+use Rattle.engine_lock.specs.Sharing.{Answers, IsNewCaller, IsSince, Section, Tells, TellsUnrecorded, is_unfit}
 use Rattle.engine_lock.proofs.Since.{HasRecord, has_record}
 
 pub last_more : (before : List Record) (made : Record) → last_of (before ++ made ∷ []) ≡ made
@@ -38,10 +39,39 @@ module _ (known : List Record) (old new : EngineState) (event : Event) (reply : 
   pub last_beyond : new.history ≡ known ++ last_of new.history ∷ []
   last_beyond = longer ∙ ap (λ (r : Record). known ++ r ∷ []) (sym last_is)
 
-  pub tells_made : (setup : Setup) (history : List Pair) (before after : CallerState) → Joins setup history before (last_of new.history) after → Tells setup event reply before after
+  pub tells_made : (setup : Setup) (history : List Pair) (before after : CallerState) → Joins setup history before (last_of new.history) after → Tells setup history event reply before after
   tells_made setup history before after joins =
-      subst (λ (o : Option Record). MatchOption o (TellsUnrecorded setup event reply before after) (λ told. (h : List Pair) × Joins setup h before told after)) (sym made.is)
-      (history, subst (λ (r : Record). Joins setup history before r after) last_is joins)
+      subst (λ (o : Option Record). MatchOption o (TellsUnrecorded setup history reply before after) (λ told. Joins setup history before told after)) (sym made.is)
+      (subst (λ (r : Record). Joins setup history before r after) last_is joins)
+
+-- a call that is not recorded tells what was looked at, or nothing
+pub tells_unfit : (setup : Setup) (history : List Pair) (event : Event) (reply : Reply) (before after : CallerState) → is_unfit reply ≡ true → Looks setup history before after → Tells setup history event reply before after
+tells_unfit setup history event (Given given) before after is looks = absurd (let bad : false ≡ true = is in cc)
+tells_unfit setup history event (Refused refusal) before after is looks = absurd (let bad : false ≡ true = is in cc)
+tells_unfit setup history event (Unfit back) before after is looks = looks
+tells_unfit setup history event (OutOfMemory back) before after is looks = absurd (let bad : false ≡ true = is in cc)
+
+pub tells_nothing : (setup : Setup) (history : List Pair) (event : Event) (reply : Reply) (before after : CallerState) → is_recorded reply ≡ false → is_unfit reply ≡ false → after ≡ before → Tells setup history event reply before after
+tells_nothing setup history event (Given given) before after unrecorded fit same = absurd (let bad : true ≡ false = unrecorded in cc)
+tells_nothing setup history event (Refused refusal) before after unrecorded fit same = absurd (let bad : true ≡ false = unrecorded in cc)
+tells_nothing setup history event (Unfit back) before after unrecorded fit same = absurd (let bad : true ≡ false = fit in cc)
+tells_nothing setup history event (OutOfMemory back) before after unrecorded fit same = same
+
+-- a call under the lock, by what stood there
+pub section_of : (setup : Setup) (begun : List Record) (calls : ℕ) (found left : EngineState) (history : List Pair) (event : Event) (reply : Reply) (before after : CallerState) →
+    IsSince setup begun calls found → records history ≡ found.history →
+    IsRecorded found event reply left → Fits event reply → ToldFit found.world event reply → Gives found.setup found.world event left.world reply →
+    Tells setup history event reply before after → Section setup event reply before after
+section_of setup begun calls found left history event reply before after since its recorded fits fit gives tells = record {
+  found = found;
+  left = left;
+  run = since.run;
+  setup_is = since.setup_is;
+  history = history;
+  its = its;
+  answers = record { recorded = recorded; fits = fits; fit = fit; gives = gives };
+  tells = tells;
+}
 
 -- what is known of a shared engine is legal
 pub legal_since : (setup : Setup) (begun : List Record) (calls : ℕ) (engine : EngineState) (history : List Pair) → IsSince setup begun calls engine → records history ≡ engine.history → LegalHistory setup history

@@ -1,15 +1,13 @@
 -- What an engine that is shared keeps under its lock, and what a call of it says.
-use Rattle.std.specs.Prelude.{◌≡◌, ℕ, ◌+◌, Bool, true, false, List, [], ◌++◌, length, All, MatchOption}
+use Rattle.std.specs.Prelude.{◌≡◌, ℕ, Bool, true, false, List, [], ◌++◌, length, All, MatchOption}
 use Rattle.std.specs.List.{sum_by}
 use Rattle.calls.specs.declared.record.Record.{Record}
-use Rattle.world.specs.World.{Setup, World}
-use Rattle.world.specs.WorldRun.{WorldRun}
-use Rattle.world.specs.Flat.{flat}
+use Rattle.world.specs.World.{Setup}
 use Rattle.engine_core.specs.EngineState.{EngineState, IsRun}
 use Rattle.engine_core.specs.declared.event.Event.{Event}
 use Rattle.engine_core.specs.declared.reply.Reply.{Reply}
 use Rattle.engine_core.specs.declared.reply.Reply.TheVariants.{Unfit}
-use Rattle.engine_core.specs.Replies.{Fits, Gives, IsRecorded, IsUnfit, ToldFit, record_of}
+use Rattle.engine_core.specs.Replies.{Fits, Gives, IsRecorded, ToldFit, record_of}
 use Rattle.monitor.specs.declared.knowledge.Pair.{Pair}
 use Rattle.monitor.specs.LegalHistory.{LegalHistory, records}
 use Rattle.monitor.specs.Telling.{Agrees, CallerState, Joins, KeeperState, Looks, WatchState}
@@ -29,10 +27,6 @@ pub record Answers (old : EngineState) (event : Event) (reply : Reply) (new : En
   pub fit : ToldFit old.world event reply
   pub gives : Gives old.setup old.world event new.world reply
 
--- a recorded call of this caller is one more
-abbrev pub Counts : Event → Reply → ℕ → ℕ → Type 0
-Counts event reply before after = MatchOption (record_of event reply) (after ≡ before) (λ _. after ≡ before + 1)
-
 -- what stands under the lock: the engine, its history with who made each record, and how many callers were given out
 pub record LockedState : Type 0 where
   pub engine : EngineState
@@ -43,36 +37,33 @@ pub record LockedState : Type 0 where
 abbrev pub keeper_of : LockedState → KeeperState
 keeper_of state = record { history = state.history; callers = state.given }
 
--- at some moment an engine of this setup answered so
-pub record Answered (setup : Setup) (event : Event) (reply : Reply) : Type 0 where
-  pub before : EngineState
-  pub after : EngineState
-  pub run : IsRun before
-  pub setup_is : before.setup ≡ setup
-  pub answers : Answers before event reply after
-
 -- C4 or C6
 abbrev pub is_unfit : Reply → Bool
 is_unfit (Unfit back) = true
 is_unfit reply = false
 
--- it is so in the last world of a history that the caller has seen
-pub record FindsUnfit (setup : Setup) (event : Event) (before after : CallerState) : Type 0 where
+-- What a call that is not recorded tells its caller, where this history stood. After C4 or C6 it has seen that history. Where
+-- memory was refused it knows what it knew.
+abbrev pub TellsUnrecorded : Setup → List Pair → Reply → CallerState → CallerState → Type 0
+TellsUnrecorded setup history (Unfit back) before after = Looks setup history before after
+TellsUnrecorded setup history reply before after = after ≡ before
+
+-- What a call tells its caller, where this history stood. Where it is recorded its record joined the history, at its end, and the
+-- caller has seen the history with it.
+abbrev pub Tells : Setup → List Pair → Event → Reply → CallerState → CallerState → Type 0
+Tells setup history event reply before after = MatchOption (record_of event reply) (TellsUnrecorded setup history reply before after) (λ made. Joins setup history before made after)
+
+-- One call of a shared engine, a section under its lock: the engine as it was found, by its history with who made each record, and
+-- as it was left; what it answered, and what that tells the caller.
+pub record Section (setup : Setup) (event : Event) (reply : Reply) (before after : CallerState) : Type 0 where
+  pub found : EngineState
+  pub left : EngineState
+  pub run : IsRun found
+  pub setup_is : found.setup ≡ setup
   pub history : List Pair
-  pub looks : Looks setup history before after
-  pub world : World
-  pub leads : WorldRun setup (flat (records history)) world
-  pub unfit : IsUnfit world event
-
--- What a call that is not recorded tells its caller. Where memory was refused nothing changed.
-abbrev pub TellsUnrecorded : Setup → Event → Reply → CallerState → CallerState → Type 0
-TellsUnrecorded setup event (Unfit back) before after = FindsUnfit setup event before after
-TellsUnrecorded setup event reply before after = after ≡ before
-
--- What a call tells its caller. Where it is recorded its record joined the shared history, at its end, and the caller has seen the
--- history with it.
-abbrev pub Tells : Setup → Event → Reply → CallerState → CallerState → Type 0
-Tells setup event reply before after = MatchOption (record_of event reply) (TellsUnrecorded setup event reply before after) (λ made. (history : List Pair) × Joins setup history before made after)
+  pub its : records history ≡ found.history
+  pub answers : Answers found event reply left
+  pub tells : Tells setup history event reply before after
 
 -- it has made nothing and was told nothing, and what it has seen is legal
 pub record IsNewCaller (setup : Setup) (caller : CallerState) : Type 0 where

@@ -1,12 +1,12 @@
 // What stands under the lock of a shared engine. It relies on `engine_core` for what a call does, on the ledger of the standard
 // library, whose book is the sum of its shares, and on `monitor`, whose keeper knows the whole history with its callers.
 
-ghost use Rattle.std.specs.Prelude.{◌≡◌, ℕ, ◌+◌, ◌↔◌, [], length, IsErr, IfOk, IfErr, IsTrue};
+ghost use Rattle.std.specs.Prelude.{◌≡◌, ℕ, ◌+◌, ◌<◌, ◌≤◌, ◌↔◌, [], length, IsErr, IfOk, IfErr, IsTrue};
 ghost use Rattle.engine_core.specs.EngineState.{IsRun};
 ghost use Rattle.engine_core.specs.Replies.{IsOfKnown};
 ghost use Rattle.monitor.specs.LegalHistory.{unshared};
 ghost use Rattle.monitor.specs.Telling.{new_caller};
-ghost use Rattle.engine_lock.specs.Sharing.{Answers, Closes, Counts, IsNewCaller, IsNewWatch, IsSince, Tells, is_unfit, keeper_of};
+ghost use Rattle.engine_lock.specs.Sharing.{Answers, Closes, IsNewCaller, IsNewWatch, IsSince, Section, is_unfit, keeper_of};
 ghost use Rattle.engine_lock.specs.declared.fault.LockFault.TheVariants.{TooManyCallers};
 ghost use Rattle.engine_lock.specs.declared.object.TheConstants.{MAX_CALLERS};
 
@@ -70,6 +70,7 @@ impl<B: Object> Locked<B> {
         ensures caller { IfOk result (IsNewCaller B.setup) }
         ensures given { IfOk result (λ caller. (caller ≡ new_caller (keeper_of self.old)) × (self.new ≡ record self.old { given = self.old.given + 1 })) }
         ensures full { IfErr result (λ fault. (fault ≡ TooManyCallers) × (self.new ≡ self.old)) }
+        ensures number { IfOk result (λ caller. (1 ≤ caller.number) × (caller.number ≤ MAX_CALLERS)) }
         ensures refused { IsErr result ↔ (self.old.given ≡ MAX_CALLERS) }
     {
         if self.given == MAX_CALLERS {
@@ -110,8 +111,7 @@ impl<B: Object> Locked<B> {
         requires { IsOfKnown B.setup event known }
         ensures answers { Answers self.old.engine event.entry result self.new.engine }
         ensures since { (calls : ℕ) × IsSince B.setup B.begun calls self.old.engine }
-        ensures tells { Tells B.setup event.entry result caller.old caller.new }
-        ensures counted { Counts event.entry result (length caller.old.mine) (length caller.new.mine) }
+        ensures section { Section B.setup event.entry result caller.old caller.new }
     {
         let reply = self.engine.answer_known(event, known);
         if reply.is_recorded() {
@@ -130,22 +130,44 @@ impl<B: Object> Locked<B> {
         reply
     }
 
-    /// Whether these are as many callers as were given out.
-    pub(crate) fn has_all(&self, callers: &[Caller<B>]) -> bool
-        ensures { IsTrue result ↔ (length callers.now ≡ self.now.given) }
+    /// Ends the sharing: the engine, exactly where all callers that were given out are here. Else all comes back.
+    pub(crate) fn close<R: Wait>(
+        self,
+        rt: &R,
+        monitor: &Monitor<B>,
+        callers: Vec<Caller<B>>,
+    ) -> Result<Engine, (Self, Vec<Caller<B>>)>
+        ensures closed { IfOk result (Closes B.setup B.begun callers.items) }
+        ensures all { IfOk result (λ _. length callers.items ≡ self.given) }
+        ensures missing { IfErr result (λ back. (length callers.items < self.given) × (self.given ≤ MAX_CALLERS)) }
+        ensures back { IfErr result (λ back. (back.0 ≡ self) × (back.1.items ≡ callers.items)) }
     {
-        callers.len() as u64 == self.given
+        if self.has_all(&callers) {
+            Ok(self.settle(rt, monitor, callers))
+        } else {
+            Err((self, callers))
+        }
     }
 
-    /// The engine, where all callers that were given out are here.
-    pub(crate) fn settle<R: Wait>(
+    // Whether these are as many callers as were given out.
+    fn has_all(&self, callers: &[Caller<B>]) -> bool
+        ensures all { IsTrue result ↔ (self.now.given ≤ length callers.now) }
+        ensures most { self.now.given ≤ MAX_CALLERS }
+    {
+        callers.len() as u64 >= self.given
+    }
+
+    // The engine, where all callers that were given out are here. There are no more: each has a part of the ledger, which has as
+    // many as may be given out.
+    fn settle<R: Wait>(
         self,
         rt: &R,
         monitor: &Monitor<B>,
         mut callers: Vec<Caller<B>>,
     ) -> Engine
-        requires { length callers.items ≡ self.given }
-        ensures { Closes B.setup B.begun callers.items result }
+        requires { self.given ≤ length callers.items }
+        ensures closes { Closes B.setup B.begun callers.items result }
+        ensures all { length callers.items ≡ self.given }
     {
         let Locked {
             engine,

@@ -1,11 +1,12 @@
 // The engine that threads share. It relies on `locked` for what a section under the lock does, on `comparing` for what is done before
 // one, and on `monitor` for the sums beside the lock.
 
-ghost use Rattle.std.specs.Prelude.{◌≡◌, [], length, IfOk, IfErr};
+ghost use Rattle.std.specs.Prelude.{◌≡◌, ◌≤◌, [], IfOk, IfErr};
 ghost use Rattle.engine_config.specs.Configured.{AreProgramsOf};
 ghost use Rattle.monitor.specs.LegalHistory.{LegalHistory};
-ghost use Rattle.engine_lock.specs.Sharing.{Answered, Counts, IsNewCaller, IsNewWatch, Tells};
+ghost use Rattle.engine_lock.specs.Sharing.{IsNewCaller, IsNewWatch, Section};
 ghost use Rattle.engine_lock.specs.declared.fault.LockFault.TheVariants.{TooManyCallers};
+ghost use Rattle.engine_lock.specs.declared.object.TheConstants.{MAX_CALLERS};
 
 use crate::caller::Caller;
 use crate::comparing::known_queue;
@@ -42,10 +43,11 @@ impl Pause for NoPause {
 }
 
 impl<B: Object> Shared<B> {
-    /// A caller more, of which no call is recorded. L1 where 64 were given out. It takes no memory, and may wait for other
-    /// callers.
+    /// A caller more, of which no call is recorded. Its number, 1 to 64, is how many were given out with it. L1 where 64 were
+    /// given out. It takes no memory, and may wait for other callers.
     pub fn caller<R: Wait>(&self, rt: &R) -> Result<Caller<B>, LockFault>
         ensures given { IfOk result (IsNewCaller B.setup) }
+        ensures number { IfOk result (λ caller. (1 ≤ caller.number) × (caller.number ≤ MAX_CALLERS)) }
         ensures full { IfErr result (λ fault. fault ≡ TooManyCallers) }
     {
         let mut guard = self.lock.lock(rt);
@@ -75,9 +77,7 @@ impl<B: Object> Shared<B> {
     /// caller had seen and was told of, and has of this caller's records just those that its calls made, in its order. After C4
     /// or C6 it has seen one in whose last world that is so. Where memory was refused nothing changed.
     pub fn call<R: Wait>(&self, rt: &R, caller: &mut Caller<B>, event: Event<'_>) -> Reply
-        ensures answered { Answered B.setup event.entry result }
-        ensures tells { Tells B.setup event.entry result caller.old caller.new }
-        ensures counted { Counts event.entry result (length caller.old.mine) (length caller.new.mine) }
+        ensures { Section B.setup event.entry result caller.old caller.new }
     {
         self.call_held(rt, caller, event, &NoPause)
     }
@@ -90,9 +90,7 @@ impl<B: Object> Shared<B> {
         event: Event<'_>,
         pause: &P,
     ) -> Reply
-        ensures answered { Answered B.setup event.entry result }
-        ensures tells { Tells B.setup event.entry result caller.old caller.new }
-        ensures counted { Counts event.entry result (length caller.old.mine) (length caller.new.mine) }
+        ensures { Section B.setup event.entry result caller.old caller.new }
     {
         let known = known_queue(&self.programs, &event);
         let mut guard = self.lock.lock(rt);

@@ -1,7 +1,7 @@
 // A caller of a shared engine as one who answers events. It relies on `engine_lock` for the call.
 
 ghost use Rattle.std.specs.Prelude.{◌≡◌};
-ghost use Rattle.engine_lock.specs.Sharing.{Answered};
+ghost use Rattle.engine_lock.specs.Sharing.{Section};
 
 use engine_core::{Event, Reply};
 use engine_lock::{Caller, Object, Shared};
@@ -17,7 +17,7 @@ pub(crate) struct Asked<'a, B: Object, R: Wait> {
 }
 
 impl<B: Object, R: Wait> Answers for Asked<'_, B, R> {
-    ghost answers = { λ old event reply new. Answered B.setup event reply × (new.caller.ghost_name ≡ old.caller.ghost_name) };
+    ghost answers = { λ old event reply new. Section B.setup event reply old.caller.now new.caller.now × (new.caller.ghost_name ≡ old.caller.ghost_name) };
 
     fn answer(&mut self, event: Event<'_>) -> Reply {
         self.shared.call(self.rt, self.caller, event)

@@ -1,2 +1,4 @@
+pub mod Driving
+pub mod Made
 pub mod Parking
 pub mod Turns

@@ -1,5 +1,5 @@
 -- What a worker does, step by step.
-use Rattle.std.proofs.Common.{◌≡◌, ℕ, suc, ◌+◌, ◌<◌, ◌≤◌, List, [], ◌∷◌, ◌++◌, map, length, take, drop, All, refl, ap, sym, subst, ◌∙◌, arith, append_assoc, append-nil, length-append}
+use Rattle.std.proofs.Common.{◌≡◌, ℕ, suc, ◌+◌, ◌<◌, ◌≤◌, Bool, true, false, List, [], ◌∷◌, ◌++◌, map, length, take, drop, All, refl, ap, sym, subst, ◌∙◌, arith, append_assoc, append-nil, length-append}
 use Rattle.std.specs.Prelude.{slice_index_or}
 use Rattle.std.specs.List.{AllZip}
 use Rattle.std.proofs.lemmas.List.{take_all, drop_all, length-map}
@@ -11,15 +11,20 @@ use Rattle.inbox.specs.Views.{InboxView, PassView, IsOf}
 use Rattle.world.specs.World.{Setup}
 use Rattle.engine_core.specs.RunState.{RunState}
 use Rattle.std.specs.Borrow.{Bor}
-use Rattle.engine_core.specs.declared.event.Event.TheVariants.{Complete}
+use Rattle.engine_core.specs.declared.event.Event.{Event}
+use Rattle.engine_core.specs.declared.event.Event.TheVariants.{Submit, Dispatch, Complete, Advance, Clock, GuestFreeze, GuestRelease, Park, Resume}
 use Rattle.engine_core.specs.declared.reply.Given.{Given}
-use Rattle.engine_core.specs.declared.reply.Given.TheVariants.{Started}
+use Rattle.engine_core.specs.declared.reply.Given.TheVariants.{Ccb, Done, Started, Goes, Ended, Freeze, Left, Removed, Parked, Resumed}
+use Rattle.engine_core.specs.declared.reply.Reply.{Reply}
 use Rattle.engine_core.specs.declared.reply.Reply.TheVariants.{Given as Gives}
-use Rattle.engine_lock.specs.Sharing.{Answered}
+use Rattle.monitor.specs.Telling.{CallerState}
+use Rattle.engine_lock.specs.Sharing.{Section}
+use Rattle.workers.specs.Calls.{AreMade, CallMade, each, made_none, made_more}
+use Rattle.workers.proofs.Made.{each_append, made_then}
 use Rattle.workers.specs.declared.driving.TheConstants.{MOST_STARTED}
 use Rattle.workers.specs.declared.worker.Kept.{Kept}
 use Rattle.workers.specs.declared.worker.Kept.TheVariants.{Nothing, Completion, Run}
-use Rattle.workers.specs.Serving.{AreServed, HasServed, IsAnswered, IsEnded, IsReady, IsStarted, SeatState, ServedState, Serves, Took, WorkerState, all_of, at_rest, nothing_served, completions_in, runs_in, with_worker}
+use Rattle.workers.specs.Serving.{AreServed, Drives, HasDone, HasServed, IsAdvanceOf, IsReady, SeatState, ServedState, Serves, StartsNone, Took, WorkerState, all_of, asked, asked_by, at_rest, completions_in, ended, ended_by, is_answered, nothing_served, runs_in, started, started_by, unanswered, unless, with_worker}
 
 pub took_none : (before after : PassView) → after ≡ before → Took before after []
 took_none before after same = record {
@@ -41,153 +46,205 @@ took_one inbox before after x was is takes = record {
 abbrev pub IsFew : WorkerState → Type 0
 IsFew worker = (worker.started ≤ MOST_STARTED) × (worker.ended ≤ worker.started)
 
+-- the calls that advance one run say no more than that
+pub record IsQuiet (calls : List CallMade) : Type 0 where
+  pub serves : All (λ (call : CallMade). Serves call.event) calls
+  pub asks : asked calls ≡ []
+  pub open : unanswered calls ≡ []
+  pub starts : started calls ≡ []
+
+record OfAdvance (event : Event) (reply : Reply) : Type 0 where
+  pub serves : Serves event
+  pub asks : asked_by event ≡ []
+  pub open : unless (is_answered reply) (asked_by event) ≡ []
+  pub starts : started_by event reply ≡ []
+
+unless_none : (answered : Bool) → unless answered [] ≡ []
+unless_none true = refl
+unless_none false = refl
+
+of_advance : (number : ℕ) (event : Event) (reply : Reply) → IsAdvanceOf number event → OfAdvance event reply
+of_advance number (Submit queue priority retries) reply is = absurd is
+of_advance number (Dispatch queue) reply is = absurd is
+of_advance number (Complete completion) reply is = absurd is
+of_advance number (Advance run) reply is = record { serves = tt; asks = refl; open = unless_none (is_answered reply); starts = refl }
+of_advance number (Clock reading) reply is = absurd is
+of_advance number (GuestFreeze place guest) reply is = absurd is
+of_advance number (GuestRelease token) reply is = absurd is
+of_advance number (Park run) reply is = absurd is
+of_advance number (Resume run) reply is = absurd is
+
+pub quiet : (number : ℕ) (calls : List CallMade) → All (λ (call : CallMade). IsAdvanceOf number call.event) calls → IsQuiet calls
+quiet number [] all = record { serves = All-nil (λ (call : CallMade). Serves call.event); asks = refl; open = refl; starts = refl }
+quiet number (call ∷ calls) all =
+    let here = of_advance number call.event call.reply (All-head (λ (it : CallMade). IsAdvanceOf number it.event) call calls all) in
+    let rest = quiet number calls (All-tail (λ (it : CallMade). IsAdvanceOf number it.event) call calls all) in record {
+      serves = All-cons (λ (it : CallMade). Serves it.event) call calls here.serves rest.serves;
+      asks = ap (λ (xs : List Outcome). xs ++ asked calls) here.asks ∙ rest.asks;
+      open = ap (λ (xs : List Outcome). xs ++ unanswered calls) here.open ∙ rest.open;
+      starts = ap (λ (xs : List ℕ). xs ++ started calls) here.starts ∙ rest.starts;
+    }
+
+-- the numbers of what is kept
+abbrev numbers : Kept → List ℕ
+numbers kept = map (λ (run : RunState). run.number) (runs_in kept)
+
+-- what else may be given starts no run
+pub none_started : (completion : Bor Outcome) (given : Given) → StartsNone given → started_by (Complete completion) (Gives given) ≡ []
+none_started completion (Ccb ccb) none = refl
+none_started completion Done none = refl
+none_started completion (Started run freeze) none = absurd none
+none_started completion (Goes run r0) none = refl
+none_started completion (Ended r0) none = refl
+none_started completion (Freeze token) none = refl
+none_started completion (Left count) none = refl
+none_started completion (Removed count) none = refl
+none_started completion Parked none = refl
+none_started completion (Resumed run) none = refl
+
+pub one_started : (completion : Bor Outcome) (given : Given) (run : RunState) → (freeze : ℕ) × (given ≡ Started run freeze) → started_by (Complete completion) (Gives given) ≡ run.number ∷ []
+one_started completion given run is = ap (λ (it : Given). started_by (Complete completion) (Gives it)) is.1
+
 module _ (setup : Setup) where
   -- nothing was taken
-  pub idles : (before after : WorkerState) → Took before.pass after.pass [] → after ≡ record before { pass = after.pass } → before.kept ≡ Nothing → Serves setup before after
-  idles before after took same free = record {
+  pub idles : (before : WorkerState) (pass : PassView) → Took before.pass pass [] → before.kept ≡ Nothing → HasDone setup before (record before { pass = pass })
+  idles before pass took free = record {
     taken = [];
-    answered = [];
-    begun = [];
-    done = [];
     pass = took;
-    kept = sym (ap completions_in (ap (λ (w : WorkerState). w.kept) same ∙ free));
-    kept_run = sym (ap (λ (k : Kept). map (λ (run : RunState). run.number) (runs_in k)) (ap (λ (w : WorkerState). w.kept) same ∙ free));
-    answers = All-nil (IsAnswered setup);
-    starts = All-nil (IsStarted setup);
-    ends = All-nil (IsEnded setup);
-    calls = omega (arith, ap (λ (w : WorkerState). w.calls) same);
-    started = omega (arith, ap (λ (w : WorkerState). w.started) same);
-    ended = omega (arith, ap (λ (w : WorkerState). w.ended) same);
+    calls = [];
+    made = made_none before.caller;
+    serves = All-nil (λ (call : CallMade). Serves call.event);
+    asks = refl;
+    keeps = ap completions_in free;
+    keeps_run = sym (ap numbers free);
+    starts = omega arith;
+    ends = omega arith;
   }
 
-  -- a completion was answered, and started no run
-  pub answers_one : (before after : WorkerState) (x : Outcome) → Took before.pass after.pass (x ∷ []) → after.kept ≡ Nothing → IsAnswered setup x → before.calls + 1 ≤ after.calls → after.started ≡ before.started → after.ended ≡ before.ended → Serves setup before after
-  answers_one before after x took free answer calls started ended = record {
-    taken = x ∷ [];
-    answered = x ∷ [];
-    begun = [];
-    done = [];
-    pass = took;
-    kept = sym (ap (λ (k : Kept). x ∷ completions_in k) free);
-    kept_run = sym (ap (λ (k : Kept). map (λ (run : RunState). run.number) (runs_in k)) free);
-    answers = All-cons (IsAnswered setup) x [] answer (All-nil (IsAnswered setup));
-    starts = All-nil (IsStarted setup);
-    ends = All-nil (IsEnded setup);
-    calls = omega (arith, calls);
-    started = omega (arith, started);
-    ended = omega (arith, ended);
-  }
+  -- a completion was asked for, and then a run may have been driven
+  module _ (before : WorkerState) (caller : CallerState) (pass : PassView) (completion : Bor Outcome) (reply : Reply) (made : Section setup (Complete completion) reply before.caller caller) (took : Took before.pass pass (completion.now ∷ [])) (free : before.kept ≡ Nothing) where
+    call : CallMade
+    call = record { event = Complete completion; reply = reply }
 
-  -- a completion is kept
-  pub keeps_one : (before after : WorkerState) (x : Outcome) → Took before.pass after.pass (x ∷ []) → after.kept ≡ Completion x → before.calls ≤ after.calls → after.started ≡ before.started → after.ended ≡ before.ended → Serves setup before after
-  keeps_one before after x took kept calls started ended = record {
-    taken = x ∷ [];
-    answered = [];
-    begun = [];
-    done = [];
-    pass = took;
-    kept = sym (ap completions_in kept);
-    kept_run = sym (ap (λ (k : Kept). map (λ (run : RunState). run.number) (runs_in k)) kept);
-    answers = All-nil (IsAnswered setup);
-    starts = All-nil (IsStarted setup);
-    ends = All-nil (IsEnded setup);
-    calls = omega (arith, calls);
-    started = omega (arith, started);
-    ended = omega (arith, ended);
-  }
+    alone : All (λ (it : CallMade). Serves it.event) (call ∷ [])
+    alone = All-cons (λ (it : CallMade). Serves it.event) call [] tt (All-nil (λ (it : CallMade). Serves it.event))
 
-  -- it started a run, which ended
-  pub ends_one : (before after : WorkerState) (x : Outcome) (number : ℕ) → Took before.pass after.pass (x ∷ []) → after.kept ≡ Nothing → IsAnswered setup x → IsStarted setup number → IsEnded setup number → before.calls + 2 ≤ after.calls → after.started ≡ before.started + 1 → after.ended ≡ before.ended + 1 → Serves setup before after
-  ends_one before after x number took free answer start end calls started ended = record {
-    taken = x ∷ [];
-    answered = x ∷ [];
-    begun = number ∷ [];
-    done = number ∷ [];
-    pass = took;
-    kept = sym (ap (λ (k : Kept). x ∷ completions_in k) free);
-    kept_run = sym (ap (λ (k : Kept). number ∷ map (λ (run : RunState). run.number) (runs_in k)) free);
-    answers = All-cons (IsAnswered setup) x [] answer (All-nil (IsAnswered setup));
-    starts = All-cons (IsStarted setup) number [] start (All-nil (IsStarted setup));
-    ends = All-cons (IsEnded setup) number [] end (All-nil (IsEnded setup));
-    calls = omega (arith, calls);
-    started = omega (arith, started);
-    ended = omega (arith, ended);
-  }
+    -- it was answered, and started no run
+    pub answers_one : is_answered reply ≡ true → started_by (Complete completion) reply ≡ [] → HasDone setup before (record before { caller = caller; pass = pass })
+    answers_one answered no_run = record {
+      taken = completion.now ∷ [];
+      pass = took;
+      calls = call ∷ [];
+      made = made_more before.caller caller caller call [] made (made_none caller);
+      serves = alone;
+      asks = refl;
+      keeps = ap completions_in free ∙ sym (ap (λ (it : Bool). unless it (completion.now ∷ []) ++ []) answered);
+      keeps_run = ap (λ (xs : List ℕ). xs ++ []) no_run ∙ sym (ap numbers free);
+      starts = omega (arith, ap (λ (xs : List ℕ). length (xs ++ [])) no_run);
+      ends = omega arith;
+    }
 
-  -- or is kept
-  pub keeps_run : (before after : WorkerState) (x : Outcome) (run : RunState) (number : ℕ) → Took before.pass after.pass (x ∷ []) → after.kept ≡ Run run → run.number ≡ number → IsAnswered setup x → IsStarted setup number → before.calls + 1 ≤ after.calls → after.started ≡ before.started + 1 → after.ended ≡ before.ended → Serves setup before after
-  keeps_run before after x run number took kept number_is answer start calls started ended = record {
-    taken = x ∷ [];
-    answered = x ∷ [];
-    begun = number ∷ [];
-    done = [];
-    pass = took;
-    kept = sym (ap (λ (k : Kept). x ∷ completions_in k) kept);
-    kept_run = sym (ap (λ (k : Kept). map (λ (it : RunState). it.number) (runs_in k)) kept ∙ ap (λ (n : ℕ). n ∷ []) number_is);
-    answers = All-cons (IsAnswered setup) x [] answer (All-nil (IsAnswered setup));
-    starts = All-cons (IsStarted setup) number [] start (All-nil (IsStarted setup));
-    ends = All-nil (IsEnded setup);
-    calls = omega (arith, calls);
-    started = omega (arith, started);
-    ended = omega (arith, ended);
-  }
+    -- it was not, and is kept
+    pub keeps_one : is_answered reply ≡ false → started_by (Complete completion) reply ≡ [] → HasDone setup before (record before { caller = caller; pass = pass; kept = Completion completion.now })
+    keeps_one answered no_run = record {
+      taken = completion.now ∷ [];
+      pass = took;
+      calls = call ∷ [];
+      made = made_more before.caller caller caller call [] made (made_none caller);
+      serves = alone;
+      asks = refl;
+      keeps = sym (ap (λ (it : Bool). unless it (completion.now ∷ []) ++ []) answered);
+      keeps_run = ap (λ (xs : List ℕ). xs ++ []) no_run;
+      starts = omega (arith, ap (λ (xs : List ℕ). length (xs ++ [])) no_run);
+      ends = omega arith;
+    }
 
-  pub started_so : (completion : Bor Outcome) (given : Given) (run : RunState) → Answered setup (Complete completion) (Gives given) → (freeze : ℕ) × (given ≡ Started run freeze) → IsStarted setup run.number
-  started_so completion given run answered is = record {
-    completion = completion;
-    run = run;
-    number_is = refl;
-    freeze = is.0;
-    answered = subst (λ (it : Given). Answered setup (Complete completion) (Gives it)) is.1 answered;
-  }
+    module _ (number : ℕ) (answered : is_answered reply ≡ true) (starts : started_by (Complete completion) reply ≡ number ∷ []) (after : CallerState) where
+      -- the run that it started ended
+      pub ends_one : Drives setup number (number ∷ []) caller after → HasDone setup before (record before { caller = after; pass = pass; started = before.started + 1; ended = before.ended + 1 })
+      ends_one drives =
+          let still = quiet number drives.calls drives.advances in record {
+            taken = completion.now ∷ [];
+            pass = took;
+            calls = call ∷ drives.calls;
+            made = made_more before.caller caller after call drives.calls made drives.made;
+            serves = All-cons (λ (it : CallMade). Serves it.event) call drives.calls tt still.serves;
+            asks = ap (λ (xs : List Outcome). completion.now ∷ xs) (sym still.asks);
+            keeps = ap completions_in free
+                ∙ sym (ap (λ (it : Bool). unless it (completion.now ∷ []) ++ unanswered drives.calls) answered ∙ still.open);
+            keeps_run = ap (λ (xs : List ℕ). xs ++ started drives.calls) starts
+                ∙ (ap (λ (xs : List ℕ). number ∷ xs) still.starts
+                ∙ sym (ap (λ (xs : List ℕ). xs ++ numbers before.kept) drives.ends ∙ ap (λ (kept : Kept). number ∷ numbers kept) free));
+            starts = omega (arith, ap (λ (xs : List ℕ). length (xs ++ started drives.calls)) starts, ap length still.starts);
+            ends = omega (arith, ap length drives.ends);
+          }
+
+      -- or is kept
+      pub keeps_run_of : (run : RunState) → run.number ≡ number → Drives setup number [] caller after → HasDone setup before (record before { caller = after; pass = pass; kept = Run run; started = before.started + 1 })
+      keeps_run_of run same drives =
+          let still = quiet number drives.calls drives.advances in record {
+            taken = completion.now ∷ [];
+            pass = took;
+            calls = call ∷ drives.calls;
+            made = made_more before.caller caller after call drives.calls made drives.made;
+            serves = All-cons (λ (it : CallMade). Serves it.event) call drives.calls tt still.serves;
+            asks = ap (λ (xs : List Outcome). completion.now ∷ xs) (sym still.asks);
+            keeps = sym (ap (λ (it : Bool). unless it (completion.now ∷ []) ++ unanswered drives.calls) answered ∙ still.open);
+            keeps_run = ap (λ (xs : List ℕ). xs ++ started drives.calls) starts
+                ∙ (ap (λ (xs : List ℕ). number ∷ xs) still.starts
+                ∙ sym (ap (λ (xs : List ℕ). xs ++ run.number ∷ []) drives.ends ∙ ap (λ (n : ℕ). n ∷ []) same));
+            starts = omega (arith, ap (λ (xs : List ℕ). length (xs ++ started drives.calls)) starts, ap length still.starts);
+            ends = omega (arith, ap length drives.ends);
+          }
 
   -- what one turn leaves, by how it goes
 
   pub stays : (inbox : InboxView) (old : WorkerState) → IsReady inbox old → HasServed setup old old
   stays inbox old ready = record {
-    serves = idles old old (took_none old.pass old.pass refl) refl ready.free;
+    did = idles old old.pass (took_none old.pass old.pass refl) ready.free;
     started = ready.started;
     ended = ready.ended;
   }
 
   pub finds_none : (inbox : InboxView) (old : WorkerState) (pass : PassView) → IsReady inbox old → pass ≡ old.pass → HasServed setup old (record old { pass = pass })
   finds_none inbox old pass ready same = record {
-    serves = idles old (record old { pass = pass }) (took_none old.pass pass same) refl ready.free;
+    did = idles old pass (took_none old.pass pass same) ready.free;
     started = ready.started;
     ended = ready.ended;
   }
 
-  module _ (inbox : InboxView) (old : WorkerState) (calls : ℕ) (pass : PassView) (x : Outcome) (ready : IsReady inbox old) (is : IsOf inbox pass) (takes : Takes old.pass.account pass.account x) where
-    took : Took old.pass pass (x ∷ [])
-    took = took_one inbox old.pass pass x ready.pass is takes
+  module _ (inbox : InboxView) (old : WorkerState) (caller : CallerState) (pass : PassView) (completion : Bor Outcome) (reply : Reply) (made : Section setup (Complete completion) reply old.caller caller) (ready : IsReady inbox old) (is : IsOf inbox pass) (takes : Takes old.pass.account pass.account completion.now) where
+    took : Took old.pass pass (completion.now ∷ [])
+    took = took_one inbox old.pass pass completion.now ready.pass is takes
 
-    pub drives : (number : ℕ) → IsAnswered setup x → IsStarted setup number → IsEnded setup number → old.calls + 2 ≤ calls → old.started + 1 ≤ MOST_STARTED → HasServed setup old (record { calls = calls; pass = pass; kept = old.kept; started = old.started + 1; ended = old.ended + 1 })
-    drives number answer start end many few = record {
-      serves = ends_one old (record { calls = calls; pass = pass; kept = old.kept; started = old.started + 1; ended = old.ended + 1 }) x number took ready.free answer start end many refl refl;
-      started = few;
-      ended = omega (arith, ready.ended);
-    }
-
-    pub leaves_run : (run : RunState) (number : ℕ) → run.number ≡ number → IsAnswered setup x → IsStarted setup number → old.calls + 1 ≤ calls → old.started + 1 ≤ MOST_STARTED → HasServed setup old (record { calls = calls; pass = pass; kept = Run run; started = old.started + 1; ended = old.ended })
-    leaves_run run number same answer start many few = record {
-      serves = keeps_run old (record { calls = calls; pass = pass; kept = Run run; started = old.started + 1; ended = old.ended }) x run number took refl same answer start many refl refl;
-      started = few;
-      ended = omega (arith, ready.ended);
-    }
-
-    pub passes : IsAnswered setup x → old.calls + 1 ≤ calls → HasServed setup old (record { calls = calls; pass = pass; kept = old.kept; started = old.started; ended = old.ended })
-    passes answer many = record {
-      serves = answers_one old (record { calls = calls; pass = pass; kept = old.kept; started = old.started; ended = old.ended }) x took ready.free answer many refl refl;
+    pub passes : is_answered reply ≡ true → started_by (Complete completion) reply ≡ [] → HasServed setup old (record { caller = caller; pass = pass; kept = old.kept; started = old.started; ended = old.ended })
+    passes answered no_run = record {
+      did = answers_one old caller pass completion reply made took ready.free answered no_run;
       started = ready.started;
       ended = ready.ended;
     }
 
-    pub leaves_completion : old.calls ≤ calls → HasServed setup old (record { calls = calls; pass = pass; kept = Completion x; started = old.started; ended = old.ended })
-    leaves_completion many = record {
-      serves = keeps_one old (record { calls = calls; pass = pass; kept = Completion x; started = old.started; ended = old.ended }) x took refl many refl refl;
+    pub leaves_completion : is_answered reply ≡ false → started_by (Complete completion) reply ≡ [] → HasServed setup old (record { caller = caller; pass = pass; kept = Completion completion.now; started = old.started; ended = old.ended })
+    leaves_completion answered no_run = record {
+      did = keeps_one old caller pass completion reply made took ready.free answered no_run;
       started = ready.started;
       ended = ready.ended;
     }
+
+    module _ (number : ℕ) (answered : is_answered reply ≡ true) (starts : started_by (Complete completion) reply ≡ number ∷ []) (after : CallerState) (few : old.started + 1 ≤ MOST_STARTED) where
+      pub drives : Drives setup number (number ∷ []) caller after → HasServed setup old (record { caller = after; pass = pass; kept = old.kept; started = old.started + 1; ended = old.ended + 1 })
+      drives driven = record {
+        did = ends_one old caller pass completion reply made took ready.free number answered starts after driven;
+        started = few;
+        ended = omega (arith, ready.ended);
+      }
+
+      pub leaves_run : (run : RunState) → run.number ≡ number → Drives setup number [] caller after → HasServed setup old (record { caller = after; pass = pass; kept = Run run; started = old.started + 1; ended = old.ended })
+      leaves_run run same driven = record {
+        did = keeps_run_of old caller pass completion reply made took ready.free number answered starts after run same driven;
+        started = few;
+        ended = omega (arith, ready.ended);
+      }
 
   took_more : (a b c : PassView) (xs ys : List Outcome) → Took a b xs → Took b c ys → Took a c (xs ++ ys)
   took_more a b c xs ys first second = record {
@@ -198,57 +255,59 @@ module _ (setup : Setup) where
   }
 
   -- one service behind another
-  pub serves_more : (a b c : WorkerState) → Serves setup a b → b.kept ≡ Nothing → Serves setup b c → Serves setup a c
-  serves_more a b c first free second =
-      let none : first.taken ≡ first.answered = first.kept ∙ (ap (λ (k : Kept). first.answered ++ completions_in k) free ∙ append-nil first.answered) in
-      let no_run : first.begun ≡ first.done = first.kept_run ∙ (ap (λ (k : Kept). first.done ++ map (λ (run : RunState). run.number) (runs_in k)) free ∙ append-nil first.done) in
+  pub did_more : (a b c : WorkerState) → HasDone setup a b → b.kept ≡ Nothing → HasDone setup b c → HasDone setup a c
+  did_more a b c first free second =
+      let xs = first.calls in
+      let ys = second.calls in
+      let answered : unanswered xs ≡ [] = sym first.keeps ∙ ap completions_in free in
+      let no_run : started xs ≡ ended xs = first.keeps_run ∙ (ap (λ (kept : Kept). ended xs ++ numbers kept) free ∙ append-nil (ended xs)) in
       record {
         taken = first.taken ++ second.taken;
-        answered = first.answered ++ second.answered;
-        begun = first.begun ++ second.begun;
-        done = first.done ++ second.done;
         pass = took_more a.pass b.pass c.pass first.taken second.taken first.pass second.pass;
-        kept = ap (λ (xs : List Outcome). xs ++ second.taken) none
-            ∙ (ap (λ (xs : List Outcome). first.answered ++ xs) second.kept ∙ sym (append_assoc first.answered second.answered (completions_in c.kept)));
-        kept_run = ap (λ (xs : List ℕ). xs ++ second.begun) no_run
-            ∙ (ap (λ (xs : List ℕ). first.done ++ xs) second.kept_run ∙ sym (append_assoc first.done second.done (map (λ (run : RunState). run.number) (runs_in c.kept))));
-        answers = All-append (IsAnswered setup) first.answered second.answered first.answers second.answers;
-        starts = All-append (IsStarted setup) first.begun second.begun first.starts second.starts;
-        ends = All-append (IsEnded setup) first.done second.done first.ends second.ends;
-        calls = omega (arith, first.calls, second.calls, length-append first.answered second.answered, length-append first.done second.done);
-        started = omega (arith, first.started, second.started, length-append first.begun second.begun);
-        ended = omega (arith, first.ended, second.ended, length-append first.done second.done);
+        calls = xs ++ ys;
+        made = made_then setup a.caller b.caller c.caller xs ys first.made second.made;
+        serves = All-append (λ (it : CallMade). Serves it.event) xs ys first.serves second.serves;
+        asks = ap (λ (zs : List Outcome). zs ++ second.taken) first.asks
+            ∙ (ap (λ (zs : List Outcome). asked xs ++ zs) second.asks ∙ sym (each_append (λ (it : CallMade). asked_by it.event) xs ys));
+        keeps = second.keeps
+            ∙ sym (each_append (λ (it : CallMade). unless (is_answered it.reply) (asked_by it.event)) xs ys ∙ ap (λ (zs : List Outcome). zs ++ unanswered ys) answered);
+        keeps_run = each_append (λ (it : CallMade). started_by it.event it.reply) xs ys
+            ∙ (ap (λ (zs : List ℕ). zs ++ started ys) no_run
+            ∙ (ap (λ (zs : List ℕ). ended xs ++ zs) second.keeps_run
+            ∙ sym (ap (λ (zs : List ℕ). zs ++ numbers c.kept) (each_append (λ (it : CallMade). ended_by it.event it.reply) xs ys) ∙ append_assoc (ended xs) (ended ys) (numbers c.kept))));
+        starts = omega (arith, first.starts, second.starts, ap length (each_append (λ (it : CallMade). started_by it.event it.reply) xs ys), length-append (started xs) (started ys));
+        ends = omega (arith, first.ends, second.ends, ap length (each_append (λ (it : CallMade). ended_by it.event it.reply) xs ys), length-append (ended xs) (ended ys));
       }
 
   pub served_more : (a b c : WorkerState) → HasServed setup a b → b.kept ≡ Nothing → HasServed setup b c → HasServed setup a c
   served_more a b c first free second = record {
-    serves = serves_more a b c first.serves free second.serves;
+    did = did_more a b c first.did free second.did;
     started = second.started;
     ended = second.ended;
   }
 
   -- what each seat did, from what was done at each place
-  pub serve_each : (seats : List SeatState) (workers : List WorkerState) → length workers ≡ length seats → ((i : ℕ) (d : WorkerState) → i < length seats → HasServed setup (slice_index_or (map at_rest seats) i d) (slice_index_or workers i d)) → AllZip (Serves setup) (map at_rest seats) workers
-  serve_each [] [] same each = tt
-  serve_each [] (worker ∷ workers) same each = absurd (omega (arith, same))
-  serve_each (seat ∷ seats) [] same each = absurd (omega (arith, same))
-  serve_each (seat ∷ seats) (worker ∷ workers) same each = (
-    (each 0 worker (omega arith)).serves,
-    serve_each seats workers (omega (arith, same)) (λ i d lt. each (suc i) d (omega (arith, lt))),
+  pub serve_each : (seats : List SeatState) (workers : List WorkerState) → length workers ≡ length seats → ((i : ℕ) (d : WorkerState) → i < length seats → HasServed setup (slice_index_or (map at_rest seats) i d) (slice_index_or workers i d)) → AllZip (HasDone setup) (map at_rest seats) workers
+  serve_each [] [] same at = tt
+  serve_each [] (worker ∷ workers) same at = absurd (omega (arith, same))
+  serve_each (seat ∷ seats) [] same at = absurd (omega (arith, same))
+  serve_each (seat ∷ seats) (worker ∷ workers) same at = (
+    (at 0 worker (omega arith)).did,
+    serve_each seats workers (omega (arith, same)) (λ i d lt. at (suc i) d (omega (arith, lt))),
   )
 
   pub few_each : (seats : List SeatState) (workers : List WorkerState) → length workers ≡ length seats → ((i : ℕ) (d : WorkerState) → i < length seats → HasServed setup (slice_index_or (map at_rest seats) i d) (slice_index_or workers i d)) → All IsFew workers
-  few_each [] [] same each = All-nil IsFew
-  few_each [] (worker ∷ workers) same each = absurd (omega (arith, same))
-  few_each (seat ∷ seats) [] same each = All-nil IsFew
-  few_each (seat ∷ seats) (worker ∷ workers) same each =
-      let here = each 0 worker (omega arith) in
-      All-cons IsFew worker workers (here.started, here.ended) (few_each seats workers (omega (arith, same)) (λ i d lt. each (suc i) d (omega (arith, lt))))
+  few_each [] [] same at = All-nil IsFew
+  few_each [] (worker ∷ workers) same at = absurd (omega (arith, same))
+  few_each (seat ∷ seats) [] same at = All-nil IsFew
+  few_each (seat ∷ seats) (worker ∷ workers) same at =
+      let here = at 0 worker (omega arith) in
+      All-cons IsFew worker workers (here.started, here.ended) (few_each seats workers (omega (arith, same)) (λ i d lt. at (suc i) d (omega (arith, lt))))
 
   -- seats that did not serve
-  pub idle_each : (seats : List SeatState) → AllZip (Serves setup) (map at_rest seats) (map at_rest seats)
+  pub idle_each : (seats : List SeatState) → AllZip (HasDone setup) (map at_rest seats) (map at_rest seats)
   idle_each [] = tt
-  idle_each (seat ∷ seats) = (idles (at_rest seat) (at_rest seat) (took_none seat.pass seat.pass refl) refl refl, idle_each seats)
+  idle_each (seat ∷ seats) = (idles (at_rest seat) seat.pass (took_none seat.pass seat.pass refl) refl, idle_each seats)
 
 pub rest_of : (seats : List SeatState) (served : ServedState) → all_of (map at_rest seats) served ≡ record served { seats = served.seats ++ seats }
 rest_of [] served = ap (λ (xs : List SeatState). record served { seats = xs }) (sym (append-nil served.seats))
@@ -285,22 +344,22 @@ whole {X} n xs ys same is =
 
 -- the seats that come back are those of all workers
 abbrev pub seat_of : WorkerState → SeatState
-seat_of worker = record { calls = worker.calls; pass = worker.pass }
+seat_of worker = record { caller = worker.caller; pass = worker.pass }
 
 pub seats_back : (workers : List WorkerState) (served : ServedState) → (all_of workers served).seats ≡ served.seats ++ map seat_of workers
 seats_back [] served = sym (append-nil served.seats)
 seats_back (worker ∷ workers) served = seats_back workers (with_worker worker served) ∙ append_assoc served.seats (seat_of worker ∷ []) (map seat_of workers)
 
 -- and they are of the same inbox
-pub passes_back : (setup : Setup) (inbox : InboxView) (seats : List SeatState) (workers : List WorkerState) → AllZip (Serves setup) (map at_rest seats) workers → All (λ (seat : SeatState). IsOf inbox seat.pass) seats → All (λ (seat : SeatState). IsOf inbox seat.pass) (map seat_of workers)
-passes_back setup inbox [] [] each are = All-nil (λ (seat : SeatState). IsOf inbox seat.pass)
-passes_back setup inbox [] (worker ∷ workers) each are = absurd each
-passes_back setup inbox (seat ∷ seats) [] each are = absurd each
-passes_back setup inbox (seat ∷ seats) (worker ∷ workers) each are =
+pub passes_back : (setup : Setup) (inbox : InboxView) (seats : List SeatState) (workers : List WorkerState) → AllZip (HasDone setup) (map at_rest seats) workers → All (λ (seat : SeatState). IsOf inbox seat.pass) seats → All (λ (seat : SeatState). IsOf inbox seat.pass) (map seat_of workers)
+passes_back setup inbox [] [] did are = All-nil (λ (seat : SeatState). IsOf inbox seat.pass)
+passes_back setup inbox [] (worker ∷ workers) did are = absurd did
+passes_back setup inbox (seat ∷ seats) [] did are = absurd did
+passes_back setup inbox (seat ∷ seats) (worker ∷ workers) did are =
     let before = All-head (λ (it : SeatState). IsOf inbox it.pass) seat seats are in
     All-cons (λ (it : SeatState). IsOf inbox it.pass) (seat_of worker) (map seat_of workers)
-    (record { queue = each.0.pass.queue ∙ before.queue; shape = each.0.pass.shape ∙ before.shape })
-    (passes_back setup inbox seats workers each.1 (All-tail (λ (it : SeatState). IsOf inbox it.pass) seat seats are))
+    (record { queue = did.0.pass.queue ∙ before.queue; shape = did.0.pass.shape ∙ before.shape })
+    (passes_back setup inbox seats workers did.1 (All-tail (λ (it : SeatState). IsOf inbox it.pass) seat seats are))
 
 -- of what was served, as a caller needs it
 module _ (setup : Setup) (inbox : InboxView) (seats : List SeatState) (served : ServedState) (are : AreServed setup seats served) where
@@ -309,7 +368,7 @@ module _ (setup : Setup) (inbox : InboxView) (seats : List SeatState) (served : 
 
   pub all_back : length served.seats ≡ length seats
   all_back =
-      omega (arith, ap length seats_are, length-map are.workers seat_of, length_all_zip (Serves setup) (map at_rest seats) are.workers are.serve, length-map seats at_rest)
+      omega (arith, ap length seats_are, length-map are.workers seat_of, length_all_zip (HasDone setup) (map at_rest seats) are.workers are.each_did, length-map seats at_rest)
 
   pub passes_are : All (λ (seat : SeatState). IsOf inbox seat.pass) seats → All (λ (seat : SeatState). IsOf inbox seat.pass) served.seats
-  passes_are before = subst (λ (xs : List SeatState). All (λ (seat : SeatState). IsOf inbox seat.pass) xs) (sym seats_are) (passes_back setup inbox seats are.workers are.serve before)
+  passes_are before = subst (λ (xs : List SeatState). All (λ (seat : SeatState). IsOf inbox seat.pass) xs) (sym seats_are) (passes_back setup inbox seats are.workers are.each_did before)

@@ -1,29 +1,30 @@
--- What a worker does: what it took was answered, or it keeps it; and each run that it started has ended, or it keeps it.
-use Rattle.std.specs.Prelude.{◌≡◌, ℕ, ◌+◌, ◌≤◌, true, List, [], ◌∷◌, ◌++◌, map, length, All}
+-- What a worker does: each completion that it took it asked the engine to complete, and keeps it where that was not answered; each
+-- run that it started has ended, or it keeps it.
+use Rattle.std.specs.Prelude.{◌≡◌, ℕ, ◌+◌, ◌≤◌, Bool, true, false, List, [], ◌∷◌, ◌++◌, map, length, All}
 use Rattle.std.specs.List.{AllZip}
-use Rattle.std.specs.Borrow.{Bor}
 use Rattle.ccb.specs.Completion.{Outcome}
 use Rattle.inbox.specs.Views.{InboxView, PassView, IsOf}
+use Rattle.calls.specs.declared.call_refusal.CallRefusal.TheVariants.{Unknown, NotActive}
 use Rattle.world.specs.World.{Setup}
-use Rattle.engine_core.specs.RunState.{RunState, StoppedState}
+use Rattle.engine_core.specs.RunState.{RunState}
+use Rattle.engine_core.specs.declared.event.Event.{Event}
 use Rattle.engine_core.specs.declared.event.Event.TheVariants.{Complete, Advance}
 use Rattle.engine_core.specs.declared.reply.Reply.{Reply}
-use Rattle.engine_core.specs.declared.reply.Reply.TheVariants.{Given}
+use Rattle.engine_core.specs.declared.reply.Reply.TheVariants.{Given, Refused}
+use Rattle.engine_core.specs.declared.reply.Given.{Given as WhatIsGiven}
 use Rattle.engine_core.specs.declared.reply.Given.TheVariants.{Started, Ended}
-use Rattle.engine_core.specs.Replies.{is_recorded}
-use Rattle.engine_lock.specs.Sharing.{Answered}
+use Rattle.monitor.specs.Telling.{CallerState}
+use Rattle.workers.specs.Calls.{AreMade, CallMade, each}
 use Rattle.workers.specs.declared.driving.TheConstants.{MOST_STARTED}
 use Rattle.workers.specs.declared.worker.Kept.{Kept}
 use Rattle.workers.specs.declared.worker.Kept.TheVariants.{Nothing, Completion, Run}
 
 pub record SeatState : Type 0 where
-  -- how many calls of its caller were recorded
-  pub calls : ℕ
+  pub caller : CallerState
   pub pass : PassView
 
 pub record WorkerState : Type 0 where
-  -- how many calls of it were recorded
-  pub calls : ℕ
+  pub caller : CallerState
   pub pass : PassView
   -- what it keeps
   pub kept : Kept
@@ -32,7 +33,7 @@ pub record WorkerState : Type 0 where
   pub ended : ℕ
 
 abbrev pub at_rest : SeatState → WorkerState
-at_rest seat = record { calls = seat.calls; pass = seat.pass; kept = Nothing; started = 0; ended = 0 }
+at_rest seat = record { caller = seat.caller; pass = seat.pass; kept = Nothing; started = 0; ended = 0 }
 
 -- the completion that is kept, and the run
 abbrev pub completions_in : Kept → List Outcome
@@ -50,46 +51,83 @@ pub record Took (before after : PassView) (more : List Outcome) : Type 0 where
   pub number : after.account.number ≡ before.account.number
   pub taken : after.account.taken ≡ before.account.taken ++ more
 
+-- a worker asks for completions and advances alone
+abbrev pub Serves : Event → Type 0
+Serves (Complete completion) = Unit {0}
+Serves (Advance run) = Unit {0}
+Serves event = ⊥
+
+-- it advances the run of this number
+abbrev pub IsAdvanceOf : ℕ → Event → Type 0
+IsAdvanceOf number (Advance run) = run.number ≡ number
+IsAdvanceOf number event = ⊥
+
+-- the completion that an event asks for
+abbrev pub asked_by : Event → List Outcome
+asked_by (Complete completion) = completion.now ∷ []
+asked_by event = []
+
+-- it was carried out, or refused with C1 or C3: there is no such CCB, or it is not active
+abbrev pub is_answered : Reply → Bool
+is_answered (Given given) = true
+is_answered (Refused Unknown) = true
+is_answered (Refused NotActive) = true
+is_answered reply = false
+
+abbrev pub unless : Bool → List Outcome → List Outcome
+unless true completions = []
+unless false completions = completions
+
+-- the number of the run that it started
+abbrev pub started_by : Event → Reply → List ℕ
+started_by (Complete completion) (Given (Started run freeze)) = run.number ∷ []
+started_by event reply = []
+
+-- no run was started
+abbrev pub StartsNone : WhatIsGiven → Type 0
+StartsNone (Started run freeze) = ⊥
+StartsNone given = Unit {0}
+
+-- the number of the run that came to its exit
+abbrev pub ended_by : Event → Reply → List ℕ
+ended_by (Advance run) (Given (Ended r0)) = run.number ∷ []
+ended_by event reply = []
+
+-- the completions that were asked for, and those of them that were not answered
+abbrev pub asked : List CallMade → List Outcome
+asked = each (λ call. asked_by call.event)
+
+abbrev pub unanswered : List CallMade → List Outcome
+unanswered = each (λ call. unless (is_answered call.reply) (asked_by call.event))
+
+-- the runs that were started, and those that came to their exits
+abbrev pub started : List CallMade → List ℕ
+started = each (λ call. started_by call.event call.reply)
+
+abbrev pub ended : List CallMade → List ℕ
+ended = each (λ call. ended_by call.event call.reply)
+
 module _ (setup : Setup) where
-  -- at some moment the shared engine answered the completion, and recorded that
-  pub record IsAnswered (outcome : Outcome) : Type 0 where
-    pub completion : Bor Outcome
-    pub outcome_is : completion.now ≡ outcome
-    pub reply : Reply
-    pub recorded : is_recorded reply ≡ true
-    pub answered : Answered setup (Complete completion) reply
-
-  -- at some moment it started the run of this number
-  pub record IsStarted (number : ℕ) : Type 0 where
-    pub completion : Bor Outcome
-    pub run : RunState
-    pub number_is : run.number ≡ number
-    pub freeze : ℕ
-    pub answered : Answered setup (Complete completion) (Given (Started run freeze))
-
-  -- at some moment that run ended
-  pub record IsEnded (number : ℕ) : Type 0 where
-    pub stopped : StoppedState
-    pub number_is : stopped.number ≡ number
-    pub r0 : ℕ
-    pub answered : Answered setup (Advance stopped) (Given (Ended r0))
-
-  -- What it took was answered, or is kept, in the order of the takes; so each run that it started ended, or is kept. Each
-  -- answer and each end is a recorded call of its own.
-  pub record Serves (before after : WorkerState) : Type 0 where
+  -- By these calls of its caller it asked for each completion that it took, once and in the order of the takes, and keeps just
+  -- what was not answered; and each run that they started ended by them, or is kept.
+  pub record HasDone (before after : WorkerState) : Type 0 where
     pub taken : List Outcome
-    pub answered : List Outcome
-    pub begun : List ℕ
-    pub done : List ℕ
     pub pass : Took before.pass after.pass taken
-    pub kept : taken ≡ answered ++ completions_in after.kept
-    pub kept_run : begun ≡ done ++ map (λ run. run.number) (runs_in after.kept)
-    pub answers : All IsAnswered answered
-    pub starts : All IsStarted begun
-    pub ends : All IsEnded done
-    pub calls : before.calls + length answered + length done ≤ after.calls
-    pub started : after.started ≡ before.started + length begun
-    pub ended : after.ended ≡ before.ended + length done
+    pub calls : List CallMade
+    pub made : AreMade setup before.caller calls after.caller
+    pub serves : All (λ call. Serves call.event) calls
+    pub asks : taken ≡ asked calls
+    pub keeps : completions_in after.kept ≡ unanswered calls
+    pub keeps_run : started calls ≡ ended calls ++ map (λ run. run.number) (runs_in after.kept)
+    pub starts : after.started ≡ before.started + length (started calls)
+    pub ends : after.ended ≡ before.ended + length (ended calls)
+
+  -- By these calls of the caller a run of this number was advanced and nothing else; these runs came to their exits.
+  pub record Drives (number : ℕ) (exited : List ℕ) (before after : CallerState) : Type 0 where
+    pub calls : List CallMade
+    pub made : AreMade setup before calls after
+    pub advances : All (λ call. IsAdvanceOf number call.event) calls
+    pub ends : ended calls ≡ exited
 
 -- what a service gives back
 pub record ServedState : Type 0 where
@@ -105,7 +143,7 @@ nothing_served = record { seats = []; started = 0; ended = 0; completions = []; 
 -- a worker's seat more, with what it keeps and counts
 abbrev pub with_worker : WorkerState → ServedState → ServedState
 with_worker worker served = record {
-  seats = served.seats ++ record { calls = worker.calls; pass = worker.pass } ∷ [];
+  seats = served.seats ++ record { caller = worker.caller; pass = worker.pass } ∷ [];
   started = served.started + worker.started;
   ended = served.ended + worker.ended;
   completions = served.completions ++ completions_in worker.kept;
@@ -121,7 +159,7 @@ all_of (worker ∷ workers) served = all_of workers (with_worker worker served)
 pub record AreServed (setup : Setup) (seats : List SeatState) (served : ServedState) : Type 0 where
   pub workers : List WorkerState
   -- each seat served so
-  pub serve : AllZip (Serves setup) (map at_rest seats) workers
+  pub each_did : AllZip (HasDone setup) (map at_rest seats) workers
   pub served_is : served ≡ all_of workers nothing_served
 
 -- it may serve this inbox
@@ -133,6 +171,6 @@ pub record IsReady (inbox : InboxView) (worker : WorkerState) : Type 0 where
 
 -- it served, and counts no more than it may
 pub record HasServed (setup : Setup) (before after : WorkerState) : Type 0 where
-  pub serves : Serves setup before after
+  pub did : HasDone setup before after
   pub started : after.started ≤ MOST_STARTED
   pub ended : after.ended ≤ after.started

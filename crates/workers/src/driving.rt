@@ -1,11 +1,11 @@
 // What a worker does with one completion: it is answered, and the run that it starts is driven to its end. It relies on
 // `engine_lock` for calls, and on `engine_core` for what a run executes by itself, outside the lock.
 
-ghost use Rattle.std.specs.Prelude.{◌≡◌, ℕ, ◌+◌, ◌≤◌, true, length, IfErr, IfSome, OnOk};
+ghost use Rattle.std.specs.Prelude.{◌≡◌, ℕ, true, [], ◌∷◌, IfErr, IfSome, IfNone, OnOk};
 ghost use Rattle.engine_core.specs.Replies.{IsRunBack};
 ghost use Rattle.engine_core.specs.declared.reply.Back.TheVariants as its;
 ghost use Rattle.engine_core.specs.declared.reply.Given.TheVariants.{Started};
-ghost use Rattle.workers.specs.Serving.{HasServed, IsEnded, IsReady};
+ghost use Rattle.workers.specs.Serving.{Drives, HasServed, IsReady, StartsNone};
 
 use crate::gate::Gate;
 use crate::worker::{Kept, Worker};
@@ -92,7 +92,8 @@ fn serve_next<B: Object, G: Gate, R: Wait>(
 
 // The run that was started, if one was.
 fn started_by(given: Given) -> Option<Run>
-    ensures { IfSome result (λ run. (freeze : ℕ) × (given ≡ Started run freeze)) }
+    ensures started { IfSome result (λ run. (freeze : ℕ) × (given ≡ Started run freeze)) }
+    ensures none { IfNone result (StartsNone given) }
 {
     match given {
         Given::Started(run, _) => Some(run),
@@ -113,10 +114,8 @@ pub fn drive<B: Object, G: Gate, R: Wait>(
     caller: &mut Caller<B>,
     run: Run,
 ) -> Result<(), Run>
-    ensures calls { length caller.old.mine ≤ length caller.new.mine }
-    ensures recorded { OnOk result (length caller.old.mine + 1 ≤ length caller.new.mine) }
-    ensures ended { OnOk result (IsEnded B.setup run.number) }
-    ensures same { IfErr result (λ kept. kept.number ≡ run.number) }
+    ensures ended { OnOk result (Drives B.setup run.number (run.number ∷ []) caller.old caller.new) }
+    ensures kept { IfErr result (λ kept. (kept.number ≡ run.number) × Drives B.setup run.number [] caller.old caller.new) }
 {
     let budget = run.program().budget();
     let mut stopped = run.to_stop();

@@ -10,10 +10,9 @@ pub struct Seat<B: Object> {
 }
 
 impl<B: Object> Model for Seat<B> {
-    ghost use Rattle.std.specs.Prelude.{length};
     ghost use Rattle.workers.specs.Serving.{SeatState};
 
     ghost Value = { SeatState };
 
-    ghost view = { λ s. record { calls = length s.caller.mine; pass = s.pass } };
+    ghost view = { λ s. record { caller = s.caller; pass = s.pass } };
 }

@@ -1,9 +1,14 @@
 // How the runs that a service kept are parked, so that none has to be forfeited. It relies on `engine_lock` for calls, and on
 // `engine_core` for parks, which take no memory.
 
-ghost use Rattle.std.specs.Prelude.{◌≡◌, ◌≢◌, ℕ, ◌+◌, [], All, length, IfOk, IfErr, IfSome, IfNone, MatchResult};
+ghost use Rattle.std.specs.Prelude.{◌≡◌, All, length, IfOk, IfErr, IfSome, IfNone, MatchResult};
 ghost use Rattle.inbox.specs.Views.{InboxView, IsOf};
-ghost use Rattle.workers.specs.Settling.{AreSettled, IsNotOut, IsParked, IsSettled, IsUnsettled, with_calls};
+ghost use Rattle.engine_core.specs.declared.event.Event.TheVariants.{Park};
+ghost use Rattle.engine_core.specs.declared.reply.Back.TheVariants as its;
+ghost use Rattle.engine_core.specs.declared.reply.Given.TheVariants.{Parked};
+ghost use Rattle.engine_core.specs.declared.reply.Reply.TheVariants as replied;
+ghost use Rattle.engine_lock.specs.Sharing.{Section};
+ghost use Rattle.workers.specs.Settling.{AreSettled, AreSettledBy, IsSettled, IsUnsettled};
 
 use crate::driving::run_of;
 use crate::seat::Seat;
@@ -85,9 +90,7 @@ fn park_by_first<B: Object, R: Wait>(
     seats: &mut Vec<Seat<B>>,
     runs: &mut Vec<Run>,
 )
-    ensures runs { seats.old.items ≢ [] → AreSettled B.setup runs.old.items runs.new.items }
-    ensures unseated { seats.old.items ≡ [] → runs.new.items ≡ runs.old.items }
-    ensures seats { (many : ℕ) × (many + length runs.new.items ≡ length runs.old.items) × (seats.new.items ≡ with_calls many seats.old.items) }
+    ensures { AreSettledBy B.setup seats.old.items runs.old.items runs.new.items seats.new.items }
 {
     if !seats.is_empty() {
         park_all(rt, shared, &mut seats[0].caller, runs);
@@ -101,8 +104,7 @@ fn park_all<B: Object, R: Wait>(
     caller: &mut Caller<B>,
     runs: &mut Vec<Run>,
 )
-    ensures runs { AreSettled B.setup runs.old.items runs.new.items }
-    ensures calls { length caller.new.mine + length runs.new.items ≡ length caller.old.mine + length runs.old.items }
+    ensures { AreSettled B.setup caller.old runs.old.items runs.new.items caller.new }
 {
     for _ in 0..runs.len() {
         let run = runs.remove(0);
@@ -119,8 +121,8 @@ fn park<B: Object, R: Wait>(
     caller: &mut Caller<B>,
     run: Run,
 ) -> Option<Run>
-    ensures parked { IfNone result (IsParked B.setup run × (length caller.new.mine ≡ length caller.old.mine + 1)) }
-    ensures back { IfSome result (λ back. (back ≡ run) × IsNotOut B.setup run × (length caller.new.mine ≡ length caller.old.mine)) }
+    ensures parked { IfNone result (Section B.setup (Park run) (replied.Given Parked) caller.old caller.new) }
+    ensures back { IfSome result (λ back. (back ≡ run) × Section B.setup (Park run) (replied.Unfit (its.Run run)) caller.old caller.new) }
 {
     let reply = shared.call(rt, caller, Event::Park { run });
     match reply {

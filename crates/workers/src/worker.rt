@@ -20,8 +20,7 @@ pub(crate) enum Kept {
     Run(Run),
 }
 
-/// A seat that serves. Contracts see how many calls of it were recorded, its pass, what it keeps, and how many runs it started
-/// and drove to their ends.
+/// A seat that serves. Contracts see its caller, its pass, what it keeps, and how many runs it started and drove to their ends.
 pub(crate) struct Worker<B: Object> {
     pub(crate) caller: Caller<B>,
     pub(crate) pass: TakePass,
@@ -31,12 +30,11 @@ pub(crate) struct Worker<B: Object> {
 }
 
 impl<B: Object> Model for Worker<B> {
-    ghost use Rattle.std.specs.Prelude.{length};
     ghost use Rattle.workers.specs.Serving.{WorkerState};
 
     ghost Value = { WorkerState };
 
-    ghost view = { λ w. record { calls = length w.caller.mine; pass = w.pass; kept = w.kept; started = w.started; ended = w.ended } };
+    ghost view = { λ w. record { caller = w.caller; pass = w.pass; kept = w.kept; started = w.started; ended = w.ended } };
 }
 
 impl<B: Object> Worker<B> {

@@ -1,5 +1,6 @@
-use Rattle.std.proofs.Common.{◌≡◌, ◌≤◌, length}
+use Rattle.std.proofs.Common.{◌≡◌, []}
+use Rattle.workers.specs.Serving.{Drives}
 use Rattle.workers.proofs.driving.drive.Given as goal
 
 abbrev pub invariant-loop-turn : goal.invariant-loop-turn
-invariant-loop-turn g l = (length l.fn.caller.mine ≤ length l.caller.mine) × (l.stopped.number ≡ l.fn.run.number)
+invariant-loop-turn g l = Drives g.B.Origin.setup l.fn.run.number [] l.fn.caller l.caller × (l.stopped.number ≡ l.fn.run.number)

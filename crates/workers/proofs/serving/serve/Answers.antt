@@ -12,7 +12,7 @@ returns-in-Ok-clause-passes g c = passes_are g.B.Origin.setup c.args.inbox.now c
 pub returns-in-Err-clause-served : goal.returns-in-Err-clause-served
 returns-in-Err-clause-served g c = record {
   workers = map at_rest c.args.seats.items;
-  serve = idle_each g.B.Origin.setup c.args.seats.items;
+  each_did = idle_each g.B.Origin.setup c.args.seats.items;
   served_is = (λ i. record { seats = c.args.seats.items; started = 0; ended = 0; completions = c.new.ensures.items i; runs = c.new-in-Err.ensures.items i })
       ∙ sym (rest_of c.args.seats.items nothing_served);
 }

@@ -28,7 +28,7 @@ returns g c =
     (λ i d lt. c.serve_all.ensures i d (omega (arith, lt, long, same, ap length c.deref_mut.ensures.value))) in
     record {
       workers = c.serve_all.new.workers;
-      serve = serve_each g.B.Origin.setup c.args.seats.items c.serve_all.new.workers long each;
+      each_did = serve_each g.B.Origin.setup c.args.seats.items c.serve_all.new.workers long each;
       served_is = c.give_back.ensures
           ∙ ap (λ (ws : List WorkerState). all_of ws nothing_served) (whole c.take_seats.new.workers.len c.serve_all.new.workers c.take_seats.new.workers.items same (omega (arith, same, c.deref_mut.ensures.len, ap length c.deref_mut.ensures.value)));
     }

@@ -4,8 +4,8 @@ use Rattle.monitor.specs.Telling.{CallerState, KeeperState}
 use Rattle.monitor.proofs.Histories.{records_push}
 use Rattle.world.specs.World.{Setup}
 use Rattle.engine_core.specs.Replies.{IsOfKnown}
-use Rattle.engine_lock.specs.Sharing.{IsSince, LockedState, Tells}
-use Rattle.engine_lock.proofs.Histories.{answered_so, last_beyond, stands_since, tells_made}
+use Rattle.engine_lock.specs.Sharing.{IsSince, LockedState, Section}
+use Rattle.engine_lock.proofs.Histories.{answered_so, last_beyond, section_of, stands_since, tells_made, tells_nothing, tells_unfit}
 use Rattle.engine_lock.proofs.Since.{since_more}
 use Rattle.engine_lock.proofs.locked.Locked.call.Goals as goal
 
@@ -57,8 +57,26 @@ returns-else-is_unfit-clause-answers g c =
 pub returns-else-is_unfit-clause-since : goal.returns-else-is_unfit-clause-since
 returns-else-is_unfit-clause-since g c = stands_since c.self.inside.engine c.args.self.now.engine (ap (λ (l : LockedState). l.engine) c.self.view_is) g.B.Origin.setup g.B.Origin.begun c.self.inside.book.total c.self.invariant.0
 
-pub returns-then-is_recorded-clause-tells : goal.returns-then-is_recorded-clause-tells
-returns-then-is_recorded-clause-tells g c =
-    subst (λ (before : CallerState). Tells g.B.Origin.setup c.args.event c.answer_known-reply.result before c.publish_last.new.part) c.caller.view_is
-    (tells_made (records c.self.inside.keeper.history) c.self.inside.engine c.answer_known-reply.new.self c.args.event c.answer_known-reply.result c.answer_known-reply.ensures.fits
-    (sym c.is_recorded.ensures ∙ c.if-is_recorded.true) c.answer_known-reply.ensures.recorded c.self.invariant.4 g.B.Origin.setup c.self.inside.keeper.history _ _ c.publish_last.ensures.caller)
+pub returns-then-is_recorded-clause-section : goal.returns-then-is_recorded-clause-section
+returns-then-is_recorded-clause-section g c =
+    let it = c.answer_known-reply in
+    subst (λ (before : CallerState). Section g.B.Origin.setup c.args.event it.result before c.publish_last.new.part) c.caller.view_is
+    (section_of g.B.Origin.setup g.B.Origin.begun c.self.inside.book.total c.self.inside.engine it.new.self c.self.inside.keeper.history c.args.event it.result _ _
+    c.self.invariant.0 c.self.invariant.4 it.ensures.recorded it.ensures.fits it.ensures.fit it.ensures.gives
+    (tells_made (records c.self.inside.keeper.history) c.self.inside.engine it.new.self c.args.event it.result it.ensures.fits
+    (sym c.is_recorded.ensures ∙ c.if-is_recorded.true) it.ensures.recorded c.self.invariant.4 g.B.Origin.setup c.self.inside.keeper.history _ _ c.publish_last.ensures.caller))
+
+pub returns-then-is_unfit-clause-section : goal.returns-then-is_unfit-clause-section
+returns-then-is_unfit-clause-section g c =
+    let it = c.answer_known-reply in
+    subst (λ (before : CallerState). Section g.B.Origin.setup c.args.event it.result before c.look.new.caller) c.caller.view_is
+    (section_of g.B.Origin.setup g.B.Origin.begun c.self.inside.book.total c.self.inside.engine it.new.self c.self.inside.keeper.history c.args.event it.result _ _
+    c.self.invariant.0 c.self.invariant.4 it.ensures.recorded it.ensures.fits it.ensures.fit it.ensures.gives
+    (tells_unfit g.B.Origin.setup c.self.inside.keeper.history c.args.event it.result _ _ (sym c.is_unfit.ensures ∙ c.if-is_unfit.true) c.look.ensures.caller))
+
+pub returns-else-is_unfit-clause-section : goal.returns-else-is_unfit-clause-section
+returns-else-is_unfit-clause-section g c =
+    let it = c.answer_known-reply in
+    section_of g.B.Origin.setup g.B.Origin.begun c.self.inside.book.total c.self.inside.engine it.new.self c.self.inside.keeper.history c.args.event it.result _ _
+    c.self.invariant.0 c.self.invariant.4 it.ensures.recorded it.ensures.fits it.ensures.fit it.ensures.gives
+    (tells_nothing g.B.Origin.setup c.self.inside.keeper.history c.args.event it.result _ _ (sym c.is_recorded.ensures ∙ c.if-is_recorded.false) (sym c.is_unfit.ensures ∙ c.if-is_unfit.false) c.caller.view_is)

@@ -159,12 +159,7 @@ impl<B: Object> Locked<B> {
 
     // The engine, where all callers that were given out are here. There are no more: each has a part of the ledger, which has as
     // many as may be given out.
-    fn settle<R: Wait>(
-        self,
-        rt: &R,
-        monitor: &Monitor<B>,
-        mut callers: Vec<Caller<B>>,
-    ) -> Engine
+    fn settle<R: Wait>(self, rt: &R, monitor: &Monitor<B>, mut callers: Vec<Caller<B>>) -> Engine
         requires { self.given ≤ length callers.items }
         ensures closes { Closes B.setup B.begun callers.items result }
         ensures all { length callers.items ≡ self.given }

@@ -1,7 +1,12 @@
--- Of which line a fault is: that of a release.
-use Rattle.std.specs.Prelude.{◌≡◌, ℕ, List, Option, Some, None, Contains}
+-- Of which line a fault is: that of a release whose freeze is not held then.
+use Rattle.std.specs.Prelude.{◌≡◌, ℕ, false, List, ◌∷◌, ◌++◌, Option, Some, None}
+use Rattle.calls.specs.declared.record.Record.{Record}
+use Rattle.world.specs.World.{Setup}
+use Rattle.monitor.specs.declared.knowledge.Pair.{Pair}
+use Rattle.monitor.specs.LegalHistory.{LegalHistory, made_by}
 use Rattle.scenario.specs.declared.steps.Command.TheVariants.{GuestRelease}
 use Rattle.scenario.specs.declared.steps.Step.{Step}
+use Rattle.scenario_host.specs.Asked.{AreOf, calls_of, is_held}
 use Rattle.scenario_host.specs.declared.host.RunFault.{RunFault}
 use Rattle.scenario_host.specs.declared.host.RunFault.TheVariants.{OutOfMemory, NotHeld, Unsettled}
 
@@ -11,16 +16,28 @@ line_of OutOfMemory = None
 line_of (NotHeld line) = Some line
 line_of Unsettled = None
 
--- the step is a release, on that line
-pub record IsRelease (step : Step) (line : ℕ) : Type 0 where
+-- on this line stands a release of a freeze that is not held behind these records, which are those of the steps before it
+pub record IsUnheldAt (steps : List Step) (made : List Record) (line : ℕ) : Type 0 where
+  pub before : List Step
+  pub step : Step
+  pub after : List Step
+  pub steps_are : steps ≡ before ++ step ∷ after
   pub freeze : ℕ
   pub release : step.command ≡ GuestRelease freeze
   pub line_is : step.line ≡ line
+  pub asked : AreOf made (calls_of before)
+  pub unheld : is_held freeze made ≡ false
 
--- a line that it names is that of this step
-abbrev pub IsOfStep : Step → RunFault → Type 0
-IsOfStep step fault = (line : ℕ) → line_of fault ≡ Some line → IsRelease step line
+-- a line that it names is such a one, by the records that the host made
+abbrev pub IsOfSteps : List Step → List Record → RunFault → Type 0
+IsOfSteps steps made fault = (line : ℕ) → line_of fault ≡ Some line → IsUnheldAt steps made line
 
--- a line that it names is that of one of these steps
-abbrev pub IsOfSteps : List Step → RunFault → Type 0
-IsOfSteps steps fault = (line : ℕ) → line_of fault ≡ Some line → (step : Step) × Contains steps step × IsRelease step line
+-- the same in a legal history, of which the records are that one caller made
+pub record IsUnheldThen (setup : Setup) (steps : List Step) (line : ℕ) : Type 0 where
+  pub history : List Pair
+  pub legal : LegalHistory setup history
+  pub host : ℕ
+  pub unheld : IsUnheldAt steps (made_by host history) line
+
+abbrev pub IsOfRun : Setup → List Step → RunFault → Type 0
+IsOfRun setup steps fault = (line : ℕ) → line_of fault ≡ Some line → IsUnheldThen setup steps line

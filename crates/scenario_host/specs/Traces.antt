@@ -1,5 +1,5 @@
--- What the trace of a scenario is: a whole history of one engine, with its sums.
-use Rattle.std.specs.Prelude.{◌≡◌, List}
+-- What the trace of a scenario is: a whole history of one engine, with its sums, of which the host made the scenario's calls.
+use Rattle.std.specs.Prelude.{◌≡◌, ℕ, List}
 use Rattle.calls.specs.declared.record.Record.{Record}
 use Rattle.calls.specs.declared.totals.Totals.{Totals}
 use Rattle.calls.specs.declared.trace.Version.{Version}
@@ -8,6 +8,11 @@ use Rattle.world.specs.Lawful.{IsLawful}
 use Rattle.world.specs.WorldRun.{WorldRun}
 use Rattle.world.specs.Flat.{flat}
 use Rattle.world.specs.TotalsOf.{TotalsOf}
+use Rattle.monitor.specs.declared.knowledge.Pair.{Pair}
+use Rattle.monitor.specs.LegalHistory.{made_by, records}
+use Rattle.monitor.specs.Telling.{CallerState}
+use Rattle.scenario.specs.declared.steps.Step.{Step}
+use Rattle.scenario_host.specs.Asked.{AreOf, calls_of}
 
 -- the records are a run of a lawful setup from its opening, in its vocabulary, and these are its sums
 pub record IsTraceOf (setup : Setup) (version : Version) (records : List Record) (totals : Totals) : Type 0 where
@@ -16,3 +21,16 @@ pub record IsTraceOf (setup : Setup) (version : Version) (records : List Record)
   pub world : World
   pub run : WorldRun setup (flat records) world
   pub sums : TotalsOf setup records totals
+
+-- in a history of which these are the records, these are the caller's
+pub record HasMade (caller : CallerState) (told : List Record) : Type 0 where
+  pub history : List Pair
+  pub its : records history ≡ told
+  pub own : made_by caller.number history ≡ caller.mine
+
+-- one caller made those of the scenario's calls that workers do not make, each once and in their order
+pub record IsOfScenario (steps : List Step) (told : List Record) : Type 0 where
+  pub history : List Pair
+  pub its : records history ≡ told
+  pub host : ℕ
+  pub asked : AreOf (made_by host history) (calls_of steps)

@@ -2,9 +2,11 @@
 // from which they are served. It relies on `hands` for the guests' tokens, on `engine_lock` for the engine's replies, and on
 // `workers` for serving.
 
-ghost use Rattle.std.specs.Prelude.{◌≡◌, ◌+◌, ◌≤◌, [], All, IfErr, None, length, vec_capacity};
+ghost use Rattle.std.specs.Prelude.{◌≡◌, ◌+◌, ◌≤◌, [], All, IfErr, OnOk, None, length, vec_capacity};
 ghost use Rattle.inbox.specs.Views.{IsOf};
-ghost use Rattle.scenario_host.specs.Faults.{IsOfStep, IsOfSteps, line_of};
+ghost use Rattle.scenario_host.specs.Asked.{AreOf, calls_of};
+ghost use Rattle.scenario_host.specs.Faults.{IsOfSteps, line_of};
+ghost use Rattle.scenario_host.specs.Holding.{Asks, AsksAlone, HoldsAll, HoldsBut, IsAsked, IsOfStep, IsSaid};
 ghost use Rattle.workers.specs.declared.serving.TheConstants.{MAX_WORKERS};
 ghost use Rattle.scenario_host.specs.declared.host.RunFault.TheVariants.{OutOfMemory};
 
@@ -30,8 +32,8 @@ pub enum RunFault {
     OutOfMemory,
     /// N2: the `grelease` of that line is of a freeze whose token is not held.
     NotHeld(usize),
-    /// A completion finds no room in an inbox that was served until it was empty, or a caller is missing at the end. Neither
-    /// can be.
+    /// A completion finds no room in an inbox that was served until it was empty, a guest's freeze is gone whose token is held, or
+    /// a caller is missing at the end. None of these can be.
     Unsettled,
 }
 
@@ -72,7 +74,9 @@ impl<'a, B: Object + Send + Sync, N: Notices + Sync> Host<'a, B, N> {
         rt: &R,
         steps: &[Step],
     ) -> Result<(), RunFault>
-        ensures { IfErr result (IsOfSteps steps.now) }
+        requires { self.old.caller.mine ≡ [] }
+        ensures asked { OnOk result (AreOf self.new.caller.mine (calls_of steps.now)) }
+        ensures fault { IfErr result (IsOfSteps steps.now self.new.caller.mine) }
     {
         for step in steps {
             self.carry_out(rt, step)?;
@@ -81,7 +85,10 @@ impl<'a, B: Object + Send + Sync, N: Notices + Sync> Host<'a, B, N> {
     }
 
     fn carry_out<R: Threads + Wait + Sync>(&mut self, rt: &R, step: &Step) -> Result<(), RunFault>
-        ensures { IfErr result (IsOfStep step.now) }
+        requires { HoldsAll self.old.caller.mine self.old.hands.tokens }
+        ensures asked { OnOk result (Asks step.now self.old.caller.mine self.new.caller.mine) }
+        ensures holds { OnOk result (HoldsAll self.new.caller.mine self.new.hands.tokens) }
+        ensures fault { IfErr result (IsOfStep step.now self.old.caller.mine self.new.caller.mine) }
     {
         match step.command {
             Command::Submit {
@@ -112,7 +119,11 @@ impl<'a, B: Object + Send + Sync, N: Notices + Sync> Host<'a, B, N> {
 
     // A refusal is recorded, and the scenario goes on. Where memory is refused the host stops: what comes back is in its hands.
     fn ask<R: Threads + Wait + Sync>(&mut self, rt: &R, event: Event<'_>) -> Result<(), RunFault>
-        ensures { IfErr result (λ fault. line_of fault ≡ None) }
+        requires asks { AsksAlone event }
+        requires holds { HoldsBut event self.old.caller.mine self.old.hands.tokens }
+        ensures asked { OnOk result (IsAsked event self.old.caller.mine self.new.caller.mine) }
+        ensures holds { OnOk result (HoldsAll self.new.caller.mine self.new.hands.tokens) }
+        ensures fault { IfErr result (λ fault. line_of fault ≡ None) }
     {
         let mut asked = Asked {
             rt,
@@ -120,8 +131,7 @@ impl<'a, B: Object + Send + Sync, N: Notices + Sync> Host<'a, B, N> {
             caller: &mut self.caller,
         };
         match self.hands.ask(&mut asked, event) {
-            Ok(Told::OutOfMemory) => Err(RunFault::OutOfMemory),
-            Ok(_) => Ok(()),
+            Ok(told) => said(told),
             Err(event) => {
                 event.forfeit();
                 Err(RunFault::OutOfMemory)
@@ -135,7 +145,8 @@ impl<'a, B: Object + Send + Sync, N: Notices + Sync> Host<'a, B, N> {
         rt: &R,
         completion: Completion,
     ) -> Result<(), RunFault>
-        ensures { IfErr result (λ fault. line_of fault ≡ None) }
+        ensures same { (self.new.caller ≡ self.old.caller) × (self.new.hands ≡ self.old.hands) }
+        ensures fault { IfErr result (λ fault. line_of fault ≡ None) }
     {
         let Err(completion) = self.inbox.put(rt, &mut self.put, completion) else {
             return Ok(());
@@ -150,7 +161,8 @@ impl<'a, B: Object + Send + Sync, N: Notices + Sync> Host<'a, B, N> {
     // Serves until the inbox is empty. What a worker keeps it keeps for want of memory, and where there is none for serving the
     // inbox is left as it was. The runs that are kept are parked.
     fn drain<R: Threads + Wait + Sync>(&mut self, rt: &R) -> Result<(), RunFault>
-        ensures { IfErr result (λ fault. line_of fault ≡ None) }
+        ensures same { (self.new.caller ≡ self.old.caller) × (self.new.hands ≡ self.old.hands) }
+        ensures fault { IfErr result (λ fault. line_of fault ≡ None) }
     {
         let none = Vec::new(*self.seats.allocator());
         let seats = mem::replace(&mut self.seats, none);
@@ -168,6 +180,20 @@ impl<'a, B: Object + Send + Sync, N: Notices + Sync> Host<'a, B, N> {
         } else {
             Err(RunFault::OutOfMemory)
         }
+    }
+}
+
+// Whether a call was carried out or refused, so that it is recorded. C6 cannot be: it is told of a token in the host's hands.
+fn said(told: Told) -> Result<(), RunFault>
+    ensures said { OnOk result (IsSaid told) }
+    ensures fault { IfErr result (λ fault. line_of fault ≡ None) }
+{
+    match told {
+        Told::Answered(_) => Ok(()),
+        Told::Goes(_) => Ok(()),
+        Told::Ended(_) => Ok(()),
+        Told::Unfit => Err(RunFault::Unsettled),
+        Told::OutOfMemory => Err(RunFault::OutOfMemory),
     }
 }
 

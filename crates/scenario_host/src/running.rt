@@ -2,8 +2,8 @@
 
 ghost use Rattle.std.specs.Prelude.{◌≡◌, ◌≤◌, ◌+◌, [], All, IfErr, IfOk, None, length, vec_capacity};
 ghost use Rattle.inbox.specs.Views.{IsOf};
-ghost use Rattle.scenario_host.specs.Faults.{IsOfSteps, line_of};
-ghost use Rattle.scenario_host.specs.Traces.{IsTraceOf};
+ghost use Rattle.scenario_host.specs.Faults.{IsOfRun, line_of};
+ghost use Rattle.scenario_host.specs.Traces.{HasMade, IsOfScenario, IsTraceOf};
 ghost use Rattle.workers.specs.declared.serving.TheConstants.{MAX_WORKERS};
 
 use crate::host::{Host, RunFault};
@@ -32,8 +32,9 @@ pub fn run<N: Notices + Sync, R: Threads + Wait + Sync>(
 ) -> Result<Trace, RunFault>
     requires { (1 ≤ workers) × (workers ≤ MAX_WORKERS) }
     ensures trace { IfOk result (λ trace. IsTraceOf config trace.version trace.records.items trace.totals) }
-    // N2 is told at the line of a release
-    ensures fault { IfErr result (IsOfSteps steps.now) }
+    ensures asked { IfOk result (λ trace. IsOfScenario steps.now trace.records.items) }
+    // N2 is told at the line of a release of a freeze that is not held then
+    ensures fault { IfErr result (IsOfRun config steps.now) }
 {
     let engine = match Engine::open(alloc, config) {
         Ok(engine) => engine,
@@ -60,15 +61,15 @@ fn run_on<B: Object + Send + Sync, N: Notices + Sync, R: Threads + Wait + Sync>(
     requires name { (opened.calls.name ≡ B.name) × (opened.calls.parts ≡ B.parts) }
     requires table { opened.monitor ≡ B.table }
     ensures trace { IfOk result (λ trace. IsTraceOf B.setup trace.version trace.records.items trace.totals) }
-    ensures fault { IfErr result (IsOfSteps steps.now) }
+    ensures asked { IfOk result (λ trace. IsOfScenario steps.now trace.records.items) }
+    ensures fault { IfErr result (IsOfRun B.setup steps.now) }
 {
     let mut host = open(rt, alloc, opened.named::<B>(), workers, notices)?;
-    match host.carry_out_all(rt, steps) {
-        Ok(()) => close(rt, host),
-        Err(fault) => {
-            let _ = close(rt, host);
-            Err(fault)
-        }
+    let carried_out = host.carry_out_all(rt, steps);
+    let trace = close(rt, host)?;
+    match carried_out {
+        Ok(()) => Ok(trace),
+        Err(fault) => Err(fault),
     }
 }
 
@@ -81,7 +82,8 @@ fn open<'a, B: Object, N: Notices, R: Wait>(
     notices: &'a N,
 ) -> Result<Host<'a, B, N>, RunFault>
     requires { (1 ≤ workers) × (workers ≤ MAX_WORKERS) }
-    ensures { IfErr result (λ fault. line_of fault ≡ None) }
+    ensures opened { IfOk result (λ host. host.caller.mine ≡ []) }
+    ensures fault { IfErr result (λ fault. line_of fault ≡ None) }
 {
     let Ok(caller) = shared.caller(rt) else {
         return Err(RunFault::Unsettled);
@@ -179,6 +181,7 @@ fn seated<B: Object, R: Wait>(
 // Ends the host: the whole history of its engine.
 fn close<B: Object, N: Notices, R: Wait>(rt: &R, host: Host<'_, B, N>) -> Result<Trace, RunFault>
     ensures trace { IfOk result (λ trace. IsTraceOf B.setup trace.version trace.records.items trace.totals) }
+    ensures made { IfOk result (λ trace. HasMade host.caller trace.records.items) }
     ensures fault { IfErr result (λ fault. line_of fault ≡ None) }
 {
     let Host {

@@ -1,4 +1,4 @@
-use Rattle.std.proofs.Common.{ℕ, ap, sym, subst, ◌∙◌}
+use Rattle.std.proofs.Common.{ℕ, refl, ap, sym, subst, ◌∙◌}
 use Rattle.monitor.specs.LegalHistory.{records}
 use Rattle.monitor.specs.Telling.{CallerState, KeeperState}
 use Rattle.monitor.proofs.Histories.{records_push}
@@ -79,4 +79,4 @@ returns-else-is_unfit-clause-section g c =
     let it = c.answer_known-reply in
     section_of g.B.Origin.setup g.B.Origin.begun c.self.inside.book.total c.self.inside.engine it.new.self c.self.inside.keeper.history c.args.event it.result _ _
     c.self.invariant.0 c.self.invariant.4 it.ensures.recorded it.ensures.fits it.ensures.fit it.ensures.gives
-    (tells_nothing g.B.Origin.setup c.self.inside.keeper.history c.args.event it.result _ _ (sym c.is_recorded.ensures ∙ c.if-is_recorded.false) (sym c.is_unfit.ensures ∙ c.if-is_unfit.false) c.caller.view_is)
+    (tells_nothing g.B.Origin.setup c.self.inside.keeper.history c.args.event it.result _ _ (sym c.is_recorded.ensures ∙ c.if-is_recorded.false) (sym c.is_unfit.ensures ∙ c.if-is_unfit.false) refl)

@@ -1,4 +1,4 @@
-pub mod Driving
+pub mod Advances
 pub mod Made
 pub mod Parking
 pub mod Turns

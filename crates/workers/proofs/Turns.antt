@@ -50,13 +50,13 @@ IsFew worker = (worker.started ≤ MOST_STARTED) × (worker.ended ≤ worker.sta
 pub record IsQuiet (calls : List CallMade) : Type 0 where
   pub serves : All (λ (call : CallMade). Serves call.event) calls
   pub asks : asked calls ≡ []
-  pub open : unanswered calls ≡ []
+  pub answered : unanswered calls ≡ []
   pub starts : started calls ≡ []
 
 record OfAdvance (event : Event) (reply : Reply) : Type 0 where
   pub serves : Serves event
   pub asks : asked_by event ≡ []
-  pub open : unless (is_answered reply) (asked_by event) ≡ []
+  pub answered : unless (is_answered reply) (asked_by event) ≡ []
   pub starts : started_by event reply ≡ []
 
 unless_none : (answered : Bool) → unless answered [] ≡ []
@@ -67,7 +67,7 @@ of_advance : (number : ℕ) (event : Event) (reply : Reply) → IsAdvanceOf numb
 of_advance number (Submit queue priority retries) reply is = absurd is
 of_advance number (Dispatch queue) reply is = absurd is
 of_advance number (Complete completion) reply is = absurd is
-of_advance number (Advance run) reply is = record { serves = tt; asks = refl; open = unless_none (is_answered reply); starts = refl }
+of_advance number (Advance run) reply is = record { serves = tt; asks = refl; answered = unless_none (is_answered reply); starts = refl }
 of_advance number (Clock reading) reply is = absurd is
 of_advance number (GuestFreeze place guest) reply is = absurd is
 of_advance number (GuestRelease token) reply is = absurd is
@@ -75,13 +75,13 @@ of_advance number (Park run) reply is = absurd is
 of_advance number (Resume run) reply is = absurd is
 
 pub quiet : (number : ℕ) (calls : List CallMade) → All (λ (call : CallMade). IsAdvanceOf number call.event) calls → IsQuiet calls
-quiet number [] all = record { serves = All-nil (λ (call : CallMade). Serves call.event); asks = refl; open = refl; starts = refl }
+quiet number [] all = record { serves = All-nil (λ (call : CallMade). Serves call.event); asks = refl; answered = refl; starts = refl }
 quiet number (call ∷ calls) all =
     let here = of_advance number call.event call.reply (All-head (λ (it : CallMade). IsAdvanceOf number it.event) call calls all) in
     let rest = quiet number calls (All-tail (λ (it : CallMade). IsAdvanceOf number it.event) call calls all) in record {
       serves = All-cons (λ (it : CallMade). Serves it.event) call calls here.serves rest.serves;
       asks = ap (λ (xs : List Outcome). xs ++ asked calls) here.asks ∙ rest.asks;
-      open = ap (λ (xs : List Outcome). xs ++ unanswered calls) here.open ∙ rest.open;
+      answered = ap (λ (xs : List Outcome). xs ++ unanswered calls) here.answered ∙ rest.answered;
       starts = ap (λ (xs : List ℕ). xs ++ started calls) here.starts ∙ rest.starts;
     }
 
@@ -90,20 +90,20 @@ abbrev numbers : Kept → List ℕ
 numbers kept = map (λ (run : RunState). run.number) (runs_in kept)
 
 -- what else may be given starts no run
-pub none_started : (completion : Bor Outcome) (given : Given) → StartsNone given → started_by (Complete completion) (Gives given) ≡ []
-none_started completion (Ccb ccb) none = refl
-none_started completion Done none = refl
-none_started completion (Started run freeze) none = absurd none
-none_started completion (Goes run r0) none = refl
-none_started completion (Ended r0) none = refl
-none_started completion (Freeze token) none = refl
-none_started completion (Left count) none = refl
-none_started completion (Removed count) none = refl
-none_started completion Parked none = refl
-none_started completion (Resumed run) none = refl
+pub none_started : (given : Given) → StartsNone given → (completion : Bor Outcome) → started_by (Complete completion) (Gives given) ≡ []
+none_started (Ccb ccb) none completion = refl
+none_started Done none completion = refl
+none_started (Started run freeze) none completion = absurd none
+none_started (Goes run r0) none completion = refl
+none_started (Ended r0) none completion = refl
+none_started (Freeze token) none completion = refl
+none_started (Left count) none completion = refl
+none_started (Removed count) none completion = refl
+none_started Parked none completion = refl
+none_started (Resumed run) none completion = refl
 
-pub one_started : (completion : Bor Outcome) (given : Given) (run : RunState) → (freeze : ℕ) × (given ≡ Started run freeze) → started_by (Complete completion) (Gives given) ≡ run.number ∷ []
-one_started completion given run is = ap (λ (it : Given). started_by (Complete completion) (Gives it)) is.1
+pub one_started : (given : Given) (run : RunState) → (freeze : ℕ) × (given ≡ Started run freeze) → (completion : Bor Outcome) → started_by (Complete completion) (Gives given) ≡ run.number ∷ []
+one_started given run is completion = ap (λ (it : Given). started_by (Complete completion) (Gives it)) is.1
 
 module _ (setup : Setup) where
   -- nothing was taken
@@ -123,7 +123,7 @@ module _ (setup : Setup) where
 
   -- a completion was asked for, and then a run may have been driven
   module _ (before : WorkerState) (caller : CallerState) (pass : PassView) (completion : Bor Outcome) (reply : Reply) (made : Section setup (Complete completion) reply before.caller caller) (took : Took before.pass pass (completion.now ∷ [])) (free : before.kept ≡ Nothing) where
-    call : CallMade
+    abbrev call : CallMade
     call = record { event = Complete completion; reply = reply }
 
     alone : All (λ (it : CallMade). Serves it.event) (call ∷ [])
@@ -171,7 +171,7 @@ module _ (setup : Setup) where
             serves = All-cons (λ (it : CallMade). Serves it.event) call drives.calls tt still.serves;
             asks = ap (λ (xs : List Outcome). completion.now ∷ xs) (sym still.asks);
             keeps = ap completions_in free
-                ∙ sym (ap (λ (it : Bool). unless it (completion.now ∷ []) ++ unanswered drives.calls) answered ∙ still.open);
+                ∙ sym (ap (λ (it : Bool). unless it (completion.now ∷ []) ++ unanswered drives.calls) answered ∙ still.answered);
             keeps_run = ap (λ (xs : List ℕ). xs ++ started drives.calls) starts
                 ∙ (ap (λ (xs : List ℕ). number ∷ xs) still.starts
                 ∙ sym (ap (λ (xs : List ℕ). xs ++ numbers before.kept) drives.ends ∙ ap (λ (kept : Kept). number ∷ numbers kept) free));
@@ -189,7 +189,7 @@ module _ (setup : Setup) where
             made = made_more before.caller caller after call drives.calls made drives.made;
             serves = All-cons (λ (it : CallMade). Serves it.event) call drives.calls tt still.serves;
             asks = ap (λ (xs : List Outcome). completion.now ∷ xs) (sym still.asks);
-            keeps = sym (ap (λ (it : Bool). unless it (completion.now ∷ []) ++ unanswered drives.calls) answered ∙ still.open);
+            keeps = sym (ap (λ (it : Bool). unless it (completion.now ∷ []) ++ unanswered drives.calls) answered ∙ still.answered);
             keeps_run = ap (λ (xs : List ℕ). xs ++ started drives.calls) starts
                 ∙ (ap (λ (xs : List ℕ). number ∷ xs) still.starts
                 ∙ sym (ap (λ (xs : List ℕ). xs ++ run.number ∷ []) drives.ends ∙ ap (λ (n : ℕ). n ∷ []) same));
@@ -217,31 +217,31 @@ module _ (setup : Setup) where
     took : Took old.pass pass (completion.now ∷ [])
     took = took_one inbox old.pass pass completion.now ready.pass is takes
 
-    pub passes : is_answered reply ≡ true → started_by (Complete completion) reply ≡ [] → HasServed setup old (record { caller = caller; pass = pass; kept = old.kept; started = old.started; ended = old.ended })
+    pub passes : is_answered reply ≡ true → ((it : Bor Outcome) → started_by (Complete it) reply ≡ []) → HasServed setup old (record { caller = caller; pass = pass; kept = old.kept; started = old.started; ended = old.ended })
     passes answered no_run = record {
-      did = answers_one old caller pass completion reply made took ready.free answered no_run;
+      did = answers_one old caller pass completion reply made took ready.free answered (no_run completion);
       started = ready.started;
       ended = ready.ended;
     }
 
-    pub leaves_completion : is_answered reply ≡ false → started_by (Complete completion) reply ≡ [] → HasServed setup old (record { caller = caller; pass = pass; kept = Completion completion.now; started = old.started; ended = old.ended })
+    pub leaves_completion : is_answered reply ≡ false → ((it : Bor Outcome) → started_by (Complete it) reply ≡ []) → HasServed setup old (record { caller = caller; pass = pass; kept = Completion completion.now; started = old.started; ended = old.ended })
     leaves_completion answered no_run = record {
-      did = keeps_one old caller pass completion reply made took ready.free answered no_run;
+      did = keeps_one old caller pass completion reply made took ready.free answered (no_run completion);
       started = ready.started;
       ended = ready.ended;
     }
 
-    module _ (number : ℕ) (answered : is_answered reply ≡ true) (starts : started_by (Complete completion) reply ≡ number ∷ []) (after : CallerState) (few : old.started + 1 ≤ MOST_STARTED) where
+    module _ (number : ℕ) (answered : is_answered reply ≡ true) (starts : (it : Bor Outcome) → started_by (Complete it) reply ≡ number ∷ []) (after : CallerState) (few : old.started + 1 ≤ MOST_STARTED) where
       pub drives : Drives setup number (number ∷ []) caller after → HasServed setup old (record { caller = after; pass = pass; kept = old.kept; started = old.started + 1; ended = old.ended + 1 })
       drives driven = record {
-        did = ends_one old caller pass completion reply made took ready.free number answered starts after driven;
+        did = ends_one old caller pass completion reply made took ready.free number answered (starts completion) after driven;
         started = few;
         ended = omega (arith, ready.ended);
       }
 
       pub leaves_run : (run : RunState) → run.number ≡ number → Drives setup number [] caller after → HasServed setup old (record { caller = after; pass = pass; kept = Run run; started = old.started + 1; ended = old.ended })
       leaves_run run same driven = record {
-        did = keeps_run_of old caller pass completion reply made took ready.free number answered starts after run same driven;
+        did = keeps_run_of old caller pass completion reply made took ready.free number answered (starts completion) after run same driven;
         started = few;
         ended = omega (arith, ready.ended);
       }

@@ -5,7 +5,8 @@ ghost use Rattle.std.specs.Prelude.{◌≡◌, ℕ, true, [], ◌∷◌, IfErr, 
 ghost use Rattle.engine_core.specs.Replies.{IsRunBack};
 ghost use Rattle.engine_core.specs.declared.reply.Back.TheVariants as its;
 ghost use Rattle.engine_core.specs.declared.reply.Given.TheVariants.{Started};
-ghost use Rattle.workers.specs.Serving.{Drives, HasServed, IsReady, StartsNone};
+ghost use Rattle.engine_core.specs.declared.reply.Reply.TheVariants.{Refused};
+ghost use Rattle.workers.specs.Serving.{Drives, HasServed, IsReady, StartsNone, is_answered};
 
 use crate::gate::Gate;
 use crate::worker::{Kept, Worker};
@@ -73,8 +74,10 @@ fn serve_next<B: Object, G: Gate, R: Wait>(
                 }
             }
         }
-        Reply::Refused(CallRefusal::Unknown | CallRefusal::NotActive) => true,
-        Reply::Refused(_) => {
+        Reply::Refused(refusal) => {
+            if is_passed_over(refusal) {
+                return true;
+            }
             worker.keep(Kept::Completion(completion));
             false
         }
@@ -88,6 +91,13 @@ fn serve_next<B: Object, G: Gate, R: Wait>(
             unreachable!()
         }
     }
+}
+
+// Whether a refusal answers a completion for good: C1 and C3.
+fn is_passed_over(refusal: CallRefusal) -> bool
+    ensures { result ≡ is_answered (Refused refusal) }
+{
+    matches!(refusal, CallRefusal::Unknown | CallRefusal::NotActive)
 }
 
 // The run that was started, if one was.

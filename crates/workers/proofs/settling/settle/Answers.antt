@@ -33,7 +33,7 @@ returns-else-is_empty-clause-unsettled g c =
     let back : ServedState = record { seats = c.park_by_first.new.seats.items; started = c.served.inside.started; ended = c.served.inside.ended; completions = c.served.inside.completions.items; runs = c.park_by_first.new.runs.items } in
     subst (λ (s : ServedState). IsUnsettled g.B.Origin.setup s back) c.served.view_is
     (record {
-      left = _;
+      left = grind (arith, c.is_empty.ensures, c.if-is_empty.false);
       runs = c.park_by_first.ensures;
       rest = refl;
     })

@@ -11,7 +11,7 @@ use Rattle.replay.specs.declared.fault.ReplayFault.{ReplayFault}
 use Rattle.scenario.specs.Said.{IfFault, IsFaultyLine, Say, lines_of}
 use Rattle.scenario.specs.declared.reading.FaultyLine.{FaultyLine}
 use Rattle.scenario.specs.declared.steps.Step.{Step}
-use Rattle.scenario_host.specs.Faults.{IsOfSteps}
+use Rattle.scenario_host.specs.Faults.{IsOfRun}
 use Rattle.scenario_host.specs.declared.host.RunFault.{RunFault}
 use Rattle.scenario_host.specs.declared.host.RunFault.TheVariants as run
 use Rattle.trace.specs.Reading.{Says}
@@ -19,7 +19,7 @@ use Rattle.trace.specs.TraceText.{trace_text}
 use Rattle.trace.specs.declared.fault.TraceFault.{TraceFault}
 use Rattle.world.specs.World.{Setup}
 use Rattle.commands.specs.Faults.{fault_of_manifest, fault_of_replay, fault_of_run, fault_of_scenario, fault_of_trace, status_of}
-use Rattle.commands.specs.Told.{HasRelease, IsFaultyManifest, IsFaultyReplay, IsFaultyScenario, IsFaultyTrace}
+use Rattle.commands.specs.Told.{IsUnheldRelease, IsFaultyManifest, IsFaultyReplay, IsFaultyScenario, IsFaultyTrace}
 use Rattle.commands.proofs.Telling.{IsTold}
 
 pub of_manifest : (error : OrMemory ManifestFault) (read manifest : List ℕ) → IsTold (HasFault read) error → read ≡ manifest
@@ -44,10 +44,9 @@ pub of_scenario : (error : OrMemory FaultyLine) (read text : List ℕ) → IfFau
 of_scenario OutOfMemory read text told same refused = absurd cc
 of_scenario (Fault fault) read text told same refused = (fault.0, subst (λ (text : List ℕ). IsFaultyLine text fault.0) same told)
 
-pub of_run : (error : RunFault) (read text : List ℕ) (steps : List Step) → IsOfSteps steps error → Say (lines_of read) steps → read ≡ text
-    → status_of (fault_of_run error) ≡ 1 → HasRelease text
-of_run run.OutOfMemory read text steps told say same refused = absurd cc
-of_run (run.NotHeld line) read text steps told say same refused =
-    let found = told line refl in
-    (steps, found.0, line, subst (λ (text : List ℕ). Say (lines_of text) steps) same say, found.1, found.2)
-of_run run.Unsettled read text steps told say same refused = absurd cc
+pub of_run : (error : RunFault) (one read manifest text : List ℕ) (setup : Setup) (programs : List Named) (steps : List Step) → IsOfRun setup steps error → Means one setup programs → one ≡ manifest → Say (lines_of read) steps → read ≡ text
+    → status_of (fault_of_run error) ≡ 1 → IsUnheldRelease manifest text
+of_run run.OutOfMemory one read manifest text setup programs steps told means so say same refused = absurd cc
+of_run (run.NotHeld line) one read manifest text setup programs steps told means so say same refused =
+    (setup, programs, steps, line, subst (λ (text : List ℕ). Means text setup programs) so means, subst (λ (text : List ℕ). Say (lines_of text) steps) same say, told line refl)
+of_run run.Unsettled one read manifest text setup programs steps told means so say same refused = absurd cc

@@ -1,5 +1,5 @@
 -- What the status of a plan tells of the files that it reads.
-use Rattle.std.specs.Prelude.{◌≡◌, ◌⊎◌, ℕ, Contains, List, Option, Some, Err}
+use Rattle.std.specs.Prelude.{◌≡◌, ◌⊎◌, ℕ, List, Option, Some, Err}
 use Rattle.std.specs.Io.KnownBytes.{Appends}
 use Rattle.bpf_decode.specs.Spells.{Spells}
 use Rattle.bpf_decode.specs.FirstFault.{HasFault as HasDecodeFault}
@@ -15,7 +15,7 @@ use Rattle.replay.specs.Replaying.{IsFaultyAt}
 use Rattle.replay.specs.declared.fault.ReplayFault.{ReplayFault}
 use Rattle.scenario.specs.Said.{IsFaultyLine, Say, lines_of}
 use Rattle.scenario.specs.declared.steps.Step.{Step}
-use Rattle.scenario_host.specs.Faults.{IsRelease}
+use Rattle.scenario_host.specs.Faults.{IsUnheldThen}
 use Rattle.trace.specs.Reading.{Says as SaysTrace}
 use Rattle.trace.specs.TraceText.{trace_text}
 use Rattle.trace.specs.declared.fault.TraceFault.{TraceFault}
@@ -108,16 +108,17 @@ abbrev pub IsFaultyReplay : List ℕ → List ℕ → Type 0
 IsFaultyReplay manifest text =
     (setup : _) × (programs : _) × (trace : Trace) × (fault : ReplayFault) × Means manifest setup programs × (trace_text trace ≡ Some text) × IsFaultyAt setup trace fault
 
--- The text is a scenario, and a step of it, on this line, gives a freeze back.
-abbrev pub HasRelease : List ℕ → Type 0
-HasRelease text = (steps : List Step) × (step : Step) × (line : ℕ) × Say (lines_of text) steps × Contains steps step × IsRelease step line
+-- The one text is a manifest, and the other a scenario, on a line of which stands a release of a freeze that is not held then.
+abbrev pub IsUnheldRelease : List ℕ → List ℕ → Type 0
+IsUnheldRelease manifest text =
+    (setup : _) × (programs : _) × (steps : List Step) × (line : ℕ) × Means manifest setup programs × Say (lines_of text) steps × IsUnheldThen setup steps line
 
 -- why a trace is not accepted over a manifest, and why a scenario is not carried out
 abbrev pub IsRejectedTrace : List ℕ → List ℕ → Type 0
 IsRejectedTrace manifest text = IsFaultyManifest manifest ⊎ (IsFaultyTrace text ⊎ IsFaultyReplay manifest text)
 
 abbrev pub IsRejectedScenario : List ℕ → List ℕ → Type 0
-IsRejectedScenario manifest text = IsFaultyManifest manifest ⊎ (IsFaultyScenario text ⊎ HasRelease text)
+IsRejectedScenario manifest text = IsFaultyManifest manifest ⊎ (IsFaultyScenario text ⊎ IsUnheldRelease manifest text)
 
 -- what is wrong with a plan's first file, or with its second beside the first, where the plan was refused
 abbrev pub IsRejected : Plan → List ℕ → List ℕ → Type 0

@@ -1,6 +1,8 @@
 -- What the host has asked, call by call, and that it has the token of each freeze that its records hold.
-use Rattle.std.proofs.Common.{◌≡◌, ℕ, ◌==◌, Bool, true, false, not, ◌&&◌, ◌||◌, List, [], ◌∷◌, ◌++◌, All, refl, ap, sym, subst, ◌∙◌, eqb-true, eq-eqb}
-use Rattle.std.specs.Prelude.{◌≢◌, Result, Ok, Err, OnOk}
+use Rattle.std.proofs.Common.{◌≡◌, ℕ, ◌<◌, length, ◌==◌, Bool, true, false, not, ◌&&◌, ◌||◌, List, [], ◌∷◌, ◌++◌, All, refl, ap, sym, subst, ◌∙◌, eqb-true, eq-eqb}
+use Rattle.std.specs.Prelude.{◌≢◌, Result, Ok, Err, OnOk, slice_index_or}
+use Rattle.std.specs.List.{remove}
+use Rattle.std.proofs.lemmas.List.Sorted.{All-permutation, IsPermutation-remove, IsPermutation-sym}
 use Rattle.std.proofs.lemmas.Bool.{and_parts}
 use Rattle.std.proofs.lemmas.List.Elements.{All-nil, All-cons, All-head, All-tail}
 use Rattle.freeze_ledger.specs.declared.freeze.Freeze.{Freeze}
@@ -84,12 +86,12 @@ by_given number was its_given.Parked call hands held has = has held
 by_given number was (its_given.Resumed run) call hands held has = has held
 
 -- what a call that is recorded leaves
-record Leaves (event : Event) (before after : List Record) (tokens : List Freeze) : Type 0 where
+pub record Leaves (event : Event) (before after : List Record) (tokens : List Freeze) : Type 0 where
   pub asked : IsAsked event before after
   pub holds : HoldsAll after tokens
 
 -- it was answered with a record
-IsRecordedBy : Reply → Type 0
+abbrev pub IsRecordedBy : Reply → Type 0
 IsRecordedBy (replied.Given given) = Unit {0}
 IsRecordedBy (replied.Refused refusal) = Unit {0}
 IsRecordedBy reply = ⊥
@@ -120,7 +122,7 @@ module _ (setup : Setup) (before after : CallerState) (hands : HandsState) where
       but number (was_held number (is_held number before.mine) count (its.GuestRelease freeze) here) (is_other number freeze (is_held number before.mine) count here)
 
   module _ (history : List Pair) where
-    leaves : (event : Event) (reply : Reply) → Tells setup history event reply before after → Fits event reply → AsksAlone event → IsRecordedBy reply → HoldsBut event before.mine hands.tokens → Leaves event before.mine after.mine (kept_with reply hands).tokens
+    pub leaves : (event : Event) (reply : Reply) → Tells setup history event reply before after → Fits event reply → AsksAlone event → IsRecordedBy reply → HoldsBut event before.mine hands.tokens → Leaves event before.mine after.mine (kept_with reply hands).tokens
     leaves (Submit queue priority retries) (replied.Given given) tells fits alone said but =
         let is = mine history _ tells in record { asked = (answer_of given, is); holds = of_given given _ is (λ number held. but number held (λ bad. bad)) }
     leaves (Submit queue priority retries) (replied.Refused refusal) tells fits alone said but =
@@ -161,3 +163,10 @@ pub asked_so : (setup : Setup) (event : Event) (reply : Reply) (before after : C
 asked_so setup event reply before after hands now section said alone but is =
     subst (λ (it : HandsState). Leaves event before.mine after.mine it.tokens) (sym is)
     (leaves setup before after hands section.history event reply section.tells section.answers.fits alone (recorded_by reply said) but)
+
+-- the other tokens stay, where one is taken out
+pub others_stay : (tokens now : List Freeze) (place : ℕ) (token : Freeze) (number : ℕ) → place < length tokens → slice_index_or tokens place token ≡ token → now ≡ remove tokens place → HasToken number tokens → (token.number ≡ number → ⊥) → HasToken number now
+others_stay tokens now place token number inside is gone has other none =
+    let P : Freeze → Type 0 = λ it. it.number ≢ number in
+    has (All-permutation P (token ∷ remove tokens place) tokens (IsPermutation-sym tokens (token ∷ remove tokens place) (IsPermutation-remove tokens place token inside (sym is)))
+    (All-cons P token (remove tokens place) other (subst (λ (xs : List Freeze). All P xs) gone none)))

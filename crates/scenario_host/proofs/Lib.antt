@@ -1,2 +1,4 @@
+mod Holding
 mod Lent
+mod Steps
 mod Whole

@@ -1,5 +1,6 @@
 -- The whole history of an engine that was shared, with its sums.
-use Rattle.std.proofs.Common.{◌≡◌, ℕ, List, sym, subst}
+use Rattle.std.proofs.Common.{◌≡◌, ℕ, List, [], ◌∷◌, ◌++◌, All, ap, sym, subst, ◌∙◌}
+use Rattle.std.proofs.lemmas.List.Elements.{All-head}
 use Rattle.calls.specs.declared.record.Record.{Record}
 use Rattle.calls.specs.declared.totals.Totals.{Totals}
 use Rattle.calls.specs.declared.trace.Version.{Version}
@@ -9,8 +10,33 @@ use Rattle.world.specs.WorldRun.{WorldRun}
 use Rattle.world.specs.Flat.{flat}
 use Rattle.world.specs.TotalsOf.{TotalsOf}
 use Rattle.engine_core.specs.EngineState.{EngineState}
-use Rattle.engine_lock.specs.Sharing.{IsSince}
-use Rattle.scenario_host.specs.Traces.{IsTraceOf}
+use Rattle.monitor.specs.Telling.{Agrees, CallerState}
+use Rattle.engine_lock.specs.Sharing.{Closes, IsSince}
+use Rattle.scenario.specs.declared.steps.Step.{Step}
+use Rattle.scenario_host.specs.Faults.{IsOfRun, IsOfSteps, IsUnheldAt}
+use Rattle.scenario_host.specs.Traces.{HasMade, IsTraceOf}
+use Rattle.scenario_host.specs.declared.host.RunFault.{RunFault}
+
+-- the host's caller is the first of those that are handed in
+pub record HasFirst (caller : CallerState) (callers : List CallerState) : Type 0 where
+  pub rest : List CallerState
+  pub is : callers ≡ caller ∷ rest
+
+pub first_push : (caller more : CallerState) (callers now : List CallerState) → now ≡ callers ++ more ∷ [] → HasFirst caller callers → HasFirst caller now
+first_push caller more callers now is first = record {
+  rest = first.rest ++ more ∷ [];
+  is = is ∙ ap (λ (xs : List CallerState). xs ++ more ∷ []) first.is;
+}
+
+pub first_alone : (caller : CallerState) (callers now : List CallerState) → now ≡ callers ++ caller ∷ [] → callers ≡ [] → HasFirst caller now
+first_alone caller callers now is none = record { rest = []; is = is ∙ ap (λ (xs : List CallerState). xs ++ caller ∷ []) none }
+
+pub has_made : (setup : Setup) (begun : List Record) (callers : List CallerState) (caller : CallerState) (engine : EngineState) (told : List Record) → Closes setup begun callers engine → HasFirst caller callers → told ≡ engine.history → HasMade caller told
+has_made setup begun callers caller engine told closes first all = record {
+  history = closes.history;
+  its = closes.its ∙ sym all;
+  own = (All-head (Agrees closes.history) caller first.rest (subst (λ (xs : List CallerState). All (Agrees closes.history) xs) first.is closes.agree)).own;
+}
 
 pub whole_trace : (setup : Setup) (begun : List Record) (calls : ℕ) (engine : EngineState) (version : Version) (records : List Record) (totals : Totals) → IsSince setup begun calls engine → version ≡ version_of engine.setup → records ≡ engine.history → TotalsOf engine.setup engine.history totals → IsTraceOf setup version records totals
 whole_trace setup begun calls engine version records totals since spoken all sums = record {
@@ -19,4 +45,13 @@ whole_trace setup begun calls engine version records totals since spoken all sum
   world = engine.world;
   run = subst (λ (s : Setup). WorldRun s (flat records) engine.world) since.setup_is (subst (λ (h : List Record). WorldRun engine.setup (flat h) engine.world) (sym all) since.run.run);
   sums = subst (λ (s : Setup). TotalsOf s records totals) since.setup_is (subst (λ (h : List Record). TotalsOf engine.setup h totals) (sym all) sums);
+}
+
+-- a fault by the records that the host made is one in the history that the run leaves
+pub of_run : (setup : Setup) (steps : List Step) (caller : CallerState) (version : Version) (told : List Record) (totals : Totals) (fault : RunFault) → IsTraceOf setup version told totals → HasMade caller told → IsOfSteps steps caller.mine fault → IsOfRun setup steps fault
+of_run setup steps caller version told totals fault trace made of line named = record {
+  history = made.history;
+  legal = (trace.world, subst (λ (rs : List Record). WorldRun setup (flat rs) trace.world) (sym made.its) trace.run);
+  host = caller.number;
+  unheld = subst (λ (rs : List Record). IsUnheldAt steps rs line) (sym made.own) (of line named);
 }

@@ -79,7 +79,9 @@ impl<'a, B: Object + Send + Sync, N: Notices + Sync> Host<'a, B, N> {
         ensures fault { IfErr result (IsOfSteps steps.now self.new.caller.mine) }
     {
         for step in steps {
-            self.carry_out(rt, step)?;
+            if let Err(fault) = self.carry_out(rt, step) {
+                return Err(fault);
+            }
         }
         self.drain(rt)
     }
@@ -121,7 +123,7 @@ impl<'a, B: Object + Send + Sync, N: Notices + Sync> Host<'a, B, N> {
     fn ask<R: Threads + Wait + Sync>(&mut self, rt: &R, event: Event<'_>) -> Result<(), RunFault>
         requires asks { AsksAlone event }
         requires holds { HoldsBut event self.old.caller.mine self.old.hands.tokens }
-        ensures asked { OnOk result (IsAsked event self.old.caller.mine self.new.caller.mine) }
+        ensures asked { OnOk result (IsAsked event.entry self.old.caller.mine self.new.caller.mine) }
         ensures holds { OnOk result (HoldsAll self.new.caller.mine self.new.hands.tokens) }
         ensures fault { IfErr result (λ fault. line_of fault ≡ None) }
     {

@@ -181,7 +181,7 @@ fn seated<B: Object, R: Wait>(
 // Ends the host: the whole history of its engine.
 fn close<B: Object, N: Notices, R: Wait>(rt: &R, host: Host<'_, B, N>) -> Result<Trace, RunFault>
     ensures trace { IfOk result (λ trace. IsTraceOf B.setup trace.version trace.records.items trace.totals) }
-    ensures made { IfOk result (λ trace. HasMade host.caller trace.records.items) }
+    ensures made { IfOk result (λ trace. HasMade host.entry.caller trace.records.items) }
     ensures fault { IfErr result (λ fault. line_of fault ≡ None) }
 {
     let Host {

@@ -1,7 +1,7 @@
 use Rattle.std.proofs.Common.{List, inl, inr, subst}
 use Rattle.std.proofs.lemmas.Result.{err_from_is_err_and}
 use Rattle.scenario.specs.declared.steps.Step.{Step}
-use Rattle.scenario_host.specs.Faults.{IsOfSteps}
+use Rattle.scenario_host.specs.Faults.{IsOfRun}
 use Rattle.commands.proofs.Rejected.{of_manifest, of_run, of_scenario}
 use Rattle.commands.proofs.carrying.run.Goals as goal
 
@@ -18,6 +18,6 @@ returns-in_err-steps-clause-fault g c =
 pub returns-in_err-run-clause-fault : goal.returns-in_err-run-clause-fault
 returns-in_err-run-clause-fault g c =
     let error = c.in_err-run.field-0.0 in
-    let told = subst (λ (steps : List Step). IsOfSteps steps error) c.deref.ensures.value c.in_err-run.ensures.fault in
+    let told = subst (λ (steps : List Step). IsOfRun c.in_ok-manifest-2.manifest.config steps error) c.deref.ensures.value c.in_err-run.ensures.fault in
     let answer = err_from_is_err_and c.from_residual-in_err-run.result c.from_residual-in_err-run.ensures.1 in
-    rw (answer.1, answer.2) (λ is. inr (inr (of_run error c.in_ok-scenario.scenario.now c.args.scenario.1.now c.in_ok-steps.steps.items told c.in_ok-steps.ensures.said c.in_ok-scenario.ensures.0 is)))
+    rw (answer.1, answer.2) (λ is. inr (inr (of_run error c.in_ok-manifest.manifest.now c.in_ok-scenario.scenario.now c.args.manifest.1.now c.args.scenario.1.now c.in_ok-manifest-2.manifest.config _ c.in_ok-steps.steps.items told c.in_ok-manifest-2.ensures.found c.in_ok-manifest.ensures.0 c.in_ok-steps.ensures.said c.in_ok-scenario.ensures.0 is)))

@@ -7,7 +7,7 @@ ghost use Rattle.call_shape.specs.declared.lawful_shape.TheConstants.{MAX_WRITTE
 ghost use Rattle.budget_path.specs.Length.{length_by};
 ghost use Rattle.budget_path.specs.Longest.{AreLongest};
 
-use call_shape::{MAX_WRITTEN_OUT, Onward, Shape};
+use call_shape::{Onward, Shape};
 use std::alloc::{AllocError, Global};
 
 /// The greatest number of instructions on a static path, local calls written out and the exit included: 1 to
@@ -23,8 +23,8 @@ pub fn budget(alloc: Global, shape: &Shape<'_>) -> Result<u32, AllocError>
     Ok(lengths[0])
 }
 
-/// The same from each slot where an instruction begins, to the exit of its function; one above `MAX_WRITTEN_OUT` stands for all that
-/// are too many, as a function may have them that slot 0's does not come to.
+/// The same from each slot where an instruction begins, to the exit of its function: 1 to `MAX_WRITTEN_OUT`, since each function of
+/// a lawful shape is called from slot 0's, perhaps through others, and counts where that is written out.
 pub fn lengths(alloc: Global, shape: &Shape<'_>) -> Result<Vec<u32>, AllocError>
     ensures { IfOk result (λ lengths. AreLongest shape.now lengths.items) }
 {
@@ -41,18 +41,16 @@ pub fn lengths(alloc: Global, shape: &Shape<'_>) -> Result<Vec<u32>, AllocError>
     Ok(lengths)
 }
 
-// The length of the longest path from a place, by those from where control goes on, up to one that is too great. A
-// function that slot 0's does not come to may have such a path.
+// The length of the longest path from a place, by those from where control goes on.
 fn length_by(lengths: &[u32], way: Onward) -> u32
     requires entries { HasEntries (length lengths.now) way }
-    requires small { (k : ℕ) → slice_index lengths.now k ≤ MAX_WRITTEN_OUT + 1 }
+    requires small { (k : ℕ) → slice_index lengths.now k ≤ MAX_WRITTEN_OUT }
     ensures { result ≡ length_by lengths.now way }
 {
-    let length = match way {
+    match way {
         Onward::Leaves => 1,
         Onward::Continues(next) => lengths[next] + 1,
         Onward::Branches(next, other) => lengths[next].max(lengths[other]) + 1,
         Onward::Enters(callee, next) => lengths[callee] + lengths[next] + 1,
-    };
-    length.min(MAX_WRITTEN_OUT + 1)
+    }
 }

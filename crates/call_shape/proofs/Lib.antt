@@ -3,6 +3,7 @@ pub mod Rows
 pub mod Contained
 pub mod SlotFunctions
 pub mod Paths
+pub mod Leading
 pub mod Lawful
 pub mod Ways
 pub mod WaysOut

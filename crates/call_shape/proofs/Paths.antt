@@ -63,11 +63,11 @@ abbrev pub HasPath : List Slot → Standing → ℕ → ℕ → Type 0
 HasPath program at n d = (path : StaticPath program at n) × (depth program at n path ≡ d)
 
 -- standing there while further calls are open outside
-abbrev under : Standing → List ℕ → Standing
+abbrev pub under : Standing → List ℕ → Standing
 under at outer = record { slot = at.slot; returns = at.returns ++ outer }
 
 -- back from the call that is open outside
-abbrev back : ℕ → List ℕ → Standing
+abbrev pub back : ℕ → List ℕ → Standing
 back return outer = record { slot = return; returns = outer }
 
 returns_under : (returns : List ℕ) (to : Standing) (outer : List ℕ) → ReturnsTo returns to → ReturnsTo (returns ++ outer) (under to outer)
@@ -81,7 +81,7 @@ on_under at (Branches next other) to outer (inl leads) = inl (ap (λ (s : Standi
 on_under at (Branches next other) to outer (inr leads) = inr (ap (λ (s : Standing). under s outer) leads)
 on_under at (Enters callee next) to outer leads = ap (λ (s : Standing). under s outer) leads
 
-leads_under : (at : Standing) (insn : Insn) (to : Standing) (outer : List ℕ) → LeadsTo at insn to → LeadsTo (under at outer) insn (under to outer)
+pub leads_under : (at : Standing) (insn : Insn) (to : Standing) (outer : List ℕ) → LeadsTo at insn to → LeadsTo (under at outer) insn (under to outer)
 leads_under at insn to outer leads = leads_so (under at outer) insn (under to outer) (on_under at (onward at.slot insn) to outer (leads_on at insn to leads))
 
 pub same_path : (program : List Slot) (at : Standing) (n m d e : ℕ) → n ≡ m → d ≡ e → HasPath program at n d → HasPath program at m e
@@ -92,7 +92,7 @@ step_on : (program : List Slot) (at to : Standing) (insn : Insn) (n d : ℕ) →
 step_on program at to insn n d is leads rest = ((insn, is, inr (to, leads, rest.0)), ap (λ (k : ℕ). max (frames_at at) k) rest.1)
 
 -- from the outermost exit of a path control leads back from the call that is open outside
-exit_returns : (at : Standing) (insn : Insn) (return : ℕ) (outer : List ℕ) → IsOutermostExit at insn → LeadsTo (under at (return ∷ outer)) insn (back return outer)
+pub exit_returns : (at : Standing) (insn : Insn) (return : ℕ) (outer : List ℕ) → IsOutermostExit at insn → LeadsTo (under at (return ∷ outer)) insn (back return outer)
 exit_returns at insn return outer end =
     subst (λ (i : Insn). LeadsTo (under at (return ∷ outer)) i (back return outer)) (sym end.0)
     (subst (λ (rs : List ℕ). ReturnsTo (rs ++ return ∷ outer) (back return outer)) (sym end.1) refl)

@@ -49,6 +49,11 @@ LeadsTo at (Call (Helper number)) to = to ≡ moved at (at.slot + 1)
 LeadsTo at (Call (Local distance)) to = to ≡ called at (target at.slot distance)
 LeadsTo at Exit to = ReturnsTo at.returns to
 
+-- Control may come from one standing to another: it stands there already, or an instruction leads there from where it may come.
+pub data PathLeads (program : List Slot) (from : Standing) : Standing → Type 0 where
+  starts : PathLeads program from from
+  goes_on : (at to : Standing) (insn : Insn) → PathLeads program from at → insn_at program at.slot ≡ Some insn → LeadsTo at insn to → PathLeads program from to
+
 -- an exit while no call is open
 abbrev pub IsOutermostExit : Standing → Insn → Type 0
 IsOutermostExit at insn = (insn ≡ Exit) × (at.returns ≡ [])

@@ -1,5 +1,5 @@
 -- What holds while a walk settles the functions of a program.
-use Rattle.std.specs.Prelude.{◌≡◌, ℕ, ◌+◌, ◌<◌, ◌≤◌, Bool, true, false, List, [], ◌∷◌, length, slice_index_or, slice_set, take, suc, ◌⊎◌}
+use Rattle.std.specs.Prelude.{◌≡◌, ℕ, ◌+◌, ◌<◌, ◌≤◌, Bool, true, false, List, [], ◌∷◌, length, Some, slice_get, slice_index_or, slice_set, take, suc, ◌⊎◌}
 use Rattle.bpf_insn.specs.declared.program.Slot.{Slot}
 use Rattle.bpf_insn.specs.declared.program.TheConstants.{MAX_SLOTS}
 use Rattle.call_shape.specs.Calls.{begins, function_of, CallsThrough, StandsBefore}
@@ -45,6 +45,7 @@ pub record IsWalk (program : List Slot) (walk : Walk) : Type 0 where
   pub places_whole : length walk.order.places ≡ MAX_SLOTS
   pub counted : walk.order.count ≡ marked walk.settled
   pub stands : (place : ℕ) → is_marked walk.settled place ≡ true → StandsBefore walk.order.places walk.order.count place
+  pub placed : (i place : ℕ) → i < walk.order.count → slice_get walk.order.places i ≡ Some place → is_marked walk.settled place ≡ true
   pub own_entered : (place : ℕ) → is_marked walk.settled place ≡ true → is_marked walk.entered (function_of program place) ≡ true
   pub order : IsPostorder program walk.order.places walk.order.count
 

@@ -6,7 +6,6 @@ use Rattle.budget_path.specs.Longest.{AreLongest}
 use Rattle.call_shape.specs.OnTheWay.{AreBegun}
 use Rattle.call_shape.specs.Shape.{IsLawful}
 use Rattle.call_shape.specs.StaticPath.{Standing}
-use Rattle.call_shape.specs.declared.lawful_shape.TheConstants.{MAX_WRITTEN_OUT}
 use Rattle.call_shape.specs.declared.onward.Onward.{Onward}
 use Rattle.call_shape.specs.declared.onward.Onward.TheVariants.{Leaves, Continues, Branches, Enters}
 use Rattle.checked_path.specs.Passes.{Leads, standing}
@@ -15,13 +14,12 @@ use Rattle.checked_path.specs.Passes.{Leads, standing}
 abbrev pub left : List ℕ → Standing → ℕ
 left lengths at = slice_index lengths at.slot + sum_by (slice_index lengths) at.returns
 
--- a path through a program of lawful shape stands there, with no more left than there may be in all
+-- a path through a program of lawful shape stands there
 pub record IsUnderWay (program : List Slot) (lengths : List ℕ) (at : Standing) : Type 0 where
   pub program_is : IsProgram program
   pub lawful : IsLawful program
   pub longest : AreLongest program lengths
   pub begun : AreBegun program (at.slot ∷ at.returns)
-  pub few : left lengths at ≤ MAX_WRITTEN_OUT
 
 -- it goes on there, and one instruction less is left
 pub record GoesOn (program : List Slot) (lengths : List ℕ) (at to : Standing) : Type 0 where

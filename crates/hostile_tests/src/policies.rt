@@ -1,15 +1,17 @@
-// Each byte of a policy by each other value: what is decoded is spelled so, and what is accepted runs to its end within its budget.
+// Each byte of a policy by each other value: what is decoded is spelled so, what is accepted runs to its end within its budget, and a
+// witness that is shown each check changes nothing of the answer.
 
 use accepted::Accepted;
 use base::OrMemory;
 use bpf_decode::{decode, encode};
 use bpf_insn::Program;
 use ccb::{CamStatus, CcbId, Completion, QueueId};
+use description::Description;
 use engine_core::{AdvanceAnswer, CompleteAnswer, Config, Engine, Run};
 use helpers::{HelperLimits, HelperSet, TableLengths};
 use std::alloc::{AllocError, Global};
 use std::sync::Arc;
-use verifier::verify;
+use verifier::{Cause, Refusal, VerifyError, Witness, verify, verify_before};
 
 // If there is a freeze it is given back; then the CCB waits again, with one retry fewer.
 const POLICY: [u8; 56] = [
@@ -44,6 +46,66 @@ impl Seen {
         } = *self;
         let seen = refused.saturating_add(unaccepted).saturating_add(ended);
         seen == all && refused > 0 && unaccepted > 0 && ended > 0
+    }
+}
+
+// How many checks were shown, and the slot of the last one. They are out of order if one has another number than how many came
+// before it.
+#[derive(Drop)]
+struct Shown {
+    checks: u32,
+    last: usize,
+    out_of_order: bool,
+}
+
+impl Witness for Shown {
+    fn checks(&mut self, number: u32, slot: usize, _known: &Description) {
+        if number != self.checks {
+            self.out_of_order = true;
+        }
+        self.checks = self.checks.saturating_add(1);
+        self.last = slot;
+    }
+
+    fn leads(&mut self, _number: u32, _slot: usize, _known: &Description) {}
+
+    fn leaves(&mut self, _number: u32, _slot: usize, _known: &Description) {}
+}
+
+impl Shown {
+    fn nothing() -> Self {
+        Shown {
+            checks: 0,
+            last: 0,
+            out_of_order: false,
+        }
+    }
+
+    // Whether these were all checks of a program that is accepted, before which they were shown.
+    fn is_all(&self, accepted: &Accepted, before: Result<Accepted, VerifyError>) -> bool {
+        match before {
+            Ok(again) => {
+                let same = again.budget() == accepted.budget()
+                    && again.visits() == accepted.visits();
+                same && self.checks == accepted.visits() && !self.out_of_order
+            }
+            Err(_) => false,
+        }
+    }
+
+    // Whether a program was refused so, and the last check is the one that failed. Where paths disagree, that names the slot at which
+    // they join.
+    fn ends_so(&self, refusal: Refusal, before: Result<Accepted, VerifyError>) -> bool {
+        let same = match before {
+            Err(OrMemory::Fault(again)) => again == refusal,
+            Err(OrMemory::OutOfMemory) | Ok(_) => false,
+        };
+        let ends = match refusal {
+            Refusal::Shape(_) => self.checks == 0,
+            Refusal::Check(Cause::PathsDisagree, _) => self.checks > 0,
+            Refusal::Check(_, slot) => self.checks > 0 && self.last == slot,
+        };
+        same && ends && !self.out_of_order
     }
 }
 
@@ -144,16 +206,19 @@ fn ends(alloc: Global, accepted: Accepted) -> Result<bool, AllocError> {
     })
 }
 
-// Counts a program. Whether one that is accepted ends.
+// Counts a program. Whether one that is accepted ends, and a witness is shown each check.
 fn judge_program(alloc: Global, program: &Program, seen: &mut Seen) -> Result<bool, AllocError> {
-    match verify(alloc, program, &limits(alloc)?) {
+    let limits = limits(alloc)?;
+    let (shown, before) = verify_before(alloc, program, &limits, Shown::nothing());
+    match verify(alloc, program, &limits) {
         Ok(accepted) => {
             seen.ended = seen.ended.saturating_add(1);
-            ends(alloc, accepted)
+            let all = shown.is_all(&accepted, before);
+            Ok(all && ends(alloc, accepted)?)
         }
-        Err(OrMemory::Fault(_)) => {
+        Err(OrMemory::Fault(refusal)) => {
             seen.unaccepted = seen.unaccepted.saturating_add(1);
-            Ok(true)
+            Ok(shown.ends_so(refusal, before))
         }
         Err(OrMemory::OutOfMemory) => Err(AllocError),
     }

@@ -30,12 +30,13 @@ enum Check {
     SelfJump,
     Verdicts,
     LocalCall,
+    DeadCode,
     PairsOfJumps,
     Spills,
 }
 
 /// All checks, with their names.
-const CHECKS: [(&str, Check); 13] = [
+const CHECKS: [(&str, Check); 14] = [
     ("a_heap_answers_as_a_plain_list_does", Check::Heap),
     ("a_ledger_answers_as_a_plain_list", Check::Ledger),
     ("keys_are_used_again", Check::Keys),
@@ -47,6 +48,7 @@ const CHECKS: [(&str, Check); 13] = [
     ("self_jump", Check::SelfJump),
     ("one_accepted_and_one_refused", Check::Verdicts),
     ("a_local_call", Check::LocalCall),
+    ("dead_code_is_not_checked", Check::DeadCode),
     ("pairs_of_jumps", Check::PairsOfJumps),
     ("spilled_and_memory_refused_once", Check::Spills),
 ];
@@ -66,6 +68,7 @@ impl Check {
             Check::SelfJump => structure::self_jump(alloc),
             Check::Verdicts => verdicts::one_accepted_and_one_refused(alloc),
             Check::LocalCall => verdicts::a_local_call(alloc),
+            Check::DeadCode => verdicts::dead_code(alloc),
             Check::PairsOfJumps => verdicts::pairs_of_jumps(alloc),
             Check::Spills => verdicts::spilled(alloc),
         }

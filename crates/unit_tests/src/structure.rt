@@ -1,12 +1,12 @@
-// The budget of a program that is no policy, as R0 is not known at its end.
+// What the shape of a program is; of one that is no policy, as R0 is not known at its end, the budget too.
 
 use crate::verdicts::program_of;
 use budget_path::budget;
 use call_shape::{ShapeFault, shape};
 use std::alloc::{AllocError, Global};
 
-// Whether so many frames, instructions with local calls written out, and no other budget are those of this text's program.
-fn has_shape(
+/// Whether so many frames, instructions with local calls written out, and no other budget are those of this text's program.
+pub fn has_shape(
     alloc: Global,
     text: &str,
     frames: u8,

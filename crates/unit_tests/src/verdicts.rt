@@ -1,5 +1,6 @@
 // Want of memory, that the same call answers later, and how many checks a verdict takes.
 
+use crate::structure::has_shape;
 use base::OrMemory;
 use bpf_asm::assemble;
 use bpf_insn::Program;
@@ -15,6 +16,9 @@ const REQUEUE: &str = "mov64 r1, 1\ncall 4\nmov64 r0, 0\nexit\n";
 
 /// The same, by a function.
 const REQUEUE_BY_FUNCTION: &str = "call local +2\nmov64 r0, 0\nexit\nmov64 r1, 1\ncall 4\nexit\n";
+
+/// A jump, and two moves to which nothing leads.
+const DEAD_CODE: &str = "ja +2\nmov64 r3, 1\nmov64 r3, 2\n";
 
 /// A jump on what the clock read, both of whose ways are open, and a move that it jumps over.
 const PAIR: &str = "jeq r0, 0, +1\nmov64 r3, 1\n";
@@ -98,6 +102,13 @@ pub fn one_accepted_and_one_refused(alloc: Global) -> Result<bool, AllocError> {
 pub fn a_local_call(alloc: Global) -> Result<bool, AllocError> {
     let policy = joined(alloc, RELEASE, REQUEUE_BY_FUNCTION)?;
     takes(alloc, policy.as_str(), 9)
+}
+
+/// What nothing leads to counts where the program is written out, and is not checked.
+pub fn dead_code(alloc: Global) -> Result<bool, AllocError> {
+    let front = joined(alloc, RELEASE, DEAD_CODE)?;
+    let policy = joined(alloc, front.as_str(), REQUEUE)?;
+    Ok(takes(alloc, policy.as_str(), 8)? && has_shape(alloc, policy.as_str(), 1, 10, 8)?)
 }
 
 /// Of so many pairs of a jump and a move each is checked once.

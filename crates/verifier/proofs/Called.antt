@@ -15,7 +15,8 @@ use Rattle.bpf_semantics.specs.MachineState.{MachineState, OpenCall}
 use Rattle.bpf_semantics.specs.Step.{does}
 use Rattle.bpf_semantics.specs.Stuck.{insn_is_stuck}
 use Rattle.call_shape.specs.Calls.{begins, callee_at, callee_in, function_of}
-use Rattle.call_shape.specs.StaticPath.{Standing, outermost}
+use Rattle.call_shape.specs.StaticPath.{Standing, outermost, called, PathLeads, goes_on, starts}
+use Rattle.call_shape.proofs.Leading.{leads_inside, leads_through}
 use Rattle.call_shape.proofs.Places.{begins_there}
 use Rattle.call_shape.proofs.Ways.{further_behind}
 use Rattle.helpers.specs.declared.limits.HelperLimits.{HelperLimits}
@@ -23,7 +24,7 @@ use Rattle.description.specs.declared.description.Description.{Description}
 use Rattle.description.specs.declared.saved.SavedRegisters.{SavedRegisters}
 use Rattle.description.specs.Description.{Describes, NeverStuck}
 use Rattle.private_insns.specs.Follows.{StepsBy}
-use Rattle.verifier.specs.Checks.{returns_of}
+use Rattle.verifier.specs.Checks.{IsOnPath, returns_of}
 use Rattle.verifier.specs.Function.{AreDone, IsLawfulProgram, IsOwn, Stands}
 use Rattle.verifier.specs.Goes.{FunctionIsSound, IsBack, IsCallVisited, IsChecked, IsLeft, IsVisited, StaysWell}
 use Rattle.verifier.specs.OnTheWay.{IsChain}
@@ -31,8 +32,8 @@ use Rattle.verifier.specs.Table.{AllHave, Grows, HasJoined, Table, described, Is
 use Rattle.verifier.proofs.Joined.{same_description}
 use Rattle.verifier.proofs.Passed.{IsTaken, carried, carry}
 use Rattle.verifier.proofs.Led.{described_so}
-use Rattle.verifier.proofs.OnItsWay.{callee_own, chain_back, chain_called, local_call, room_left}
-use Rattle.verifier.proofs.Checks.{all_under, opened_inside, under_from, under_length, under_once, under_returns, under_there}
+use Rattle.verifier.proofs.OnItsWay.{callee_own, chain_back, chain_called, comes_back, local_call, room_left}
+use Rattle.verifier.proofs.Checks.{all_under, opened_inside, under, under_from, under_length, under_once, under_returns, under_there}
 use Rattle.verifier.proofs.Sound.{inside_table, well_so}
 use Rattle.verifier.proofs.Steps.{enters}
 use Rattle.verifier.proofs.Visited.{HasVisited, checked_among, known_as, same_widens}
@@ -65,6 +66,7 @@ entry_own program callers saved place callee d entry lawful own calls deep =
       within = start.1;
       frames = omega (arith, deep, own.frames, more_callers callers saved);
       chain = subst (λ (n : ℕ). IsChain program n callee) (sym (more_callers callers saved)) chain;
+      leads = starts;
     }
 
 -- what stands before the last one
@@ -117,12 +119,26 @@ call_sound limits program callers saved d entry place callee left checks known s
     (left_back callers saved left (place + 1) in_callee.call m.open_calls m'.open_calls returns in_callee.calls)
     n m' (sound m' start (known callers distance m m' holds in_callee.step) n)
 
+-- a path through what is called is the end of one from the call
+on_paths_under : (program : List Slot) (place callee : ℕ) (checks : List Standing) → (distance : ℤ) × (insn_at program place ≡ Some (Call (Local distance))) × (target place distance ≡ callee) → ((check : Standing) → Contains checks check → IsOnPath program (outermost callee) check) → (check : Standing) → Contains (all_under (place + 1) checks) check → IsOnPath program (outermost place) check
+on_paths_under program place callee checks call are check there =
+    let found = under_from (place + 1) checks check there in
+    let inner = are found.0 found.1 in
+    let entered : PathLeads program (outermost place) (called (outermost place) callee) =
+    goes_on (outermost place) (called (outermost place) callee) (Call (Local call.0)) starts call.1 (ap (λ (n : ℕ). called (outermost place) n) (sym call.2)) in
+    subst (IsOnPath program (outermost place)) found.2 (record {
+      begun = inner.begun;
+      leads = leads_through program (outermost place) (called (outermost place) callee) (under (place + 1) found.0) entered
+          (leads_inside program ((place + 1) ∷ []) (outermost callee) found.0 inner.leads);
+    })
+
 -- the checks of what is called, as its caller sees them
-pub call_visited : (limits : HelperLimits) (program : List Slot) (callers : List SavedRegisters) (saved : SavedRegisters) (d entry : Description) (place callee : ℕ) (left : Option Description) (before after : ℕ) → ((callers : List SavedRegisters) (distance : ℤ) (m m' : MachineState) → Describes callers d m → does m (Call (Local distance)) ≡ Some m' → Describes (callers ++ saved ∷ []) entry m') → IsVisited limits program (callers ++ saved ∷ []) entry callee left before after → IsCallVisited limits program callers d place callee left before after
-call_visited limits program callers saved d entry place callee left before after known is = record {
+pub call_visited : (limits : HelperLimits) (program : List Slot) (callers : List SavedRegisters) (saved : SavedRegisters) (d entry : Description) (place callee : ℕ) (left : Option Description) (before after : ℕ) → ((callers : List SavedRegisters) (distance : ℤ) (m m' : MachineState) → Describes callers d m → does m (Call (Local distance)) ≡ Some m' → Describes (callers ++ saved ∷ []) entry m') → (distance : ℤ) × (insn_at program place ≡ Some (Call (Local distance))) × (target place distance ≡ callee) → IsVisited limits program (callers ++ saved ∷ []) entry callee left before after → IsCallVisited limits program callers d place callee left before after
+call_visited limits program callers saved d entry place callee left before after known call is = record {
   checks = all_under (place + 1) is.checks;
   made = omega (arith, is.made, under_length (place + 1) is.checks);
   once = under_once (place + 1) is.checks is.once;
+  on_paths = on_paths_under program place callee is.checks call is.on_paths;
   inside = λ check there. let found = under_from (place + 1) is.checks check there in (found.0.returns, sym (ap (λ (x : Standing). x.returns) found.2));
   sound = call_sound limits program callers saved d entry place callee left is.checks known is.sound;
 }
@@ -191,6 +207,7 @@ visited_call limits program callers start all left at insn callee d back before 
                 within = subst (λ (n : ℕ). function_of program n ≡ start) place (next.within ∙ own.within);
                 frames = deep k e now;
                 chain = subst (IsChain program (length callers)) place (chain_back program (length callers) (start + at) call.0 lawful call_here own.chain);
+                leads = subst (λ (n : ℕ). PathLeads program (outermost start) (outermost n)) place (comes_back program (outermost start) (start + at) call.0 lawful call_here own.leads);
               }
           | inr other ↦ are.own k e (taken.known k e (sym (come.others k other) ∙ now))
         ]

@@ -1,11 +1,14 @@
 -- The checks of a function: those of one place more are none of the earlier ones.
-use Rattle.std.proofs.Common.{◌≡◌, ℕ, zero, suc, ◌+◌, ◌≤◌, List, [], ◌∷◌, ◌++◌, length, refl, ap, sym, subst, ◌∙◌, arith, ◌⊎◌, inl, inr}
+use Rattle.std.proofs.Common.{◌≡◌, ℕ, zero, suc, ◌+◌, ◌≤◌, true, List, [], ◌∷◌, ◌++◌, length, refl, ap, sym, subst, ◌∙◌, arith, ◌⊎◌, inl, inr}
 use Rattle.std.specs.List.{Contains}
 use Rattle.std.proofs.lemmas.List.{append_cancel_right, length-append}
 use Rattle.std.proofs.lemmas.List.Elements.{Contains-append_cases, Contains-append_left, Contains-append_right}
+use Rattle.bpf_insn.specs.declared.program.Slot.{Slot}
 use Rattle.bpf_semantics.specs.MachineState.{OpenCall}
-use Rattle.call_shape.specs.StaticPath.{Standing, outermost}
-use Rattle.verifier.specs.Checks.{AreOnce, IsBefore, returns_of}
+use Rattle.call_shape.specs.Calls.{begins}
+use Rattle.call_shape.specs.StaticPath.{Standing, outermost, PathLeads}
+use Rattle.call_shape.proofs.Leading.{leads_through}
+use Rattle.verifier.specs.Checks.{AreOnce, IsBefore, IsOnPath, returns_of}
 
 -- the one of a list of one
 pub only : (x y : Standing) → Contains (x ∷ []) y → x ≡ y
@@ -145,3 +148,16 @@ one_there place check is = inl (only (outermost place) check is)
 
 pub one_once : (check : Standing) → AreOnce (check ∷ [])
 one_once check = (none_there check, tt)
+
+-- the check of a place to which a path leads
+pub one_on_path : (program : List Slot) (start place : ℕ) → begins program place ≡ true → PathLeads program (outermost start) (outermost place) → (check : Standing) → Contains (outermost place ∷ []) check → IsOnPath program (outermost start) check
+one_on_path program start place begun leads check is = subst (IsOnPath program (outermost start)) (only (outermost place) check is) (record { begun = begun; leads = leads })
+
+-- and those of what is called there
+pub call_on_paths : (program : List Slot) (start place : ℕ) (inside : List Standing) → begins program place ≡ true → PathLeads program (outermost start) (outermost place) → ((check : Standing) → Contains inside check → IsOnPath program (outermost place) check) → (check : Standing) → Contains (outermost place ∷ inside) check → IsOnPath program (outermost start) check
+call_on_paths program start place inside begun leads are check is = elim (Contains-append_cases (outermost place ∷ []) inside check is) [
+  | inl own ↦ one_on_path program start place begun leads check own
+  | inr called ↦
+      let on = are check called in
+      record { begun = on.begun; leads = leads_through program (outermost start) (outermost place) check leads on.leads }
+]

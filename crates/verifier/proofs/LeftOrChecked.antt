@@ -9,7 +9,7 @@ use Rattle.bpf_semantics.specs.MachineState.{MachineState}
 use Rattle.bpf_semantics.specs.Stuck.{insn_is_stuck}
 use Rattle.call_shape.specs.Shape.{behind, goes_on_behind, target_in, AreContained}
 use Rattle.call_shape.proofs.Ways.{IsFurther, further_behind}
-use Rattle.call_shape.specs.StaticPath.{Standing}
+use Rattle.call_shape.specs.StaticPath.{Standing, outermost, PathLeads}
 use Rattle.call_shape.proofs.Contained.{jumps_forward, jumps_to_insn, jumps_within, target_there}
 use Rattle.helpers.specs.declared.limits.HelperLimits.{HelperLimits}
 use Rattle.description.specs.declared.description.Description.{Description}
@@ -22,7 +22,7 @@ use Rattle.verifier.specs.Goes.{IsLeft}
 use Rattle.verifier.specs.OnTheWay.{IsChain}
 use Rattle.verifier.specs.Table.{Table, described, HasLeft, IsKnown}
 use Rattle.verifier.proofs.Led.{described_so}
-use Rattle.verifier.proofs.OnItsWay.{chain_behind, chain_target}
+use Rattle.verifier.proofs.OnItsWay.{chain_behind, chain_target, comes_behind, comes_there}
 use Rattle.verifier.proofs.Steps.{leaves}
 use Rattle.verifier.proofs.Passed.{IsTaken, carried, carry, carry_same}
 use Rattle.verifier.proofs.Sound.{inside_table}
@@ -79,12 +79,13 @@ further_target program place to insn functions here leads =
     }
 
 -- a place further on is the function's own
-own_on : (program : List Slot) (callers : List SavedRegisters) (start place next : ℕ) (d e : Description) → IsOwn program callers start place d → IsFurther program place next → length e.stack ≡ length callers + 1 → IsChain program (length callers) next → IsOwn program callers start next e
-own_on program callers start place next d e own on frames chain = record {
+own_on : (program : List Slot) (callers : List SavedRegisters) (start place next : ℕ) (d e : Description) → IsOwn program callers start place d → IsFurther program place next → length e.stack ≡ length callers + 1 → IsChain program (length callers) next → PathLeads program (outermost start) (outermost next) → IsOwn program callers start next e
+own_on program callers start place next d e own on frames chain leads = record {
   begun = on.there;
   within = on.within ∙ own.within;
   frames = frames;
   chain = chain;
+  leads = leads;
 }
 
 pub cases_target : (o : Option ℕ) (n : ℕ) → (o ≡ Some n) ⊎ (o ≡ Some n → ⊥)
@@ -116,11 +117,13 @@ visited_check limits program callers start all left at insn d before after check
         | inr now ↦ elim (cases_target (target_in (start + at) insn) (start + k)) [
           | inl leads ↦ own_on program callers start (start + at) (start + k) d e own (further_target program (start + at) (start + k) insn functions here leads) (frames k e now)
               (chain_target program (length callers) (start + at) (start + k) insn here leads own.chain)
+              (comes_there program (outermost start) (start + at) (start + k) insn here leads own.leads)
           | inr no_target ↦ elim (cases_eq (start + k) (behind (start + at) insn)) [
             | inr not_behind ↦ are.own k e (taken.known k e (sym (checked.others k (λ goes same. not_behind same) no_target) ∙ now))
             | inl same ↦ elim (cases_Bool (goes_on_behind insn)) [
               | inl goes ↦ rw same (own_on program callers start (start + at) (behind (start + at) insn) d e own (further_behind program (start + at) insn lawful.0 functions here goes) (frames k e now)
-                  (chain_behind program (length callers) (start + at) callers insn here stays goes own.chain))
+                  (chain_behind program (length callers) (start + at) callers insn here stays goes own.chain)
+                  (comes_behind program (outermost start) (start + at) callers insn here stays goes own.leads))
               | inr ends ↦ are.own k e (taken.known k e (sym (checked.others k (λ goes on. let bad : true ≡ false = sym goes ∙ ends in absurd cc) no_target) ∙ now))
             ]
           ]

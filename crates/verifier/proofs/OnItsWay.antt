@@ -8,9 +8,10 @@ use Rattle.bpf_insn.specs.Program.{insn_at}
 use Rattle.bpf_insn.specs.Target.{target}
 use Rattle.call_shape.specs.Calls.{begins, callee_in, function_of}
 use Rattle.call_shape.specs.Shape.{behind, goes_on_behind, target_in}
-use Rattle.call_shape.specs.StaticPath.{Standing, outermost, called, moved, LeadsTo}
+use Rattle.call_shape.specs.StaticPath.{Standing, outermost, called, moved, LeadsTo, PathLeads, goes_on}
 use Rattle.call_shape.proofs.Contained.{callee_there}
 use Rattle.call_shape.proofs.Lawful.{calls_lawfully, goes_on_lawfully}
+use Rattle.call_shape.proofs.Leading.{leads_back}
 use Rattle.call_shape.proofs.OnTheWay.{begins_on_the_way, further, room_to_call, way_out}
 use Rattle.call_shape.proofs.Paths.{joined, one_frame_at_least}
 use Rattle.call_shape.proofs.SlotFunctions.{callee_starts, own_function}
@@ -75,6 +76,14 @@ chain_target program calls place to insn here leads chain =
       on = further program at (moved at to) insn here (leads_there at insn to leads) chain.on;
     }
 
+-- the same of a path from somewhere
+pub comes_behind : (program : List Slot) (from : Standing) (place : ℕ) (callers : List SavedRegisters) (insn : Insn) → insn_at program place ≡ Some insn → Stays callers insn → goes_on_behind insn ≡ true → PathLeads program from (outermost place) → PathLeads program from (outermost (behind place insn))
+comes_behind program from place callers insn here stays goes comes =
+    goes_on (outermost place) (outermost (behind place insn)) insn comes here (leads_behind callers (outermost place) insn stays goes)
+
+pub comes_there : (program : List Slot) (from : Standing) (place to : ℕ) (insn : Insn) → insn_at program place ≡ Some insn → target_in place insn ≡ Some to → PathLeads program from (outermost place) → PathLeads program from (outermost to)
+comes_there program from place to insn here leads comes = goes_on (outermost place) (outermost to) insn comes here (leads_there (outermost place) insn to leads)
+
 -- which instruction calls a function
 pub local_call : (place to : ℕ) (insn : Insn) → callee_in place insn ≡ Some to → (distance : ℤ) × (insn ≡ Call (Local distance)) × (target place distance ≡ to)
 local_call place to (Call (Local distance)) leads = (distance, refl, some_is _ to leads)
@@ -114,6 +123,14 @@ chain_back program calls place distance lawful here chain = record {
       let whole = (chain_called program calls place distance lawful here chain).on (out.0 + n) through.0 in
       (whole.0, whole.1, omega (arith, whole.2, through.1));
 }
+
+-- so a path from somewhere to a call leads on behind it
+pub comes_back : (program : List Slot) (from : Standing) (place : ℕ) (distance : ℤ) → IsLawfulProgram program → insn_at program place ≡ Some (Call (Local distance)) → PathLeads program from (outermost place) → PathLeads program from (outermost (place + 1))
+comes_back program from place distance lawful here comes =
+    let callee : begins program (target place distance) ≡ true = calls_lawfully program place (target place distance) (Call (Local distance)) lawful.0 lawful.1 here refl in
+    let out = ways_out_lem program lawful.0 lawful.1.frames.calls (target place distance) callee in
+    leads_back program from out.0 (target place distance) (place + 1) [] out.1
+    (goes_on (outermost place) (called (outermost place) (target place distance)) (Call (Local distance)) comes here refl)
 
 -- at a local call there is a frame left
 pub room_left : (program : List Slot) (calls place : ℕ) (distance : ℤ) → IsLawfulProgram program → insn_at program place ≡ Some (Call (Local distance)) → IsChain program calls place → calls + 1 < 8

@@ -14,7 +14,7 @@ use Rattle.call_shape.proofs.Places.{begins_there}
 use Rattle.description.specs.declared.description.Description.{Description}
 use Rattle.description.specs.declared.saved.SavedRegisters.{SavedRegisters}
 use Rattle.helpers.specs.declared.limits.HelperLimits.{HelperLimits}
-use Rattle.verifier.specs.Checks.{AreOnce}
+use Rattle.verifier.specs.Checks.{AreOnce, IsOnPath}
 use Rattle.verifier.specs.Function.{ArePassed, IsEnd, IsOwn}
 use Rattle.verifier.specs.Table.{Table, described, Grows, IsFirstTable, IsKnown}
 use Rattle.verifier.proofs.Checks.{IsOfPlace}
@@ -99,14 +99,14 @@ taken_out limits program callers entry start table left at first now inside are 
 }
 
 -- one place more is passed
-pub passed_more : (limits : HelperLimits) (program : List Slot) (callers : List SavedRegisters) (entry : Description) (start : ℕ) (table : Table) (left : Option Description) (at first now next : ℕ) (insn : Insn) (are : ArePassed limits program callers entry start table left at first now) (before after : Table) (wider : Option Description) → IsTaken are.all at before → ((k : ℕ) → k ≤ at → described after k ≡ described before k) → Carries are.all after at → length after ≡ length before → (more : List Standing) → insn_at program (start + at) ≡ Some insn → HasVisited limits program callers start are.all left at insn (carried at are.all after) wider (are.visited.checks ++ more) → now + length more ≡ next → AreOnce more → Contains more (outermost (start + at)) → ((check : Standing) → Contains more check → IsOfPlace (start + at) check) → ArePassed limits program callers entry start after wider (at + 1) first next
-passed_more limits program callers entry start table left at first now next insn are before after wider taken same carries whole more here did made once own_check there = record {
+pub passed_more : (limits : HelperLimits) (program : List Slot) (callers : List SavedRegisters) (entry : Description) (start : ℕ) (table : Table) (left : Option Description) (at first now next : ℕ) (insn : Insn) (are : ArePassed limits program callers entry start table left at first now) (before after : Table) (wider : Option Description) → IsTaken are.all at before → ((k : ℕ) → k ≤ at → described after k ≡ described before k) → Carries are.all after at → length after ≡ length before → (more : List Standing) → insn_at program (start + at) ≡ Some insn → HasVisited limits program callers start are.all left at insn (carried at are.all after) wider (are.visited.checks ++ more) → now + length more ≡ next → AreOnce more → Contains more (outermost (start + at)) → ((check : Standing) → Contains more check → IsOfPlace (start + at) check) → ((check : Standing) → Contains more check → IsOnPath program (outermost start) check) → ArePassed limits program callers entry start after wider (at + 1) first next
+passed_more limits program callers entry start table left at first now next insn are before after wider taken same carries whole more here did made once own_check there on_paths = record {
   all = carried at are.all after;
   whole = carries.whole ∙ (sym taken.whole ∙ sym whole);
   gone = λ k lt. same k (omega (arith, lt)) ∙ taken.gone k (omega (arith, lt));
   ahead = λ k le. carries.behind k (omega (arith, le));
   entered = λ m holds. carries.grows callers 0 m (are.entered m holds);
-  visited = visited_more limits program callers start are.all left at insn (carried at are.all after) wider first now next are.visited more here did made once own_check there;
+  visited = visited_more limits program callers start are.all left at insn (carried at are.all after) wider first now next are.visited more here did made once own_check there on_paths;
 }
 
 -- nothing leads to a place, so it is passed

@@ -21,7 +21,7 @@ use Rattle.verifier.specs.Function.{ArePassed, HasChecked, IsLawfulProgram, IsOw
 use Rattle.verifier.specs.Goes.{IsCallVisited}
 use Rattle.verifier.specs.Table.{Table, described, HasLeft}
 use Rattle.verifier.proofs.Called.{HasComeBack, behind_alone, visited_call}
-use Rattle.verifier.proofs.Checks.{alone, call_once, call_there, one_once, one_there}
+use Rattle.verifier.proofs.Checks.{alone, call_on_paths, call_once, call_there, one_on_path, one_once, one_there}
 use Rattle.verifier.proofs.LeftOrChecked.{ahead_alone, visited_check, visited_leave}
 use Rattle.verifier.proofs.OnItsWay.{local_call}
 use Rattle.verifier.proofs.Passed.{IsTaken, carry, carry_same, passed_more, taken_out}
@@ -51,6 +51,7 @@ module _ (limits : HelperLimits) (program : List Slot) (callers : List SavedRegi
   pub pass_call : (next : ℕ) (insn : Insn) (callee : ℕ) (d : Description) (back : Option Description) (emptied after : Table) → IsLawfulProgram program → insn_at program (start + at) ≡ Some insn → callee_in (start + at) insn ≡ Some callee → described table at ≡ Some d → IsTaken are.all at emptied → ((limits : HelperLimits) (distance : ℤ) → NeverStuck limits callers (Call (Local distance)) d) → IsCallVisited limits program callers d (start + at) callee back (now + 1) next → ((there : Description) → back ≡ Some there → length there.stack ≡ length callers + 1) → HasComeBack emptied (at + 1) back after → ArePassed limits program callers entry start after left (at + 1) first next
   pass_call next insn callee d back emptied after lawful here leads there taken unstuck inside frames come =
       let same = behind_alone emptied at back after come in
+      let own = own_here d there in
       passed_more limits program callers entry start table left at first now next insn are emptied after left taken same
       (carry are.all emptied after at (inside_table are.all at d (in_all d there)) taken come.whole come.grows same) come.whole
       (outermost (start + at) ∷ inside.checks) here
@@ -59,25 +60,28 @@ module _ (limits : HelperLimits) (program : List Slot) (callers : List SavedRegi
       (call_once (start + at) inside.checks inside.once inside.inside)
       (Contains-append_left (outermost (start + at) ∷ []) inside.checks (outermost (start + at)) (alone (outermost (start + at))))
       (call_there (start + at) inside.checks inside.inside)
+      (call_on_paths program start (start + at) inside.checks own.begun own.leads inside.on_paths)
 
   -- the function is left there
   pub pass_exit : (next : ℕ) (insn : Insn) (outer : List SavedRegisters) (saved : SavedRegisters) (d : Description) (emptied : Table) (wider : Option Description) → insn_at program (start + at) ≡ Some insn → insn ≡ Exit → callers ≡ outer ++ saved ∷ [] → described table at ≡ Some d → IsTaken are.all at emptied → ((limits : HelperLimits) (outer : List SavedRegisters) → NeverStuck limits (outer ++ saved ∷ []) Exit d) → HasLeft saved d left wider → next ≡ now + 1 → ArePassed limits program callers entry start emptied wider (at + 1) first next
   pass_exit next insn outer saved d emptied wider here exit waits there taken unstuck has one =
+      let own = own_here d there in
       passed_more limits program callers entry start table left at first now next insn are emptied emptied wider taken (λ k le. refl)
       (carry_same are.all emptied at (inside_table are.all at d (in_all d there)) taken) refl
       (outermost (start + at) ∷ []) here
       (visited_leave limits program callers start are.all left at insn outer saved d emptied wider are.visited.checks (outermost (start + at) ∷ []) exit waits (in_all d there) are.visited.done taken unstuck has)
-      (omega (arith, one)) (one_once (outermost (start + at))) (alone (outermost (start + at))) (one_there (start + at))
+      (omega (arith, one)) (one_once (outermost (start + at))) (alone (outermost (start + at))) (one_there (start + at)) (one_on_path program start (start + at) own.begun own.leads)
 
   -- control stays in the function
   pub pass_check : (next : ℕ) (insn : Insn) (d : Description) (emptied after : Table) → IsLawfulProgram program → insn_at program (start + at) ≡ Some insn → Stays callers insn → described table at ≡ Some d → IsTaken are.all at emptied → length after ≡ length emptied → HasChecked limits callers start d emptied at insn after → next ≡ now + 1 → ArePassed limits program callers entry start after left (at + 1) first next
   pass_check next insn d emptied after lawful here stays there taken whole checked one =
       let same = ahead_alone program limits callers start d emptied at insn after lawful here checked in
+      let own = own_here d there in
       passed_more limits program callers entry start table left at first now next insn are emptied after left taken same
       (carry are.all emptied after at (inside_table are.all at d (in_all d there)) taken whole checked.grows same) whole
       (outermost (start + at) ∷ []) here
       (visited_check limits program callers start are.all left at insn d emptied after are.visited.checks (outermost (start + at) ∷ []) lawful here stays (in_all d there) are.visited.done taken whole checked)
-      (omega (arith, one)) (one_once (outermost (start + at))) (alone (outermost (start + at))) (one_there (start + at))
+      (omega (arith, one)) (one_once (outermost (start + at))) (alone (outermost (start + at))) (one_there (start + at)) (one_on_path program start (start + at) own.begun own.leads)
 
 -- all arrives where one place fewer is known
 pub all_without : (program : List Slot) (table : Table) (at : ℕ) (nothing : Option Description) → nothing ≡ None → at < length table → AllArrive program table → AllArrive program (slice_set table at nothing)

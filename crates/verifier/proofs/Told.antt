@@ -6,7 +6,7 @@ use Rattle.call_shape.specs.Shape.{IsLawful}
 use Rattle.base.specs.declared.or_memory.OrMemory.{OrMemory}
 use Rattle.base.specs.declared.or_memory.OrMemory.TheVariants.{OutOfMemory, Fault as refused}
 use Rattle.verifier.specs.Arrives.{FailsUnless, LacksMemoryOrMore, NeverLacks}
-use Rattle.verifier.specs.Verdict.{ToldOfShape}
+use Rattle.verifier.specs.Verdict.{ToldOfChecks, ToldOfShape}
 use Rattle.verifier.specs.declared.refusal.Refusal.{Refusal}
 use Rattle.verifier.specs.declared.refusal.Refusal.TheVariants.{Shape, Check}
 
@@ -36,6 +36,11 @@ pub told_of_shape : (program : List Slot) (error : OrMemory Refusal) → IsLawfu
 told_of_shape program OutOfMemory lawful fails = lawful
 told_of_shape program (refused (Shape fault)) lawful fails = absurd fails
 told_of_shape program (refused (Check cause slot)) lawful fails = lawful
+
+pub told_of_checks : (program : List Slot) (error : OrMemory Refusal) → LacksMemoryOrMore program error → ToldOfChecks program error
+told_of_checks program OutOfMemory fails = tt
+told_of_checks program (refused (Shape fault)) fails = tt
+told_of_checks program (refused (Check cause slot)) fails = fails
 
 -- where what is known is always enough, only memory is wanting
 pub only_memory : (program : List Slot) (error : OrMemory Refusal) → NeverLacks program → LacksMemoryOrMore program error → error ≡ OutOfMemory

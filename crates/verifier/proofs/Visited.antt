@@ -4,7 +4,7 @@ use Rattle.std.proofs.Math.Seq.{take-append_seam}
 use Rattle.std.specs.List.{Contains}
 use Rattle.std.proofs.lemmas.Bool.{cases_eq}
 use Rattle.std.proofs.lemmas.List.{length-append}
-use Rattle.std.proofs.lemmas.List.Elements.{Contains-append_left, Contains-append_right}
+use Rattle.std.proofs.lemmas.List.Elements.{Contains-append_cases, Contains-append_left, Contains-append_right}
 use Rattle.bpf_insn.specs.declared.insn.Insn.{Insn}
 use Rattle.bpf_insn.specs.declared.program.Slot.{Slot}
 use Rattle.bpf_insn.specs.Program.{insn_at}
@@ -15,7 +15,7 @@ use Rattle.helpers.specs.declared.limits.HelperLimits.{HelperLimits}
 use Rattle.description.specs.declared.description.Description.{Description}
 use Rattle.description.specs.declared.saved.SavedRegisters.{SavedRegisters}
 use Rattle.description.specs.Description.{Covers, Describes}
-use Rattle.verifier.specs.Checks.{AreOnce, IsBefore, returns_of}
+use Rattle.verifier.specs.Checks.{AreOnce, IsBefore, IsOnPath, returns_of}
 use Rattle.verifier.specs.Function.{AreDone, AreVisited, IsDone, IsEnd, IsOwn, Lands, Stands}
 use Rattle.verifier.specs.Goes.{IsChecked, IsLeft}
 use Rattle.verifier.specs.Table.{Table, described, Grows, IsFirstTable, IsKnown}
@@ -115,11 +115,12 @@ one_more limits program callers start before left at insn after wider checks mor
 }
 
 -- one place more is visited
-pub visited_more : (limits : HelperLimits) (program : List Slot) (callers : List SavedRegisters) (start : ℕ) (before : Table) (left : Option Description) (at : ℕ) (insn : Insn) (after : Table) (wider : Option Description) (first now next : ℕ) (are : AreVisited limits program callers start before left at first now) (more : List Standing) → insn_at program (start + at) ≡ Some insn → HasVisited limits program callers start before left at insn after wider (are.checks ++ more) → now + length more ≡ next → AreOnce more → Contains more (outermost (start + at)) → ((check : Standing) → Contains more check → IsOfPlace (start + at) check) → AreVisited limits program callers start after wider (at + 1) first next
-visited_more limits program callers start before left at insn after wider first now next are more here did made once own_check there = record {
+pub visited_more : (limits : HelperLimits) (program : List Slot) (callers : List SavedRegisters) (start : ℕ) (before : Table) (left : Option Description) (at : ℕ) (insn : Insn) (after : Table) (wider : Option Description) (first now next : ℕ) (are : AreVisited limits program callers start before left at first now) (more : List Standing) → insn_at program (start + at) ≡ Some insn → HasVisited limits program callers start before left at insn after wider (are.checks ++ more) → now + length more ≡ next → AreOnce more → Contains more (outermost (start + at)) → ((check : Standing) → Contains more check → IsOfPlace (start + at) check) → ((check : Standing) → Contains more check → IsOnPath program (outermost start) check) → AreVisited limits program callers start after wider (at + 1) first next
+visited_more limits program callers start before left at insn after wider first now next are more here did made once own_check there on_paths = record {
   checks = are.checks ++ more;
   made = omega (arith, are.made, made, length-append are.checks more);
   once = more_once (start + at) are.checks more are.once once are.earlier there;
+  on_paths = λ check is. elim (Contains-append_cases are.checks more check is) [ inl old ↦ are.on_paths check old | inr new ↦ on_paths check new ];
   earlier = λ check is. let slot : start + at + 1 ≡ start + (at + 1) = omega arith in subst (λ (n : ℕ). IsBefore n check) slot (more_before (start + at) are.checks more are.earlier there check is);
   done = one_more limits program callers start before left at insn after wider are.checks more here are.done did own_check;
 }
@@ -158,6 +159,7 @@ skipped limits program callers start table left at first now none are = record {
   checks = are.checks;
   made = are.made;
   once = are.once;
+  on_paths = are.on_paths;
   earlier = λ check is. before_later (start + at) (start + (at + 1)) check (omega arith) (are.earlier check is);
   done = still_skipped limits program callers start table left are.checks at none are.done;
 }
@@ -184,6 +186,7 @@ opening limits program callers start len entry table end own first visits = reco
   checks = [];
   made = omega arith;
   once = tt;
+  on_paths = λ check is. absurd (none_there check is);
   earlier = λ check is. absurd (none_there check is);
   done = opening_done limits program callers start len entry table end own first;
 }

@@ -8,14 +8,14 @@ use Rattle.bpf_semantics.specs.MachineState.{MachineState, OpenCall}
 use Rattle.bpf_semantics.specs.Stuck.{insn_is_stuck}
 use Rattle.call_shape.specs.Calls.{begins, function_of}
 use Rattle.call_shape.specs.Shape.{IsLawful, behind, goes_on_behind, target_in}
-use Rattle.call_shape.specs.StaticPath.{Standing, outermost}
+use Rattle.call_shape.specs.StaticPath.{Standing, outermost, PathLeads}
 use Rattle.call_shape.specs.WrittenOut.{count_at, written_out}
 use Rattle.helpers.specs.declared.limits.HelperLimits.{HelperLimits}
 use Rattle.description.specs.declared.description.Description.{Description}
 use Rattle.description.specs.declared.saved.SavedRegisters.{SavedRegisters}
 use Rattle.description.specs.Description.{Describes, NeverStuck}
 use Rattle.private_insns.specs.Follows.{StepsBy}
-use Rattle.verifier.specs.Checks.{AreOnce, IsBefore}
+use Rattle.verifier.specs.Checks.{AreOnce, IsBefore, IsOnPath}
 use Rattle.verifier.specs.Goes.{IsChecked, IsLeft, StaysWell}
 use Rattle.verifier.specs.OnTheWay.{IsChain}
 use Rattle.verifier.specs.Table.{Table, described, AllHave, Grows, IsKnown}
@@ -34,13 +34,14 @@ pub record IsEnd (program : List Slot) (start end : ℕ) : Type 0 where
   pub inside : end ≤ length program
   pub closed : (place : ℕ) (insn : Insn) → start ≤ place → place < end → insn_at program place ≡ Some insn → LeadsBelow place insn end
 
--- A place that is described is one of its function's, it has a frame for each function that waits and one of its own, and
--- a static path leads there with as many calls open.
+-- A place that is described is one of its function's, it has a frame for each function that waits and one of its own, a
+-- static path leads there with as many calls open, and one leads there from the function's start.
 pub record IsOwn (program : List Slot) (callers : List SavedRegisters) (start place : ℕ) (d : Description) : Type 0 where
   pub begun : begins program place ≡ true
   pub within : function_of program place ≡ start
   pub frames : length d.stack ≡ length callers + 1
   pub chain : IsChain program (length callers) place
+  pub leads : PathLeads program (outermost start) (outermost place)
 
 -- the table describes the machine where it stands
 pub record Stands (callers : List SavedRegisters) (calls : List OpenCall) (start : ℕ) (table : Table) (m : MachineState) : Type 0 where
@@ -69,11 +70,13 @@ pub record AreDone (limits : HelperLimits) (program : List Slot) (callers : List
   pub done : (before : ℕ) (insn : Insn) → before < at → insn_at program (start + before) ≡ Some insn → IsDone limits program callers start table left checks before insn
   pub checked : (before : ℕ) (d : Description) → before < at → described table before ≡ Some d → Contains checks (outermost (start + before))
 
--- The places before this one were visited, with as many checks, none twice, as the counter went up by.
+-- The places before this one were visited, with as many checks, none twice and each where a static path leads from the
+-- function's start, as the counter went up by.
 pub record AreVisited (limits : HelperLimits) (program : List Slot) (callers : List SavedRegisters) (start : ℕ) (table : Table) (left : Option Description) (at before after : ℕ) : Type 0 where
   pub checks : List Standing
   pub made : before + length checks ≡ after
   pub once : AreOnce checks
+  pub on_paths : (check : Standing) → Contains checks check → IsOnPath program (outermost start) check
   pub earlier : (check : Standing) → Contains checks check → IsBefore (start + at) check
   pub done : AreDone limits program callers start table left checks at
 

@@ -10,13 +10,13 @@ use Rattle.bpf_insn.specs.Target.{target}
 use Rattle.bpf_semantics.specs.MachineState.{MachineState, OpenCall}
 use Rattle.bpf_semantics.specs.Reached.{Steps}
 use Rattle.bpf_semantics.specs.Stuck.{is_stuck}
-use Rattle.call_shape.specs.StaticPath.{Standing}
+use Rattle.call_shape.specs.StaticPath.{Standing, outermost}
 use Rattle.helpers.specs.declared.limits.HelperLimits.{HelperLimits}
 use Rattle.description.specs.declared.description.Description.{Description}
 use Rattle.description.specs.declared.saved.SavedRegisters.{SavedRegisters}
 use Rattle.description.specs.Description.{Describes}
 use Rattle.private_insns.specs.Follows.{StepsBy}
-use Rattle.verifier.specs.Checks.{AreOnce, returns_of}
+use Rattle.verifier.specs.Checks.{AreOnce, IsOnPath, returns_of}
 
 -- all is well with each machine on the way for so many instructions, or until it has come to where that ends
 abbrev pub StaysWell : List Slot → (MachineState → Type 0) → (MachineState → Type 0) → ℕ → MachineState → Type 0
@@ -52,11 +52,13 @@ FunctionIsSound limits program callers entry start left checks =
     (m : MachineState) → m.place ≡ start → Describes callers entry m → (n : ℕ) →
     StaysWell program (IsChecked limits program checks m.open_calls) (IsLeft callers left m.open_calls) n m
 
--- The checks of a visit of a function, none twice, with which it is sound: as many as the counter went up by.
+-- The checks of a visit of a function, none twice and each where a static path leads from its start, with which it is sound:
+-- as many as the counter went up by.
 pub record IsVisited (limits : HelperLimits) (program : List Slot) (callers : List SavedRegisters) (entry : Description) (start : ℕ) (left : Option Description) (before after : ℕ) : Type 0 where
   pub checks : List Standing
   pub made : before + length checks ≡ after
   pub once : AreOnce checks
+  pub on_paths : (check : Standing) → Contains checks check → IsOnPath program (outermost start) check
   pub sound : FunctionIsSound limits program callers entry start left checks
 
 -- Back behind a call at that place, of which that is known.
@@ -67,11 +69,13 @@ pub record IsBack (callers : List SavedRegisters) (left : Option Description) (p
   pub calls_are : m.open_calls ≡ calls
   pub holds : Describes callers description m
 
--- The checks of a visit of what the call at a place calls, from what is known there.
+-- The checks of a visit of what the call at a place calls, from what is known there: each where a static path leads from the
+-- call.
 pub record IsCallVisited (limits : HelperLimits) (program : List Slot) (callers : List SavedRegisters) (d : Description) (place callee : ℕ) (left : Option Description) (before after : ℕ) : Type 0 where
   pub checks : List Standing
   pub made : before + length checks ≡ after
   pub once : AreOnce checks
+  pub on_paths : (check : Standing) → Contains checks check → IsOnPath program (outermost place) check
   pub inside : (check : Standing) → Contains checks check → (inner : List ℕ) × (check.returns ≡ inner ++ (place + 1) ∷ [])
   pub sound : (distance : ℤ) (m m' : MachineState) → Describes callers d m → m.place ≡ place → target place distance ≡ callee → StepsBy m (Call (Local distance)) m' → (n : ℕ) →
       StaysWell program (IsChecked limits program checks m.open_calls) (IsBack callers left (place + 1) m.open_calls) n m'

@@ -6,6 +6,7 @@ use Rattle.accepted.specs.Verdict.{Verdict, IsAccepted}
 use Rattle.call_shape.specs.Shape.{IsLawful, FaultIs}
 use Rattle.call_shape.specs.StaticPath.{outermost, Standing, StaticPath, IsFrames}
 use Rattle.call_shape.specs.WrittenOut.{IsWrittenOut}
+use Rattle.verifier.specs.Arrives.{NeverLacks}
 use Rattle.verifier.specs.Checks.{AreChecks}
 use Rattle.verifier.specs.declared.refusal.Refusal.TheVariants.{Shape, Check}
 use Rattle.base.specs.declared.or_memory.OrMemory.{OrMemory}
@@ -17,8 +18,8 @@ pub record IsBudget (program : List Slot) (budget : ℕ) : Type 0 where
   pub path : StaticPath program (outermost 0) budget
   pub longest : (n : ℕ) → StaticPath program (outermost 0) n → n ≤ budget
 
--- So many checks were made, each of one instruction under one chain of open calls: none of the same twice, one wherever a
--- run may come, and no more than there are instructions with the local calls written out.
+-- So many checks were made, each of one instruction under one chain of open calls, to which a static path leads: none of the
+-- same twice, one wherever a run may come, and no more than there are instructions with the local calls written out.
 pub record IsNumberOfChecks (program : List Slot) (visits : ℕ) : Type 0 where
   pub checks : List Standing
   pub are : AreChecks program visits checks
@@ -42,3 +43,9 @@ abbrev pub ToldOfShape : List Slot → OrMemory Refusal → Type 0
 ToldOfShape program OutOfMemory = IsLawful program
 ToldOfShape program (refused (Shape fault)) = FaultIs program fault
 ToldOfShape program (refused (Check cause slot)) = IsLawful program
+
+-- A check fails for no program of which what is known is always enough.
+abbrev pub ToldOfChecks : List Slot → OrMemory Refusal → Type 0
+ToldOfChecks program OutOfMemory = Unit {0}
+ToldOfChecks program (refused (Shape fault)) = Unit {0}
+ToldOfChecks program (refused (Check cause slot)) = NeverLacks program → ⊥

@@ -5,7 +5,7 @@ use Rattle.std.proofs.lemmas.Option.{same_Some}
 use Rattle.bpf_insn.specs.declared.program.Slot.{Slot}
 use Rattle.bpf_insn.specs.declared.program.TheConstants.{MAX_SLOTS}
 use Rattle.call_shape.specs.Calls.{begins, callee_at, function_of, CallsThrough, IsOnCycle, StandsBefore}
-use Rattle.call_shape.specs.Postorder.{IsPostorder}
+use Rattle.call_shape.specs.Postorder.{IsPostorder, StandOnce}
 use Rattle.call_shape.specs.Walk.{is_marked, marked, ComesTo, with_entered, with_settled, IsWalk, OpenComeTo, LaterSettled, GoesOn}
 use Rattle.call_shape.specs.declared.walk.Walk.{Walk}
 use Rattle.call_shape.proofs.Places.{begins_inside}
@@ -18,6 +18,7 @@ keeps_entering program walk function lt is = record {
   places_whole = is.places_whole;
   counted = is.counted;
   stands = is.stands;
+  placed = is.placed;
   own_entered = λ place e. stays_set walk.entered function (omega (arith, lt, is.entered_whole)) (function_of program place) (is.own_entered place e);
   order = is.order;
 }
@@ -42,6 +43,14 @@ stands_still places i n slot x le stands = record {
   there = get-set_other places i stands.index x (λ e. absurd (omega (arith, e, le, stands.before))) ∙ stands.there;
 }
 
+-- and what stands there then stood there before
+stood_before : (places : List ℕ) (i n slot x : ℕ) → n ≤ i → StandsBefore (set places i x) n slot → StandsBefore places n slot
+stood_before places i n slot x le stands = record {
+  index = stands.index;
+  before = stands.before;
+  there = sym (get-set_other places i stands.index x (λ e. absurd (omega (arith, e, le, stands.before)))) ∙ stands.there;
+}
+
 -- in a list with a place more each stands as it stood, and the new one last
 last_or_before : (places : List ℕ) (n place i q : ℕ) → n < length places → i < n + 1 → slice_get (set places n place) i ≡ Some q → ((i ≡ n) × (q ≡ place)) ⊎ ((i < n) × (slice_get places i ≡ Some q))
 last_or_before places n place i q room lt at = elim (cases_eq i n) [
@@ -49,11 +58,18 @@ last_or_before places n place i q room lt at = elim (cases_eq i n) [
   | inr other ↦ inr (omega (arith, other, lt), sym (get-set_other places n i place other) ∙ at)
 ]
 
-longer : (program : List Slot) (places : List ℕ) (n place : ℕ) → n < length places → begins program place ≡ true → ((later : ℕ) → place < later → begins program later ≡ true → function_of program later ≡ function_of program place → StandsBefore places n later) → ((callee : ℕ) → callee_at program place ≡ Some callee → StandsBefore places n callee) → IsPostorder program places n → IsPostorder program (set places n place) (n + 1)
-longer program places n place room there laters callees order = record {
+longer : (program : List Slot) (places : List ℕ) (n place : ℕ) → n < length places → begins program place ≡ true → (StandsBefore places n place → ⊥) → ((later : ℕ) → place < later → begins program later ≡ true → function_of program later ≡ function_of program place → StandsBefore places n later) → ((callee : ℕ) → callee_at program place ≡ Some callee → StandsBefore places n callee) → IsPostorder program places n → IsPostorder program (set places n place) (n + 1)
+unfolding StandOnce
+longer program places n place room there fresh laters callees order = record {
   begun = λ i q lt at. elim (last_or_before places n place i q room lt at) [
     | inl (last, is) ↦ ap (begins program) is ∙ there
     | inr (before, was) ↦ order.begun i q before was
+  ];
+  once = λ i q lt at stands. elim (last_or_before places n place i q room lt at) [
+    | inl (last, is) ↦
+        let stood = stood_before places n i q place (omega (arith, last)) stands in
+        fresh (record { index = stood.index; before = omega (arith, stood.before, last); there = stood.there ∙ ap Some is })
+    | inr (before, was) ↦ order.once i q before was (stood_before places n i q place (omega (arith, before)) stands)
   ];
   later_first = λ i q later lt at further begun within. elim (last_or_before places n place i q room lt at) [
     | inl (last, is) ↦ stands_still places n i later place (omega (arith, last))
@@ -83,11 +99,16 @@ keeps_settling program walk place is lt there fresh own laters callees =
             let still = stands_still walk.order.places walk.order.count walk.order.count q place (omega arith) stood in
             record { index = still.index; before = omega (arith, still.before); there = still.there }
       ];
+      placed = λ i q lt at. elim (last_or_before walk.order.places walk.order.count place i q room lt at) [
+        | inl (last, same) ↦ ap (is_marked (set walk.settled place true)) same ∙ marks_there walk.settled place within
+        | inr (before, was) ↦ stays_set walk.settled place within q (is.placed i q before was)
+      ];
       own_entered = λ q e. elim (cases_eq q place) [
         | inl same ↦ ap (λ (p : ℕ). is_marked walk.entered (function_of program p)) same ∙ own
         | inr other ↦ is.own_entered q (sym (marks_other walk.settled place q other) ∙ e)
       ];
       order = longer program walk.order.places walk.order.count place room there
+          (λ stands. absurd (false≢true (sym fresh ∙ is.placed stands.index place stands.before stands.there)))
           (λ later further begun within. is.stands later (laters later further begun within)) (λ callee leads. is.stands callee (callees callee leads)) is.order;
     }
 

@@ -5,7 +5,7 @@ use Rattle.std.proofs.lemmas.List.{length-replicate}
 use Rattle.bpf_insn.specs.declared.program.Slot.{Slot}
 use Rattle.bpf_insn.specs.declared.program.TheConstants.{MAX_SLOTS}
 use Rattle.call_shape.specs.Calls.{begins, is_start, function_of, StandsBefore}
-use Rattle.call_shape.specs.Postorder.{IsPostorder}
+use Rattle.call_shape.specs.Postorder.{IsPostorder, StandOnce}
 use Rattle.call_shape.specs.Walk.{is_marked, marked, IsWalk, IsOrderOf, OpenComeTo, GoesOn}
 use Rattle.call_shape.specs.declared.walk.Walk.{Walk}
 use Rattle.call_shape.proofs.Places.{begins_inside}
@@ -22,15 +22,18 @@ pub record IsSettling (program : List Slot) (walk : Walk) (n : ℕ) : Type 0 whe
   pub done : (function : ℕ) → function < n → is_start program function ≡ true → is_marked walk.settled function ≡ true
 
 fresh : (program : List Slot) (walk : Walk) → walk.entered ≡ replicate MAX_SLOTS false → walk.settled ≡ replicate MAX_SLOTS false → length walk.order.places ≡ MAX_SLOTS → walk.order.count ≡ 0 → IsWalk program walk
+unfolding StandOnce
 fresh program walk entered settled places empty = record {
   entered_whole = ap length entered ∙ length-replicate MAX_SLOTS false;
   settled_whole = ap length settled ∙ length-replicate MAX_SLOTS false;
   places_whole = places;
   counted = empty ∙ sym (ap marked settled ∙ no_marks MAX_SLOTS);
   stands = λ place e. absurd (false≢true (sym (unsettled place) ∙ e));
+  placed = λ i place lt at. absurd (omega (arith, lt, empty));
   own_entered = λ place e. absurd (false≢true (sym (unsettled place) ∙ e));
   order = record {
     begun = λ i place lt at. absurd (omega (arith, lt, empty));
+    once = λ i place lt at stands. omega (arith, lt, empty);
     later_first = λ i place later lt at further there own. absurd (omega (arith, lt, empty));
     callee_first = λ i place callee lt at leads. absurd (omega (arith, lt, empty));
   };
@@ -86,9 +89,18 @@ stands_in_front n i slot places le stands = record {
   there = get-take n stands.index places (omega (arith, le, stands.before)) ∙ stands.there;
 }
 
+stood_in_front : (n i slot : ℕ) (places : List ℕ) → i ≤ n → StandsBefore (take n places) i slot → StandsBefore places i slot
+stood_in_front n i slot places le stands = record {
+  index = stands.index;
+  before = stands.before;
+  there = sym (get-take n stands.index places (omega (arith, le, stands.before))) ∙ stands.there;
+}
+
 in_front : (program : List Slot) (n : ℕ) (places : List ℕ) → IsPostorder program places n → IsPostorder program (take n places) n
+unfolding StandOnce
 in_front program n places order = record {
   begun = λ i place lt at. order.begun i place lt (sym (get-take n i places lt) ∙ at);
+  once = λ i place lt at stands. order.once i place lt (sym (get-take n i places lt) ∙ at) (stood_in_front n i place places (omega (arith, lt)) stands);
   later_first = λ i place later lt at further there own.
       stands_in_front n i later places (omega (arith, lt)) (order.later_first i place later lt (sym (get-take n i places lt) ∙ at) further there own);
   callee_first = λ i place callee lt at leads.

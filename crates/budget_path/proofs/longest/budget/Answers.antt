@@ -2,7 +2,6 @@ use Rattle.std.proofs.Common.{◌<◌, length, sym, subst, arith}
 use Rattle.std.proofs.lemmas.List.{get_or_read}
 use Rattle.call_shape.proofs.Places.{begins_first}
 use Rattle.budget_path.specs.Longest.{IsLongestFrom}
-use Rattle.budget_path.proofs.PathLengths.{budget_is}
 use Rattle.budget_path.proofs.longest.budget.Goals as goal
 
 pub returns : goal.returns
@@ -12,6 +11,5 @@ returns c =
     let items = c.in_ok-lengths.lengths.items in
     let some : 0 < length items = omega (arith, known.whole, is.in_range.0) in
     let read = get_or_read items 0 c.index.result.now some c.index.ensures 0 in
-    let budget = budget_is c.args.shape.now c.index.result.now is c.program-program.ensures.lawful
-    (subst (IsLongestFrom c.args.shape.now 0) (sym read) (known.each 0 (begins_first c.args.shape.now is))) in
-    record { path = budget.path; longest = budget.longest; within = budget.within }
+    let budget = subst (IsLongestFrom c.args.shape.now 0) (sym read) (known.each 0 (begins_first c.args.shape.now is)) in
+    record { path = budget.path; longest = budget.most; within = budget.few }

@@ -1,15 +1,15 @@
-use Rattle.std.proofs.Common.{◌≡◌, ◌<◌, ◌+◌, ℕ, List, length, set, slice_index, sym, ap, subst, ◌∙◌, arith}
-use Rattle.std.proofs.lemmas.List.{get_or_read}
+use Rattle.std.proofs.Common.{◌≡◌, ◌+◌, ℕ, List, length, set, sym, ap, subst, ◌∙◌, arith}
+use Rattle.bpf_insn.specs.Program.{IsProgram}
 use Rattle.call_shape.specs.Onward.{onward}
 use Rattle.call_shape.specs.Postorder.{IsWholePostorder}
 use Rattle.call_shape.specs.Shape.{IsLawful}
 use Rattle.call_shape.specs.Tables.{HasEntries}
-use Rattle.call_shape.proofs.Filled.{read_at, begun_at, filled_all, has_entries}
-use Rattle.call_shape.proofs.Places.{begins_first, begins_inside, there_begins}
+use Rattle.call_shape.proofs.Filled.{read_at, begun_at, has_entries}
+use Rattle.call_shape.proofs.Places.{begins_inside, there_begins}
 use Rattle.call_shape.proofs.Ways.{lawful_way}
 use Rattle.budget_path.specs.Length.{length_by}
 use Rattle.budget_path.specs.Longest.{AreLongest}
-use Rattle.budget_path.proofs.PathLengths.{AreLengths, IsLength, lengths_more, are_longest}
+use Rattle.budget_path.proofs.PathLengths.{AreLengths, lengths_more, are_longest}
 use Rattle.budget_path.proofs.longest.lengths.Goals as goal
 
 pub unreachable-requires : goal.unreachable-requires
@@ -45,7 +45,7 @@ loop-place-preserved c =
     let is : c.length_by-longest.result ≡ length_by lengths (onward place c.in-Some.insn) =
     c.length_by-longest.ensures ∙ ap (length_by c.deref.result.now) c.of.ensures ∙ ap (λ (xs : List ℕ). length_by xs (onward place c.in-Some.insn)) c.deref.ensures.value in
     subst (λ (n : ℕ). AreLengths program places (set lengths place n) (c.loop-place.place-index + 1)) (sym is)
-    (lengths_more program places lengths c.loop-place.place-index place c.in-Some.insn c.len.ensures.program lawful.frames.calls.functions order c.loop-place-test.true
+    (lengths_more program places lengths c.loop-place.place-index place c.in-Some.insn c.len.ensures.program lawful order c.loop-place-test.true
     (read_at places c.loop-place.place-index place c.loop-place-test.true c.from-place.ensures) (sym c.in-Some.ensures.value) c.loop-place.invariant)
 
 pub returns : goal.returns
@@ -56,5 +56,5 @@ returns c =
     let order = subst (λ p. IsWholePostorder p places) (sym same) c.postorder-place-items.ensures in
     let last : c.loop-place.place-index ≡ length places = omega arith in
     subst (λ p. AreLongest p c.loop-place.lengths.items) same
-    (are_longest program places c.loop-place.lengths.items order
+    (are_longest program places c.loop-place.lengths.items (subst IsProgram (sym same) c.program-program.ensures.program) (subst IsLawful (sym same) c.program-program.ensures.lawful) order
     (subst (λ (n : ℕ). AreLengths program places c.loop-place.lengths.items n) last c.loop-place.invariant))

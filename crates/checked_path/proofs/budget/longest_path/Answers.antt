@@ -35,4 +35,4 @@ returns c =
     let walked = subst (λ (p : List Slot). IsWalked p lengths slots at c.loop-slot._slot) c.program-program.ensures.value c.loop-slot.invariant in
     let end = get_or_read lengths 0 c.index-slot-end.result.now (omega arith) c.index-slot-end.ensures 0 in
     let budget = walked_all program lengths slots at c.loop-slot._slot (omega (arith, end)) (λ some. omega (arith, end)) walked in
-    record { path = budget.1; exit = budget.0.path; longest = budget.0.longest }
+    record { path = budget.1; exit = budget.0.path; longest = budget.0.most }

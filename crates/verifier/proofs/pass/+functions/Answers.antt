@@ -20,7 +20,7 @@ use Rattle.verifier.specs.Function.{AreDone, ArePassed, HasChecked, IsEnd, IsOwn
 use Rattle.verifier.specs.Goes.{IsCallVisited, IsVisited}
 use Rattle.verifier.specs.Table.{Table, described}
 use Rattle.verifier.proofs.Checked.{stays_by}
-use Rattle.verifier.proofs.Called.{HasComeBack, call_visited, came_back, entry_own, more_callers, none_came, room_to_enter}
+use Rattle.verifier.proofs.Called.{HasComeBack, call_at, call_visited, came_back, entry_own, more_callers, none_came, room_to_enter}
 use Rattle.verifier.proofs.Counts.{callee_count, checks_call, checks_one, room_for_one, total_next, within_whole}
 use Rattle.verifier.proofs.Lacking.{first_arrives, never_calls}
 use Rattle.verifier.proofs.Led.{if_ok}
@@ -81,7 +81,8 @@ call-returns-clause-sound g t c =
     let visited : IsVisited c.args.limits.now c.args.program.now (callers ++ saved ∷ []) c.enter-saved.new.description c.args.callee c.in_ok-left.left c.args.visits.now c.visit_function.new.visits =
     subst (λ (cs : List SavedRegisters). IsVisited c.args.limits.now c.args.program.now cs c.enter-saved.new.description c.args.callee c.in_ok-left.left c.args.visits.now c.visit_function.new.visits) pushed c.in_ok-left.ensures.sound in
     subst (λ (d : Description). IsCallVisited c.args.limits.now c.args.program.now callers d c.args.place c.args.callee c.in_ok-left.left c.args.visits.now c.visit_function.new.visits) (c.deref_mut.ensures.value ∙ c.known.view_is)
-    (call_visited c.args.limits.now c.args.program.now callers saved c.deref_mut.result.now c.enter-saved.new.description c.args.place c.args.callee c.in_ok-left.left c.args.visits.now c.visit_function.new.visits c.enter-saved.ensures.enters visited)
+    (call_visited c.args.limits.now c.args.program.now callers saved c.deref_mut.result.now c.enter-saved.new.description c.args.place c.args.callee c.in_ok-left.left c.args.visits.now c.visit_function.new.visits c.enter-saved.ensures.enters
+    (call_at c.args.program.now c.args.place c.args.callee c.requires.own.begun c.requires.calls) visited)
 
 pub visit-returns-in_default-clause-done : goal.visit-returns-in_default-clause-done
 visit-returns-in_default-clause-done g t c =
@@ -368,6 +369,7 @@ visit_function-returns-clause-sound g t c =
       checks = are.checks;
       made = are.made;
       once = are.once;
+      on_paths = are.on_paths;
       sound = function_sound limits program callers c.args.entry c.args.start passed.all c.loop-at.left are.checks
           (subst (AreDone limits program callers c.args.start passed.all c.loop-at.left are.checks) at are.done) passed.entered;
     }

@@ -3,6 +3,7 @@ use Rattle.bpf_insn.specs.declared.program.Slot.{Slot}
 use Rattle.bpf_insn.specs.Program.{IsProgram}
 use Rattle.bpf_semantics.specs.Reached.{Safe}
 use Rattle.call_shape.specs.Shape.{IsLawful}
+use Rattle.call_shape.specs.StaticPath.{starts}
 use Rattle.call_shape.specs.WrittenOut.{written_out}
 use Rattle.call_shape.proofs.Places.{begins_first}
 use Rattle.call_shape.proofs.WrittenFew.{within_count}
@@ -29,6 +30,7 @@ visit_function-requires-clause-own g c =
       within = refl;
       frames = ap (λ (d : Description). length d.stack) c.in_ok-entry.ensures ∙ c.entry.ensures.known.depth;
       chain = chain_first program;
+      leads = starts;
     } in
     subst (λ (cs : List SavedRegisters). IsOwn program cs 0 0 c.in_ok-entry.entry) (sym c.new-callers.ensures.items) own
 
@@ -60,6 +62,7 @@ returns-clause-visits g c =
       are = subst (λ (p : List Slot). AreChecks p c.visit_function.new.visits visited.checks) c.program-program.ensures.value (record {
         once = visited.once;
         number = omega (arith, visited.made);
+        on_paths = visited.on_paths;
         reached = outermost_checked limits program c.in_ok-entry.entry left visited.checks (subst DescribesEntries (sym c.in_ok-entry.ensures) c.entry.ensures.entries) visited.sound;
       });
       some = omega (arith, c.in_ok-visit_function.ensures.counted);

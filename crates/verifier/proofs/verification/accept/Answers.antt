@@ -1,4 +1,4 @@
-use Rattle.std.proofs.Common.{◌≡◌, subst, sym, ◌∙◌}
+use Rattle.std.proofs.Common.{◌≡◌, subst, sym, ◌∙◌, arith}
 use Rattle.bpf_semantics.specs.Reached.{Safe}
 use Rattle.verifier.proofs.Within.{safe_within}
 use Rattle.verifier.proofs.verification.accept.Goals as goal
@@ -15,6 +15,6 @@ new-requires g c =
       within = safe_within c.args.limits.now shape c.in_ok-budget.budget known.program known.lawful safe c.in_ok-budget.ensures.longest;
       some_frames = c.frames.ensures.some;
       few_frames = c.frames.ensures.shallow;
-      some_visits = c.in_ok-visits.ensures.visits.some;
-      few_visits = c.in_ok-visits.ensures.short;
+      some_visits = omega (arith, c.in_ok-visits.ensures.visits.some);
+      few_visits = omega (arith, c.in_ok-visits.ensures.short);
     })

@@ -9,6 +9,7 @@ use Rattle.bpf_insn.specs.Program.{IsProgram}
 use Rattle.accepted.specs.Verdict.{Verdict}
 use Rattle.call_shape.specs.StaticPath.{outermost, depth}
 use Rattle.call_shape.specs.declared.lawful_shape.TheConstants.{MAX_WRITTEN_OUT}
+use Rattle.call_shape.proofs.Places.{begins_first}
 use Rattle.budget_path.proofs.Within.{path_within}
 use Rattle.verifier.specs.Verdict.{IsVerdictOn}
 use Rattle.manifest_form.specs.Entries.{Plan, ProgramLine, QueueLine}
@@ -22,8 +23,8 @@ IsShort named = named.1.budget ≤ MAX_WRITTEN_OUT
 verdict_short : (program : List Slot) (limits : HelperLimits) (v : Verdict) → IsVerdictOn program limits v → v.budget ≤ MAX_WRITTEN_OUT
 verdict_short program limits v is =
     let path = is.budget.path in
-    let whole = path_within program is.lawful.count v.budget (depth program (outermost 0) v.budget path) (subst IsProgram is.program_is is.accepted.is_program)
-    is.lawful.frames.calls.functions is.lawful.written_out (path, refl) in
+    let program_is = subst IsProgram is.program_is is.accepted.is_program in
+    let whole = path_within program 0 v.budget (depth program (outermost 0) v.budget path) program_is is.lawful (begins_first program program_is) (path, refl) in
     omega (arith, whole, is.lawful.short)
 
 programs_short : (limits : HelperLimits) (lines : List ProgramLine) (programs : List Named) → AllZip (IsAccepted limits) lines programs → AllByRecursion IsShort programs

@@ -42,6 +42,7 @@ new-requires-2 c =
       is_program = is;
       safe = subst (Safe c.args.program.now) (sym c.in_ok-limits.ensures) safe;
       within = safe_within c.args.limits.now c.args.program.now c.in_ok-budget.budget is lawful safe longest;
+      few_instructions = c.in_ok-budget.ensures.within;
       some_frames = c.frames.ensures.some;
       few_frames = c.frames.ensures.shallow;
       some_visits = c.in_ok-visits.ensures.visits.some;

@@ -7,6 +7,7 @@ pub mod SensePairs
 pub mod Stops
 pub mod Fields
 pub mod Rows
+pub mod HelperRows
 pub mod Held
 pub mod Back
 pub mod InARow

@@ -1,14 +1,15 @@
 -- Texts are put one behind the other, and bytes as pairs of digits.
-use Rattle.std.proofs.Common.{◌≡◌, ◌<◌, ◌≤◌, ◌+◌, ◌==◌, ℕ, suc, Bool, true, false, Option, Some, None, List, [], ◌∷◌, ◌++◌, length, take, get_or, refl, sym, ap, ◌∙◌, arith, append-nil, append_assoc, nat_lt, nat_le, add-one, Fits, w8}
+use Rattle.std.proofs.Common.{◌≡◌, ◌<◌, ◌≤◌, ◌+◌, ◌==◌, ℕ, suc, Bool, true, false, Option, Some, None, Result, Ok, Err, List, [], ◌∷◌, ◌++◌, length, take, get_or, refl, sym, ap, ◌∙◌, arith, append-nil, append_assoc, length-append, nat_lt, nat_le, add-one, Fits, w8}
 use Rattle.std.proofs.lemmas.Bool.Decides.{nat_tests}
 use Rattle.std.specs.Prelude.{flat_map}
 use Rattle.std.specs.List.{list_all}
 use Rattle.std.specs.Fmt.{option_append}
 use Rattle.std.proofs.Math.Seq.{take-suc}
+use Rattle.std.proofs.lemmas.List.{take-take, take_at}
 use Rattle.std.proofs.lemmas.Grind.{flat_map-append}
 use Rattle.std.proofs.lemmas.List.Concat.{flat_map-cons}
 use Rattle.call_lines.specs.Texts.{where_true, is_byte, byte_text, pair_text, bytes_text}
-use Rattle.call_lines.specs.Written.{IsPut}
+use Rattle.call_lines.specs.Written.{IsPut, KeepsFront, Puts}
 use Rattle.call_lines.proofs.Tests.{same_text}
 
 -- ---- one text behind the other
@@ -35,6 +36,34 @@ none_first a b e = ap (λ (t : Option (List ℕ)). option_append t b) e
 -- and the second has none
 pub none_second : (a b : Option (List ℕ)) → b ≡ None → option_append a b ≡ None
 none_second a b e = ap (option_append a) e ∙ none_behind a
+
+-- behind a text that was put another is, if there is one
+pub puts_behind : {T E : Type 0} (r : Result T E) (a b : Option (List ℕ)) (old mid new : List ℕ) → IsPut a old mid → Puts b mid r new → Puts (option_append a b) old r new
+puts_behind (Ok done) a b old mid new first second = put_both a b old mid new first second
+puts_behind (Err none) a b old mid new first second = none_second a b second
+
+-- ---- what stood there
+
+-- it is in front of what stands behind that in front of which it stands
+front_more : (old more mid new : List ℕ) → mid ≡ old ++ more → take (length mid) new ≡ mid → take (length old) new ≡ old
+front_more old more mid new is front =
+    let longer : length mid ≡ length old + length more = ap (λ (t : List ℕ). length t) is ∙ length-append old more in
+    sym (take-take (length old) (length mid) new (omega (arith, longer)))
+    ∙ ap (λ (t : List ℕ). take (length old) t) (front ∙ is)
+    ∙ take_at old more (length old) refl
+
+pub front_past : (text : Option (List ℕ)) (old mid new : List ℕ) → IsPut text old mid → take (length mid) new ≡ mid → take (length old) new ≡ old
+front_past None old mid new put front = absurd cc
+front_past (Some more) old mid new put front = front_more old more mid new (sym (same_text (old ++ more) mid put)) front
+
+-- also where what comes last may have no text
+pub front_behind : {T E : Type 0} (r : Result T E) (old more mid new : List ℕ) → mid ≡ old ++ more → KeepsFront mid r new → KeepsFront old r new
+front_behind (Ok done) old more mid new is front = tt
+front_behind (Err none) old more mid new is front = front_more old more mid new is front
+
+pub front_put : {T E : Type 0} (r : Result T E) (text : Option (List ℕ)) (old mid new : List ℕ) → IsPut text old mid → KeepsFront mid r new → KeepsFront old r new
+front_put (Ok done) text old mid new put front = tt
+front_put (Err none) text old mid new put front = front_past text old mid new put front
 
 -- ---- bytes
 

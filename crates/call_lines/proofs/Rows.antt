@@ -18,6 +18,11 @@ pub row_stops : (word : Word) → stops_last (row_of word).fields ≡ true
 unfolding row_of
 row_stops word = search rules
 
+-- the row of a word is its own
+pub rows_own : (word : Word) → (row_of word).word ≡ word
+unfolding row_of
+rows_own word = search rules
+
 -- a word is found by its text
 pub found_again : (word : Word) → word_named (word_text word) ≡ Some word
 unfolding word_named row_of

@@ -5,5 +5,6 @@ pub mod Answers
 pub mod Calls
 pub mod Values
 pub mod CallsAreLines
+pub mod OwnRows
 pub mod Written
 pub mod Reading

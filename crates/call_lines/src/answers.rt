@@ -4,7 +4,7 @@ ghost use Rattle.std.specs.Prelude.{◌≡◌, ◌+◌, ◌≤◌, ◌++◌, len
 ghost use Rattle.calls.specs.CallRefusalText.{call_refusal_text};
 ghost use Rattle.call_lines.specs.Answers.{answer_text, code_told, form_text, named_number_text, refusal_text, started_text};
 ghost use Rattle.call_lines.specs.declared.table.Form.TheVariants.{Completed};
-ghost use Rattle.call_lines.specs.Written.{IsPut, Puts, Reads};
+ghost use Rattle.call_lines.specs.Written.{IsPut, KeepsFront, Puts, Reads};
 
 use crate::no_text::NoText;
 use crate::printing::{NUMBER, print_number};
@@ -23,6 +23,7 @@ impl Row {
     pub fn print_answer(&self, answer: CallAnswer, text: &mut Text) -> Result<(), NoText>
         requires room { length text.old + ANSWER ≤ ROOM }
         ensures text { Puts (answer_text self.now answer) text.old result text.new }
+        ensures front { KeepsFront text.old result text.new }
         ensures few { length text.new ≤ length text.old + ANSWER }
     {
         match answer {
@@ -52,6 +53,7 @@ impl Form {
     fn print(self, answer: CallAnswer, text: &mut Text) -> Result<(), NoText>
         requires room { length text.old + ANSWER ≤ ROOM }
         ensures text { Puts (form_text self answer) text.old result text.new }
+        ensures front { KeepsFront text.old result text.new }
         ensures few { length text.new ≤ length text.old + ANSWER }
     {
         match (self, answer) {

@@ -3,7 +3,7 @@
 ghost use Rattle.std.specs.Prelude.{◌≡◌, ◌+◌, ◌≤◌, length};
 ghost use Rattle.call_lines.specs.Lines.{fields_text, line_text, slot_text};
 ghost use Rattle.call_lines.specs.Reading.{IsCutFor, ReadsFields, ReadsLine, ReadsSlot};
-ghost use Rattle.call_lines.specs.Written.{Puts};
+ghost use Rattle.call_lines.specs.Written.{KeepsFront, Puts};
 
 use crate::kind::{Kind, Slots};
 use crate::no_text::NoText;
@@ -22,6 +22,7 @@ pub const LINE: usize = 653;
 pub fn print_line(word: Word, held: &Slots<Value>, text: &mut Text) -> Result<(), NoText>
     requires room { length text.old + LINE ≤ ROOM }
     ensures text { Puts (line_text word held.now) text.old result text.new }
+    ensures front { KeepsFront text.old result text.new }
     ensures few { length text.new ≤ length text.old + LINE }
 {
     text.put(word.text().as_bytes());
@@ -37,6 +38,7 @@ pub fn print_fields(
 ) -> Result<(), NoText>
     requires room { length text.old + FIELDS ≤ ROOM }
     ensures text { Puts (fields_text fields.now held.now) text.old result text.new }
+    ensures front { KeepsFront text.old result text.new }
     ensures few { length text.new ≤ length text.old + FIELDS }
 {
     print_slot(fields.first, held.first, text)?;
@@ -48,6 +50,7 @@ pub fn print_fields(
 fn print_slot(kind: Option<Kind>, value: Option<Value>, text: &mut Text) -> Result<(), NoText>
     requires room { length text.old + FIELD + 1 ≤ ROOM }
     ensures text { Puts (slot_text kind value) text.old result text.new }
+    ensures front { KeepsFront text.old result text.new }
     ensures few { length text.new ≤ length text.old + FIELD + 1 }
 {
     match (kind, value) {

@@ -4,7 +4,7 @@
 ghost use Rattle.std.specs.Prelude.{◌≡◌, ◌+◌, ◌<◌, ◌≤◌, Some, false, length};
 ghost use Rattle.std.specs.Fmt.{digit_glyph};
 ghost use Rattle.call_lines.specs.Texts.{byte_text, bytes_text, code_text, field_text, finished_text, helper_text, instructions_text, long_number_text, named_text, number_text, sense_text, status_text, stop_text, traced_text};
-ghost use Rattle.call_lines.specs.Written.{IsPut, Puts};
+ghost use Rattle.call_lines.specs.Written.{IsPut, KeepsFront, Puts};
 
 use crate::kind::Kind;
 use crate::no_text::NoText;
@@ -40,6 +40,7 @@ impl Kind {
     pub fn print(self, value: Value, text: &mut Text) -> Result<(), NoText>
         requires room { length text.old + FIELD ≤ ROOM }
         ensures text { Puts (field_text self value) text.old result text.new }
+        ensures front { KeepsFront text.old result text.new }
         ensures few { length text.new ≤ length text.old + FIELD }
     {
         match (self, value) {
@@ -87,6 +88,7 @@ pub fn print_long_number(number: u64, text: &mut Text)
 fn print_instructions(count: u32, text: &mut Text) -> Result<(), NoText>
     requires room { length text.old + NUMBER ≤ ROOM }
     ensures text { Puts (instructions_text count) text.old result text.new }
+    ensures front { KeepsFront text.old result text.new }
     ensures few { length text.new ≤ length text.old + NUMBER }
 {
     if count == 0 || count > MOST_INSTRUCTIONS {
@@ -120,6 +122,7 @@ fn digit_of(digit: u8) -> u8
 fn print_status(status: CamStatus, text: &mut Text) -> Result<(), NoText>
     requires room { length text.old + 2 ≤ ROOM }
     ensures text { Puts (status_text status) text.old result text.new }
+    ensures front { KeepsFront text.old result text.new }
     ensures few { length text.new ≤ length text.old + 2 }
 {
     let code = status.code();
@@ -133,6 +136,7 @@ fn print_status(status: CamStatus, text: &mut Text) -> Result<(), NoText>
 fn print_code(code: u8, text: &mut Text) -> Result<(), NoText>
     requires room { length text.old + 2 ≤ ROOM }
     ensures text { Puts (code_text code) text.old result text.new }
+    ensures front { KeepsFront text.old result text.new }
     ensures few { length text.new ≤ length text.old + 2 }
 {
     if code > GREATEST_CODE {
@@ -146,6 +150,7 @@ fn print_code(code: u8, text: &mut Text) -> Result<(), NoText>
 fn print_bytes(bytes: &[u8], text: &mut Text) -> Result<(), NoText>
     requires room { length text.old + BYTES ≤ ROOM }
     ensures text { Puts (bytes_text bytes.now) text.old result text.new }
+    ensures front { KeepsFront text.old result text.new }
     ensures few { length text.new ≤ length text.old + BYTES }
 {
     if bytes.is_empty() || bytes.len() > MOST_BYTES {
@@ -160,6 +165,7 @@ fn print_bytes(bytes: &[u8], text: &mut Text) -> Result<(), NoText>
 fn print_sense(bytes: &[u8], text: &mut Text) -> Result<(), NoText>
     requires room { length text.old + BYTES ≤ ROOM }
     ensures text { Puts (sense_text bytes.now) text.old result text.new }
+    ensures front { KeepsFront text.old result text.new }
     ensures few { length text.new ≤ length text.old + BYTES }
 {
     if bytes.is_empty() {
@@ -172,6 +178,7 @@ fn print_sense(bytes: &[u8], text: &mut Text) -> Result<(), NoText>
 fn print_stop(stop: Stop, text: &mut Text) -> Result<(), NoText>
     requires room { length text.old + FIELD ≤ ROOM }
     ensures text { Puts (stop_text stop) text.old result text.new }
+    ensures front { KeepsFront text.old result text.new }
     ensures few { length text.new ≤ length text.old + FIELD }
 {
     match stop {
@@ -188,6 +195,7 @@ fn print_stop(stop: Stop, text: &mut Text) -> Result<(), NoText>
 fn print_named(helper: Helper, text: &mut Text) -> Result<(), NoText>
     requires room { length text.old + FIELD ≤ ROOM }
     ensures text { Puts (named_text helper) text.old result text.new }
+    ensures front { KeepsFront text.old result text.new }
     ensures few { length text.new ≤ length text.old + FIELD }
 {
     match helper.row().tells {
@@ -202,6 +210,7 @@ fn print_named(helper: Helper, text: &mut Text) -> Result<(), NoText>
 fn print_traced(helper: Helper, bytes: &[u8], text: &mut Text) -> Result<(), NoText>
     requires room { length text.old + FIELD ≤ ROOM }
     ensures text { Puts (traced_text helper bytes.now) text.old result text.new }
+    ensures front { KeepsFront text.old result text.new }
     ensures few { length text.new ≤ length text.old + FIELD }
 {
     match helper.row().tells {
@@ -217,6 +226,7 @@ fn print_traced(helper: Helper, bytes: &[u8], text: &mut Text) -> Result<(), NoT
 fn print_finished(helper: Helper, code: u8, text: &mut Text) -> Result<(), NoText>
     requires room { length text.old + FIELD ≤ ROOM }
     ensures text { Puts (finished_text helper code) text.old result text.new }
+    ensures front { KeepsFront text.old result text.new }
     ensures few { length text.new ≤ length text.old + FIELD }
 {
     match helper.row().tells {

@@ -3,7 +3,7 @@
 
 ghost use Rattle.std.specs.Prelude.{◌≡◌, ◌+◌, ◌*◌, ◌^◌, ◌≤◌, length, IsSome, None, IfOk, OnErr};
 ghost use Rattle.call_lines.specs.Texts.{stop_text};
-ghost use Rattle.call_lines.specs.Written.{IsPut, Puts};
+ghost use Rattle.call_lines.specs.Written.{IsPut, KeepsFront, Puts};
 ghost use Rattle.std.specs.Fmt.{with_newline};
 ghost use Rattle.trace.specs.HasText.{AllHaveText};
 ghost use Rattle.trace.specs.Printed.{Prints, PrintsRecords};
@@ -73,6 +73,7 @@ pub(crate) fn print_record(entry: &Record, text: &mut Text)
 pub fn print_entry(entry: &Record, text: &mut Text) -> Result<(), NoText>
     requires room { length text.old + ENTRY ≤ ROOM }
     ensures text { Puts (line_of entry.now) text.old result text.new }
+    ensures front { KeepsFront text.old result text.new }
     ensures few { length text.new ≤ length text.old + ENTRY }
 {
     match entry {
@@ -89,6 +90,7 @@ pub fn print_entry(entry: &Record, text: &mut Text) -> Result<(), NoText>
 fn print_called(call: &Call, answer: CallAnswer, text: &mut Text) -> Result<(), NoText>
     requires room { length text.old + ENTRY ≤ ROOM }
     ensures text { Puts (line_of (Record.Called answer call.now)) text.old result text.new }
+    ensures front { KeepsFront text.old result text.new }
     ensures few { length text.new ≤ length text.old + ENTRY }
 {
     let word = word_of(call);
@@ -106,6 +108,7 @@ fn print_advance(
 ) -> Result<(), NoText>
     requires room { length text.old + ENTRY ≤ ROOM }
     ensures text { Puts (line_of (Record.Advance run instructions stop.now r0)) text.old result text.new }
+    ensures front { KeepsFront text.old result text.new }
     ensures few { length text.new ≤ length text.old + ENTRY }
 {
     let stop = stop_of(stop)?;

@@ -14,11 +14,13 @@ pub record Verdict : Type 0 where
   pub frames : ℕ
   pub visits : ℕ
 
--- no run of it is ever stuck, and none executes more instructions than its budget; it has frames, and checks were made
+-- No run of it is ever stuck, and none executes more instructions than its budget, which is 65,536 at most. It has frames, and checks
+-- were made.
 pub record IsAccepted (v : Verdict) : Type 0 where
   pub is_program : IsProgram v.program
   pub safe : Safe v.program v.limits
   pub within : Within v.program v.budget
+  pub few_instructions : v.budget ≤ 65536
   pub some_frames : 1 ≤ v.frames
   pub few_frames : v.frames ≤ 8
   pub some_visits : 1 ≤ v.visits

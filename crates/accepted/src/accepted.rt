@@ -55,7 +55,7 @@ impl Accepted {
         }
     }
 
-    /// The greatest number of instructions that a run executes, helper calls and the exit included.
+    /// The greatest number of instructions that a run executes, helper calls and the exit included: 65,536 at most.
     pub fn budget(&self) -> u32
         ensures value { result ≡ self.now.budget }
         ensures accepted { IsAccepted self.now }

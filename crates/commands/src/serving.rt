@@ -4,7 +4,7 @@
 ghost use Rattle.std.specs.Prelude.{◌≡◌, ◌≢◌, ◌≤◌, false, IfErr, IfOk, IsErrAnd, IsUtf8};
 ghost use Rattle.std.specs.Io.KnownBytes.{Keeps};
 ghost use Rattle.live.specs.Telling.{IsBegun, IsOut};
-ghost use Rattle.manifest.specs.Meaning.{AreShort, Means};
+ghost use Rattle.manifest.specs.Meaning.{Means};
 ghost use Rattle.commands.specs.Faults.{status_of};
 ghost use Rattle.commands.specs.Told.{IsFaultyManifest, IsManifest, IsServed, IsServing};
 
@@ -68,7 +68,6 @@ pub(crate) fn serve_nothing<W: Write, E: Write>(
 fn read<'a>(alloc: Global, file: (&'a str, &[u8])) -> Result<Manifest, Fault<'a>>
     ensures no_text { ¬ (IsUtf8 file.entry.1.now) → IsErrAnd result (λ e. status_of e ≡ 2) }
     ensures manifest { IfOk result (λ manifest. IsServing file.entry.1.now manifest.config) }
-    ensures short { IfOk result (λ manifest. AreShort manifest.config.queues) }
     ensures fault { IfErr result (λ e. status_of e ≡ 1 → IsFaultyManifest file.entry.1.now) }
 {
     Ok(manifest::read(alloc, text(file)?)?)
@@ -83,7 +82,6 @@ fn serve_on<I: Input, S: Sink, E: Write>(
     out: &mut S,
     err: &mut E,
 ) -> u8
-    requires { AreShort config.queues }
     ensures status { (result ≢ 1) × (result ≤ 2) }
     ensures whole { result ≡ 0 → IsOut config (S.bytes out.old) (S.bytes out.new) }
     ensures begun { result ≡ 2 → IsBegun config (S.bytes out.old) (S.bytes out.new) }

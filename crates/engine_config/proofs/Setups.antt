@@ -26,6 +26,7 @@ lawful_queue limits given h = record {
   program = h.1.1.is_program;
   safe = subst (λ (l : HelperLimits). Safe given.verdict.program l) h.0.1 h.1.1.safe;
   within = h.1.1.within;
+  budget = h.1.1.few_instructions;
 }
 
 pub kept : (limits : HelperLimits) (controllers : ℕ) (given : List Given) → 1 ≤ length given → length given ≤ 64 → limits.queues ≡ length given

@@ -1,6 +1,6 @@
 // The laws of the world, each the contract of a function without arguments. They rely on `world` alone.
 
-ghost use Rattle.world.specs.Limits.{LimitsAreKept};
+ghost use Rattle.world.specs.Limits.{LimitsAreKept, RunsKeepLimits};
 ghost use Rattle.world.specs.Laws.FreezeLaws.{CountsAreEntries, HeldAreEntries};
 ghost use Rattle.world.specs.Laws.FreezeLaws.{GivenUpStaysGivenUp, GivenUpByRunStaysGivenUp, HandedOverStaysHandedOver, GoneStaysGone};
 ghost use Rattle.world.specs.Laws.CcbLaws.{EachIsLiveOrEnded, StartsKeepOpenings};
@@ -19,14 +19,14 @@ ghost use Rattle.world.specs.Laws.OneController.{OneController};
 /// recovery by this run alone until the run disposes of it, and then it waits again in its queue, with the retries
 /// that the run asked for fewer and its priority and attempts as they were, or it is gone and ended with the run's
 /// code, while all other CCBs stay as they are. And: each live run's machine is one that its program reaches; what
-/// a machine holds is what the entries say of its run; no limit is passed; no event lets more CCBs of a queue be
-/// active than it has openings, though openings may be set below those that are; each CCB number is of a live CCB or
-/// of one that ended, once, with its code; an event that is none of a run's own, its steps, its parks and its
-/// resumes, leaves it as it is; from its park to its resume a run takes no step, and then it is what it was; a
-/// freeze that was given up, a freeze number that is gone and a run that is gone never come back; a freeze that
-/// was handed over is a timer's as long as it is there, and never a run's or a guest's again; the clock never
-/// goes back, and a freeze that a timer holds goes by the first reading at or after its time and by nothing else;
-/// and an advance of no instruction stands for no event.
+/// a machine holds is what the entries say of its run; no limit is passed: in particular no run holds more than 8
+/// freezes, and none has more than 8 frames; no event lets more CCBs of a queue be active than it has openings, though
+/// openings may be set below those that are; each CCB number is of a live CCB or of one that ended, once, with its
+/// code; an event that is none of a run's own, its steps, its parks and its resumes, leaves it as it is; from its park
+/// to its resume a run takes no step, and then it is what it was; a freeze that was given up, a freeze number that is
+/// gone and a run that is gone never come back; a freeze that was handed over is a timer's as long as it is there, and
+/// never a run's or a guest's again; the clock never goes back, and a freeze that a timer holds goes by the first
+/// reading at or after its time and by nothing else; and an advance of no instruction stands for no event.
 pub fn headline()
     ensures never_stuck { NeverStuck }
     ensures reached { MachinesAreReached }
@@ -36,6 +36,7 @@ pub fn headline()
     ensures exact_counts { CountsAreEntries }
     ensures held { HeldAreEntries }
     ensures limits { LimitsAreKept }
+    ensures run_limits { RunsKeepLimits }
     ensures transport { EachIsLiveOrEnded }
     ensures starts { StartsKeepOpenings }
     ensures others { OthersLeaveIt }

@@ -31,7 +31,6 @@ use Rattle.world_laws.proofs.Leads.{leads_split}
 use Rattle.world_laws.proofs.Runs.Lives.{Life, alive, over, life_leads, within}
 use Rattle.world_laws.proofs.Sound.{IsSound, leads_sound}
 use Rattle.world_laws.proofs.Steps.Running.{call_parts, executes_parts}
-use Rattle.history_texts.specs.EachHasText.{FewInstructions}
 use Rattle.history_texts.proofs.Frames.{reached_whole}
 use Rattle.history_texts.proofs.Somes.{HasLine, some_where, some_number, some_long_number, some_field, some_line, some_entry}
 use Rattle.history_texts.proofs.Stops.{called_some}
@@ -84,15 +83,15 @@ keeps setup start run k j e world lawful sound (alive now found queue ccb reache
     subst (λ (q : ℕ). k ≤ (queue_setup setup q).budget) queue ((within setup world run now lawful sound found k now.machine reached).0)
 keeps setup start run k j e world lawful sound (over none given most used gone) = most
 
-few_steps : (setup : Setup) (before : World) (run n : ℕ) (stop : StoppedAt) (r0 : ℕ) (after : World) → IsLawful setup → FewInstructions setup → IsSound setup before → Leads setup before (stretch run n stop r0) after → n + 1 ≤ 65536
-few_steps setup before run n stop r0 after lawful few sound leads =
+few_steps : (setup : Setup) (before : World) (run n : ℕ) (stop : StoppedAt) (r0 : ℕ) (after : World) → IsLawful setup → IsSound setup before → Leads setup before (stretch run n stop r0) after → n + 1 ≤ 65536
+few_steps setup before run n stop r0 after lawful sound leads =
     let xs = stretch run n stop r0 in
     let live = live_before setup before run n stop r0 after leads in
     let life = lives setup before run live.0 sound live.1 in
     let later = life_leads setup live.0 run life.0 life.1 0 before xs after lawful sound leads life.2 in
     let most = keeps setup live.0 run (life.0 + steps_of run xs) (life.1 + disposals_of run xs) (0 + exits_of run xs) after lawful (leads_sound setup before xs after lawful leads sound) later in
     let known = all_found run_key (λ (r : LiveRun). r.queue < queue_count setup) run before.runs.list live.0 sound.kept.runs.queues live.1 in
-    let budget : (queue_setup setup live.0.queue).budget ≤ 65536 = few live.0.queue no_queue known in
+    let budget : (queue_setup setup live.0.queue).budget ≤ 65536 = (lawful.queues live.0.queue no_queue known).budget in
     omega (arith, most, budget, steps_are run n stop r0)
 
 -- ---- where it stopped
@@ -118,13 +117,13 @@ asked run instructions stop fits some few there =
     (some_field _ (some_where (nat_lt 0 instructions && nat_le instructions 65536) (decimal instructions) (and_from (nat_lt 0 instructions) (nat_le instructions 65536) (lt-ltb 0 instructions some) (le-leb instructions 65536 few))))
     (some_field _ there) refl
 
-pub advance_has : (setup : Setup) (before : World) (run instructions : ℕ) (stop : StoppedAt) (r0 : ℕ) (after : World) → IsLawful setup → FewInstructions setup → IsSound setup before → Leads setup before (advance_of run instructions stop r0) after → HasLine (Advance run instructions stop r0)
-advance_has setup before run zero stop r0 after lawful few sound leads = absurd (empty_advance_is_none setup run stop r0 before after leads)
-advance_has setup before run (suc n) stop r0 after lawful few sound leads =
+pub advance_has : (setup : Setup) (before : World) (run instructions : ℕ) (stop : StoppedAt) (r0 : ℕ) (after : World) → IsLawful setup → IsSound setup before → Leads setup before (advance_of run instructions stop r0) after → HasLine (Advance run instructions stop r0)
+advance_has setup before run zero stop r0 after lawful sound leads = absurd (empty_advance_is_none setup run stop r0 before after leads)
+advance_has setup before run (suc n) stop r0 after lawful sound leads =
     let private_ones : List (Event × Reply) = replicate n (executes run private, went_on) in
     let parts = leads_split setup before private_ones ((executes run (stop_of stop), result r0) ∷ []) after leads in
     let there = leads_sound setup before private_ones parts.0 lawful parts.1 sound in
-    let count = few_steps setup before run n stop r0 after lawful few sound leads in
+    let count = few_steps setup before run n stop r0 after lawful sound leads in
     λ fits. some_entry (line_text words.Advance (three (values.Number run) (values.Number (suc n)) (values.Stop (spelled stop)))) (long_number_text r0)
     (asked run (suc n) stop fits.0 (omega arith) (omega (arith, count)) (stop_some setup parts.0 run r0 parts.2.0 stop there fits.1 parts.2.1))
     (some_long_number r0 fits.2)

@@ -1,5 +1,5 @@
 -- That the records of a history have texts in the configuration's version: what of that is a law.
-use Rattle.std.specs.Prelude.{◌≤◌, All, List}
+use Rattle.std.specs.Prelude.{List}
 use Rattle.calls.specs.declared.record.Record.{Record}
 use Rattle.trace.specs.HasText.{AllHaveText}
 use Rattle.world.specs.World.{Setup, World, version_of}
@@ -7,12 +7,8 @@ use Rattle.world.specs.Lawful.{IsLawful}
 use Rattle.world.specs.Flat.{flat}
 use Rattle.world.specs.WorldRun.{WorldRun}
 
--- no run executes more instructions than a line can tell of an advance
-abbrev pub FewInstructions : Setup → Type 0
-FewInstructions setup = All (λ queue. queue.budget ≤ 65536) setup.queues
-
--- in every run of the world of every such setup
+-- in every run of the world of every lawful setup
 abbrev pub EachRecordHasText : Type 0
 EachRecordHasText =
-    (setup : Setup) → IsLawful setup → FewInstructions setup → (records : List Record) (world : World) → WorldRun setup (flat records) world →
+    (setup : Setup) → IsLawful setup → (records : List Record) (world : World) → WorldRun setup (flat records) world →
     AllHaveText (version_of setup) records

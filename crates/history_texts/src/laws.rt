@@ -2,10 +2,10 @@
 
 ghost use Rattle.history_texts.specs.EachHasText.{EachRecordHasText};
 
-/// Each record of a history of an engine has a text in the version of its configuration, where its programs execute no more than 65,536
-/// instructions a run: what is answered is of the call's own form, a refusal is one of the call's, a completion is one that a device can
-/// report, and an advance tells of 1 to 65,536 instructions, with 1 to 64 bytes or a code below 64 where its helper tells them. Where
-/// queues alone freeze, no controller is frozen or found frozen, and no helper is called that is of controllers.
+/// Each record of a history of an engine has a text in the version of its configuration: what is answered is of the call's own form, a
+/// refusal is one of the call's, a completion is one that a device can report, and an advance tells of 1 to 65,536 instructions, with 1 to
+/// 64 bytes or a code below 64 if its helper tells them. If queues alone freeze, no controller is frozen or found frozen, and no helper of
+/// controllers is called.
 pub fn each_record_has_text()
     ensures { EachRecordHasText }
 {}

@@ -3,7 +3,6 @@
 
 ghost use Rattle.std.specs.Prelude.{◌≡◌, ◌≢◌, ◌≤◌, ℕ, Option, List, length, Err, IfErr, IsTrue, OnOk};
 ghost use Rattle.engine_core.specs.EngineState.{IsRun};
-ghost use Rattle.history_texts.specs.EachHasText.{FewInstructions};
 ghost use Rattle.trace.specs.Growing.{FailsBySink};
 ghost use Rattle.trace.specs.Sinks.{HasFailed};
 ghost use Rattle.live.specs.Growth.{Grows};
@@ -63,7 +62,6 @@ pub fn serve<I: Input, S: Sink, N: Reports>(
     out: &mut S,
     reports: &mut N,
 ) -> Result<(), LiveFault>
-    requires { FewInstructions config }
     // All that went out is the trace of an engine of this configuration; where it stopped, it is a front of one.
     ensures told { Serves config (S.bytes out.old) result (S.bytes out.new) }
     ensures unread { result ≡ Err Unread → IsTrue (I.has_failed input.new) }
@@ -94,7 +92,6 @@ fn serve_all<I: Input, S: Sink, N: Reports>(
     out: &mut S,
     reports: &mut N,
 ) -> Result<(), LiveFault>
-    requires short { FewInstructions host.old.engine.setup }
     requires begun { IsInStep host.old.engine printed.old }
     ensures told { (base : Option (List ℕ)) → IsTold host.old.engine.history printed.old base (S.bytes out.old) → Serves host.old.engine.setup base result (S.bytes out.new) }
     ensures unread { result ≡ Err Unread → IsTrue (I.has_failed input.new) }
@@ -116,7 +113,6 @@ fn serve_lines<I: Input, S: Sink, N: Reports>(
     out: &mut S,
     reports: &mut N,
 ) -> Result<(), LiveFault>
-    requires short { FewInstructions host.old.engine.setup }
     requires begun { IsInStep host.old.engine printed.old }
     ensures told { (base : Option (List ℕ)) → IsTold host.old.engine.history printed.old base (S.bytes out.old) → Tells host.new.engine base result printed.new (S.bytes out.new) }
     ensures step { OnOk result (IsInStep host.new.engine printed.new) }
@@ -142,7 +138,6 @@ fn serve_next<I: Input, S: Sink, N: Reports>(
     out: &mut S,
     reports: &mut N,
 ) -> Result<bool, LiveFault>
-    requires short { FewInstructions host.old.engine.setup }
     requires begun { IsInStep host.old.engine printed.old }
     ensures told { (base : Option (List ℕ)) → IsTold host.old.engine.history printed.old base (S.bytes out.old) → Tells host.new.engine base result printed.new (S.bytes out.new) }
     ensures step { OnOk result (IsInStep host.new.engine printed.new) }
@@ -190,7 +185,6 @@ fn tell<S: Sink>(
     out: &mut S,
     is_last: bool,
 ) -> Result<(), LiveFault>
-    requires short { FewInstructions engine.now.setup }
     requires begun { IsInStep engine.now printed.old }
     ensures told { (base : Option (List ℕ)) → IsTold engine.now.history printed.old base (S.bytes out.old) → Tells engine.now base result printed.new (S.bytes out.new) }
     ensures step { OnOk result (IsInStep engine.now printed.new) }
@@ -208,7 +202,6 @@ fn tell<S: Sink>(
 
 // Prints the records that are new, and hands all on, where the engine stops for that fault, or for the one that this meets.
 fn stop<S: Sink>(engine: &Engine, printed: &mut Growing, out: &mut S, fault: LiveFault) -> LiveFault
-    requires short { FewInstructions engine.now.setup }
     requires begun { IsInStep engine.now printed.old }
     requires written { fault ≢ Unwritten }
     ensures told { (base : Option (List ℕ)) → IsTold engine.now.history printed.old base (S.bytes out.old) → IsBegun engine.now.setup base (S.bytes out.new) }
@@ -223,7 +216,6 @@ fn stop<S: Sink>(engine: &Engine, printed: &mut Growing, out: &mut S, fault: Liv
 
 // Prints the records that are new, and the last line.
 fn end<S: Sink>(engine: &Engine, printed: &mut Growing, out: &mut S) -> Result<(), LiveFault>
-    requires short { FewInstructions engine.now.setup }
     requires begun { IsInStep engine.now printed.old }
     ensures told { (base : Option (List ℕ)) → IsTold engine.now.history printed.old base (S.bytes out.old) → Serves engine.now.setup base result (S.bytes out.new) }
     ensures unwritten { IfErr result (λ fault. fault ≡ Unwritten) }

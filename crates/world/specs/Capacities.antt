@@ -1,6 +1,8 @@
 -- How much there is at most at a time, and the last number that is given.
 use Rattle.std.specs.Prelude.{ℕ, ◌^◌}
+use Rattle.bpf_semantics.specs.declared.bounds.TheConstants.{MAX_HELD}
 use Rattle.freeze_ledger.specs.declared.ledger.TheConstants.{MAX_FREEZES, MAX_FREEZE_NUMBER, MAX_PLACE_FREEZES}
+use Rattle.stack_frame.specs.declared.frames.TheConstants.{MAX_FRAMES}
 
 abbrev pub most_queues : ℕ
 most_queues = 64
@@ -29,6 +31,16 @@ most_ccbs_of_queue = 256
 -- live runs
 abbrev pub most_runs : ℕ
 most_runs = 256
+
+-- of a run: instructions, helper calls and the exit included, frames, and freezes that it holds
+abbrev pub most_instructions : ℕ
+most_instructions = 65536
+
+abbrev pub most_frames : ℕ
+most_frames = MAX_FRAMES
+
+abbrev pub most_held : ℕ
+most_held = MAX_HELD
 
 -- freezes, in all and of one place
 abbrev pub most_freezes : ℕ

@@ -61,7 +61,7 @@ others_entries setup before event after number run kept found other (freeze_chan
     ∙ entries_without_other number new.number 0 before.transport.freezes before.transport.greatest_freeze old kept.freezes.numbered was not_its)
 
 -- the entries that name a run that was not there before
-nothing_held : (setup : Setup) (before : World) (number : ℕ) → KeepsLists setup before → HoldsWhatEntriesSay before → run_of number before.runs.list ≡ None → held_by number before.transport.freezes ≡ []
+pub nothing_held : (setup : Setup) (before : World) (number : ℕ) → KeepsLists setup before → HoldsWhatEntriesSay before → run_of number before.runs.list ≡ None → held_by number before.transport.freezes ≡ []
 nothing_held setup before number kept held none =
     held_none number 0 before.transport.freezes before.transport.greatest_freeze kept.freezes.numbered (λ n f entry.
     elim (cases_Bool (is_run number f.holder)) [

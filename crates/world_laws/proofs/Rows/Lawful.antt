@@ -138,6 +138,6 @@ is_lawful limits one =
       agreed = one;
       under = (refl, All-cons (λ (queue : QueueSetup). queue.controller ≡ 0) (queue_of 2) [] refl (All-nil (λ (queue : QueueSetup). queue.controller ≡ 0)));
       queues = All-cons (IsLawfulQueue (of_helpers limits)) (queue_of 2) []
-          (record { openings = (omega arith, omega arith); program = record { laid_out = refl; in_range = (omega arith, omega arith); spares = refl }; safe = is_safe limits; within = is_within })
+          (record { openings = (omega arith, omega arith); program = record { laid_out = refl; in_range = (omega arith, omega arith); spares = refl }; safe = is_safe limits; within = is_within; budget = omega arith })
           (All-nil (IsLawfulQueue (of_helpers limits)));
     }

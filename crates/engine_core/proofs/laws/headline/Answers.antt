@@ -1,6 +1,7 @@
 use Rattle.world_laws.proofs.Runs.NeverStuck.{never_stuck}
 use Rattle.world_laws.proofs.Headline.{within_budget, disposed_once, exact_freezes, others_leave_it, gone_run_stays_gone}
 use Rattle.world_laws.proofs.Runs.Parking.{parked_stays_as_it_is}
+use Rattle.world_laws.proofs.Runs.Sizes.{runs_keep_limits}
 use Rattle.world_laws.proofs.Freezes.Counts.{counts_are_entries}
 use Rattle.world_laws.proofs.Sound.{held_are_entries, machines_are_reached}
 use Rattle.world_laws.proofs.Leads.{limits_are_kept}
@@ -21,6 +22,7 @@ returns c = record {
   exact_counts = counts_are_entries;
   held = held_are_entries;
   limits = limits_are_kept;
+  run_limits = runs_keep_limits;
   transport = each_is_live_or_ended;
   starts = starts_keep_openings;
   others = others_leave_it;

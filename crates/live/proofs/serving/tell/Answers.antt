@@ -17,7 +17,7 @@ print_news-requires-clause-spelled g c =
     let run = c.records.ensures.run in
     subst (λ (v : Version). AllHaveText v c.records.result.now.items) (sym c.requires.begun.version)
     (subst (λ (records : List Record). AllHaveText (version_of engine.setup) records) (sym c.records.ensures.items)
-    (each_record_has_text engine.setup run.lawful c.requires.short engine.history engine.world run.run))
+    (each_record_has_text engine.setup run.lawful engine.history engine.world run.run))
 
 pub returns-in_err-print_news-clause-told : goal.returns-in_err-print_news-clause-told
 returns-in_err-print_news-clause-told g c = λ base told.

@@ -13,6 +13,7 @@ new-requires g c =
       is_program = known.program;
       safe = subst (Safe shape) (sym c.in_ok-limits.ensures) safe;
       within = safe_within c.args.limits.now shape c.in_ok-budget.budget known.program known.lawful safe c.in_ok-budget.ensures.longest;
+      few_instructions = c.in_ok-budget.ensures.within;
       some_frames = c.frames.ensures.some;
       few_frames = c.frames.ensures.shallow;
       some_visits = omega (arith, c.in_ok-visits.ensures.visits.some);

@@ -19,6 +19,13 @@ kind_of Nothing = kinds.Unwritten
 kind_of (Address region offsets) = kinds.Address region offsets
 kind_of (Freeze name) = kinds.Freeze name
 
+-- what a word of that kind is where it stands in memory: a number is kept as written bytes alone
+abbrev pub spill_of : Kind → Spill
+spill_of kinds.Unwritten = Nothing
+spill_of (kinds.Number scalar) = Nothing
+spill_of (kinds.Address region offsets) = Address region offsets
+spill_of (kinds.Freeze name) = Freeze name
+
 -- what is left where the freeze of that name is held no more
 abbrev pub spill_without : FreezeName → Spill → Spill
 spill_without name Nothing = Nothing

@@ -6,7 +6,7 @@ ghost use Rattle.bpf_semantics.specs.MachineState.{MachineState};
 ghost use Rattle.description.specs.declared.saved.SavedRegisters.{SavedRegisters};
 ghost use Rattle.description.specs.Description.{DescribesWith};
 ghost use Rattle.description.specs.Memory.{ChangesStack, LeavesMarked, Writes, WritesWord, word_there};
-ghost use Rattle.description.specs.Spills.{AreUnspilled};
+ghost use Rattle.description.specs.Spills.{AreUnspilled, kind_of, spill_at, spill_of};
 ghost use Rattle.register_kinds.specs.declared.region.Region.TheVariants.{Frame};
 ghost use Rattle.register_kinds.specs.Freezes.{FreezeNumbers};
 ghost use Rattle.register_kinds.specs.Kinds.{HoldsKind, IsNumber, LiesAt};
@@ -40,11 +40,12 @@ impl Description {
         }
     }
 
-    /// Writes a word of that kind to eight bytes of a live frame, from a multiple of 8 on. It can be loaded again.
+    /// Writes a word of that kind to eight bytes of a live frame, from a multiple of 8 on. An address or a freeze is spilled there.
     pub fn spill_in(&mut self, frame: u8, word: u16, kind: Kind) -> Result<(), AllocError>
         requires live { frame < length self.old.stack }
         requires inside { word < 64 }
         ensures writes { IfOk result (λ _. WritesWord self.old frame (8 * word) kind self.new) }
+        ensures spilled { IfOk result (λ _. spill_at self.new.spills frame word ≡ spill_of kind) }
         ensures depth { length self.new.stack ≡ length self.old.stack }
     {
         let offset = SPILL_BYTES * word;
@@ -59,12 +60,14 @@ impl Description {
         self.spills.put(frame, word, Spill::of(kind))
     }
 
-    /// What is known of the word that begins at these offsets of a frame: its kind, where an address or a freeze was
-    /// spilled there, and else nothing.
+    /// What is known of the word that begins at these offsets of a frame: if they are one, and a multiple of 8, the kind of what is
+    /// spilled there; else nothing, and of a number nothing either.
     pub fn spilled(&self, frame: u8, offsets: Offsets) -> Kind
         requires inside { offsets.most + 8 ≤ 512 }
         ensures holds { (numbers : FreezeNumbers) (callers : List SavedRegisters) (m : MachineState) (address : ℕ) → DescribesWith numbers callers self.now m → LiesAt (Frame frame) offsets address → frame < length self.now.stack → HoldsKind numbers result (word_there m address) }
         ensures no_number { IsNumber result → ⊥ }
+        ensures aligned { (word : ℕ) → offsets.least ≡ 8 * word → offsets.most ≡ 8 * word → result ≡ kind_of (spill_at self.now.spills frame word) }
+        ensures elsewhere { ((word : ℕ) → offsets.least ≡ 8 * word → offsets.most ≡ 8 * word → ⊥) → result ≡ Kind.Unwritten }
     {
         if offsets.least == offsets.most && offsets.least.is_multiple_of(SPILL_BYTES) {
             self.spills.at(frame, offsets.least / SPILL_BYTES).kind()

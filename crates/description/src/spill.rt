@@ -1,7 +1,7 @@
 // An address or a freeze that stands in eight stack bytes. It relies on `register_kinds` for what is known of it.
 
 ghost use Rattle.std.specs.Prelude.{◌≡◌, ◌↔◌, ◌≤◌, ◌<◌, ◌^◌, ℕ, Option, IsTrue};
-ghost use Rattle.description.specs.Spills.{IsGone, kind_of, spill_without};
+ghost use Rattle.description.specs.Spills.{IsGone, kind_of, spill_of, spill_without};
 ghost use Rattle.register_kinds.specs.Freezes.{FreezeNumbers};
 ghost use Rattle.register_kinds.specs.Kinds.{HoldsKind, LiesAt};
 
@@ -21,6 +21,7 @@ pub enum Spill {
 impl Spill {
     /// What a word of that kind is where it stands in memory.
     pub(crate) fn of(kind: Kind) -> Self
+        ensures is { result ≡ spill_of kind }
         ensures holds { (numbers : FreezeNumbers) (o : Option ℕ) → HoldsKind numbers kind o → HoldsKind numbers (kind_of result) o }
         ensures near { (region : Region) (offsets : Offsets) (address : ℕ) → result ≡ Spill.Address region offsets → LiesAt region offsets address → address < 2 ^ 64 }
     {

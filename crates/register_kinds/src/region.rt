@@ -1,7 +1,7 @@
 // Where an address may lie: a region of memory and a range of offsets in it. It relies on `scalar_domain` for numbers
 // that are added to an address.
 
-ghost use Rattle.std.specs.Prelude.{◌≡◌, ℕ, ◌+◌, ◌-◌, ◌^◌, ◌<◌, ◌≤◌, IfSome, IsSome};
+ghost use Rattle.std.specs.Prelude.{◌≡◌, ℕ, ◌+◌, ◌-◌, ◌^◌, ◌<◌, ◌≤◌, min, max, IfSome, IsSome};
 ghost use Rattle.std.specs.Int.{w64};
 ghost use Rattle.bpf_words.specs.Words.{low};
 ghost use Rattle.scalar_domain.specs.Scalar.{Has};
@@ -46,10 +46,11 @@ impl Region {
 }
 
 impl Offsets {
-    /// The offsets between those of both.
+    /// From the lesser least offset to the greater most.
     pub fn hull(self, other: Offsets) -> Self
         ensures of_self { (region : Region) (address : ℕ) → LiesAt region self address → LiesAt region result address }
         ensures of_other { (region : Region) (address : ℕ) → LiesAt region other address → LiesAt region result address }
+        ensures ends { (result.least ≡ min self.least other.least) × (result.most ≡ max self.most other.most) }
     {
         Offsets {
             least: self.least.min(other.least),

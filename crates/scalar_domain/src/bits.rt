@@ -25,7 +25,8 @@ impl KnownBits {
 
     /// Each bit is that word's.
     pub fn exactly(value: u64) -> Self
-        ensures { Agrees result value }
+        ensures agrees { Agrees result value }
+        ensures only { (result.must ≡ value) × (result.may ≡ value) }
     {
         KnownBits {
             must: value,

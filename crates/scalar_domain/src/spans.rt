@@ -1,6 +1,6 @@
 // A range of words. It relies on nothing.
 
-ghost use Rattle.std.specs.Prelude.{◌≡◌, ℕ, ◌+◌, ◌-◌, ◌*◌, ◌/◌, ◌%◌, ◌^◌, ◌<◌, ◌≤◌, ◌≢◌, if◌then◌else◌, ◌==◌};
+ghost use Rattle.std.specs.Prelude.{◌≡◌, ℕ, ◌+◌, ◌-◌, ◌*◌, ◌/◌, ◌%◌, ◌^◌, ◌<◌, ◌≤◌, ◌≢◌, if◌then◌else◌, ◌==◌, min, max};
 ghost use Rattle.scalar_domain.specs.Scalar.{Within, place};
 
 /// The words from `least` to `most`, both included: none where `least` is above `most`.
@@ -46,11 +46,12 @@ impl Span {
         }
     }
 
-    /// The least range with the words of both.
+    /// From the lesser least to the greater most: the least range with the words of both, if both have any.
     pub fn hull(self, other: Span) -> Self
         ensures of_self { (w : ℕ) → Within self w → Within result w }
         ensures of_other { (w : ℕ) → Within other w → Within result w }
         ensures bounds { (n : ℕ) → self.most ≤ n → other.most ≤ n → result.most ≤ n }
+        ensures ends { (result.least ≡ min self.least other.least) × (result.most ≡ max self.most other.most) }
     {
         Span {
             least: self.least.min(other.least),

@@ -5,4 +5,4 @@ use Rattle.scalar_domain.proofs.Moved.{moved_agrees}
 use Rattle.scalar_domain.proofs.halves.low_bits.Goals as goal
 
 pub returns : goal.returns
-returns c = λ w h. moved_agrees _ _ _ (sym (and_mask w 32)) (c.and.ensures w _ h c.exactly.ensures)
+returns c = λ w h. moved_agrees _ _ _ (sym (and_mask w 32)) (c.and.ensures w _ h c.exactly.ensures.agrees)

@@ -22,3 +22,13 @@ returns-then-is_multiple_of-clause-holds c = λ numbers callers m address is lie
 
 pub returns-then-is_multiple_of-clause-no_number : goal.returns-then-is_multiple_of-clause-no_number
 returns-then-is_multiple_of-clause-no_number c = λ number. no_number c.at.result (subst IsNumber c.kind.ensures number)
+
+pub returns-then-is_multiple_of-clause-aligned : goal.returns-then-is_multiple_of-clause-aligned
+returns-then-is_multiple_of-clause-aligned c = λ word least most.
+    let same : c.args.offsets.least / 8 ≡ word = omega (arith, least) in
+    c.kind.ensures ∙ ap kind_of c.at.ensures ∙ ap (λ (n : ℕ). kind_of (spill_at c.args.self.now.spills c.args.frame n)) same
+
+pub returns-then-is_multiple_of-clause-elsewhere : goal.returns-then-is_multiple_of-clause-elsewhere
+returns-then-is_multiple_of-clause-elsewhere c = λ never.
+    let whole : c.args.offsets.least % 8 ≡ 0 = c.is_multiple_of.ensures.0 c.if-is_multiple_of.true in
+    absurd (never (c.args.offsets.least / 8) (omega (arith, whole)) (omega (arith, whole, c.if-offsets.true)))

@@ -3,9 +3,8 @@ use Rattle.std.proofs.Common.{◌≡◌, ℕ, true, false, Option, List, [], ◌
 use Rattle.std.specs.Prelude.{MatchOption}
 use Rattle.calls.specs.declared.record.Record.{Record}
 use Rattle.monitor.specs.declared.knowledge.Pair.{Pair}
-use Rattle.monitor.specs.LegalHistory.{pair, records}
-use Rattle.monitor.specs.LegalHistory.{LegalHistory}
-use Rattle.monitor.specs.Telling.{CallerState, Joins, KeeperState, Looks, new_caller}
+use Rattle.monitor.specs.LegalHistory.{LegalHistory, StartsWith, pair, records, unshared}
+use Rattle.monitor.specs.Telling.{CallerState, Joins, KeeperState, Looks, new_caller, new_watch}
 use Rattle.world.specs.World.{Setup}
 use Rattle.world.specs.WorldRun.{WorldRun}
 use Rattle.world.specs.Flat.{flat}
@@ -15,7 +14,7 @@ use Rattle.engine_core.specs.declared.reply.Reply.{Reply}
 use Rattle.engine_core.specs.declared.reply.Reply.TheVariants.{Given, Refused, Unfit, OutOfMemory}
 use Rattle.engine_core.specs.Replies.{Fits, Gives, IsRecorded, ToldFit, is_recorded}
 use Rattle.engine_lock.specs.Publishing.{last_of}
-use Rattle.engine_lock.specs.Sharing.{Answers, IsNewCaller, IsSince, Section, Tells, TellsUnrecorded, is_unfit}
+use Rattle.engine_lock.specs.Sharing.{Answers, IsNewCaller, IsNewWatch, IsSince, Section, Tells, TellsUnrecorded, is_unfit}
 use Rattle.engine_lock.proofs.Since.{HasRecord, has_record}
 
 pub last_more : (before : List Record) (made : Record) → last_of (before ++ made ∷ []) ≡ made
@@ -78,14 +77,14 @@ pub legal_since : (setup : Setup) (begun : List Record) (calls : ℕ) (engine : 
 legal_since setup begun calls engine history since same =
     (engine.world, subst (λ (rs : List Record). WorldRun setup (flat rs) engine.world) (sym same) (subst (λ (s : Setup). WorldRun s (flat engine.history) engine.world) since.setup_is since.run.run))
 
-pub new_caller_is : (setup : Setup) (keeper : KeeperState) → LegalHistory setup keeper.history → IsNewCaller setup (new_caller keeper)
-new_caller_is setup keeper legal = record { mine = refl; told = refl; seen = legal }
+pub new_caller_is : (setup : Setup) (begun : List Record) (keeper : KeeperState) → LegalHistory setup keeper.history → StartsWith keeper.history (unshared begun) → IsNewCaller setup begun (new_caller keeper)
+new_caller_is setup begun keeper legal front = record { mine = refl; told = refl; seen = legal; front = front }
+
+pub new_watch_is : (setup : Setup) (begun : List Record) (keeper : KeeperState) → LegalHistory setup keeper.history → StartsWith keeper.history (unshared begun) → IsNewWatch setup begun (new_watch keeper)
+new_watch_is setup begun keeper legal front = record { told = refl; seen = legal; front = front }
 
 -- what is said of the engine inside the lock is said of the one that contracts see
 module _ (inside seen : EngineState) (same : inside ≡ seen) where
   pub answered_so : (event : Event) (reply : Reply) (after : EngineState) → IsRecorded inside event reply after → Fits event reply → ToldFit inside.world event reply → Gives inside.setup inside.world event after.world reply → Answers seen event reply after
   answered_so event reply after recorded fits fit gives =
       subst (λ (e : EngineState). Answers e event reply after) same (record { recorded = recorded; fits = fits; fit = fit; gives = gives })
-
-  pub stands_since : (setup : Setup) (begun : List Record) (calls : ℕ) → IsSince setup begun calls inside → (n : ℕ) × IsSince setup begun n seen
-  stands_since setup begun calls since = (calls, subst (λ (e : EngineState). IsSince setup begun calls e) same since)

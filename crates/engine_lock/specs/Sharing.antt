@@ -9,7 +9,7 @@ use Rattle.engine_core.specs.declared.reply.Reply.{Reply}
 use Rattle.engine_core.specs.declared.reply.Reply.TheVariants.{Unfit}
 use Rattle.engine_core.specs.Replies.{Fits, Gives, IsRecorded, ToldFit, record_of}
 use Rattle.monitor.specs.declared.knowledge.Pair.{Pair}
-use Rattle.monitor.specs.LegalHistory.{LegalHistory, records}
+use Rattle.monitor.specs.LegalHistory.{LegalHistory, StartsWith, records, unshared}
 use Rattle.monitor.specs.Telling.{Agrees, CallerState, Joins, KeeperState, Looks, WatchState}
 
 -- an engine of this setup that began with these records, and so many more since
@@ -65,20 +65,24 @@ pub record Section (setup : Setup) (event : Event) (reply : Reply) (before after
   pub answers : Answers found event reply left
   pub tells : Tells setup history event reply before after
 
--- it has made nothing and was told nothing, and what it has seen is legal
-pub record IsNewCaller (setup : Setup) (caller : CallerState) : Type 0 where
+-- it has made nothing and was told nothing, and what it has seen is legal and begins with what stood there before
+pub record IsNewCaller (setup : Setup) (begun : List Record) (caller : CallerState) : Type 0 where
   pub mine : caller.mine ≡ []
   pub told : caller.told ≡ []
   pub seen : LegalHistory setup caller.seen
+  pub front : StartsWith caller.seen (unshared begun)
 
-pub record IsNewWatch (setup : Setup) (watch : WatchState) : Type 0 where
+pub record IsNewWatch (setup : Setup) (begun : List Record) (watch : WatchState) : Type 0 where
   pub told : watch.told ≡ []
   pub seen : LegalHistory setup watch.seen
+  pub front : StartsWith watch.seen (unshared begun)
 
 -- The engine at the end: beyond the records with which it began it has as many as these callers had recorded calls, and its history,
--- with who made each record, begins with what each had seen and was told of, and has of each just the records that it made.
+-- with who made each record, begins with those that no caller made and with what each had seen and was told of, and has of each
+-- just the records that it made.
 pub record Closes (setup : Setup) (begun : List Record) (callers : List CallerState) (state : EngineState) : Type 0 where
   pub since : IsSince setup begun (sum_by (λ caller. length caller.mine) callers) state
   pub history : List Pair
   pub its : records history ≡ state.history
+  pub front : StartsWith history (unshared begun)
   pub agree : All (Agrees history) callers

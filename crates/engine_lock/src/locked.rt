@@ -1,12 +1,12 @@
 // What stands under the lock of a shared engine. It relies on `engine_core` for what a call does, on the ledger of the standard
 // library, whose book is the sum of its shares, and on `monitor`, whose keeper knows the whole history with its callers.
 
-ghost use Rattle.std.specs.Prelude.{◌≡◌, ℕ, ◌+◌, ◌<◌, ◌≤◌, ◌↔◌, [], length, IsErr, IfOk, IfErr, IsTrue};
+ghost use Rattle.std.specs.Prelude.{◌≡◌, ◌+◌, ◌<◌, ◌≤◌, ◌↔◌, [], length, IsErr, IfOk, IfErr, IsTrue};
 ghost use Rattle.engine_core.specs.EngineState.{IsRun};
 ghost use Rattle.engine_core.specs.Replies.{IsOfKnown};
 ghost use Rattle.monitor.specs.LegalHistory.{unshared};
 ghost use Rattle.monitor.specs.Telling.{new_caller};
-ghost use Rattle.engine_lock.specs.Sharing.{Answers, Closes, IsNewCaller, IsNewWatch, IsSince, Section, is_unfit, keeper_of};
+ghost use Rattle.engine_lock.specs.Sharing.{Answers, Closes, IsNewCaller, IsNewWatch, Section, Tells, is_unfit, keeper_of};
 ghost use Rattle.engine_lock.specs.declared.fault.LockFault.TheVariants.{TooManyCallers};
 ghost use Rattle.engine_lock.specs.declared.object.TheConstants.{MAX_CALLERS};
 
@@ -34,7 +34,7 @@ pub(crate) struct Locked<B: Object> {
 
 impl<B: Object> Model for Locked<B> {
     ghost use Rattle.std.specs.Prelude.{◌≡◌, ◌+◌};
-    ghost use Rattle.monitor.specs.LegalHistory.{records};
+    ghost use Rattle.monitor.specs.LegalHistory.{StartsWith, records, unshared};
     ghost use Rattle.engine_lock.specs.Sharing.{IsSince, LockedState};
     ghost use Rattle.engine_lock.specs.declared.object.TheConstants.{MAX_CALLERS};
 
@@ -42,7 +42,7 @@ impl<B: Object> Model for Locked<B> {
 
     ghost view = { λ l. record { engine = l.engine; history = l.keeper.history; given = l.given } };
 
-    ghost invariant = { λ l. IsSince B.setup B.begun l.book.total l.engine × (l.rest.parts + l.given ≡ B.parts) × (l.rest.amount ≡ 0) × (B.parts ≡ MAX_CALLERS) × (records l.keeper.history ≡ l.engine.history) × (l.keeper.callers ≡ l.given) };
+    ghost invariant = { λ l. IsSince B.setup B.begun l.book.total l.engine × (l.rest.parts + l.given ≡ B.parts) × (l.rest.amount ≡ 0) × (B.parts ≡ MAX_CALLERS) × (records l.keeper.history ≡ l.engine.history) × (l.keeper.callers ≡ l.given) × StartsWith l.keeper.history (unshared B.begun) };
 }
 
 impl<B: Object> Locked<B> {
@@ -67,7 +67,7 @@ impl<B: Object> Locked<B> {
 
     /// A caller more, of which no call is recorded. L1 exactly where 64 were given out.
     pub(crate) fn caller(&mut self, monitor: &Monitor<B>) -> Result<Caller<B>, LockFault>
-        ensures caller { IfOk result (IsNewCaller B.setup) }
+        ensures caller { IfOk result (IsNewCaller B.setup B.begun) }
         ensures given { IfOk result (λ caller. (caller ≡ new_caller (keeper_of self.old)) × (self.new ≡ record self.old { given = self.old.given + 1 })) }
         ensures full { IfErr result (λ fault. (fault ≡ TooManyCallers) × (self.new ≡ self.old)) }
         ensures number { IfOk result (λ caller. (1 ≤ caller.number) × (caller.number ≤ MAX_CALLERS)) }
@@ -92,7 +92,7 @@ impl<B: Object> Locked<B> {
     /// A watch, which has seen the history so far, whose sums are shown.
     pub(crate) fn watch<R: Wait>(&mut self, rt: &R, monitor: &Monitor<B>) -> Watch<B>
         ensures same { self.new ≡ self.old }
-        ensures watch { IsNewWatch B.setup result }
+        ensures watch { IsNewWatch B.setup B.begun result }
     {
         let totals = self.engine.totals();
         self.keeper.watch(rt, monitor, totals)
@@ -110,7 +110,8 @@ impl<B: Object> Locked<B> {
     ) -> Reply
         requires { IsOfKnown B.setup event known }
         ensures answers { Answers self.old.engine event.entry result self.new.engine }
-        ensures since { (calls : ℕ) × IsSince B.setup B.begun calls self.old.engine }
+        ensures tells { Tells B.setup self.old.history event.entry result caller.old caller.new }
+        ensures given { self.new.given ≡ self.old.given }
         ensures section { Section B.setup event.entry result caller.old caller.new }
     {
         let reply = self.engine.answer_known(event, known);

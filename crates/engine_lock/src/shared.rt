@@ -43,10 +43,10 @@ impl Pause for NoPause {
 }
 
 impl<B: Object> Shared<B> {
-    /// A caller more, of which no call is recorded. Its number, 1 to 64, is how many were given out with it. L1 where 64 were
-    /// given out. It takes no memory, and may wait for other callers.
+    /// A caller more, of which no call is recorded, with a number from 1 to 64. L1 where 64 were given out. It takes no memory, and
+    /// may wait for other callers.
     pub fn caller<R: Wait>(&self, rt: &R) -> Result<Caller<B>, LockFault>
-        ensures given { IfOk result (IsNewCaller B.setup) }
+        ensures given { IfOk result (IsNewCaller B.setup B.begun) }
         ensures number { IfOk result (λ caller. (1 ≤ caller.number) × (caller.number ≤ MAX_CALLERS)) }
         ensures full { IfErr result (λ fault. fault ≡ TooManyCallers) }
     {
@@ -62,7 +62,7 @@ impl<B: Object> Shared<B> {
 
     /// A watch, which has seen the history so far. It takes no memory, and may wait for callers.
     pub fn watch<R: Wait>(&self, rt: &R) -> Watch<B>
-        ensures { IsNewWatch B.setup result }
+        ensures { IsNewWatch B.setup B.begun result }
     {
         let mut guard = self.lock.lock(rt);
         let locked = &mut *guard;
@@ -82,7 +82,8 @@ impl<B: Object> Shared<B> {
         self.call_held(rt, caller, event, &NoPause)
     }
 
-    /// The same, with a pause at the end of its section. Others may read the monitor meanwhile, and wait for the lock.
+    /// The same, with a pause at the end of its section, which the lock's other callers wait for. Others may read the monitor
+    /// meanwhile.
     pub fn call_held<P: Pause, R: Wait>(
         &self,
         rt: &R,

@@ -1,5 +1,5 @@
 -- What the host has asked, call by call, and that it has the token of each freeze that its records hold.
-use Rattle.std.proofs.Common.{◌≡◌, ℕ, ◌<◌, length, ◌==◌, Bool, true, false, not, ◌&&◌, ◌||◌, List, [], ◌∷◌, ◌++◌, All, refl, ap, sym, subst, ◌∙◌, eqb-true, eq-eqb}
+use Rattle.std.proofs.Common.{◌≡◌, ℕ, ◌<◌, length, ◌==◌, Bool, true, false, not, ◌||◌, List, [], ◌∷◌, ◌++◌, All, refl, ap, sym, subst, ◌∙◌, eqb-true, eq-eqb}
 use Rattle.std.specs.Prelude.{◌≢◌, Result, Ok, Err, OnOk, slice_index_or}
 use Rattle.std.specs.List.{remove}
 use Rattle.std.proofs.lemmas.List.Sorted.{All-permutation, IsPermutation-remove, IsPermutation-sym}
@@ -25,7 +25,7 @@ use Rattle.monitor.specs.declared.knowledge.Pair.{Pair}
 use Rattle.monitor.specs.Telling.{CallerState, Joins}
 use Rattle.engine_lock.specs.Sharing.{Section, Tells}
 use Rattle.scenario_host.specs.Asked.{held_after, held_behind, is_held}
-use Rattle.scenario_host.specs.Holding.{AsksAlone, HasToken, HoldsAll, HoldsBut, IsAsked, IsSaid, IsTaken}
+use Rattle.scenario_host.specs.Holding.{AsksAlone, HasToken, HoldsAll, HoldsBut, IsAsked, IsSaid}
 
 -- of both a success and what it says
 pub on_ok : {T E P Q : Type 0} (r : Result T E) → (P → Q) → OnOk r P → OnOk r Q

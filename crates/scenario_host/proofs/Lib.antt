@@ -1,3 +1,4 @@
+mod Counted
 mod Holding
 mod Lent
 mod Steps

@@ -1,5 +1,5 @@
 -- The steps that the host has carried out, one by one.
-use Rattle.std.proofs.Common.{◌≡◌, ℕ, ◌+◌, ◌<◌, true, false, List, [], ◌∷◌, ◌++◌, take, drop, length, All, Option, Some, None, refl, ap, sym, subst, ◌∙◌, append-nil, append_assoc, map}
+use Rattle.std.proofs.Common.{◌≡◌, ◌≢◌, ℕ, ◌+◌, ◌<◌, true, false, List, [], ◌∷◌, ◌++◌, take, drop, length, Option, Some, None, refl, ap, sym, subst, ◌∙◌, append-nil, append_assoc, map}
 use Rattle.std.specs.Prelude.{MatchOption, slice_index_or}
 use mathlib.Core.List.{map-append}
 use Rattle.std.proofs.lemmas.List.{take-append-drop, take_more}
@@ -11,7 +11,7 @@ use Rattle.calls.specs.declared.record.Record.TheVariants.{Called}
 use Rattle.scenario.specs.declared.steps.Step.{Step}
 use Rattle.scenario_host.specs.Asked.{AreOf, call_in, call_of, calls_of, is_held, with_call}
 use Rattle.scenario_host.specs.Faults.{IsUnheldAt, line_of}
-use Rattle.scenario_host.specs.Holding.{Asks, HoldsAll, IsOfStep, IsRefused}
+use Rattle.scenario_host.specs.Holding.{Asks, HoldsAll, IsOfStep}
 use Rattle.scenario_host.specs.declared.host.RunFault.{RunFault}
 
 -- so many steps were carried out
@@ -73,3 +73,11 @@ stopped_at steps index step before after tokens fault done inside is of line nam
       asked = done.asked;
       unheld = it.unheld;
     })
+
+-- a fault that names a line left what was made as it was
+some_line : (o : Option ℕ) → o ≢ None → (line : ℕ) × (o ≡ Some line)
+some_line None none = absurd (none refl)
+some_line (Some line) none = (line, refl)
+
+pub still_there : (step : Step) (before after : List Record) (fault : RunFault) → IsOfStep step before after fault → line_of fault ≢ None → length after ≡ length before
+still_there step before after fault of named = let line = some_line (line_of fault) named in ap length (of line.0 line.1).same

@@ -1,5 +1,5 @@
 -- The whole history of an engine that was shared, with its sums.
-use Rattle.std.proofs.Common.{◌≡◌, ℕ, List, [], ◌∷◌, ◌++◌, All, ap, sym, subst, ◌∙◌}
+use Rattle.std.proofs.Common.{◌≡◌, ◌≢◌, ℕ, List, [], ◌∷◌, ◌++◌, All, Some, None, ap, length, sym, subst, ◌∙◌}
 use Rattle.std.proofs.lemmas.List.Elements.{All-head}
 use Rattle.calls.specs.declared.record.Record.{Record}
 use Rattle.calls.specs.declared.totals.Totals.{Totals}
@@ -13,8 +13,10 @@ use Rattle.engine_core.specs.EngineState.{EngineState}
 use Rattle.monitor.specs.Telling.{Agrees, CallerState}
 use Rattle.engine_lock.specs.Sharing.{Closes, IsSince}
 use Rattle.scenario.specs.declared.steps.Step.{Step}
-use Rattle.scenario_host.specs.Faults.{IsOfRun, IsOfSteps, IsUnheldAt}
-use Rattle.scenario_host.specs.Traces.{HasMade, IsTraceOf}
+use Rattle.scenario_host.specs.Asked.{AreOf, by_host, calls_of}
+use Rattle.scenario_host.specs.Faults.{IsOfRun, IsOfSteps, IsUnheldAt, line_of}
+use Rattle.scenario_host.specs.Traces.{HasMade, IsOfScenario, IsTraceOf}
+use Rattle.scenario_host.proofs.Counted.{all_are_own}
 use Rattle.scenario_host.specs.declared.host.RunFault.{RunFault}
 
 -- the host's caller is the first of those that are handed in
@@ -47,11 +49,20 @@ whole_trace setup begun calls engine version records totals since spoken all sum
   sums = subst (λ (s : Setup). TotalsOf s records totals) since.setup_is (subst (λ (h : List Record). TotalsOf engine.setup h totals) (sym all) sums);
 }
 
+-- the host's records are all of their kind, if there are as many
+made_all : (steps : List Step) (caller : CallerState) (told : List Record) → HasMade caller told → AreOf caller.mine (calls_of steps) → length (by_host told) ≡ length caller.mine → by_host told ≡ caller.mine
+made_all steps caller told made are count = all_are_own steps caller.number made.history told caller.mine are made.own made.its count
+
+pub of_scenario : (steps : List Step) (caller : CallerState) (told : List Record) → HasMade caller told → AreOf caller.mine (calls_of steps) → length (by_host told) ≡ length caller.mine → IsOfScenario steps told
+of_scenario steps caller told made are count = subst (λ (rs : List Record). AreOf rs (calls_of steps)) (sym (made_all steps caller told made are count)) are
+
 -- a fault by the records that the host made is one in the history that the run leaves
-pub of_run : (setup : Setup) (steps : List Step) (caller : CallerState) (version : Version) (told : List Record) (totals : Totals) (fault : RunFault) → IsTraceOf setup version told totals → HasMade caller told → IsOfSteps steps caller.mine fault → IsOfRun setup steps fault
-of_run setup steps caller version told totals fault trace made of line named = record {
-  history = made.history;
-  legal = (trace.world, subst (λ (rs : List Record). WorldRun setup (flat rs) trace.world) (sym made.its) trace.run);
-  host = caller.number;
-  unheld = subst (λ (rs : List Record). IsUnheldAt steps rs line) (sym made.own) (of line named);
-}
+pub of_run : (setup : Setup) (steps : List Step) (caller : CallerState) (version : Version) (told : List Record) (totals : Totals) (fault : RunFault) → IsTraceOf setup version told totals → HasMade caller told → IsOfSteps steps caller.mine fault
+    → ((line_of fault ≢ None) → length (by_host told) ≡ length caller.mine) → IsOfRun setup steps fault
+of_run setup steps caller version told totals fault trace made of count line named =
+    let it = of line named in
+    let many = count (λ none. let bad : Some line ≡ None = sym named ∙ none in absurd cc) in record {
+      history = told;
+      legal = (trace.world, trace.run);
+      unheld = subst (λ (rs : List Record). IsUnheldAt steps rs line) (sym (made_all it.before caller told made it.asked many)) it;
+    }

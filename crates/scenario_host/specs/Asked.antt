@@ -1,6 +1,6 @@
 -- What a scenario asks of the engine by its host: a call a line, but for completions, which workers ask for, and for drains. And of
 -- which freezes the host holds the tokens then.
-use Rattle.std.specs.Prelude.{◌≡◌, ℕ, ◌==◌, Bool, false, not, ◌&&◌, ◌||◌, List, [], ◌∷◌, map, Option, Some, None}
+use Rattle.std.specs.Prelude.{◌≡◌, ℕ, ◌==◌, Bool, true, false, not, ◌&&◌, ◌||◌, if◌then◌else◌, List, [], ◌∷◌, map, Option, Some, None}
 use Rattle.calls.specs.declared.call.Call.{Call}
 use Rattle.calls.specs.declared.call.Call.TheVariants as its
 use Rattle.calls.specs.declared.call_answer.CallAnswer.TheVariants.{Freeze, Left}
@@ -37,6 +37,21 @@ call_in (Advance run instructions stop r0) = None
 -- the records are those of these calls, in their order, each with its answer
 abbrev pub AreOf : List Record → List Call → Type 0
 AreOf records calls = map call_in records ≡ map Some calls
+
+-- whether the host makes such calls and records; workers make completions, parks and advances
+abbrev pub is_hosts : Call → Bool
+is_hosts (its.Complete completion) = false
+is_hosts (its.Park run) = false
+is_hosts call = true
+
+abbrev pub is_by_host : Record → Bool
+is_by_host (Called answer call) = is_hosts call
+is_by_host (Advance run instructions stop r0) = false
+
+-- those that it makes, in their order
+abbrev pub by_host : List Record → List Record
+by_host [] = []
+by_host (made ∷ rest) = if is_by_host made then made ∷ by_host rest else by_host rest
 
 -- whether the freeze of this number is held behind a record, where it was or was not before
 abbrev pub held_behind : ℕ → Bool → Record → Bool

@@ -2,11 +2,10 @@
 use Rattle.std.specs.Prelude.{◌≡◌, ℕ, false, List, ◌∷◌, ◌++◌, Option, Some, None}
 use Rattle.calls.specs.declared.record.Record.{Record}
 use Rattle.world.specs.World.{Setup}
-use Rattle.monitor.specs.declared.knowledge.Pair.{Pair}
-use Rattle.monitor.specs.LegalHistory.{LegalHistory, made_by}
+use Rattle.monitor.specs.LegalHistory.{AreLegal}
 use Rattle.scenario.specs.declared.steps.Command.TheVariants.{GuestRelease}
 use Rattle.scenario.specs.declared.steps.Step.{Step}
-use Rattle.scenario_host.specs.Asked.{AreOf, calls_of, is_held}
+use Rattle.scenario_host.specs.Asked.{AreOf, by_host, calls_of, is_held}
 use Rattle.scenario_host.specs.declared.host.RunFault.{RunFault}
 use Rattle.scenario_host.specs.declared.host.RunFault.TheVariants.{OutOfMemory, NotHeld, Unsettled}
 
@@ -32,12 +31,11 @@ pub record IsUnheldAt (steps : List Step) (made : List Record) (line : ℕ) : Ty
 abbrev pub IsOfSteps : List Step → List Record → RunFault → Type 0
 IsOfSteps steps made fault = (line : ℕ) → line_of fault ≡ Some line → IsUnheldAt steps made line
 
--- the same in a legal history, of which the records are that one caller made
+-- the same in a legal history, which has beside those that the host made only what workers make
 pub record IsUnheldThen (setup : Setup) (steps : List Step) (line : ℕ) : Type 0 where
-  pub history : List Pair
-  pub legal : LegalHistory setup history
-  pub host : ℕ
-  pub unheld : IsUnheldAt steps (made_by host history) line
+  pub history : List Record
+  pub legal : AreLegal setup history
+  pub unheld : IsUnheldAt steps (by_host history) line
 
 abbrev pub IsOfRun : Setup → List Step → RunFault → Type 0
 IsOfRun setup steps fault = (line : ℕ) → line_of fault ≡ Some line → IsUnheldThen setup steps line

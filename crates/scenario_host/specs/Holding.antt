@@ -1,5 +1,5 @@
 -- What the host has asked, and that it has the token of each freeze that its records hold.
-use Rattle.std.specs.Prelude.{◌≡◌, ◌≢◌, ℕ, true, false, List, [], ◌∷◌, ◌++◌, All, MatchOption, Some, None}
+use Rattle.std.specs.Prelude.{◌≡◌, ◌≢◌, ℕ, true, false, List, [], ◌∷◌, ◌++◌, All, MatchOption, Some}
 use Rattle.freeze_ledger.specs.declared.freeze.Freeze.{Freeze}
 use Rattle.calls.specs.declared.call_answer.CallAnswer.{CallAnswer}
 use Rattle.calls.specs.declared.record.Record.{Record}

@@ -1,5 +1,5 @@
 -- What the trace of a scenario is: a whole history of one engine, with its sums, of which the host made the scenario's calls.
-use Rattle.std.specs.Prelude.{◌≡◌, ℕ, List}
+use Rattle.std.specs.Prelude.{◌≡◌, List}
 use Rattle.calls.specs.declared.record.Record.{Record}
 use Rattle.calls.specs.declared.totals.Totals.{Totals}
 use Rattle.calls.specs.declared.trace.Version.{Version}
@@ -12,7 +12,7 @@ use Rattle.monitor.specs.declared.knowledge.Pair.{Pair}
 use Rattle.monitor.specs.LegalHistory.{made_by, records}
 use Rattle.monitor.specs.Telling.{CallerState}
 use Rattle.scenario.specs.declared.steps.Step.{Step}
-use Rattle.scenario_host.specs.Asked.{AreOf, calls_of}
+use Rattle.scenario_host.specs.Asked.{AreOf, by_host, calls_of}
 
 -- the records are a run of a lawful setup from its opening, in its vocabulary, and these are its sums
 pub record IsTraceOf (setup : Setup) (version : Version) (records : List Record) (totals : Totals) : Type 0 where
@@ -28,9 +28,6 @@ pub record HasMade (caller : CallerState) (told : List Record) : Type 0 where
   pub its : records history ≡ told
   pub own : made_by caller.number history ≡ caller.mine
 
--- one caller made those of the scenario's calls that workers do not make, each once and in their order
-pub record IsOfScenario (steps : List Step) (told : List Record) : Type 0 where
-  pub history : List Pair
-  pub its : records history ≡ told
-  pub host : ℕ
-  pub asked : AreOf (made_by host history) (calls_of steps)
+-- what the host made is the scenario's calls, each once and in their order; all else is what workers make
+abbrev pub IsOfScenario : List Step → List Record → Type 0
+IsOfScenario steps told = AreOf (by_host told) (calls_of steps)

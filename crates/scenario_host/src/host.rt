@@ -2,9 +2,9 @@
 // from which they are served. It relies on `hands` for the guests' tokens, on `engine_lock` for the engine's replies, and on
 // `workers` for serving.
 
-ghost use Rattle.std.specs.Prelude.{◌≡◌, ◌+◌, ◌≤◌, [], All, IfErr, OnOk, None, length, vec_capacity};
+ghost use Rattle.std.specs.Prelude.{◌≡◌, ◌≢◌, ◌+◌, ◌≤◌, [], All, IfErr, MatchResult, OnOk, None, length, vec_capacity};
 ghost use Rattle.inbox.specs.Views.{IsOf};
-ghost use Rattle.scenario_host.specs.Asked.{AreOf, calls_of};
+ghost use Rattle.scenario_host.specs.Asked.{AreOf, call_of, calls_of, with_call};
 ghost use Rattle.scenario_host.specs.Faults.{IsOfSteps, line_of};
 ghost use Rattle.scenario_host.specs.Holding.{Asks, AsksAlone, HoldsAll, HoldsBut, IsAsked, IsOfStep, IsSaid};
 ghost use Rattle.workers.specs.declared.serving.TheConstants.{MAX_WORKERS};
@@ -32,8 +32,8 @@ pub enum RunFault {
     OutOfMemory,
     /// N2: the `grelease` of that line is of a freeze whose token is not held.
     NotHeld(usize),
-    /// A completion finds no room in an inbox that was served until it was empty, a guest's freeze is gone whose token is held, or
-    /// a caller is missing at the end. None of these can be.
+    /// A completion finds no room in an inbox that was served until it was empty, a guest's freeze is gone whose token is held, a
+    /// caller is missing at the end, or somebody else made calls such as the host's. None of these can be.
     Unsettled,
 }
 
@@ -68,22 +68,26 @@ pub(crate) struct Host<'a, B: Object, N: Notices> {
 }
 
 impl<'a, B: Object + Send + Sync, N: Notices + Sync> Host<'a, B, N> {
-    /// Carries the steps out in their order, and serves the completions that are left then.
+    /// Carries the steps out in their order, and serves the completions that are left then. How many calls were recorded, and why it
+    /// stopped.
     pub(crate) fn carry_out_all<R: Threads + Wait + Sync>(
         &mut self,
         rt: &R,
         steps: &[Step],
-    ) -> Result<(), RunFault>
+    ) -> (usize, Result<(), RunFault>)
         requires { self.old.caller.mine ≡ [] }
-        ensures asked { OnOk result (AreOf self.new.caller.mine (calls_of steps.now)) }
-        ensures fault { IfErr result (IsOfSteps steps.now self.new.caller.mine) }
+        ensures asked { OnOk result.1 (AreOf self.new.caller.mine (calls_of steps.now)) }
+        ensures fault { IfErr result.1 (IsOfSteps steps.now self.new.caller.mine) }
+        ensures count { MatchResult result.1 (λ _. result.0 ≡ length self.new.caller.mine) (λ fault. (line_of fault ≢ None) → result.0 ≡ length self.new.caller.mine) }
     {
+        let mut asked = 0;
         for step in steps {
             if let Err(fault) = self.carry_out(rt, step) {
-                return Err(fault);
+                return (asked, Err(fault));
             }
+            asked += calls_in(step.command);
         }
-        self.drain(rt)
+        (asked, self.drain(rt))
     }
 
     fn carry_out<R: Threads + Wait + Sync>(&mut self, rt: &R, step: &Step) -> Result<(), RunFault>
@@ -182,6 +186,21 @@ impl<'a, B: Object + Send + Sync, N: Notices + Sync> Host<'a, B, N> {
         } else {
             Err(RunFault::OutOfMemory)
         }
+    }
+}
+
+// How many calls the host makes for such a command.
+fn calls_in(command: Command) -> usize
+    ensures calls { result ≡ length (with_call (call_of command) []) }
+    ensures few { result ≤ 1 }
+{
+    match command {
+        Command::Complete { .. } | Command::Drain => 0,
+        Command::Submit { .. }
+        | Command::Dispatch { .. }
+        | Command::GuestFreeze { .. }
+        | Command::GuestRelease { .. }
+        | Command::Clock { .. } => 1,
     }
 }
 

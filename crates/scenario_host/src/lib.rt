@@ -3,6 +3,7 @@
 #![tactic(auto)]
 
 mod asking;
+mod counting;
 mod host;
 mod running;
 mod watching;

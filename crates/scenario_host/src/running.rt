@@ -1,23 +1,23 @@
 // A run of a scenario from the opening of its engine to the end. It relies on `host` for what the steps ask for.
 
-ghost use Rattle.std.specs.Prelude.{◌≡◌, ◌≤◌, ◌+◌, [], All, IfErr, IfOk, None, length, vec_capacity};
-ghost use Rattle.inbox.specs.Views.{IsOf};
+ghost use Rattle.std.specs.Prelude.{◌≡◌, ◌≤◌, ◌+◌, [], IfErr, IfOk, None, vec_capacity};
 ghost use Rattle.scenario_host.specs.Faults.{IsOfRun, line_of};
 ghost use Rattle.scenario_host.specs.Traces.{HasMade, IsOfScenario, IsTraceOf};
 ghost use Rattle.workers.specs.declared.serving.TheConstants.{MAX_WORKERS};
 
+use crate::counting::count_by_host;
 use crate::host::{Host, RunFault};
 use calls::Notices;
 use engine_core::{Config, Engine, Trace};
 use engine_lock::{Caller, Object, Opened, Shared};
 use hands::Hands;
-use inbox::{Inbox, MAX_CAPACITY, TakePass};
+use inbox::{Inbox, MAX_CAPACITY};
 use scenario::Step;
 use std::alloc::{AllocError, Global};
 use std::marker::Brand;
 use std::sync::{Mutex, Wait};
 use std::thread::Threads;
-use workers::Seat;
+use workers::{Seat, seated};
 
 /// Runs the steps in their order on an engine of this configuration, and serves the completions that are left then, by 1 to 16
 /// workers. Tokens that are out at the end are forfeited. With one worker the trace is determined; with more, completions that
@@ -65,8 +65,11 @@ fn run_on<B: Object + Send + Sync, N: Notices + Sync, R: Threads + Wait + Sync>(
     ensures fault { IfErr result (IsOfRun B.setup steps.now) }
 {
     let mut host = open(rt, alloc, opened.named::<B>(), workers, notices)?;
-    let carried_out = host.carry_out_all(rt, steps);
+    let (asked, carried_out) = host.carry_out_all(rt, steps);
     let trace = close(rt, host)?;
+    if count_by_host(&trace.records) != asked {
+        return Err(RunFault::Unsettled);
+    }
     match carried_out {
         Ok(()) => Ok(trace),
         Err(fault) => Err(fault),
@@ -152,30 +155,6 @@ fn make_room<B: Object>(alloc: Global, workers: usize) -> Result<Room<B>, AllocE
             Err(fault)
         }
     }
-}
-
-// A seat for each pass, for which there is room.
-fn seated<B: Object, R: Wait>(
-    rt: &R,
-    shared: &Shared<B>,
-    inbox: &Inbox,
-    mut takes: Vec<TakePass>,
-    mut seats: Vec<Seat<B>>,
-) -> Vec<Seat<B>>
-    requires passes { All (IsOf inbox.now) takes.items }
-    requires room { (seats.items ≡ []) × (length takes.items ≤ vec_capacity seats) }
-    ensures passes { All (λ seat. IsOf inbox.now seat.pass) result.items }
-    ensures few { length result.items ≤ length takes.items }
-{
-    while let Some(pass) = takes.pop() {
-        match shared.caller(rt) {
-            Ok(caller) => seats.push_reserved(Seat { caller, pass }),
-            // there are fewer callers than may be given out
-            Err(_) => pass.forfeit(),
-        }
-    }
-    takes.destroy_empty();
-    seats
 }
 
 // Ends the host: the whole history of its engine.

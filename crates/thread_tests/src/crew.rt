@@ -16,7 +16,7 @@ use std::alloc::{AllocError, Global};
 use std::mem;
 use std::sync::Wait;
 use std::thread::Threads;
-use workers::{Gate, Open, Seat, Served, Settled, serve, settle};
+use workers::{Gate, Open, Seat, Served, Settled, seated, serve, settle};
 
 /// How many completions find room in the inbox.
 const CAPACITY: usize = 16;
@@ -91,30 +91,6 @@ fn only(inbox: &Inbox, mut puts: Vec<PutPass>) -> PutPass
     let put = puts.remove(0);
     puts.destroy_empty();
     put
-}
-
-// A seat for each pass, for which there is room.
-fn seated<B: Object, R: Wait>(
-    rt: &R,
-    shared: &Shared<B>,
-    inbox: &Inbox,
-    mut takes: Vec<TakePass>,
-    mut seats: Vec<Seat<B>>,
-) -> Vec<Seat<B>>
-    requires passes { All (IsOf inbox.now) takes.items }
-    requires room { (seats.items ≡ []) × (length takes.items ≤ vec_capacity seats) }
-    ensures passes { All (λ seat. IsOf inbox.now seat.pass) result.items }
-    ensures few { length result.items ≤ length takes.items }
-{
-    while let Some(pass) = takes.pop() {
-        match shared.caller(rt) {
-            Ok(caller) => seats.push_reserved(Seat { caller, pass }),
-            // there are fewer callers than may be given out
-            Err(_) => pass.forfeit(),
-        }
-    }
-    takes.destroy_empty();
-    seats
 }
 
 // Spends seats that nobody serves with.

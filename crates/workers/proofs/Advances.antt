@@ -1,5 +1,5 @@
 -- A run that is driven, stop by stop.
-use Rattle.std.proofs.Common.{◌≡◌, ℕ, List, [], ◌∷◌, ◌++◌, refl, ap, sym, subst, ◌∙◌, append-nil}
+use Rattle.std.proofs.Common.{◌≡◌, ℕ, ◌+◌, false, List, [], ◌∷◌, ◌++◌, length, refl, ap, sym, subst, ◌∙◌, append-nil, arith, inl, inr, length-append}
 use Rattle.std.proofs.lemmas.List.Elements.{All-nil, All-cons, All-append}
 use Rattle.world.specs.World.{Setup, World}
 use Rattle.engine_core.specs.RunState.{RunState, StoppedState, before_stop}
@@ -12,8 +12,8 @@ use Rattle.engine_core.specs.declared.reply.Given.TheVariants.{Goes}
 use Rattle.engine_core.specs.Replies.{IsGiven}
 use Rattle.monitor.specs.Telling.{CallerState}
 use Rattle.engine_lock.specs.Sharing.{Section}
-use Rattle.workers.specs.Calls.{AreMade, CallMade, made_none}
-use Rattle.workers.specs.Serving.{Drives, IsAdvanceOf, ended, ended_by}
+use Rattle.workers.specs.Calls.{CallMade, made_none}
+use Rattle.workers.specs.Serving.{Drives, IsAdvanceOf, Leaves, ended, ended_by, is_given}
 use Rattle.workers.proofs.Made.{each_append, made_one}
 
 pub run_back : (r s : RunState) → back.Run r ≡ back.Run s → r ≡ s
@@ -24,18 +24,14 @@ run_back r s same = ap (λ (b : Back). the_run b r) same
     the_run (back.Token token) other = other
     the_run back.Nothing other = other
 
--- the run that goes on bears the number of the one that was advanced
-pub goes_as : (setup : Setup) (before after : World) (stopped : StoppedState) (given : WhatIsGiven) (run : RunState) (r0 : ℕ) → given ≡ Goes run r0 → IsGiven setup before (Advance stopped) after given → run.number ≡ stopped.number
-goes_as setup before after stopped given run r0 is gives = (subst (λ (it : WhatIsGiven). IsGiven setup before (Advance stopped) after it) is gives).0
+-- the run that goes on bears the number of the one that was advanced, and has its program
+pub goes_as : (setup : Setup) (before after : World) (stopped : StoppedState) (given : WhatIsGiven) (run : RunState) (r0 : ℕ) → given ≡ Goes run r0 → IsGiven setup before (Advance stopped) after given → (run.number ≡ stopped.number) × (run.program ≡ stopped.segment.program)
+goes_as setup before after stopped given run r0 is gives = let goes = subst (λ (it : WhatIsGiven). IsGiven setup before (Advance stopped) after it) is gives in (goes.0, goes.1)
 
-module _ (setup : Setup) (number : ℕ) where
-  -- no call yet
-  pub sets_out : (caller : CallerState) → Drives setup number [] caller caller
-  sets_out caller = record { calls = []; made = made_none caller; advances = All-nil (λ (call : CallMade). IsAdvanceOf number call.event); ends = refl }
-
+module _ (setup : Setup) where
   -- one advance more, with what ended by it
-  pub goes_further : (exited : List ℕ) (a b c : CallerState) (stopped : StoppedState) (reply : Reply) → Drives setup number [] a b → stopped.number ≡ number → Section setup (Advance stopped) reply b c → ended_by (Advance stopped) reply ≡ exited → Drives setup number exited a c
-  goes_further exited a b c stopped reply drives same section is =
+  abbrev goes_further : (number : ℕ) (exited : List ℕ) (a b c : CallerState) (stopped : StoppedState) (reply : Reply) → Drives setup number [] a b → stopped.number ≡ number → Section setup (Advance stopped) reply b c → ended_by (Advance stopped) reply ≡ exited → Drives setup number exited a c
+  goes_further number exited a b c stopped reply drives same section is =
       let call : CallMade = record { event = Advance stopped; reply = reply } in record {
         calls = drives.calls ++ call ∷ [];
         made = made_one setup a b c drives.calls (Advance stopped) reply drives.made section;
@@ -45,9 +41,53 @@ module _ (setup : Setup) (number : ℕ) where
             ∙ (ap (λ (xs : List ℕ). xs ++ ended (call ∷ [])) drives.ends ∙ (append-nil (ended_by (Advance stopped) reply) ∙ is));
       }
 
-  -- the run came back, where an advance was not carried out
-  pub comes_back : (a b c : CallerState) (stopped : StoppedState) (reply : Reply) (came : Back) (run : RunState) → Drives setup number [] a b → stopped.number ≡ number → Section setup (Advance stopped) reply b c → ended_by (Advance stopped) reply ≡ [] → came ≡ back.Run (before_stop stopped) → came ≡ back.Run run → (run.number ≡ number) × Drives setup number [] a c
-  comes_back a b c stopped reply came run drives same section is owned back_is = (
-    ap (λ (r : RunState). r.number) (run_back run (before_stop stopped) (sym back_is ∙ owned)) ∙ same,
-    goes_further [] a b c stopped reply drives same section is,
-  )
+  -- The run was advanced so many times, and is at this stop.
+  pub record Drove (run : RunState) (before after : CallerState) (stopped : StoppedState) (turn : ℕ) : Type 0 where
+    pub drives : Drives setup run.number [] before after
+    pub many : length drives.calls ≡ turn
+    pub number : stopped.number ≡ run.number
+    pub program : stopped.segment.program ≡ run.program
+
+  -- no call yet
+  pub sets_out : (run : RunState) (caller : CallerState) (stopped : StoppedState) → before_stop stopped ≡ run → Drove run caller caller stopped 0
+  sets_out run caller stopped is = record {
+    drives = record { calls = []; made = made_none caller; advances = All-nil (λ (call : CallMade). IsAdvanceOf run.number call.event); ends = refl };
+    many = refl;
+    number = ap (λ (it : RunState). it.number) is;
+    program = ap (λ (it : RunState). it.program) is;
+  }
+
+  module _ (run : RunState) (a b c : CallerState) (stopped : StoppedState) (turn : ℕ) (so_far : Drove run a b stopped turn) where
+    -- it went on to its next stop
+    pub goes_on : (again : StoppedState) (reply : Reply) → Section setup (Advance stopped) reply b c → ended_by (Advance stopped) reply ≡ [] → again.number ≡ stopped.number → again.segment.program ≡ stopped.segment.program → Drove run a c again (turn + 1)
+    goes_on again reply section is number program = record {
+      drives = goes_further run.number [] a b c stopped reply so_far.drives so_far.number section is;
+      many = omega (arith, so_far.many, length-append so_far.drives.calls (record { event = Advance stopped; reply = reply } ∷ []));
+      number = number ∙ so_far.number;
+      program = program ∙ so_far.program;
+    }
+
+    -- it came to its exit
+    pub ends : (reply : Reply) → Section setup (Advance stopped) reply b c → ended_by (Advance stopped) reply ≡ stopped.number ∷ [] → Drives setup run.number (run.number ∷ []) a c
+    ends reply section is =
+        goes_further run.number (run.number ∷ []) a b c stopped reply so_far.drives so_far.number section (is ∙ ap (λ (n : ℕ). n ∷ []) so_far.number)
+
+    -- it came back, where an advance was not carried out
+    pub comes_back : (reply : Reply) (came : Back) (left : RunState) → Section setup (Advance stopped) reply b c → ended_by (Advance stopped) reply ≡ [] → is_given reply ≡ false → came ≡ back.Run (before_stop stopped) → came ≡ back.Run left → Leaves setup run left a c
+    comes_back reply came left section is refused owned back_is =
+        let same = run_back left (before_stop stopped) (sym back_is ∙ owned) in
+        let call : CallMade = record { event = Advance stopped; reply = reply } in record {
+          number = ap (λ (it : RunState). it.number) same ∙ so_far.number;
+          program = ap (λ (it : RunState). it.program) same ∙ so_far.program;
+          drives = goes_further run.number [] a b c stopped reply so_far.drives so_far.number section is;
+          why = inr (so_far.drives.calls, call, refl, refused);
+        }
+
+  -- there were as many advances as may be
+  pub is_used_up : (run : RunState) (a b : CallerState) (stopped : StoppedState) (turn : ℕ) (left : RunState) → Drove run a b stopped turn → turn ≡ run.program.budget → left ≡ before_stop stopped → Leaves setup run left a b
+  is_used_up run a b stopped turn left so_far used same = record {
+    number = ap (λ (it : RunState). it.number) same ∙ so_far.number;
+    program = ap (λ (it : RunState). it.program) same ∙ so_far.program;
+    drives = so_far.drives;
+    why = inl (so_far.many ∙ used);
+  }

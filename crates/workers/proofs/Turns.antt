@@ -19,12 +19,12 @@ use Rattle.engine_core.specs.declared.reply.Reply.{Reply}
 use Rattle.engine_core.specs.declared.reply.Reply.TheVariants.{Given as Gives}
 use Rattle.monitor.specs.Telling.{CallerState}
 use Rattle.engine_lock.specs.Sharing.{Section}
-use Rattle.workers.specs.Calls.{AreMade, CallMade, each, made_none, made_more}
+use Rattle.workers.specs.Calls.{CallMade, made_none, made_more}
 use Rattle.workers.proofs.Made.{each_append, made_then}
 use Rattle.workers.specs.declared.driving.TheConstants.{MOST_STARTED}
 use Rattle.workers.specs.declared.worker.Kept.{Kept}
 use Rattle.workers.specs.declared.worker.Kept.TheVariants.{Nothing, Completion, Run}
-use Rattle.workers.specs.Serving.{AreServed, Drives, HasDone, HasServed, IsAdvanceOf, IsReady, SeatState, ServedState, Serves, StartsNone, Took, WorkerState, all_of, asked, asked_by, at_rest, completions_in, ended, ended_by, is_answered, nothing_served, runs_in, started, started_by, unanswered, unless, with_worker}
+use Rattle.workers.specs.Serving.{AreServed, Drives, HasDone, HasLeft, HasServed, HasStopped, IsAdvanceOf, IsLeftBy, IsReady, Leaves, SeatState, ServedState, Serves, StartsNone, Took, WorkerState, all_of, asked, asked_by, at_rest, completions_in, ended, ended_by, is_answered, nothing_served, runs_in, started, started_by, unanswered, unless, with_worker}
 
 pub took_none : (before after : PassView) → after ≡ before → Took before after []
 took_none before after same = record {
@@ -105,6 +105,17 @@ none_started (Resumed run) none completion = refl
 pub one_started : (given : Given) (run : RunState) → (freeze : ℕ) × (given ≡ Started run freeze) → (completion : Bor Outcome) → started_by (Complete completion) (Gives given) ≡ run.number ∷ []
 one_started given run is completion = ap (λ (it : Given). started_by (Complete completion) (Gives it)) is.1
 
+-- what keeps nothing, or a completion, keeps no run
+keeps_none : (kept : Kept) (run : RunState) → runs_in kept ≡ [] → kept ≡ Run run → ⊥
+keeps_none kept run none is = omega (arith, ap length none, ap (λ (it : Kept). length (runs_in it)) is)
+
+the_same : (run left : RunState) → Run run ≡ Run left → run ≡ left
+the_same run left is = ap (λ (kept : Kept). the_run kept) is
+  where
+    the_run : Kept → RunState
+    the_run (Run it) = it
+    the_run kept = run
+
 module _ (setup : Setup) where
   -- nothing was taken
   pub idles : (before : WorkerState) (pass : PassView) → Took before.pass pass [] → before.kept ≡ Nothing → HasDone setup before (record before { pass = pass })
@@ -117,6 +128,7 @@ module _ (setup : Setup) where
     asks = refl;
     keeps = ap completions_in free;
     keeps_run = sym (ap numbers free);
+    leaves = λ run is. absurd (keeps_none before.kept run (ap runs_in free) is);
     starts = omega arith;
     ends = omega arith;
   }
@@ -140,6 +152,7 @@ module _ (setup : Setup) where
       asks = refl;
       keeps = ap completions_in free ∙ sym (ap (λ (it : Bool). unless it (completion.now ∷ []) ++ []) answered);
       keeps_run = ap (λ (xs : List ℕ). xs ++ []) no_run ∙ sym (ap numbers free);
+      leaves = λ run is. absurd (keeps_none before.kept run (ap runs_in free) is);
       starts = omega (arith, ap (λ (xs : List ℕ). length (xs ++ [])) no_run);
       ends = omega arith;
     }
@@ -155,6 +168,7 @@ module _ (setup : Setup) where
       asks = refl;
       keeps = sym (ap (λ (it : Bool). unless it (completion.now ∷ []) ++ []) answered);
       keeps_run = ap (λ (xs : List ℕ). xs ++ []) no_run;
+      leaves = λ run is. absurd (keeps_none (Completion completion.now) run refl is);
       starts = omega (arith, ap (λ (xs : List ℕ). length (xs ++ [])) no_run);
       ends = omega arith;
     }
@@ -175,26 +189,35 @@ module _ (setup : Setup) where
             keeps_run = ap (λ (xs : List ℕ). xs ++ started drives.calls) starts
                 ∙ (ap (λ (xs : List ℕ). number ∷ xs) still.starts
                 ∙ sym (ap (λ (xs : List ℕ). xs ++ numbers before.kept) drives.ends ∙ ap (λ (kept : Kept). number ∷ numbers kept) free));
+            leaves = λ run is. absurd (keeps_none before.kept run (ap runs_in free) is);
             starts = omega (arith, ap (λ (xs : List ℕ). length (xs ++ started drives.calls)) starts, ap length still.starts);
             ends = omega (arith, ap length drives.ends);
           }
 
       -- or is kept
-      pub keeps_run_of : (run : RunState) → run.number ≡ number → Drives setup number [] caller after → HasDone setup before (record before { caller = after; pass = pass; kept = Run run; started = before.started + 1 })
-      keeps_run_of run same drives =
-          let still = quiet number drives.calls drives.advances in record {
+      pub keeps_run_of : (begun run : RunState) → begun.number ≡ number → Leaves setup begun run caller after → HasDone setup before (record before { caller = after; pass = pass; kept = Run run; started = before.started + 1 })
+      keeps_run_of begun run same left =
+          let calls = left.drives.calls in
+          let still = quiet begun.number calls left.drives.advances in record {
             taken = completion.now ∷ [];
             pass = took;
-            calls = call ∷ drives.calls;
-            made = made_more before.caller caller after call drives.calls made drives.made;
-            serves = All-cons (λ (it : CallMade). Serves it.event) call drives.calls tt still.serves;
+            calls = call ∷ calls;
+            made = made_more before.caller caller after call calls made left.drives.made;
+            serves = All-cons (λ (it : CallMade). Serves it.event) call calls tt still.serves;
             asks = ap (λ (xs : List Outcome). completion.now ∷ xs) (sym still.asks);
-            keeps = sym (ap (λ (it : Bool). unless it (completion.now ∷ []) ++ unanswered drives.calls) answered ∙ still.answered);
-            keeps_run = ap (λ (xs : List ℕ). xs ++ started drives.calls) starts
+            keeps = sym (ap (λ (it : Bool). unless it (completion.now ∷ []) ++ unanswered calls) answered ∙ still.answered);
+            keeps_run = ap (λ (xs : List ℕ). xs ++ started calls) starts
                 ∙ (ap (λ (xs : List ℕ). number ∷ xs) still.starts
-                ∙ sym (ap (λ (xs : List ℕ). xs ++ run.number ∷ []) drives.ends ∙ ap (λ (n : ℕ). n ∷ []) same));
-            starts = omega (arith, ap (λ (xs : List ℕ). length (xs ++ started drives.calls)) starts, ap length still.starts);
-            ends = omega (arith, ap length drives.ends);
+                ∙ sym (ap (λ (xs : List ℕ). xs ++ run.number ∷ []) left.drives.ends ∙ ap (λ (n : ℕ). n ∷ []) (left.number ∙ same)));
+            leaves = λ its is. subst (IsLeftBy (call ∷ calls)) (the_same run its is) (record {
+              before = call ∷ [];
+              advances = calls;
+              calls_are = refl;
+              its = subst (λ (n : ℕ). All (λ (it : CallMade). IsAdvanceOf n it.event) calls) (sym left.number) left.drives.advances;
+              why = subst (λ (budget : ℕ). HasLeft budget calls) (sym (ap (λ it. it.budget) left.program)) left.why;
+            });
+            starts = omega (arith, ap (λ (xs : List ℕ). length (xs ++ started calls)) starts, ap length still.starts);
+            ends = omega (arith, ap length left.drives.ends);
           }
 
   -- what one turn leaves, by how it goes
@@ -239,9 +262,9 @@ module _ (setup : Setup) where
         ended = omega (arith, ready.ended);
       }
 
-      pub leaves_run : (run : RunState) → run.number ≡ number → Drives setup number [] caller after → HasServed setup old (record { caller = after; pass = pass; kept = Run run; started = old.started + 1; ended = old.ended })
-      leaves_run run same driven = record {
-        did = keeps_run_of old caller pass completion reply made took ready.free number answered (starts completion) after run same driven;
+      pub leaves_run : (begun run : RunState) → begun.number ≡ number → Leaves setup begun run caller after → HasServed setup old (record { caller = after; pass = pass; kept = Run run; started = old.started + 1; ended = old.ended })
+      leaves_run begun run same left = record {
+        did = keeps_run_of old caller pass completion reply made took ready.free number answered (starts completion) after begun run same left;
         started = few;
         ended = omega (arith, ready.ended);
       }
@@ -275,6 +298,13 @@ module _ (setup : Setup) where
             ∙ (ap (λ (zs : List ℕ). zs ++ started ys) no_run
             ∙ (ap (λ (zs : List ℕ). ended xs ++ zs) second.keeps_run
             ∙ sym (ap (λ (zs : List ℕ). zs ++ numbers c.kept) (each_append (λ (it : CallMade). ended_by it.event it.reply) xs ys) ∙ append_assoc (ended xs) (ended ys) (numbers c.kept))));
+        leaves = λ run is. let left = second.leaves run is in record {
+          before = xs ++ left.before;
+          advances = left.advances;
+          calls_are = ap (λ (calls : List CallMade). xs ++ calls) left.calls_are ∙ sym (append_assoc xs left.before left.advances);
+          its = left.its;
+          why = left.why;
+        };
         starts = omega (arith, first.starts, second.starts, ap length (each_append (λ (it : CallMade). started_by it.event it.reply) xs ys), length-append (started xs) (started ys));
         ends = omega (arith, first.ends, second.ends, ap length (each_append (λ (it : CallMade). ended_by it.event it.reply) xs ys), length-append (ended xs) (ended ys));
       }
@@ -303,6 +333,13 @@ module _ (setup : Setup) where
   few_each (seat ∷ seats) (worker ∷ workers) same at =
       let here = at 0 worker (omega arith) in
       All-cons IsFew worker workers (here.started, here.ended) (few_each seats workers (omega (arith, same)) (λ i d lt. at (suc i) d (omega (arith, lt))))
+
+  pub stopped_each : (seats : List SeatState) (workers : List WorkerState) → length workers ≡ length seats → ((i : ℕ) (d : WorkerState) → i < length seats → HasStopped (slice_index_or workers i d)) → All HasStopped workers
+  stopped_each [] [] same at = All-nil HasStopped
+  stopped_each [] (worker ∷ workers) same at = absurd (omega (arith, same))
+  stopped_each (seat ∷ seats) [] same at = All-nil HasStopped
+  stopped_each (seat ∷ seats) (worker ∷ workers) same at =
+      All-cons HasStopped worker workers (at 0 worker (omega arith)) (stopped_each seats workers (omega (arith, same)) (λ i d lt. at (suc i) d (omega (arith, lt))))
 
   -- seats that did not serve
   pub idle_each : (seats : List SeatState) → AllZip (HasDone setup) (map at_rest seats) (map at_rest seats)

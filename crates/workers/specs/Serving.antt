@@ -1,8 +1,9 @@
 -- What a worker does: each completion that it took it asked the engine to complete, and keeps it where that was not answered; each
 -- run that it started has ended, or it keeps it.
-use Rattle.std.specs.Prelude.{◌≡◌, ℕ, ◌+◌, ◌≤◌, Bool, true, false, List, [], ◌∷◌, ◌++◌, map, length, All}
+use Rattle.std.specs.Prelude.{◌≡◌, ◌⊎◌, ℕ, ◌+◌, ◌≤◌, Bool, true, false, List, [], ◌∷◌, ◌++◌, map, length, All}
 use Rattle.std.specs.List.{AllZip}
 use Rattle.ccb.specs.Completion.{Outcome}
+use Rattle.inbox.specs.InboxLists.{Held}
 use Rattle.inbox.specs.Views.{InboxView, PassView, IsOf}
 use Rattle.calls.specs.declared.call_refusal.CallRefusal.TheVariants.{Unknown, NotActive}
 use Rattle.world.specs.World.{Setup}
@@ -93,6 +94,11 @@ abbrev pub ended_by : Event → Reply → List ℕ
 ended_by (Advance run) (Given (Ended r0)) = run.number ∷ []
 ended_by event reply = []
 
+-- it was carried out
+abbrev pub is_given : Reply → Bool
+is_given (Given given) = true
+is_given reply = false
+
 -- the completions that were asked for, and those of them that were not answered
 abbrev pub asked : List CallMade → List Outcome
 asked = each (λ call. asked_by call.event)
@@ -107,9 +113,27 @@ started = each (λ call. started_by call.event call.reply)
 abbrev pub ended : List CallMade → List ℕ
 ended = each (λ call. ended_by call.event call.reply)
 
+-- Why a run is not driven on behind these advances: the last of them was not carried out, or there were as many as its budget has
+-- instructions.
+abbrev pub HasLeft : ℕ → List CallMade → Type 0
+HasLeft budget advances =
+    (length advances ≡ budget) ⊎ ((before : List CallMade) × (last : CallMade) × (advances ≡ before ++ last ∷ []) × (is_given last.reply ≡ false))
+
+-- The last of these calls are advances of this run, behind which it is not driven on.
+pub record IsLeftBy (calls : List CallMade) (run : RunState) : Type 0 where
+  pub before : List CallMade
+  pub advances : List CallMade
+  pub calls_are : calls ≡ before ++ advances
+  pub its : All (λ call. IsAdvanceOf run.number call.event) advances
+  pub why : HasLeft run.program.budget advances
+
+-- why a worker serves no more: it keeps something, has started as many runs as it may, or found the inbox empty
+abbrev pub HasStopped : WorkerState → Type 0
+HasStopped worker = worker.kept ≡ Nothing → (worker.started ≡ MOST_STARTED) ⊎ Held worker.pass.account 0
+
 module _ (setup : Setup) where
   -- By these calls of its caller it asked for each completion that it took, once and in the order of the takes, and keeps just
-  -- what was not answered; and each run that they started ended by them, or is kept.
+  -- what was not answered; and each run that they started ended by them, or is kept, where it could not be driven on.
   pub record HasDone (before after : WorkerState) : Type 0 where
     pub taken : List Outcome
     pub pass : Took before.pass after.pass taken
@@ -119,6 +143,7 @@ module _ (setup : Setup) where
     pub asks : taken ≡ asked calls
     pub keeps : completions_in after.kept ≡ unanswered calls
     pub keeps_run : started calls ≡ ended calls ++ map (λ run. run.number) (runs_in after.kept)
+    pub leaves : (run : RunState) → after.kept ≡ Run run → IsLeftBy calls run
     pub starts : after.started ≡ before.started + length (started calls)
     pub ends : after.ended ≡ before.ended + length (ended calls)
 
@@ -128,6 +153,13 @@ module _ (setup : Setup) where
     pub made : AreMade setup before calls after
     pub advances : All (λ call. IsAdvanceOf number call.event) calls
     pub ends : ended calls ≡ exited
+
+  -- The run is left where it could not be driven on: by these calls it was advanced and nothing else.
+  pub record Leaves (run left : RunState) (before after : CallerState) : Type 0 where
+    pub number : left.number ≡ run.number
+    pub program : left.program ≡ run.program
+    pub drives : Drives run.number [] before after
+    pub why : HasLeft run.program.budget drives.calls
 
 -- what a service gives back
 pub record ServedState : Type 0 where
@@ -160,6 +192,8 @@ pub record AreServed (setup : Setup) (seats : List SeatState) (served : ServedSt
   pub workers : List WorkerState
   -- each seat served so
   pub each_did : AllZip (HasDone setup) (map at_rest seats) workers
+  -- and stopped so, or memory was refused before any did
+  pub stopped : All HasStopped workers ⊎ (workers ≡ map at_rest seats)
   pub served_is : served ≡ all_of workers nothing_served
 
 -- it may serve this inbox

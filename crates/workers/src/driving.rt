@@ -1,12 +1,12 @@
 // What a worker does with one completion: it is answered, and the run that it starts is driven to its end. It relies on
 // `engine_lock` for calls, and on `engine_core` for what a run executes by itself, outside the lock.
 
-ghost use Rattle.std.specs.Prelude.{◌≡◌, ℕ, true, [], ◌∷◌, IfErr, IfSome, IfNone, OnOk};
+ghost use Rattle.std.specs.Prelude.{◌≡◌, ℕ, true, false, ◌∷◌, [], IfErr, IfSome, IfNone, OnOk};
 ghost use Rattle.engine_core.specs.Replies.{IsRunBack};
 ghost use Rattle.engine_core.specs.declared.reply.Back.TheVariants as its;
 ghost use Rattle.engine_core.specs.declared.reply.Given.TheVariants.{Started};
 ghost use Rattle.engine_core.specs.declared.reply.Reply.TheVariants.{Refused};
-ghost use Rattle.workers.specs.Serving.{Drives, HasServed, IsReady, StartsNone, is_answered};
+ghost use Rattle.workers.specs.Serving.{Drives, HasServed, HasStopped, IsReady, Leaves, StartsNone, is_answered};
 
 use crate::gate::Gate;
 use crate::worker::{Kept, Worker};
@@ -27,13 +27,15 @@ pub(crate) fn work<B: Object, G: Gate, R: Wait>(
     worker: &mut Worker<B>,
 )
     requires { IsReady inbox.now worker.old }
-    ensures { HasServed B.setup worker.old worker.new }
+    ensures served { HasServed B.setup worker.old worker.new }
+    ensures stopped { HasStopped worker.new }
 {
     for _ in rt.forever() {
         if !serve_next(rt, shared, inbox, gate, worker) {
-            break;
+            return;
         }
     }
+    unreachable!()
 }
 
 // Takes a completion and serves it. Whether there may be more, and nothing is kept.
@@ -47,6 +49,7 @@ fn serve_next<B: Object, G: Gate, R: Wait>(
     requires { IsReady inbox.now worker.old }
     ensures served { HasServed B.setup worker.old worker.new }
     ensures ready { result ≡ true → IsReady inbox.now worker.new }
+    ensures stopped { result ≡ false → HasStopped worker.new }
 {
     if worker.started == MOST_STARTED {
         return false;
@@ -125,7 +128,7 @@ pub fn drive<B: Object, G: Gate, R: Wait>(
     run: Run,
 ) -> Result<(), Run>
     ensures ended { OnOk result (Drives B.setup run.number (run.number ∷ []) caller.old caller.new) }
-    ensures kept { IfErr result (λ kept. (kept.number ≡ run.number) × Drives B.setup run.number [] caller.old caller.new) }
+    ensures kept { IfErr result (λ kept. Leaves B.setup run kept caller.old caller.new) }
 {
     let budget = run.program().budget();
     let mut stopped = run.to_stop();

@@ -11,6 +11,6 @@ mod worker;
 
 pub use driving::drive;
 pub use gate::{Gate, Open};
-pub use seat::Seat;
+pub use seat::{Seat, seated};
 pub use serving::{MAX_WORKERS, Served, serve};
 pub use settling::{Settled, settle};

@@ -2,7 +2,7 @@
 
 ghost use Rattle.std.specs.Prelude.{◌≡◌, ℕ, ◌<◌, ◌≤◌, [], All, IfOk, length, map, slice_index_or, vec_capacity};
 ghost use Rattle.inbox.specs.Views.{IsOf};
-ghost use Rattle.workers.specs.Serving.{AreServed, HasServed, IsReady, WorkerState, all_of, at_rest, nothing_served};
+ghost use Rattle.workers.specs.Serving.{AreServed, HasServed, HasStopped, IsReady, WorkerState, all_of, at_rest, nothing_served};
 ghost use Rattle.workers.specs.declared.driving.TheConstants.{MOST_STARTED};
 
 use crate::driving::work;
@@ -157,7 +157,7 @@ fn serve_all<B: Object + Send + Sync, G: Gate + Sync, R: Threads + Wait + Sync>(
     gate: &G,
 )
     requires ready { All (IsReady inbox.now) workers.old }
-    ensures { (place : ℕ) (none : WorkerState) → place < length workers.old → HasServed B.setup (slice_index_or workers.old place none) (slice_index_or workers.new place none) }
+    ensures { (place : ℕ) (none : WorkerState) → place < length workers.old → HasServed B.setup (slice_index_or workers.old place none) (slice_index_or workers.new place none) × HasStopped (slice_index_or workers.new place none) }
 {
     thread::for_each_mut(
         rt,
@@ -165,7 +165,7 @@ fn serve_all<B: Object + Send + Sync, G: Gate + Sync, R: Threads + Wait + Sync>(
         MAX_WORKERS,
         &|_, worker: &mut Worker<B>|
             requires { IsReady inbox.now worker.now }
-            ensures { HasServed B.setup worker.entry.now worker.exit.now }
+            ensures { HasServed B.setup worker.entry.now worker.exit.now × HasStopped worker.exit.now }
         { work(rt, shared, inbox, gate, worker) },
     );
 }

@@ -1,4 +1,4 @@
-use Rattle.std.proofs.Common.{◌≡◌, ◌+◌, false, true, refl, sym, subst, ◌∙◌, arith}
+use Rattle.std.proofs.Common.{◌+◌, refl, sym, subst, ◌∙◌, arith}
 use Rattle.workers.specs.declared.worker.Kept.TheVariants.{Completion, Run}
 use Rattle.workers.specs.Serving.{HasServed, IsReady, WorkerState}
 use Rattle.workers.proofs.Turns.{drives, finds_none, leaves_completion, leaves_run, none_started, one_started, passes, stays}
@@ -27,7 +27,7 @@ returns-in-Err-clause-served g c =
     let ready : IsReady c.args.inbox.now old = subst (IsReady c.args.inbox.now) (sym c.worker.view_is) c.requires in
     rw c.keep.ensures
     (subst (λ (w : WorkerState). HasServed g.B.Origin.setup w (record { caller = c.drive.new.caller; pass = c.take.new.pass; kept = Run c.in-Err.run'; started = c.worker.inside.started + 1; ended = c.worker.inside.ended })) c.worker.view_is
-    (leaves_run g.B.Origin.setup c.args.inbox.now old c.call.new.caller c.take.new.pass _ _ c.in-Given.ensures ready c.in-Some.ensures.same c.in-Some.ensures.taken c.in-Some-started_by.run'.number refl (one_started c.in-Given.given c.in-Some-started_by.run' c.in-Some-started_by.ensures.started) c.drive.new.caller (omega (arith, c.if-worker-eq-MOST_STARTED.false, ready.started)) c.in-Err.run' c.in-Err.ensures.kept.0 c.in-Err.ensures.kept.1))
+    (leaves_run g.B.Origin.setup c.args.inbox.now old c.call.new.caller c.take.new.pass _ _ c.in-Given.ensures ready c.in-Some.ensures.same c.in-Some.ensures.taken c.in-Some-started_by.run'.number refl (one_started c.in-Given.given c.in-Some-started_by.run' c.in-Some-started_by.ensures.started) c.drive.new.caller (omega (arith, c.if-worker-eq-MOST_STARTED.false, ready.started)) c.in-Some-started_by.run' c.in-Err.run' refl c.in-Err.ensures.kept))
 
 pub returns-in_default-started_by-clause-served : goal.returns-in_default-started_by-clause-served
 returns-in_default-started_by-clause-served g c =
@@ -43,16 +43,13 @@ returns-then-is_passed_over-clause-served g c =
     subst (λ (w : WorkerState). HasServed g.B.Origin.setup w (record { caller = c.call.new.caller; pass = c.take.new.pass; kept = c.worker.inside.kept; started = c.worker.inside.started; ended = c.worker.inside.ended })) c.worker.view_is
     (passes g.B.Origin.setup c.args.inbox.now old c.call.new.caller c.take.new.pass _ _ c.in-Refused.ensures ready c.in-Some.ensures.same c.in-Some.ensures.taken (sym c.is_passed_over.ensures ∙ c.if-is_passed_over.true) (λ it. refl))
 
-pub returns-else-is_passed_over : goal.returns-else-is_passed_over
-returns-else-is_passed_over g c =
+pub returns-else-is_passed_over-clause-served : goal.returns-else-is_passed_over-clause-served
+returns-else-is_passed_over-clause-served g c =
     let old : WorkerState = record { caller = c.worker.inside.caller; pass = c.worker.inside.pass; kept = c.worker.inside.kept; started = c.worker.inside.started; ended = c.worker.inside.ended } in
     let ready : IsReady c.args.inbox.now old = subst (IsReady c.args.inbox.now) (sym c.worker.view_is) c.requires in
-    record {
-      served = rw c.keep-in-Refused.ensures
-          (subst (λ (w : WorkerState). HasServed g.B.Origin.setup w (record { caller = c.call.new.caller; pass = c.take.new.pass; kept = Completion c.in-Some.completion; started = c.worker.inside.started; ended = c.worker.inside.ended })) c.worker.view_is
-          (leaves_completion g.B.Origin.setup c.args.inbox.now old c.call.new.caller c.take.new.pass _ _ c.in-Refused.ensures ready c.in-Some.ensures.same c.in-Some.ensures.taken (sym c.is_passed_over.ensures ∙ c.if-is_passed_over.false) (λ it. refl)));
-      ready = λ e. absurd (let bad : false ≡ true = e in cc);
-    }
+    rw c.keep-in-Refused.ensures
+    (subst (λ (w : WorkerState). HasServed g.B.Origin.setup w (record { caller = c.call.new.caller; pass = c.take.new.pass; kept = Completion c.in-Some.completion; started = c.worker.inside.started; ended = c.worker.inside.ended })) c.worker.view_is
+    (leaves_completion g.B.Origin.setup c.args.inbox.now old c.call.new.caller c.take.new.pass _ _ c.in-Refused.ensures ready c.in-Some.ensures.same c.in-Some.ensures.taken (sym c.is_passed_over.ensures ∙ c.if-is_passed_over.false) (λ it. refl)))
 
 pub returns-in-OutOfMemory-clause-served : goal.returns-in-OutOfMemory-clause-served
 returns-in-OutOfMemory-clause-served g c =

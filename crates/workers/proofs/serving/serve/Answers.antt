@@ -1,4 +1,4 @@
-use Rattle.std.proofs.Common.{map, sym, ◌∙◌}
+use Rattle.std.proofs.Common.{inr, map, refl, sym, ◌∙◌}
 use Rattle.workers.specs.Serving.{at_rest, nothing_served}
 use Rattle.workers.proofs.Turns.{idle_each, rest_of, all_back, passes_are}
 use Rattle.workers.proofs.serving.serve.Goals as goal
@@ -13,6 +13,7 @@ pub returns-in-Err-clause-served : goal.returns-in-Err-clause-served
 returns-in-Err-clause-served g c = record {
   workers = map at_rest c.args.seats.items;
   each_did = idle_each g.B.Origin.setup c.args.seats.items;
+  stopped = inr refl;
   served_is = (λ i. record { seats = c.args.seats.items; started = 0; ended = 0; completions = c.new.ensures.items i; runs = c.new-in-Err.ensures.items i })
       ∙ sym (rest_of c.args.seats.items nothing_served);
 }

@@ -1,4 +1,3 @@
-use Rattle.std.proofs.Common.{◌≡◌, ◌+◌}
 use Rattle.workers.proofs.Parking.{Turn}
 use Rattle.workers.proofs.settling.park_all.Given as goal
 

@@ -1,7 +1,7 @@
 use Rattle.std.proofs.Common.{◌≡◌, sym, subst, arith}
 use Rattle.std.specs.Prelude.{slice_index_or}
 use Rattle.workers.specs.Serving.{SeatState}
-use Rattle.workers.proofs.Parking.{by_first, by_none}
+use Rattle.workers.proofs.Parking.{by_first}
 use Rattle.workers.proofs.settling.park_by_first.Goals as goal
 
 pub returns-then-not-is_empty : goal.returns-then-not-is_empty

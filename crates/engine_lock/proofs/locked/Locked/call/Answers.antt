@@ -1,11 +1,12 @@
-use Rattle.std.proofs.Common.{ℕ, refl, ap, sym, subst, ◌∙◌}
-use Rattle.monitor.specs.LegalHistory.{records}
+use Rattle.std.proofs.Common.{ℕ, List, refl, ap, sym, subst, ◌∙◌}
+use Rattle.monitor.specs.declared.knowledge.Pair.{Pair}
+use Rattle.monitor.specs.LegalHistory.{StartsWith, records, unshared}
 use Rattle.monitor.specs.Telling.{CallerState, KeeperState}
-use Rattle.monitor.proofs.Histories.{records_push}
+use Rattle.monitor.proofs.Histories.{longer, records_push}
 use Rattle.world.specs.World.{Setup}
 use Rattle.engine_core.specs.Replies.{IsOfKnown}
-use Rattle.engine_lock.specs.Sharing.{IsSince, LockedState, Section}
-use Rattle.engine_lock.proofs.Histories.{answered_so, last_beyond, section_of, stands_since, tells_made, tells_nothing, tells_unfit}
+use Rattle.engine_lock.specs.Sharing.{IsSince, LockedState, Section, Tells}
+use Rattle.engine_lock.proofs.Histories.{answered_so, last_beyond, section_of, tells_made, tells_nothing, tells_unfit}
 use Rattle.engine_lock.proofs.Since.{since_more}
 use Rattle.engine_lock.proofs.locked.Locked.call.Goals as goal
 
@@ -31,6 +32,7 @@ invariant_of-self g c =
           ∙ sym (last_beyond (records c.self.inside.keeper.history) c.self.inside.engine c.answer_known-reply.new.self c.args.event c.answer_known-reply.result c.answer_known-reply.ensures.fits
           (sym c.is_recorded.ensures ∙ c.if-is_recorded.true) c.answer_known-reply.ensures.recorded h.4)),
       ap (λ (k : KeeperState). k.callers) c.publish_last.ensures.history ∙ h.5,
+      subst (λ (k : KeeperState). StartsWith k.history (unshared g.B.Origin.begun)) (sym c.publish_last.ensures.history) (longer c.self.inside.keeper.history (unshared g.B.Origin.begun) _ h.6),
     )
 
 pub returns-then-is_recorded-clause-answers : goal.returns-then-is_recorded-clause-answers
@@ -38,24 +40,15 @@ returns-then-is_recorded-clause-answers g c =
     let it = c.answer_known-reply in
     answered_so c.self.inside.engine c.args.self.now.engine (ap (λ (l : LockedState). l.engine) c.self.view_is) c.args.event it.result it.new.self it.ensures.recorded it.ensures.fits it.ensures.fit it.ensures.gives
 
-pub returns-then-is_recorded-clause-since : goal.returns-then-is_recorded-clause-since
-returns-then-is_recorded-clause-since g c = stands_since c.self.inside.engine c.args.self.now.engine (ap (λ (l : LockedState). l.engine) c.self.view_is) g.B.Origin.setup g.B.Origin.begun c.self.inside.book.total c.self.invariant.0
-
 pub returns-then-is_unfit-clause-answers : goal.returns-then-is_unfit-clause-answers
 returns-then-is_unfit-clause-answers g c =
     let it = c.answer_known-reply in
     answered_so c.self.inside.engine c.args.self.now.engine (ap (λ (l : LockedState). l.engine) c.self.view_is) c.args.event it.result it.new.self it.ensures.recorded it.ensures.fits it.ensures.fit it.ensures.gives
 
-pub returns-then-is_unfit-clause-since : goal.returns-then-is_unfit-clause-since
-returns-then-is_unfit-clause-since g c = stands_since c.self.inside.engine c.args.self.now.engine (ap (λ (l : LockedState). l.engine) c.self.view_is) g.B.Origin.setup g.B.Origin.begun c.self.inside.book.total c.self.invariant.0
-
 pub returns-else-is_unfit-clause-answers : goal.returns-else-is_unfit-clause-answers
 returns-else-is_unfit-clause-answers g c =
     let it = c.answer_known-reply in
     answered_so c.self.inside.engine c.args.self.now.engine (ap (λ (l : LockedState). l.engine) c.self.view_is) c.args.event it.result it.new.self it.ensures.recorded it.ensures.fits it.ensures.fit it.ensures.gives
-
-pub returns-else-is_unfit-clause-since : goal.returns-else-is_unfit-clause-since
-returns-else-is_unfit-clause-since g c = stands_since c.self.inside.engine c.args.self.now.engine (ap (λ (l : LockedState). l.engine) c.self.view_is) g.B.Origin.setup g.B.Origin.begun c.self.inside.book.total c.self.invariant.0
 
 pub returns-then-is_recorded-clause-section : goal.returns-then-is_recorded-clause-section
 returns-then-is_recorded-clause-section g c =
@@ -80,3 +73,23 @@ returns-else-is_unfit-clause-section g c =
     section_of g.B.Origin.setup g.B.Origin.begun c.self.inside.book.total c.self.inside.engine it.new.self c.self.inside.keeper.history c.args.event it.result _ _
     c.self.invariant.0 c.self.invariant.4 it.ensures.recorded it.ensures.fits it.ensures.fit it.ensures.gives
     (tells_nothing g.B.Origin.setup c.self.inside.keeper.history c.args.event it.result _ _ (sym c.is_recorded.ensures ∙ c.if-is_recorded.false) (sym c.is_unfit.ensures ∙ c.if-is_unfit.false) refl)
+
+pub returns-then-is_recorded-clause-tells : goal.returns-then-is_recorded-clause-tells
+returns-then-is_recorded-clause-tells g c =
+    let it = c.answer_known-reply in
+    subst (λ (h : List Pair). Tells g.B.Origin.setup h c.args.event it.result c.args.caller.now c.publish_last.new.part) (ap (λ (l : LockedState). l.history) c.self.view_is)
+    (subst (λ (before : CallerState). Tells g.B.Origin.setup c.self.inside.keeper.history c.args.event it.result before c.publish_last.new.part) c.caller.view_is
+    (tells_made (records c.self.inside.keeper.history) c.self.inside.engine it.new.self c.args.event it.result it.ensures.fits
+    (sym c.is_recorded.ensures ∙ c.if-is_recorded.true) it.ensures.recorded c.self.invariant.4 g.B.Origin.setup c.self.inside.keeper.history _ _ c.publish_last.ensures.caller))
+
+pub returns-then-is_unfit-clause-tells : goal.returns-then-is_unfit-clause-tells
+returns-then-is_unfit-clause-tells g c =
+    let it = c.answer_known-reply in
+    subst (λ (h : List Pair). Tells g.B.Origin.setup h c.args.event it.result c.args.caller.now c.look.new.caller) (ap (λ (l : LockedState). l.history) c.self.view_is)
+    (subst (λ (before : CallerState). Tells g.B.Origin.setup c.self.inside.keeper.history c.args.event it.result before c.look.new.caller) c.caller.view_is
+    (tells_unfit g.B.Origin.setup c.self.inside.keeper.history c.args.event it.result _ _ (sym c.is_unfit.ensures ∙ c.if-is_unfit.true) c.look.ensures.caller))
+
+pub returns-else-is_unfit-clause-tells : goal.returns-else-is_unfit-clause-tells
+returns-else-is_unfit-clause-tells g c =
+    let it = c.answer_known-reply in
+    tells_nothing g.B.Origin.setup c.args.self.now.history c.args.event it.result _ _ (sym c.is_recorded.ensures ∙ c.if-is_recorded.false) (sym c.is_unfit.ensures ∙ c.if-is_unfit.false) refl

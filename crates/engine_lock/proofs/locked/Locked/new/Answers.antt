@@ -1,7 +1,7 @@
-use Rattle.std.proofs.Common.{[], ap, sym, ◌∙◌, arith, append-nil}
-use Rattle.monitor.specs.LegalHistory.{records}
+use Rattle.std.proofs.Common.{[], ap, sym, subst, ◌∙◌, arith, append-nil}
+use Rattle.monitor.specs.LegalHistory.{StartsWith, records, unshared}
 use Rattle.monitor.specs.Telling.{KeeperState}
-use Rattle.monitor.proofs.Histories.{records_unshared}
+use Rattle.monitor.proofs.Histories.{itself, records_unshared}
 use Rattle.engine_lock.proofs.locked.Locked.new.Goals as goal
 
 pub invariant_of-result : goal.invariant_of-result
@@ -18,4 +18,5 @@ invariant_of-result g c = (
   c.requires.rest.2,
   ap (λ (k : KeeperState). records k.history) c.requires.keeper ∙ (records_unshared g.B.Origin.begun ∙ sym c.requires.begun),
   ap (λ (k : KeeperState). k.callers) c.requires.keeper,
+  subst (λ (k : KeeperState). StartsWith k.history (unshared g.B.Origin.begun)) (sym c.requires.keeper) (itself (unshared g.B.Origin.begun)),
 )

@@ -2,7 +2,8 @@ use Rattle.std.proofs.Common.{◌≡◌, ◌++◌, ℕ, List, [], ◌∷◌, All
 use Rattle.std.specs.List.{sum_by}
 use Rattle.std.proofs.lemmas.List.Sums.{sum_by_push}
 use Rattle.std.proofs.lemmas.List.Elements.{All-nil, All-cons}
-use Rattle.monitor.specs.LegalHistory.{records}
+use Rattle.monitor.specs.declared.knowledge.Pair.{Pair}
+use Rattle.monitor.specs.LegalHistory.{StartsWith, records, unshared}
 use Rattle.monitor.specs.Telling.{Agrees, CallerState, KeeperState}
 use Rattle.engine_lock.specs.Sharing.{IsSince, LockedState}
 use Rattle.engine_lock.proofs.locked.Locked.settle.Goals as goal
@@ -49,6 +50,7 @@ returns g c =
         since = subst (λ (n : ℕ). IsSince g.B.Origin.setup g.B.Origin.begun n c.self.inside.engine) total c.self.invariant.0;
         history = c.loop-caller.keeper.history;
         its = ap records (l.same ∙ sym (ap (λ (it : LockedState). it.history) c.self.view_is)) ∙ c.self.invariant.4;
+        front = subst (λ (h : List Pair). StartsWith h (unshared g.B.Origin.begun)) (sym (l.same ∙ sym (ap (λ (it : LockedState). it.history) c.self.view_is))) c.self.invariant.6;
         agree = subst (λ (xs : List CallerState). All (Agrees c.loop-caller.keeper.history) xs) (sym all) l.agree;
       };
       all = many;

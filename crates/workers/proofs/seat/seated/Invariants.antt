@@ -1,7 +1,7 @@
 use Rattle.std.proofs.Common.{◌≡◌, ◌≤◌, ◌+◌, All, vec_len}
 use Rattle.std.specs.Prelude.{vec_capacity}
 use Rattle.inbox.specs.Views.{IsOf}
-use Rattle.thread_tests.proofs.crew.seated.Given as goal
+use Rattle.workers.proofs.seat.seated.Given as goal
 
 abbrev pub invariant-loop-pass : goal.invariant-loop-pass
 invariant-loop-pass g l = record {

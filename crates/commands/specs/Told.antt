@@ -1,11 +1,12 @@
 -- What the status of a plan tells of the files that it reads.
 use Rattle.std.specs.Prelude.{◌≡◌, ◌⊎◌, ℕ, List, Option, Some, Err}
-use Rattle.std.specs.Io.KnownBytes.{Appends}
+use Rattle.std.specs.Io.KnownBytes.{Appends, Keeps}
 use Rattle.bpf_decode.specs.Spells.{Spells}
 use Rattle.bpf_decode.specs.FirstFault.{HasFault as HasDecodeFault}
 use Rattle.bpf_decode.specs.declared.fault.DecodeFault.{DecodeFault}
 use Rattle.bpf_asm.specs.Assembly.{Says, HasFault as HasAsmFault}
 use Rattle.bpf_asm.specs.declared.fault.AsmFault.{AsmFault}
+use Rattle.live.specs.Telling.{IsBegun}
 use Rattle.manifest.specs.declared.ManifestFault.{ManifestFault}
 use Rattle.manifest.specs.Meaning.{Means, HasFault}
 use Rattle.manifest.specs.Migration.{HasMigrationFault, IsMigrated}
@@ -16,6 +17,7 @@ use Rattle.replay.specs.declared.fault.ReplayFault.{ReplayFault}
 use Rattle.scenario.specs.Said.{IsFaultyLine, Say, lines_of}
 use Rattle.scenario.specs.declared.steps.Step.{Step}
 use Rattle.scenario_host.specs.Faults.{IsUnheldThen}
+use Rattle.scenario_host.specs.Traces.{IsOfScenario}
 use Rattle.trace.specs.Reading.{Says as SaysTrace}
 use Rattle.trace.specs.TraceText.{trace_text}
 use Rattle.trace.specs.declared.fault.TraceFault.{TraceFault}
@@ -78,6 +80,15 @@ IsAcceptedTrace manifest text =
     (setup : _) × (programs : _) × (trace : Trace) × Means manifest setup programs × (trace_text trace ≡ Some text)
     × (trace.version ≡ version_of setup) × TotalsOf setup trace.records.items trace.totals
 
+-- The text is a manifest, and the trace is that of a history of an engine of its setup, of that engine's version, with its sums.
+abbrev pub IsOfManifest : List ℕ → Trace → Type 0
+IsOfManifest manifest trace =
+    (setup : _) × (programs : _) × Means manifest setup programs × (trace.version ≡ version_of setup) × TotalsOf setup trace.records.items trace.totals
+
+-- The trace's text went out.
+abbrev pub IsPrinted : Trace → Option (List ℕ) → Option (List ℕ) → Type 0
+IsPrinted trace old new = (text : List ℕ) × (trace_text trace ≡ Some text) × Appends old new text
+
 -- The text is a manifest of this setup.
 abbrev pub IsServing : List ℕ → Setup → Type 0
 IsServing manifest setup = (programs : _) × Means manifest setup programs
@@ -85,6 +96,10 @@ IsServing manifest setup = (programs : _) × Means manifest setup programs
 -- What went out is the trace of a history of an engine of that manifest, with its sums.
 abbrev pub IsServed : List ℕ → Option (List ℕ) → Option (List ℕ) → Type 0
 IsServed manifest old new = (text : List ℕ) × Appends old new text × IsAcceptedTrace manifest text
+
+-- What went out of an engine of that manifest that stopped: nothing before it was opened, or a front of its trace.
+abbrev pub IsStopped : List ℕ → Option (List ℕ) → Option (List ℕ) → Type 0
+IsStopped manifest old new = Keeps old new ⊎ ((setup : Setup) × IsServing manifest setup × IsBegun setup old new)
 
 -- The text is a scenario.
 abbrev pub IsScenario : List ℕ → Type 0
@@ -95,6 +110,16 @@ abbrev pub IsAccepted : Plan → List ℕ → List ℕ → Type 0
 IsAccepted (Run workers watch manifest scenario) first second = IsScenario second
 IsAccepted (Replay manifest trace) first second = IsAcceptedTrace first second
 IsAccepted plan first second = Unit {0}
+
+-- The text is a scenario, of which the trace is: its host's calls and what workers make.
+abbrev pub IsOfScenarioText : List ℕ → Trace → Type 0
+IsOfScenarioText text trace = (steps : List Step) × Say (lines_of text) steps × IsOfScenario steps trace.records.items
+
+-- what a plan put out that was carried out: a run, the trace of its scenario on an engine of its manifest
+abbrev pub IsPutOut : Plan → List ℕ → List ℕ → Option (List ℕ) → Option (List ℕ) → Type 0
+IsPutOut (Run workers watch manifest scenario) first second old new =
+    (trace : Trace) × IsOfManifest first trace × IsOfScenarioText second trace × IsPrinted trace old new
+IsPutOut plan first second old new = Unit {0}
 
 -- The text has this fault of a trace, or this faulty line of a scenario.
 abbrev pub IsFaultyTrace : List ℕ → Type 0

@@ -7,7 +7,7 @@ ghost use Rattle.manifest.specs.Migration.{IsMigrated};
 ghost use Rattle.trace.specs.HasText.{AllHaveText};
 ghost use Rattle.workers.specs.declared.serving.TheConstants.{MAX_WORKERS};
 ghost use Rattle.commands.specs.Faults.{status_of};
-ghost use Rattle.commands.specs.Told.{IsText, IsProgram, IsManifest, IsMigratable, IsFaultyText, IsFaultyProgram, IsFaultyManifest, IsFaultyMigration, IsAsAsked, IsAccepted, IsFaulty, IsRejected, IsRejectedScenario, IsScenario};
+ghost use Rattle.commands.specs.Told.{IsText, IsProgram, IsManifest, IsMigratable, IsFaultyText, IsFaultyProgram, IsFaultyManifest, IsFaultyMigration, IsAsAsked, IsAccepted, IsFaulty, IsOfManifest, IsOfScenarioText, IsPrinted, IsPutOut, IsRejected, IsRejectedScenario, IsScenario};
 
 use crate::fault::Fault;
 use crate::files::{status, text};
@@ -48,6 +48,8 @@ pub fn carry<N: Notices + Sync, R: Threads + Wait + Sync, W: Write, E: Write>(
     // A run is done only where the second file is a scenario; a replay, only where it is the trace of a history of an engine of the
     // first.
     ensures accepted { result ≡ 0 → (first second : _) → slice_get inputs.now 0 ≡ Some first → slice_get inputs.now 1 ≡ Some second → IsAccepted plan.now first.items second.items }
+    // What a run that is done has put out is the trace of the second file's calls on an engine of the first, with its sums.
+    ensures out { result ≡ 0 → (first second : _) → slice_get inputs.now 0 ≡ Some first → slice_get inputs.now 1 ≡ Some second → IsPutOut plan.now first.items second.items (W.contents out.old) (W.contents out.new) }
     // Refused only where it has a fault, or a scenario or a trace behind it has one.
     ensures refused { result ≡ 1 → (input : _) → slice_get inputs.now 0 ≡ Some input → IsFaulty plan.now input.items }
     // Of two files, refused only where one has a fault, a line of the trace does not follow, or the scenario has a release.
@@ -164,6 +166,7 @@ fn print_run<N: Notices + Sync, R: Threads + Wait + Sync, W: Write, E: Write>(
     ensures scenario { ¬ (IsUtf8 scenario.entry.1.now) → result ≡ 2 }
     ensures done { result ≡ 0 → IsManifest manifest.entry.1.now }
     ensures accepted { result ≡ 0 → IsScenario scenario.entry.1.now }
+    ensures out { result ≡ 0 → (trace : _) × IsOfManifest manifest.entry.1.now trace × IsOfScenarioText scenario.entry.1.now trace × IsPrinted trace (W.contents out.old) (W.contents out.new) }
     ensures rejected { result ≡ 1 → IsRejectedScenario manifest.entry.1.now scenario.entry.1.now }
 {
     match run(rt, alloc, workers, manifest, scenario, notices) {
@@ -175,6 +178,7 @@ fn print_run<N: Notices + Sync, R: Threads + Wait + Sync, W: Write, E: Write>(
 // The whole trace goes out, or why not.
 fn print_trace<W: Write>(trace: &Trace, out: &mut W) -> io::Result<()>
     requires { AllHaveText trace.now.version trace.now.records.items }
+    ensures { IfOk result (λ _. IsPrinted trace.now (W.contents out.old) (W.contents out.new)) }
 {
     let mut handing = Handing::new(out);
     match trace::print(trace, &mut handing) {
@@ -199,6 +203,8 @@ fn run<'a, N: Notices + Sync, R: Threads + Wait + Sync>(
     ensures done { IfOk result (λ _. IsManifest manifest.entry.1.now) }
     ensures accepted { IfOk result (λ _. IsScenario scenario.entry.1.now) }
     ensures spelled { IfOk result (λ trace. AllHaveText trace.version trace.records.items) }
+    ensures trace { IfOk result (λ trace. IsOfManifest manifest.entry.1.now trace) }
+    ensures asked { IfOk result (λ trace. IsOfScenarioText scenario.entry.1.now trace) }
     ensures fault { IfErr result (λ e. status_of e ≡ 1 → IsRejectedScenario manifest.entry.1.now scenario.entry.1.now) }
 {
     let manifest = text(manifest)?;

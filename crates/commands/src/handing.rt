@@ -1,6 +1,6 @@
 // A writer as a sink. It relies on `trace` for what a sink is.
 
-ghost use Rattle.std.specs.Prelude.{◌≤◌, length};
+ghost use Rattle.std.specs.Prelude.{◌≡◌, ◌≤◌, length};
 ghost use Rattle.commands.specs.Writing.{Writes};
 ghost use Rattle.trace.specs.Sinks.{HasFailed};
 
@@ -19,7 +19,10 @@ pub struct Handing<'a, W: Write> {
 
 impl<'a, W: Write> Handing<'a, W> {
     /// The writer, which did not fail yet.
-    pub fn new(out: &'a mut W) -> Self {
+    pub fn new(out: &'a mut W) -> Self
+        ensures same { result.out.ghost_name ≡ out.entry.ghost_name }
+        ensures bytes { W.contents result.out.now ≡ W.contents out.old }
+    {
         Handing {
             out,
             failures: 0,
@@ -37,6 +40,8 @@ impl<W: Write> Sink for Handing<'_, W> {
     ghost bytes = { λ handing. W.contents handing.out.now };
 
     ghost failures = { λ handing. handing.failures };
+
+    ghost origin = { λ handing. handing.out.ghost_name };
 
     fn write(&mut self, text: &[u8]) -> Result<usize, WriteFailed> {
         match written(self.out, text) {

@@ -6,7 +6,7 @@ ghost use Rattle.std.specs.Io.KnownBytes.{Keeps};
 ghost use Rattle.live.specs.Telling.{IsBegun, IsOut};
 ghost use Rattle.manifest.specs.Meaning.{Means};
 ghost use Rattle.commands.specs.Faults.{status_of};
-ghost use Rattle.commands.specs.Told.{IsFaultyManifest, IsManifest, IsServed, IsServing};
+ghost use Rattle.commands.specs.Told.{IsFaultyManifest, IsManifest, IsServed, IsServing, IsStopped};
 
 use crate::fault::Fault;
 use crate::files::text;
@@ -38,6 +38,8 @@ pub fn serve<I: Input, S: Sink, E: Write>(
     ensures done { result ≡ 0 → IsManifest manifest.entry.1.now }
     // All that went out is a trace that a replay over the manifest accepts.
     ensures accepted { result ≡ 0 → IsServed manifest.entry.1.now (S.bytes out.old) (S.bytes out.new) }
+    // Where it stopped, it is a front of one.
+    ensures stopped { result ≡ 2 → IsStopped manifest.entry.1.now (S.bytes out.old) (S.bytes out.new) }
     ensures refused { result ≡ 1 → IsFaultyManifest manifest.entry.1.now }
     ensures nothing { result ≡ 1 → Keeps (S.bytes out.old) (S.bytes out.new) }
 {

@@ -60,6 +60,8 @@ impl<'a> Sink for Compared<'a> {
 
     ghost failures = { λ sink. 0 };
 
+    ghost origin = { λ sink. 0 };
+
     fn write(&mut self, text: &[u8]) -> Result<usize, WriteFailed> {
         match self.rest.strip_prefix(text) {
             Some(rest) => self.rest = rest,

@@ -1,5 +1,5 @@
 -- What is out of the trace of an engine that was just opened, or was not.
-use Rattle.std.proofs.Common.{◌≡◌, ℕ, Option, Some, List, [], ◌++◌, refl, ap, append-nil, arith, subst, sym}
+use Rattle.std.proofs.Common.{◌≡◌, ℕ, Option, Some, List, [], ◌++◌, refl, ap, append-nil, arith, inr, subst, sym}
 use Rattle.std.specs.Fmt.{option_append}
 use Rattle.std.proofs.KnownBytes.{Appends-nil}
 use Rattle.calls.specs.declared.trace.Version.{Version}
@@ -17,7 +17,9 @@ begun_unopened setup base = record {
   records = [];
   totals = totals_in [] (opening setup);
   sums = (opening setup, refl, refl);
-  front = λ all is. record { handed = []; rest = all; whole = refl; told = Appends-nil base };
+  bytes = header (version_of setup) ++ [];
+  is = inr (0, ap (option_append (Some (header (version_of setup)))) (no_records (version_of setup)));
+  front = record { handed = []; rest = header (version_of setup) ++ []; whole = refl; told = Appends-nil base };
 }
 
 abbrev at_first : Version → GrowingState

@@ -1,18 +1,19 @@
 -- What is out of a trace whose history grows.
-use Rattle.std.proofs.Common.{◌≡◌, ◌∙◌, ℕ, Option, Some, List, [], ◌++◌, length, take, drop, refl, sym, ap, subst, append_assoc, append-nil, arith, length-append}
+use Rattle.std.proofs.Common.{◌≡◌, ◌∙◌, ℕ, Option, Some, List, [], ◌++◌, length, take, drop, refl, sym, ap, subst, append_assoc, append-nil, arith, inl, inr, length-append, ◌+◌, ◌⊎◌, ⊎_elim}
 use Rattle.std.proofs.lemmas.List.{drop_all, take-append-le, take_all}
 use Rattle.std.specs.Fmt.{option_append}
 use Rattle.std.specs.Io.KnownBytes.{Appends}
 use Rattle.std.proofs.KnownBytes.{Appends-nil, Appends-trans}
-use Rattle.call_lines.proofs.Tests.{parts_of, same_text}
+use Rattle.call_lines.proofs.Tests.{same_text}
 use Rattle.calls.specs.declared.record.Record.{Record}
 use Rattle.calls.specs.declared.totals.Totals.{Totals}
 use Rattle.calls.specs.declared.trace.Version.{Version}
 use Rattle.engine_core.specs.EngineState.{EngineState, IsRun}
-use Rattle.trace.specs.Growing.{Goes, GrowingState, IsFront}
+use Rattle.std.proofs.Math.Seq.{take-add}
+use Rattle.trace.specs.Growing.{Goes, GrowingState, IsFront, StopsIn}
 use Rattle.trace.specs.TraceText.{header, lines_text, records_text, totals_text}
-use Rattle.trace.proofs.Grown.{Fronts, fronts_before, fronts_no_room}
-use Rattle.trace.proofs.Printing.{append_nothing, append_three, first_of_all, no_records, nothing_append}
+use Rattle.trace.proofs.Grown.{Fronts}
+use Rattle.trace.proofs.Printing.{append_nothing, append_three, first_of_all, no_records, nothing_append, records_both}
 use Rattle.world.specs.World.{version_of}
 use Rattle.world.specs.TotalsOf.{totals_in}
 use Rattle.live.specs.Growth.{Grows}
@@ -52,20 +53,6 @@ text_goes front text bytes handed waiting left base at to is whole told goes = (
   ap (λ (t : List ℕ). t ++ goes.more) whole ∙ (append_assoc handed waiting goes.more ∙ (ap (λ (t : List ℕ). handed ++ t) goes.whole ∙ sym (append_assoc handed goes.handed left))),
   Appends-trans base at to handed goes.handed told goes.told,
 )
-
--- a write failed behind it
-pub text_fronts : (front text : Option (List ℕ)) (bytes handed waiting : List ℕ) (base at to : Option (List ℕ)) → front ≡ Some bytes → bytes ≡ handed ++ waiting → Appends base at handed → Fronts text waiting at to
-    → (all : List ℕ) → option_append front text ≡ Some all → IsFront all base to
-text_fronts front text bytes handed waiting base at to is whole told fronts = λ all all_is.
-    let parts = parts_of front text all all_is in
-    let same : parts.0 ≡ bytes = same_text parts.0 bytes (sym parts.2 ∙ is) in
-    let behind = fronts parts.1 parts.3 in
-    record {
-      handed = handed ++ behind.handed;
-      rest = behind.rest;
-      whole = parts.4 ∙ ap (λ (t : List ℕ). t ++ parts.1) (same ∙ whole) ∙ append_assoc handed waiting parts.1 ∙ ap (λ (t : List ℕ). handed ++ t) behind.whole ∙ sym (append_assoc handed behind.handed behind.rest);
-      told = Appends-trans base at to handed behind.handed told behind.told;
-    }
 
 -- nothing more went on
 pub fronts_still : (text : Option (List ℕ)) (waiting : List ℕ) (at : Option (List ℕ)) → Fronts text waiting at at
@@ -110,31 +97,51 @@ module _ (engine : EngineState) (printed : GrowingState) (base at : Option (List
         told = on.4;
       }
 
-  -- a write failed, whatever was to come
+  -- a write failed at a text behind the lines that are printed
   module _ (run : IsRun engine) where
     abbrev sums : Totals
     sums = totals_in engine.history engine.world
 
-    pub begun_by : (to : Option (List ℕ)) → Fronts (option_append (records_text printed.version (drop printed.printed engine.history)) (totals_text sums)) printed.waiting at to → IsBegun engine.setup base to
-    begun_by to fronts = record {
+    front_of : (bytes more : List ℕ) (to : Option (List ℕ)) → bytes ≡ told.bytes ++ more → IsFront (printed.waiting ++ more) at to → IsFront bytes base to
+    front_of bytes more to all behind = record {
+      handed = told.handed ++ behind.handed;
+      rest = behind.rest;
+      whole = all ∙ ap (λ (t : List ℕ). t ++ more) told.whole ∙ append_assoc told.handed printed.waiting more ∙ ap (λ (t : List ℕ). told.handed ++ t) behind.whole ∙ sym (append_assoc told.handed behind.handed behind.rest);
+      told = Appends-trans base at to told.handed behind.handed told.told behind.told;
+    }
+
+    -- at the lines of so many new records
+    pub begun_news : (count : ℕ) (to : Option (List ℕ)) → StopsIn (records_text printed.version (take count (drop printed.printed engine.history))) printed.waiting at to → IsBegun engine.setup base to
+    begun_news count to stops =
+        let front = records_text printed.version (take printed.printed engine.history) in
+        let news = records_text printed.version (take count (drop printed.printed engine.history)) in
+        let whole : front_text printed.version engine.history (printed.printed + count) ≡ option_append (front_text printed.version engine.history printed.printed) news =
+        ap (λ (records : List Record). option_append (Some (header printed.version)) (records_text printed.version records)) (take-add printed.printed count engine.history)
+        ∙ ap (λ (t : Option (List ℕ)). option_append (Some (header printed.version)) t) (records_both printed.version (take printed.printed engine.history) (take count (drop printed.printed engine.history)))
+        ∙ sym (append_three (Some (header printed.version)) front news) in
+        let bytes_is : option_append (front_text printed.version engine.history printed.printed) news ≡ Some (told.bytes ++ stops.more) = rw (told.is, stops.is) refl in
+        record {
+          records = engine.history;
+          totals = sums;
+          sums = (engine.world, run.run, refl);
+          bytes = told.bytes ++ stops.more;
+          is = inr (printed.printed + count, ap (λ (v : Version). front_text v engine.history (printed.printed + count)) (sym step.version) ∙ whole ∙ bytes_is);
+          front = front_of (told.bytes ++ stops.more) stops.more to refl stops.front;
+        }
+
+    -- at none
+    pub begun_handed : (to : Option (List ℕ)) → Fronts (Some []) printed.waiting at to → IsBegun engine.setup base to
+    begun_handed to fronts = record {
       records = engine.history;
       totals = sums;
       sums = (engine.world, run.run, refl);
-      front = λ all is.
-          let split : text_of engine.setup engine.history sums ≡ option_append (front_text printed.version engine.history printed.printed) (option_append (records_text printed.version (drop printed.printed engine.history)) (totals_text sums)) =
-          ap (λ (v : Version). option_append (Some (header v)) (lines_text v engine.history sums)) (sym step.version) ∙ text_split printed.version engine.history printed.printed sums in
-          text_fronts (front_text printed.version engine.history printed.printed) (option_append (records_text printed.version (drop printed.printed engine.history)) (totals_text sums)) told.bytes told.handed printed.waiting base at to
-          told.is told.whole told.told fronts all (sym split ∙ is);
+      bytes = told.bytes;
+      is = inr (printed.printed, ap (λ (v : Version). front_text v engine.history printed.printed) (sym step.version) ∙ told.is);
+      front = front_of told.bytes [] to (sym (append-nil told.bytes)) (fronts [] refl);
     }
 
-    pub begun_news : (to : Option (List ℕ)) → Fronts (records_text printed.version (drop printed.printed engine.history)) printed.waiting at to → IsBegun engine.setup base to
-    begun_news to fronts = begun_by to (fronts_before (records_text printed.version (drop printed.printed engine.history)) (totals_text sums) printed.waiting at to fronts)
-
-    pub begun_handed : (to : Option (List ℕ)) → Fronts (Some []) printed.waiting at to → IsBegun engine.setup base to
-    begun_handed to fronts = begun_by to (fronts_no_room (option_append (records_text printed.version (drop printed.printed engine.history)) (totals_text sums)) printed.waiting at to fronts)
-
     pub begun_still : IsBegun engine.setup base at
-    begun_still = begun_by at (fronts_still (option_append (records_text printed.version (drop printed.printed engine.history)) (totals_text sums)) printed.waiting at)
+    begun_still = begun_handed at (fronts_still (Some []) printed.waiting at)
 
     -- all lines of records are printed, and the last line is behind them
     module _ (all : printed.printed ≡ length engine.history) (totals : Totals) (same : totals ≡ sums) where
@@ -144,8 +151,26 @@ module _ (engine : EngineState) (printed : GrowingState) (base at : Option (List
           ap (λ (records : List Record). option_append (records_text printed.version records) (totals_text sums)) none
           ∙ (ap (λ (t : Option (List ℕ)). option_append t (totals_text sums)) (no_records printed.version) ∙ (nothing_append (totals_text sums) ∙ ap totals_text (sym same)))
 
-      pub begun_ended : (to : Option (List ℕ)) → Fronts (totals_text totals) printed.waiting at to → IsBegun engine.setup base to
-      begun_ended to fronts = begun_by to (subst (λ (t : Option (List ℕ)). Fronts t printed.waiting at to) (sym last_text) fronts)
+      whole_is : text_of engine.setup engine.history sums ≡ option_append (front_text printed.version engine.history printed.printed) (totals_text totals)
+      whole_is = ap (λ (v : Version). option_append (Some (header v)) (lines_text v engine.history sums)) (sym step.version)
+          ∙ (text_split printed.version engine.history printed.printed sums
+          ∙ ap (option_append (front_text printed.version engine.history printed.printed)) last_text)
+
+      -- or at the last line
+      pub begun_ended : (to : Option (List ℕ)) → StopsIn (Some []) printed.waiting at to ⊎ StopsIn (totals_text totals) printed.waiting at to → IsBegun engine.setup base to
+      begun_ended to stops = ⊎_elim
+          (λ (s : StopsIn (Some []) printed.waiting at to). begun_handed to (λ more is. subst (λ (t : List ℕ). IsFront (printed.waiting ++ t) at to) (same_text s.more more (sym s.is ∙ is)) s.front))
+          (λ (s : StopsIn (totals_text totals) printed.waiting at to).
+          let bytes_is : option_append (front_text printed.version engine.history printed.printed) (totals_text totals) ≡ Some (told.bytes ++ s.more) = rw (told.is, s.is) refl in
+          record {
+            records = engine.history;
+            totals = sums;
+            sums = (engine.world, run.run, refl);
+            bytes = told.bytes ++ s.more;
+            is = inl (whole_is ∙ bytes_is);
+            front = front_of (told.bytes ++ s.more) s.more to refl s.front;
+          })
+          stops
 
       pub out_ended : (left : List ℕ) (to : Option (List ℕ)) → Goes (totals_text totals) printed.waiting at left to → left ≡ [] → IsOut engine.setup base to
       out_ended left to goes empty =
@@ -155,8 +180,6 @@ module _ (engine : EngineState) (printed : GrowingState) (base at : Option (List
             totals = sums;
             sums = (engine.world, run.run, refl);
             bytes = on.0;
-            is = ap (λ (v : Version). option_append (Some (header v)) (lines_text v engine.history sums)) (sym step.version)
-                ∙ (text_split printed.version engine.history printed.printed sums
-                ∙ (ap (option_append (front_text printed.version engine.history printed.printed)) last_text ∙ on.2));
+            is = whole_is ∙ on.2;
             told = subst (Appends base to) (sym (append-nil on.1) ∙ ap (λ (t : List ℕ). on.1 ++ t) (sym empty) ∙ sym on.3) on.4;
           }

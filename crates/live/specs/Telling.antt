@@ -1,5 +1,5 @@
 -- What of the trace of a live engine is out.
-use Rattle.std.specs.Prelude.{◌≡◌, ℕ, ◌≤◌, Option, Some, List, ◌++◌, Result, Ok, Err, length, take}
+use Rattle.std.specs.Prelude.{◌≡◌, ◌⊎◌, ℕ, ◌≤◌, Option, Some, List, ◌++◌, Result, Ok, Err, length, take}
 use Rattle.std.specs.Fmt.{option_append}
 use Rattle.std.specs.Io.KnownBytes.{Appends}
 use Rattle.calls.specs.declared.record.Record.{Record}
@@ -41,12 +41,15 @@ pub record IsOut (setup : Setup) (base at : Option (List ℕ)) : Type 0 where
   pub is : text_of setup records totals ≡ Some bytes
   pub told : Appends base at bytes
 
--- What went out is a front of the trace of an engine of this setup.
+-- What went out is a front of the trace of an engine of this setup, or of the first lines of one: its first, and those of so many
+-- records.
 pub record IsBegun (setup : Setup) (base at : Option (List ℕ)) : Type 0 where
   pub records : List Record
   pub totals : Totals
   pub sums : TotalsOf setup records totals
-  pub front : (bytes : List ℕ) → text_of setup records totals ≡ Some bytes → IsFront bytes base at
+  pub bytes : List ℕ
+  pub is : (text_of setup records totals ≡ Some bytes) ⊎ ((count : ℕ) × (front_text (version_of setup) records count ≡ Some bytes))
+  pub front : IsFront bytes base at
 
 -- what is said where a live engine goes on, and where it stops
 abbrev pub Tells : {T E : Type 0} → EngineState → Option (List ℕ) → Result T E → GrowingState → Option (List ℕ) → Type 0

@@ -29,6 +29,8 @@ impl Sink for Counting {
 
     ghost failures = { λ sink. sink.failures };
 
+    ghost origin = { λ sink. 0 };
+
     fn write(&mut self, text: &[u8]) -> Result<usize, WriteFailed> {
         self.writes = self.writes.saturating_add(1);
         let count = taken_of(text.len(), self.most);

@@ -1,18 +1,18 @@
 -- A text goes on behind what waited: pages, texts one behind the other, and records by their places.
-use Rattle.std.proofs.Common.{◌≡◌, ℕ, ◌+◌, ◌-◌, ◌<◌, Option, Some, None, Result, Ok, Err, List, [], ◌∷◌, ◌++◌, length, take, drop, get_or, refl, sym, ap, ◌∙◌, append_assoc, append-nil, subst, arith}
+use Rattle.std.proofs.Common.{◌≡◌, ℕ, ◌+◌, ◌-◌, ◌<◌, Option, Some, None, Result, Ok, Err, List, [], ◌++◌, length, take, drop, get_or, refl, sym, ap, ◌∙◌, append_assoc, append-nil, subst, arith, inr, ◌⊎◌}
+use Rattle.std.specs.Prelude.{OnErr}
 use Rattle.std.proofs.lemmas.List.{get_or-drop, length-drop, take_all}
 use Rattle.std.specs.Fmt.{option_append}
-use Rattle.std.specs.Io.KnownBytes.{Appends}
 use Rattle.std.proofs.KnownBytes.{Appends-trans, Appends-nil}
 use Rattle.call_lines.specs.Written.{IsPut}
 use Rattle.call_lines.proofs.Tests.{same_text, parts_of}
 use Rattle.calls.specs.declared.record.Record.{Record}
 use Rattle.calls.specs.declared.trace.Version.{Version}
 use Rattle.trace.specs.declared.page.Page.{Page}
-use Rattle.trace.specs.Growing.{Goes, GoesOn, IsFront}
+use Rattle.trace.specs.Growing.{Goes, GoesOn, IsFront, StopsIn}
 use Rattle.trace.specs.Pages.{Passed, IsCut}
 use Rattle.trace.specs.TraceText.{record_text, records_text}
-use Rattle.trace.proofs.Printing.{append_nothing, append_three, first_of_all, no_records, nothing_append, one_more}
+use Rattle.trace.proofs.Printing.{append_nothing, first_of_all, no_records, nothing_append, one_more}
 
 -- where a write failed, no more than a front of what waited and of the text is out
 abbrev pub Fronts : Option (List ℕ) → List ℕ → Option (List ℕ) → Option (List ℕ) → Type 0
@@ -105,6 +105,38 @@ pub goes_on_handed : {T E : Type 0} (text : Option (List ℕ)) (r : Result T E) 
     → GoesOn (Some []) mid between r waiting new → GoesOn text before old r waiting new
 goes_on_handed text (Ok done) before mid waiting old between new first second = goes_handed text before mid waiting old between new first second
 goes_on_handed text (Err fault) before mid waiting old between new first second = fronts_handed text before mid old between new first second
+
+-- ---- where a write failed
+
+-- at nothing more, or at a text that there is
+pub stops_at : (more before : List ℕ) (old new : Option (List ℕ)) → Fronts (Some more) before old new → StopsIn (Some more) before old new
+stops_at more before old new fronts = record { more = more; is = refl; front = fronts more refl }
+
+-- at nothing more behind a text that went on
+pub stops_behind : (text : Option (List ℕ)) (before mid : List ℕ) (old between new : Option (List ℕ)) → Goes text before old mid between → StopsIn (Some []) mid between new → StopsIn text before old new
+stops_behind text before mid old between new first second =
+    let none : second.more ≡ [] = same_text second.more [] (sym second.is) in
+    let rest : IsFront mid between new = subst (λ (t : List ℕ). IsFront t between new) (ap (λ (t : List ℕ). mid ++ t) none ∙ append-nil mid) second.front in
+    record {
+      more = first.more;
+      is = first.is;
+      front = record {
+        handed = first.handed ++ rest.handed;
+        rest = rest.rest;
+        whole = first.whole ∙ ap (λ (t : List ℕ). first.handed ++ t) rest.whole ∙ sym (append_assoc first.handed rest.handed rest.rest);
+        told = Appends-trans old between new first.handed rest.handed first.told rest.told;
+      };
+    }
+
+-- or where what was handed on was all that waited, with the text in it
+pub stops_put : (text : Option (List ℕ)) (before mid waiting : List ℕ) (old between new : Option (List ℕ)) → Goes (Some []) before old mid between → IsPut text mid waiting → Fronts (Some []) waiting between new → StopsIn text before old new
+stops_put text before mid waiting old between new room put fronts =
+    stops_behind text before waiting old between new (goes_behind_room text before mid waiting old between room put) (stops_at [] waiting between new fronts)
+
+pub stops_ended : {T E : Type 0} (text : Option (List ℕ)) (r : Result T E) (before mid waiting left : List ℕ) (old between new : Option (List ℕ)) → Goes (Some []) before old mid between → IsPut text mid waiting
+    → GoesOn (Some []) waiting between r left new → OnErr r (StopsIn (Some []) before old new ⊎ StopsIn text before old new)
+stops_ended text (Ok done) before mid waiting left old between new room put goes = tt
+stops_ended text (Err fault) before mid waiting left old between new room put goes = inr (stops_put text before mid waiting old between new room put goes)
 
 -- ---- records by their places
 

@@ -25,6 +25,12 @@ pub record IsFront (text : List ℕ) (old new : Option (List ℕ)) : Type 0 wher
   pub whole : text ≡ handed ++ rest
   pub told : Appends old new handed
 
+-- a write failed at this text: a front of what waited and of it is out
+pub record StopsIn (text : Option (List ℕ)) (before : List ℕ) (old new : Option (List ℕ)) : Type 0 where
+  pub more : List ℕ
+  pub is : text ≡ Some more
+  pub front : IsFront (before ++ more) old new
+
 -- what is said of a text, of what waits and of a sink: where a write failed, no more than a front of what waited and of the text is out
 abbrev pub GoesOn : {T E : Type 0} → Option (List ℕ) → List ℕ → Option (List ℕ) → Result T E → List ℕ → Option (List ℕ) → Type 0
 GoesOn text before old (Ok done) waiting new = Goes text before old waiting new

@@ -1,10 +1,10 @@
 // A trace that is printed while its history grows: its first line, then the lines of what is new, and at the end the sums. It relies on
 // `page` for what goes out, and on `printer` and `sums` for lines.
 
-ghost use Rattle.std.specs.Prelude.{◌≡◌, ◌+◌, ◌≤◌, [], Some, drop, length, OnOk};
+ghost use Rattle.std.specs.Prelude.{◌≡◌, ◌+◌, ◌≤◌, ◌⊎◌, ℕ, [], Some, drop, take, length, OnErr, OnOk};
 ghost use Rattle.call_lines.specs.Written.{IsPut};
 ghost use Rattle.trace.specs.HasText.{AllHaveText, HasText};
-ghost use Rattle.trace.specs.Growing.{FailsBySink, GoesOn};
+ghost use Rattle.trace.specs.Growing.{FailsBySink, GoesOn, StopsIn};
 ghost use Rattle.trace.specs.TraceText.{header, record_text, records_text, totals_text};
 
 use crate::fitting::fits;
@@ -66,6 +66,8 @@ impl Growing {
         requires begun { self.old.printed ≤ length records.now.items }
         requires spelled { AllHaveText self.old.version records.now.items }
         ensures text { GoesOn (records_text self.old.version (drop self.old.printed records.now.items)) self.old.waiting (S.bytes out.old) result self.new.waiting (S.bytes out.new) }
+        // where a write failed, it was at one of the lines, and those before it have a text
+        ensures stops { OnErr result ((count : ℕ) × StopsIn (records_text self.old.version (take count (drop self.old.printed records.now.items))) self.old.waiting (S.bytes out.old) (S.bytes out.new)) }
         ensures failures { FailsBySink (S.failures out.old) result (S.failures out.new) }
         ensures version { self.new.version ≡ self.old.version }
         ensures printed { OnOk result (self.new.printed ≡ length records.now.items) }
@@ -82,6 +84,7 @@ impl Growing {
     fn print_next<S: Sink>(&mut self, entry: &Record, out: &mut S) -> Result<(), WriteFailed>
         requires { HasText self.old.version entry.now }
         ensures text { GoesOn (record_text self.old.version entry.now) self.old.waiting (S.bytes out.old) result self.new.waiting (S.bytes out.new) }
+        ensures stops { OnErr result (StopsIn (Some []) self.old.waiting (S.bytes out.old) (S.bytes out.new)) }
         ensures failures { FailsBySink (S.failures out.old) result (S.failures out.new) }
         ensures version { self.new.version ≡ self.old.version }
     {
@@ -143,6 +146,7 @@ impl Growing {
     /// Prints the last line, and hands all on.
     pub fn end<S: Sink>(&mut self, totals: Totals, out: &mut S) -> Result<(), WriteFailed>
         ensures text { GoesOn (totals_text totals) self.old.waiting (S.bytes out.old) result self.new.waiting (S.bytes out.new) }
+        ensures stops { OnErr result (StopsIn (Some []) self.old.waiting (S.bytes out.old) (S.bytes out.new) ⊎ StopsIn (totals_text totals) self.old.waiting (S.bytes out.old) (S.bytes out.new)) }
         ensures failures { FailsBySink (S.failures out.old) result (S.failures out.new) }
         ensures all { OnOk result (self.new.waiting ≡ []) }
         ensures printed { self.new.printed ≡ self.old.printed }

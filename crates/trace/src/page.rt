@@ -23,6 +23,7 @@ pub(crate) fn flush<S: Sink>(page: &mut Page, out: &mut S) -> Result<(), PrintFa
     ensures text { Flushes page.old (S.bytes out.old) (S.failures out.old) result page.new (S.bytes out.new) (S.failures out.new) }
     ensures empty { OnOk result (page.new.text ≡ []) }
     ensures most { page.new.written ≤ page.old.written + ROOM }
+    ensures same { S.origin out.new ≡ S.origin out.old }
 {
     match hand_on(page.text.as_slice(), out) {
         Ok(()) => {
@@ -42,6 +43,7 @@ pub(crate) fn make_room<S: Sink>(page: &mut Page, out: &mut S) -> Result<(), Pri
     ensures text { Flushes page.old (S.bytes out.old) (S.failures out.old) result page.new (S.bytes out.new) (S.failures out.new) }
     ensures room { OnOk result (length page.new.text + RECORD ≤ ROOM) }
     ensures most { page.new.written ≤ page.old.written + ROOM }
+    ensures same { S.origin out.new ≡ S.origin out.old }
 {
     if page.text.len() + RECORD <= ROOM {
         return Ok(());

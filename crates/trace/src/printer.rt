@@ -28,7 +28,8 @@ const ENTRY: usize = 696;
 /// answers how many bytes of the text are out. It takes no memory.
 pub fn print<S: Sink>(trace: &Trace, out: &mut S) -> Result<(), PrintFault>
     requires { AllHaveText trace.now.version trace.now.records.items }
-    ensures { Prints trace.now (S.bytes out.old) (S.failures out.old) result (S.bytes out.new) (S.failures out.new) }
+    ensures printed { Prints trace.now (S.bytes out.old) (S.failures out.old) result (S.bytes out.new) (S.failures out.new) }
+    ensures same { S.origin out.new ≡ S.origin out.old }
 {
     let mut page = Page {
         text: Text::none(),
@@ -46,6 +47,7 @@ fn print_records<S: Sink>(trace: &Trace, page: &mut Page, out: &mut S) -> Result
     requires first { page.old.written ≡ 0 }
     ensures text { PrintsRecords trace.now.version trace.now.records.items page.old (S.bytes out.old) (S.failures out.old) result page.new (S.bytes out.new) (S.failures out.new) }
     ensures most { page.new.written ≤ 2 ^ 80 }
+    ensures same { S.origin out.new ≡ S.origin out.old }
 {
     for number in 0..trace.records.len() {
         make_room(page, out)?;

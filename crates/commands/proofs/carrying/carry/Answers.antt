@@ -1,9 +1,10 @@
 use Rattle.std.proofs.Common.{◌≡◌, ◌∙◌, ℕ, List, Vec, ap, inl, inr, length, sym, subst}
 use Rattle.std.specs.Prelude.{IsUtf8}
 use Rattle.std.specs.Global.{Global}
+use Rattle.calls.specs.declared.trace.Trace.{Trace}
 use Rattle.command_line.specs.Files.{input_paths}
 use Rattle.command_line.specs.declared.plans.Plan.{Plan}
-use Rattle.commands.specs.Told.{IsAccepted, IsAcceptedTrace, IsAsAsked, IsFaulty, IsFaultyManifest, IsFaultyMigration, IsFaultyText, IsManifest, IsMigratable, IsRejected, IsRejectedScenario, IsRejectedTrace, IsScenario}
+use Rattle.commands.specs.Told.{IsAccepted, IsAcceptedTrace, IsAsAsked, IsFaulty, IsFaultyManifest, IsFaultyMigration, IsFaultyText, IsManifest, IsMigratable, IsOfManifest, IsOfScenarioText, IsPrinted, IsPutOut, IsRejected, IsRejectedScenario, IsRejectedTrace, IsScenario}
 use Rattle.commands.proofs.Telling.{first_is, of_both, one_of_two, over_manifest}
 use Rattle.commands.proofs.carrying.carry.Goals as goal
 
@@ -40,6 +41,14 @@ returns-in-Run-clause-accepted g c = λ is first second one other.
     subst (λ (plan : Plan). IsAccepted plan first.items second.items) (sym c.in-Run.is)
     (of_both (λ (_ scenario : List ℕ). IsScenario scenario) c.args.inputs.now c.index-inputs-0-in-Run.is c.index-inputs-1.is c.as_slice-in-Run.ensures.value c.as_slice-in-Run-2.ensures.value
     (c.print_run.ensures.accepted is) first second one other)
+
+pub returns-in-Run-clause-out : goal.returns-in-Run-clause-out
+returns-in-Run-clause-out g c = λ is first second one other.
+    let old = g.W.Write.contents c.args.out.now in
+    let new = g.W.Write.contents c.print_run.new.out in
+    subst (λ (plan : Plan). IsPutOut plan first.items second.items old new) (sym c.in-Run.is)
+    (of_both (λ (manifest scenario : List ℕ). (trace : Trace) × IsOfManifest manifest trace × IsOfScenarioText scenario trace × IsPrinted trace old new) c.args.inputs.now c.index-inputs-0-in-Run.is c.index-inputs-1.is c.as_slice-in-Run.ensures.value c.as_slice-in-Run-2.ensures.value
+    (c.print_run.ensures.out is) first second one other)
 
 pub returns-in-Run-clause-rejected : goal.returns-in-Run-clause-rejected
 returns-in-Run-clause-rejected g c = λ is first second one other.

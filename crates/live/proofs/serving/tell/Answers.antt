@@ -1,12 +1,11 @@
-use Rattle.std.proofs.Common.{◌∙◌, List, ap, drop, length, subst, sym}
+use Rattle.std.proofs.Common.{◌∙◌, List, ap, drop, length, subst, sym, take}
 use Rattle.std.proofs.lemmas.Result.{err_from_is_err_and}
 use Rattle.calls.specs.declared.record.Record.{Record}
 use Rattle.calls.specs.declared.trace.Version.{Version}
 use Rattle.history_texts.proofs.Each.{each_record_has_text}
-use Rattle.trace.specs.Growing.{Goes}
+use Rattle.trace.specs.Growing.{Goes, StopsIn}
 use Rattle.trace.specs.HasText.{AllHaveText}
 use Rattle.trace.specs.TraceText.{records_text}
-use Rattle.trace.proofs.Grown.{Fronts}
 use Rattle.world.specs.World.{version_of}
 use Rattle.live.proofs.Told.{begun_handed, begun_news, step_again, told_handed, told_news}
 use Rattle.live.proofs.serving.tell.Goals as goal
@@ -23,8 +22,9 @@ pub returns-in_err-print_news-clause-told : goal.returns-in_err-print_news-claus
 returns-in_err-print_news-clause-told g c = λ base told.
     let printed = c.args.printed.now in
     let p = err_from_is_err_and c.from_residual.result c.from_residual.ensures.1 in
-    let fronts = subst (λ (records : List Record). Fronts (records_text printed.version (drop printed.printed records)) printed.waiting (g.S.Sink.bytes c.args.out.now) (g.S.Sink.bytes c.print_news.new.out)) c.records.ensures.items c.in_err-print_news.ensures.text in
-    rw p.1 (begun_news c.args.engine.now printed base _ c.requires.begun told c.records.ensures.run _ fronts)
+    let stops = c.in_err-print_news.ensures.stops in
+    rw p.1 (begun_news c.args.engine.now printed base _ c.requires.begun told c.records.ensures.run stops.0 _
+    (subst (λ (records : List Record). StopsIn (records_text printed.version (take stops.0 (drop printed.printed records))) printed.waiting (g.S.Sink.bytes c.args.out.now) (g.S.Sink.bytes c.print_news.new.out)) c.records.ensures.items stops.1))
 
 pub returns-in_err-hand_on-clause-told : goal.returns-in_err-hand_on-clause-told
 returns-in_err-hand_on-clause-told g c = λ base told.

@@ -1,4 +1,4 @@
-use Rattle.std.proofs.Common.{refl, arith}
+use Rattle.std.proofs.Common.{refl, ◌∙◌, arith}
 use Rattle.std.proofs.lemmas.Result.{err_from_is_err_and}
 use Rattle.trace.proofs.Printing.{nothing_passed, record_passed, records_cut}
 use Rattle.trace.proofs.Spelled.{has_line, has_there, put_so}
@@ -8,6 +8,7 @@ pub loop-number-init : goal.loop-number-init
 loop-number-init g c = record {
   so_far = nothing_passed c.args.trace.now.version c.args.page.now _ _;
   most = omega (arith, c.requires.first);
+  same = refl;
 }
 
 pub returns-in_err-make_room-clause-text : goal.returns-in_err-make_room-clause-text
@@ -26,6 +27,7 @@ loop-number-preserved g c =
       so_far = record_passed version records c.loop-number.number entry _ _ _ _ _ _ _ _ _ _ within c.index-entry.ensures
           c.loop-number.invariant.so_far c.in_ok-make_room.ensures.text (put_so _ _ _ _ line.1 c.print_record.ensures.text) refl;
       most = omega (arith, c.make_room.ensures.most, c.loop-number.invariant.most);
+      same = c.make_room.ensures.same ∙ c.loop-number.invariant.same;
     }
 
 pub print_record-requires-clause-spelled : goal.print_record-requires-clause-spelled

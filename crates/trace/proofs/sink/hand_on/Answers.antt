@@ -6,10 +6,11 @@ use Rattle.trace.proofs.sink.hand_on.Goals as goal
 
 pub loop-taken-preserved : goal.loop-taken-preserved
 loop-taken-preserved g c =
-    let on = taken_on c.args.text.now c.loop-taken.taken c.in-Ok.count c.loop-taken.invariant.within c.in-Ok.ensures.1 in
+    let on = taken_on c.args.text.now c.loop-taken.taken c.in-Ok.count c.loop-taken.invariant.within c.in-Ok.ensures.taken.1 in
     record {
       within = on.0;
       told = subst (Appends (g.S.Sink.bytes c.args.out.now) (g.S.Sink.bytes c.write.new.self)) (sym on.1)
-          (Appends-trans _ _ _ _ _ c.loop-taken.invariant.told c.in-Ok.ensures.2);
-      none = c.in-Ok.ensures.3 ∙ c.loop-taken.invariant.none;
+          (Appends-trans _ _ _ _ _ c.loop-taken.invariant.told c.in-Ok.ensures.taken.2);
+      none = c.in-Ok.ensures.taken.3 ∙ c.loop-taken.invariant.none;
+      same = c.write.ensures.same ∙ c.loop-taken.invariant.same;
     }

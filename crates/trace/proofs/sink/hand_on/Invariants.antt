@@ -8,6 +8,7 @@ invariant-loop-taken g l = record {
   within : l.taken ≤ length l.text;
   told : Appends (g.S.Sink.bytes l.fn.out) (g.S.Sink.bytes l.out) (take l.taken l.text);
   none : g.S.Sink.failures l.out ≡ g.S.Sink.failures l.fn.out;
+  same : g.S.Sink.origin l.out ≡ g.S.Sink.origin l.fn.out;
 }
 
 abbrev pub decreases-loop-taken : goal.decreases-loop-taken

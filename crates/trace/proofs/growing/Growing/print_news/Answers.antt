@@ -1,13 +1,12 @@
-use Rattle.std.proofs.Common.{◌≡◌, ◌∙◌, ◌+◌, ◌<◌, List, ℕ, drop, get_or, length, refl, rules, sym, subst, arith}
-use Rattle.std.proofs.lemmas.List.{get_or-drop, length-drop}
+use Rattle.std.proofs.Common.{◌≡◌, ◌∙◌, ◌+◌, ◌<◌, List, ℕ, drop, length, refl, rules, sym, subst, arith}
+use Rattle.std.proofs.lemmas.List.{length-drop}
 use Rattle.std.proofs.lemmas.Result.{err_from_is_err_and}
-use Rattle.calls.specs.declared.record.Record.{Record}
 use Rattle.calls.specs.declared.trace.Version.{Version}
 use Rattle.trace.specs.Growing.{Goes}
 use Rattle.trace.specs.HasText.{HasText}
 use Rattle.trace.specs.Sinks.{HasFailed}
 use Rattle.trace.specs.TraceText.{record_text, records_text}
-use Rattle.trace.proofs.Grown.{Fronts, all_gone, news_there, no_news, one_more_fails, one_more_goes}
+use Rattle.trace.proofs.Grown.{Fronts, all_gone, news_there, no_news, one_more_fails, one_more_goes, stops_behind}
 use Rattle.trace.proofs.Spelled.{has_there}
 use Rattle.trace.proofs.growing.Growing.print_news.Goals as goal
 
@@ -59,3 +58,8 @@ pub returns-in_err-print_next-clause-failures : goal.returns-in_err-print_next-c
 returns-in_err-print_next-clause-failures g c =
     let p = err_from_is_err_and c.from_residual.result c.from_residual.ensures.1 in
     rw p.1 (subst (λ (failed : ℕ). HasFailed failed (g.S.Sink.failures c.print_next.new.out)) c.loop-number.invariant.none c.in_err-print_next.ensures.failures)
+
+pub returns-in_err-print_next-clause-stops : goal.returns-in_err-print_next-clause-stops
+returns-in_err-print_next-clause-stops g c =
+    let p = err_from_is_err_and c.from_residual.result c.from_residual.ensures.1 in
+    rw p.1 (c.loop-number.number, stops_behind _ _ _ _ _ _ c.loop-number.invariant.so_far c.in_err-print_next.ensures.stops)

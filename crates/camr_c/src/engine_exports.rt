@@ -1,6 +1,6 @@
 // The calls of an engine that name no run. It relies on `embedding` for each.
 
-ghost use Rattle.std.specs.Prelude.{◌≡◌, ◌<◌, ◌≤◌, IsSome, None, Result, length};
+ghost use Rattle.std.specs.Prelude.{◌≡◌, ◌≢◌, ◌<◌, ◌≤◌, IsSome, None, Result, false, length};
 ghost use Rattle.std.specs.Global.{Box};
 ghost use Rattle.freeze_ledger.specs.declared.place.Place.TheVariants.{Device, Controller};
 ghost use Rattle.calls.specs.declared.call.Call.TheVariants.{Submit, Dispatch, Clock};
@@ -77,6 +77,7 @@ pub extern "C" fn camr_raw_submit(
     ensures did { Called result engine.old engine.new (answers.Ccb (record { 0 = ccb.new }))
         (Submit (record { 0 = queue }) priority retries) }
     ensures few { result < 22 }
+    ensures kept { result ≢ 0 → ccb.new ≡ ccb.old }
 {
     engine.held().submit(queue, priority, retries, ccb).number()
 }
@@ -86,6 +87,7 @@ pub extern "C" fn camr_raw_dispatch(engine: &mut EngineSlot, queue: u32, ccb: &m
     requires { IsSome engine.old.held }
     ensures did { Called result engine.old engine.new (answers.Ccb (record { 0 = ccb.new })) (Dispatch (record { 0 = queue })) }
     ensures few { result < 22 }
+    ensures kept { result ≢ 0 → ccb.new ≡ ccb.old }
 {
     engine.held().dispatch(queue, ccb).number()
 }
@@ -95,6 +97,7 @@ pub extern "C" fn camr_raw_clock(engine: &mut EngineSlot, reading: u64, removed:
     requires { IsSome engine.old.held }
     ensures did { Called result engine.old engine.new (answers.Removed removed.new) (Clock reading) }
     ensures few { result < 22 }
+    ensures kept { result ≢ 0 → removed.new ≡ removed.old }
 {
     engine.held().clock(reading, removed).number()
 }
@@ -104,6 +107,7 @@ pub extern "C" fn camr_raw_clock(engine: &mut EngineSlot, reading: u64, removed:
 pub extern "C" fn camr_raw_next_due(engine: &mut EngineSlot, reading: &mut u64) -> bool
     requires { IsSome engine.old.held }
     ensures did { Stays engine.old.held engine.new.held (λ its. TellsDue its.world.transport.freezes result reading.new) }
+    ensures kept { result ≡ false → reading.new ≡ reading.old }
 {
     match engine.held().next_due() {
         Some(due) => {
@@ -124,6 +128,7 @@ pub extern "C" fn camr_raw_guest_freeze(
     requires { IsSome engine.old.held }
     ensures did { Frozen result engine.old engine.new freeze.new (Device (record { 0 = queue })) guest }
     ensures few { result < 22 }
+    ensures kept { result ≢ 0 → freeze.new ≡ freeze.old }
 {
     let place = Place::Device(QueueId(queue));
     engine.held().guest_freeze(place, guest, freeze).number()
@@ -139,6 +144,7 @@ pub extern "C" fn camr_raw_guest_freeze_controller(
     requires { IsSome engine.old.held }
     ensures did { Frozen result engine.old engine.new freeze.new (Controller controller) guest }
     ensures few { result < 22 }
+    ensures kept { result ≢ 0 → freeze.new ≡ freeze.old }
 {
     let place = Place::Controller(controller);
     engine.held().guest_freeze(place, guest, freeze).number()
@@ -153,6 +159,7 @@ pub extern "C" fn camr_raw_guest_release(
     requires { IsSome engine.old.held }
     ensures did { Released result engine.old engine.new left.new freeze }
     ensures few { result < 22 }
+    ensures kept { result ≢ 0 → left.new ≡ left.old }
 {
     engine.held().guest_release(freeze, left).number()
 }

@@ -1,6 +1,6 @@
 // The texts of results. It relies on `embedding` for them.
 
-ghost use Rattle.std.specs.Prelude.{◌<◌, ◌≤◌, MatchBool, length};
+ghost use Rattle.std.specs.Prelude.{◌≡◌, ◌<◌, ◌≤◌, MatchBool, false, length};
 
 use embedding::{CallResult, put_front};
 
@@ -9,6 +9,7 @@ use embedding::{CallResult, put_front};
 pub extern "C" fn camr_raw_result_text(number: u32, place: &mut [u8], written: &mut usize) -> bool
     ensures known { MatchBool result (number < 22) (22 ≤ number) }
     ensures text { written.new ≤ length place.new }
+    ensures none { result ≡ false → written.new ≡ 0 }
 {
     match CallResult::numbered(number) {
         Some(result) => {

@@ -1,6 +1,6 @@
 // The calls that start runs, take them further, park and resume them. It relies on `embedding` for each.
 
-ghost use Rattle.std.specs.Prelude.{◌≡◌, ◌<◌, IsSome, None, Option};
+ghost use Rattle.std.specs.Prelude.{◌≡◌, ◌≢◌, ◌<◌, IsSome, None, Option};
 ghost use Rattle.ccb.specs.Completion.{Outcome};
 ghost use Rattle.embedding.specs.Calls.{IsAdvanced, IsDriven, IsParked};
 ghost use Rattle.embedding.specs.Held.{is_same_run, out_of, IsStretched};
@@ -76,6 +76,7 @@ pub extern "C" fn camr_raw_advance(
     ensures did { CalledWith result engine.old engine.new run.old run.new (λ its before after was is.
         IsAdvanced its was is before after r0.new ended.new) }
     ensures few { result < 22 }
+    ensures kept { result ≢ 0 → (r0.new ≡ r0.old) × (ended.new ≡ ended.old) }
 {
     engine.held().advance(run.held(), r0, ended).number()
 }

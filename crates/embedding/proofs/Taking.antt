@@ -1,5 +1,5 @@
 -- A run that was presented at its stop: it goes on, it has ended, or it is back where it was.
-use Rattle.std.proofs.Common.{◌≡◌, ℕ, Bool, true, false, ap, refl, subst, sym, ◌∙◌}
+use Rattle.std.proofs.Common.{◌≡◌, ℕ, Bool, true, false, ap, refl, subst, sym}
 use Rattle.world.specs.World.{Setup}
 use Rattle.calls.specs.declared.record.Record.{Record}
 use Rattle.calls.specs.declared.record.Record.TheVariants.{Advance}

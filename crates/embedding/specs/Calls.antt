@@ -61,10 +61,10 @@ IsCompleted (Ok (Some handle)) old new call =
     Records old new (Called (answers.Started handle.value.number handle.value.freeze) call) × ((run : RunState) × HoldsRun new handle.value run)
 IsCompleted (Err result) old new call = IsFaulted result old new call
 
--- a resume of the run of this number with this result: that run is in the handle
+-- a resume of the run of this number with this result: that run is in the handle, which tells of no freeze
 abbrev pub IsResumed : Result (Box RunHandle) CallResult → EngineState → EngineState → ℕ → Type 0
 IsResumed (Ok handle) old new number =
-    Records old new (Called answers.Ok (Resume number)) × (handle.value.number ≡ number) × ((run : RunState) × HoldsRun new handle.value run)
+    Records old new (Called answers.Ok (Resume number)) × (handle.value.number ≡ number) × (handle.value.freeze ≡ 0) × ((run : RunState) × HoldsRun new handle.value run)
 IsResumed (Err result) old new number = IsFaulted result old new (Resume number)
 
 -- what the run at a stop tells, with R0 behind it

@@ -1,12 +1,12 @@
 -- What of a trace stands in a place.
-use Rattle.std.specs.Prelude.{◌≡◌, ◌≢◌, ◌≤◌, ◌<◌, ◌+◌, ◌⊎◌, ◌==◌, ◌++◌, ℕ, Option, Some, List, [], ◌∷◌, if◌then◌else◌, length, slice_get, take, slice_range}
+use Rattle.std.specs.Prelude.{◌≡◌, ◌≢◌, ◌≤◌, ◌<◌, ◌+◌, ◌⊎◌, ◌==◌, ◌++◌, ℕ, Option, Some, None, List, [], ◌∷◌, if◌then◌else◌, length, slice_get, take, slice_range}
 use Rattle.std.specs.Fmt.{option_append, with_newline}
 use Rattle.calls.specs.declared.record.Record.{Record}
 use Rattle.calls.specs.declared.totals.Totals.{Totals}
 use Rattle.calls.specs.declared.trace.Version.{Version}
 use Rattle.trace.specs.TraceText.{header, line_of, totals_text}
 use Rattle.embedding.specs.declared.call_result.CallResult.{CallResult}
-use Rattle.embedding.specs.declared.call_result.CallResult.TheVariants.{Done, NoRoom}
+use Rattle.embedding.specs.declared.call_result.CallResult.TheVariants.{Done, NoRoom, NoText}
 
 -- the lines of these records, each with its line feed, if all have one
 abbrev pub lines_of : List Record → Option (List ℕ)
@@ -29,14 +29,24 @@ abbrev pub FindsNoRoom : List Record → ℕ → List ℕ → ℕ → Type 0
 FindsNoRoom records number place written = (entry : Record) → slice_get records number ≡ Some entry
     → (line : List ℕ) × (with_newline (line_of entry) ≡ Some line) × (length place < written + length line)
 
--- Lines that are put with this result, of the records from one on: as many as find room. Done, the line of the next record finds none,
--- or no record is left. Where the first line, or that of the first record after it, finds no room, nothing is put.
+-- it goes no further than there are records
+abbrev pub IsWithin : List Record → ℕ → ℕ → Type 0
+IsWithin records from next = (from < length records → next ≤ length records) × (length records ≤ from → next ≡ from)
+
+-- the record of that number has no line
+abbrev pub HasNoLine : List Record → ℕ → Type 0
+HasNoLine records number = (entry : Record) × (slice_get records number ≡ Some entry) × (line_of entry ≡ None)
+
+-- Lines that are put with this result, of the records from one on: as many as find room, and of each record that there is. Done, the line of
+-- the first of them was put, if there is one, and that of the next record finds no room, or no record is left. Where the first line, or that
+-- of the first record after it, finds no room, nothing is put. There is no other result but that the next record has no line.
 abbrev pub PutsLines : CallResult → Version → List Record → ℕ → List ℕ → ℕ → ℕ → Type 0
 PutsLines result version records from place written next =
-    (result ≢ NoRoom → AddsLines records (first_line version from) from (take written place) next)
+    (result ≢ NoRoom → AddsLines records (first_line version from) from (take written place) next × IsWithin records from next)
     × (result ≡ NoRoom → (written ≡ 0) × (next ≡ from)
     × ((length place < length (first_line version from)) ⊎ ((from < length records) × FindsNoRoom records from place (length (first_line version from)))))
-    × (result ≡ Done → FindsNoRoom records next place written)
+    × (result ≡ Done → FindsNoRoom records next place written × (from < length records → from < next))
+    × (result ≢ NoRoom → result ≢ Done → (result ≡ NoText) × HasNoLine records next)
 
 -- the last line that is put with this result: where it is not, it finds no room
 abbrev pub PutsSums : CallResult → Totals → List ℕ → ℕ → Type 0

@@ -1,7 +1,7 @@
 // An engine with the tokens of all its guests' freezes, which are found by their freezes' numbers. It relies on `engine_core` for
 // each call and for tokens.
 
-ghost use Rattle.std.specs.Prelude.{◌≡◌, ◌↔◌, [], false, IfSome, IsNone, IfOk, IfErr};
+ghost use Rattle.std.specs.Prelude.{◌≡◌, ◌≢◌, ◌↔◌, [], false, IfSome, IsNone, IfOk, IfErr};
 ghost use Rattle.freeze_ledger.specs.declared.freeze.Holder.TheVariants.{Guest};
 ghost use Rattle.freeze_ledger.specs.Deadlines.{some_timer};
 ghost use Rattle.transport.specs.Freezing.{IsNextDue};
@@ -72,6 +72,7 @@ impl EngineHandle {
     #[tactic(auto, using(crate::proofs::Guests::stay, crate::proofs::Guests::stay_faulted))]
     pub fn submit(&mut self, queue: u32, priority: u32, retries: u32, ccb: &mut u32) -> CallResult
         ensures recorded { IsCalled result self.old self.new (answers.Ccb (record { 0 = ccb.new })) (Submit (record { 0 = queue }) priority retries) }
+        ensures kept { result ≢ CallResult.Done → ccb.new ≡ ccb.old }
     {
         match self.engine.submit(QueueId(queue), priority, retries) {
             Ok(CcbId(number)) => {
@@ -86,6 +87,7 @@ impl EngineHandle {
     #[tactic(auto, using(crate::proofs::Guests::stay, crate::proofs::Guests::stay_faulted))]
     pub fn dispatch(&mut self, queue: u32, ccb: &mut u32) -> CallResult
         ensures recorded { IsCalled result self.old self.new (answers.Ccb (record { 0 = ccb.new })) (Dispatch (record { 0 = queue })) }
+        ensures kept { result ≢ CallResult.Done → ccb.new ≡ ccb.old }
     {
         match self.engine.dispatch(QueueId(queue)) {
             Ok(CcbId(number)) => {
@@ -100,6 +102,7 @@ impl EngineHandle {
     #[tactic(auto, using(crate::proofs::Guests::stay, crate::proofs::Guests::stay_faulted))]
     pub fn clock(&mut self, reading: u64, removed: &mut u32) -> CallResult
         ensures recorded { IsCalled result self.old self.new (answers.Removed removed.new) (Clock reading) }
+        ensures kept { result ≢ CallResult.Done → removed.new ≡ removed.old }
     {
         match self.engine.clock(reading) {
             Ok(count) => {
@@ -114,6 +117,7 @@ impl EngineHandle {
     #[tactic(auto, using(crate::proofs::Guests::same, crate::proofs::Guests::frozen, crate::proofs::Guests::is_fresh, crate::proofs::Guests::stay_unfrozen))]
     pub fn guest_freeze(&mut self, place: Place, guest: u32, freeze: &mut u32) -> CallResult
         ensures recorded { IsFrozen result self.old self.new freeze.new place guest }
+        ensures kept { result ≢ CallResult.Done → freeze.new ≡ freeze.old }
     {
         if self.tokens.reserve(1).is_err() {
             return CallResult::OutOfMemory;
@@ -133,6 +137,7 @@ impl EngineHandle {
     #[tactic(auto, using(crate::proofs::Guests::rise, crate::proofs::Guests::same, crate::proofs::Guests::released, crate::proofs::Guests::put_back))]
     pub fn guest_release(&mut self, freeze: u32, left: &mut u32) -> CallResult
         ensures recorded { IsReleased result self.old self.new left.new freeze }
+        ensures kept { result ≢ CallResult.Done → left.new ≡ left.old }
     {
         let Some((place, token)) = take_token(&mut self.tokens, freeze) else {
             return CallResult::NoToken;

@@ -1,7 +1,7 @@
 // The calls of an engine that start, take further, park and resume runs, each with the run in its host's handle. It relies on
 // `engine_core` for each call.
 
-ghost use Rattle.std.specs.Prelude.{◌≡◌, true};
+ghost use Rattle.std.specs.Prelude.{◌≡◌, ◌≢◌, true};
 ghost use Rattle.calls.specs.declared.call.Call.TheVariants.{Complete};
 ghost use Rattle.embedding.specs.Calls.{IsAdvanced, IsCompleted, IsDriven, IsParked, IsResumed, GoesOn};
 ghost use Rattle.embedding.specs.Held.{is_same_run, out_of};
@@ -44,6 +44,7 @@ impl EngineHandle {
     #[tactic(auto, using(crate::proofs::Going::goes_one, crate::proofs::Going::goes_none, crate::proofs::Guests::stay_advanced))]
     pub fn advance(&mut self, run: &mut RunHandle, r0: &mut u64, ended: &mut bool) -> CallResult
         ensures recorded { IsAdvanced result run.old.held run.new.held self.old self.new r0.new ended.new }
+        ensures kept { result ≢ CallResult.Done → (r0.new ≡ r0.old) × (ended.new ≡ ended.old) }
         ensures goes { GoesOn self.old self.new }
         ensures ended { result ≡ CallResult.Done → ended.new ≡ true → run.new.held ≡ HeldRun.Spent }
         ensures same { is_same_run run.old run.new }

@@ -1,11 +1,11 @@
 // The trace of an engine as text, in whole lines, from a record on. It relies on `trace` for lines.
 
-ghost use Rattle.std.specs.Prelude.{◌≡◌, ◌≢◌, ◌+◌, ◌++◌, ◌≤◌, ◌<◌, Some, IfSome, IfNone, length, take};
+ghost use Rattle.std.specs.Prelude.{◌≡◌, ◌≢◌, ◌+◌, ◌++◌, ◌≤◌, ◌<◌, None, Some, IfSome, IfNone, length, take};
 ghost use Rattle.std.specs.Fmt.{with_newline};
 ghost use Rattle.trace.specs.TraceText.{line_of};
 ghost use Rattle.world.specs.World.{version_of};
 ghost use Rattle.world.specs.TotalsOf.{totals_in};
-ghost use Rattle.embedding.specs.Lines.{AddsLines, FindsNoRoom, PutsLines, PutsSums};
+ghost use Rattle.embedding.specs.Lines.{AddsLines, FindsNoRoom, HasNoLine, IsWithin, PutsLines, PutsSums};
 
 use crate::call_result::CallResult;
 use crate::engine_handle::EngineHandle;
@@ -41,7 +41,8 @@ fn put_behind(text: &[u8], place: &mut [u8], written: usize) -> Option<usize>
 
 // The line of a record, with its line feed.
 fn line(entry: &Record) -> Option<Text>
-    ensures { IfSome result (λ text. Some text ≡ with_newline (line_of entry.now)) }
+    ensures text { IfSome result (λ text. Some text ≡ with_newline (line_of entry.now)) }
+    ensures none { IfNone result (line_of entry.now ≡ None) }
 {
     let mut text = Text::none();
     match print_entry(entry, &mut text) {
@@ -97,8 +98,11 @@ fn put_records(records: &ChunkedList<Record>, place: &mut [u8], put: &mut PutLin
     requires { put.old.written ≤ length place.old }
     ensures room { put.new.written ≤ length place.new }
     ensures lines { result ≢ CallResult.NoRoom → AddsLines records.now.items (take put.old.written place.old) put.old.next (take put.new.written place.new) put.new.next }
+    ensures within { IsWithin records.now.items put.old.next put.new.next }
     ensures none { result ≡ CallResult.NoRoom → (put.new.written ≡ 0) × (put.new.next ≡ put.old.next) × (put.old.next < length records.now.items) × FindsNoRoom records.now.items put.old.next place.new put.old.written }
     ensures full { result ≡ CallResult.Done → FindsNoRoom records.now.items put.new.next place.new put.new.written }
+    ensures some { result ≡ CallResult.Done → put.old.next < length records.now.items → put.old.next < put.new.next }
+    ensures others { result ≢ CallResult.NoRoom → result ≢ CallResult.Done → (result ≡ CallResult.NoText) × HasNoLine records.now.items put.new.next }
 {
     let all = records.len() as u64;
     let from = put.next;

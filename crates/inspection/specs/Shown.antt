@@ -1,5 +1,5 @@
 -- What the status of a plan says of the files that it reads.
-use Rattle.std.specs.Prelude.{ℕ, List}
+use Rattle.std.specs.Prelude.{ℕ, Bool, true, false, List}
 use Rattle.commands.specs.Told.{IsAcceptedTrace, IsFaultyManifest, IsManifest, IsRejectedTrace}
 use Rattle.inspect_line.specs.declared.plans.Plan.{Plan}
 use Rattle.inspect_line.specs.declared.plans.Plan.TheVariants.{ExplainCode, Explain, Show, Summarise, Draw}
@@ -19,6 +19,11 @@ IsFaulty (Explain manifest) bytes = IsFaultyManifest bytes
 IsFaulty (Show filter manifest trace) bytes = Unit {0}
 IsFaulty (Summarise manifest trace) bytes = Unit {0}
 IsFaulty (Draw manifest trace picture) bytes = Unit {0}
+
+-- whether nothing is read
+abbrev pub is_of_code : Plan → Bool
+is_of_code (ExplainCode code) = true
+is_of_code plan = false
 
 -- what a plan's second file is, beside the first, where the plan was carried out
 abbrev pub IsAccepted : Plan → List ℕ → List ℕ → Type 0

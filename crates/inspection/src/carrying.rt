@@ -1,9 +1,9 @@
 // A plan, carried out over the bytes of its files. It relies on `tracing` for what a trace shows, on `explaining` for what is said of a
 // manifest, and on `refusal_codes` for what is said of a code.
 
-ghost use Rattle.std.specs.Prelude.{◌≡◌, ◌≤◌, Contains, Some, IsUtf8, length, slice_get};
+ghost use Rattle.std.specs.Prelude.{◌≡◌, ◌≢◌, ◌≤◌, Contains, Some, IsUtf8, length, slice_get, true};
 ghost use Rattle.inspect_line.specs.Files.{input_paths};
-ghost use Rattle.inspection.specs.Shown.{IsAccepted, IsAsAsked, IsFaulty, IsRejected};
+ghost use Rattle.inspection.specs.Shown.{IsAccepted, IsAsAsked, IsFaulty, IsRejected, is_of_code};
 
 use crate::explaining::print_explanation;
 use crate::tracing::{Told, print_traced};
@@ -27,6 +27,8 @@ pub fn carry<N: Notices, W: Write, E: Write>(
 ) -> u8
     requires { length inputs.now ≡ length (input_paths plan.now) }
     ensures status { result ≤ 2 }
+    // What is said of a code is no refusal.
+    ensures code { is_of_code plan.now ≡ true → result ≢ 1 }
     ensures no_text { (input : _) → Contains inputs.now input → ¬ (IsUtf8 input.items) → result ≡ 2 }
     // Done only where the first file is what the plan asks for.
     ensures done { result ≡ 0 → (input : _) → slice_get inputs.now 0 ≡ Some input → IsAsAsked plan.now input.items }

@@ -1,10 +1,11 @@
 use Rattle.std.proofs.Common.{◌≡◌, ◌≤◌, length, take}
-use Rattle.embedding.specs.Lines.{AddsLines}
+use Rattle.embedding.specs.Lines.{AddsLines, IsWithin}
 use Rattle.embedding.proofs.trace_lines.put_records.Given as goal
 
 abbrev pub invariant-loop-number : goal.invariant-loop-number
 invariant-loop-number l = record {
   room : l.put.written ≤ length l.place;
   next : l.put.next ≡ l.number;
+  within : IsWithin l.records.items l.fn.put.next l.number;
   lines : AddsLines l.fn.records.items (take l.fn.put.written l.fn.place) l.fn.put.next (take l.put.written l.place) l.put.next;
 }

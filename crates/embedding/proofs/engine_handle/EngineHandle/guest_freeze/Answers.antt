@@ -1,4 +1,4 @@
-use Rattle.std.proofs.Common.{sym, subst}
+use Rattle.std.proofs.Common.{refl, sym, subst}
 use Rattle.calls.specs.declared.call.Call.TheVariants.{GuestFreeze}
 use Rattle.calls.specs.declared.call_answer.CallAnswer.TheVariants as answers
 use Rattle.calls.specs.declared.record.Record.TheVariants.{Called}
@@ -15,4 +15,5 @@ returns-in-Ok c =
         recorded,
         λ done. is_fresh c.self.inside.engine c.freeze_place.new.engine c.self.inside.tokens.items c.args.place c.args.guest c.number.result c.self.invariant recorded,
       );
+      kept = λ other. absurd (other refl);
     }

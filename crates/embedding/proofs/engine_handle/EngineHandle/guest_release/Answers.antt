@@ -1,4 +1,4 @@
-use Rattle.std.proofs.Common.{subst}
+use Rattle.std.proofs.Common.{refl, subst}
 use Rattle.calls.specs.declared.call.Call.TheVariants.{GuestRelease}
 use Rattle.calls.specs.declared.call_answer.CallAnswer.TheVariants as answers
 use Rattle.calls.specs.declared.record.Record.TheVariants.{Called}
@@ -19,4 +19,5 @@ pub returns-in-Err : goal.returns-in-Err
 returns-in-Err c = record {
   recorded = rw (← c.self.view_is) (not_released c.self.inside.engine c.guest_release.new.self c.self.inside.tokens.items c.in-Some.token c.args.freeze c.args.left.now c.in-Err.fault c.released.result
       c.self.invariant c.in-Some.ensures.taken.0 c.in-Some.ensures.taken.1 c.in-Err.ensures.held c.in-Err.ensures.back.1 c.released.ensures);
+  kept = λ other. refl;
 }

@@ -8,8 +8,8 @@
  *
  * RESULTS. A call answers a camr_result. CAMR_DONE: it was carried out, and is recorded. CAMR_UNKNOWN to CAMR_CONTROLLER_FROZEN:
  * it was refused, and the refusal is recorded. Every other result: the engine is as before, and nothing is recorded. What is
- * written through a pointer is 0, false or NULL unless the result is CAMR_DONE, where nothing else is said. No call ends the
- * process, and none waits.
+ * written through a pointer is 0, false or NULL unless the result is CAMR_DONE, where nothing else is said; of a drive that stops
+ * behind some of its stops, R0 at the last of these. No call ends the process, and none waits.
  *
  * HANDLES. A camr_engine comes from camr_open and goes with camr_close. A camr_run comes from camr_complete or camr_resume and
  * goes with camr_run_free, always, also when it has ended or is parked. Handles are this library's: nobody looks behind them. A

@@ -1,0 +1,700 @@
+/*
+ * A transport over the recovery engine for a real SCSI target: four disks behind an iSCSI target, which are four queues under one
+ * controller. It keeps 32 commands active at each, writes a pattern and reads it back, and adds a command now and then that a disk
+ * has to refuse. Every block says of which disk, which address and which generation it is, so that a wrong, a lost and a stale block
+ * are seen. One thread does all, in one poll loop.
+ *
+ * What a host owes its engine is to report only what the device surely no longer has:
+ *   - a command that timed out is reported once its LUN is reset, and its neighbours with it;
+ *   - a command that a lost connection took with it is reported once a new connection is there and every LUN is reset through it.
+ *
+ * The trace is written as it grows, and what a run decided is read from its lines. An engine keeps its history, so it is closed at
+ * so many records and the next one opened; their traces are TRACE.0, TRACE.1, .. Status 0: nothing was read wrong, and nothing is left.
+ *
+ *     transport MANIFEST TRACE PORTAL TARGET SECONDS
+ */
+#define _POSIX_C_SOURCE 200809L
+#define CAMR_ENGINE_HEAP
+#include "camr_engine.h"
+
+#include <inttypes.h>
+#include <iscsi/iscsi.h>
+#include <iscsi/scsi-lowlevel.h>
+#include <poll.h>
+#include <signal.h>
+#include <stdio.h>
+#include <string.h>
+#include <sys/resource.h>
+#include <time.h>
+
+enum { LUNS = 4, ACTIVE = 32, COMMANDS = 40, PLACES = 64, BLOCK = 512, BLOCKS = 8, BYTES = BLOCK * BLOCKS, MOST_SENSE = 64 };
+enum { FIRST_LUN = 1, ABSENT_LUN = 9, PRIORITY = 10, RETRIES = 3, GUEST_LINK = 1, GUEST_RESET = 2, GUEST_PROBE = 3 };
+enum { COMMAND_MS = 1000, RESET_MS = 2000, LINK_MS = 2000, TICK_MS = 10, PROBE_MS = 100, ODD_MS = 120, QUIET_MS = 30000 };
+enum { MOST_RECORDS = 150000, MOST_PROBES = 60 };
+
+/* What a command is. Those from BEYOND on are refused by a disk that is well. */
+enum kind { INQUIRE, CAPACITY, READ, WRITE, TEST, REGISTER, BEYOND, UNKNOWN_OPCODE, NACA, COMPARE, ABSENT, KINDS };
+enum state { IDLE, WAITING, IN_DEVICE };
+
+/* Eight blocks of a disk: the generation that was surely written last, and the last that was tried. It holds one between them. If
+   the first is 0 nothing is known, and it is written before it is read. */
+struct place {
+    uint64_t oldest, newest;
+    bool is_busy;
+};
+
+struct command {
+    struct lun *lun;
+    enum state state;
+    enum kind kind;
+    bool timed_out;
+    uint32_t ccb;
+    struct place *place;
+    struct scsi_task *task;         /* NULL once the connection has none of it any more */
+    uint64_t deadline;
+    unsigned char buffer[BYTES];
+};
+
+struct lun {
+    unsigned number;
+    unsigned waiting, active;
+    bool is_held;                   /* it refused a start, and nothing has changed since */
+    enum kind stage;                /* INQUIRE, CAPACITY, and READ for all others */
+    enum kind next_odd;
+    uint64_t odd_at;
+    uint32_t reset_freeze;          /* while its LUN RESET is under way, the freeze of its queue */
+    bool reset_is_out, reset_asked;
+    uint64_t reset_deadline;
+    uint32_t probe_freeze;          /* while it is asked whether it is ready, the freeze of its queue */
+    bool probe_is_out, load_asked;
+    unsigned probes;
+    uint64_t probe_at;
+    struct place places[PLACES];
+    struct command commands[COMMANDS];
+};
+
+/* The failures that are told apart, and how often each was met. A status of 0c with a SCSI status of 02 has sense data. */
+static struct {
+    const char *name;
+    uint8_t status, scsi;
+    int32_t sense;                  /* key, code, qualifier; a negative one fits any */
+    uint64_t count;
+} met[] = {
+    {"reset", 0x0c, 0x02, 0x62900, 0},          {"mode-changed", 0x0c, 0x02, 0x62a01, 0},
+    {"luns-changed", 0x0c, 0x02, 0x63f0e, 0},   {"preempted", 0x0c, 0x02, 0x62a03, 0},
+    {"out-of-range", 0x0c, 0x02, 0x52100, 0},   {"unknown-opcode", 0x0c, 0x02, 0x52000, 0},
+    {"invalid-field", 0x0c, 0x02, 0x52400, 0},  {"no-such-lun", 0x0c, 0x02, 0x52500, 0},
+    {"read-only", 0x0c, 0x02, 0x72700, 0},      {"not-ready", 0x0c, 0x02, 0x20401, 0},
+    {"no-medium", 0x0c, 0x02, 0x23a00, 0},      {"medium-error", 0x0c, 0x02, 0x31100, 0},
+    {"miscompare", 0x0c, 0x02, 0xe1d00, 0},     {"recovered", 0x0c, 0x02, 0x11700, 0},
+    {"aborted-command", 0x0c, 0x02, 0xb4b00, 0}, {"conflict", 0x0c, 0x18, -1, 0},
+    {"busy", 0x0c, 0x08, -1, 0},                {"task-set-full", 0x0c, 0x28, -1, 0},
+    {"aca-active", 0x0c, 0x30, -1, 0},          {"task-aborted", 0x0c, 0x40, -1, 0},
+    {"timed-out", 0x0b, 0, -1, 0},              {"reset-beside", 0x17, 0, -1, 0},
+    {"link-lost", 0x0e, 0, -1, 0},              {"another", 0, 0, -1, 0},
+};
+enum { DESCRIPTOR, DEFERRED, LONG, TESTS, LOADS, RESETS, LINKS, TOLD };
+static const char *const told_as[TOLD] = {"met descriptor-sense", "met deferred-error", "met long-sense", "did tests",
+                                          "did loads",            "did resets",         "did links"};
+static uint64_t told[TOLD];
+
+static struct {
+    const char *manifest, *trace, *portal, *target;
+    camr_engine *engine;
+    uint64_t begun;                 /* the engine's clock reads 0 at this time */
+    FILE *file;
+    unsigned files;
+    uint64_t next;                  /* the record whose line is written next */
+    struct iscsi_context *link;     /* NULL while there is no connection */
+    enum { DOWN, CONNECTING, RESETTING, UP } stage;
+    bool is_lost, cancels, is_draining;
+    uint64_t link_at;               /* when it is tried again, or given up */
+    unsigned resets_left;
+    uint32_t link_freeze;
+    uint64_t random;
+    uint64_t submitted, finished, failed, wrong, read, written;
+    struct lun luns[LUNS];
+} host;
+
+/* Ends the program with a line of text. */
+#define end(...) ((void)fprintf(stderr, "transport: " __VA_ARGS__), (void)fputc('\n', stderr), exit(1))
+
+static void expect(camr_result result, const char *call)
+{
+    char text[128];
+    size_t length = 0;
+    if (result == CAMR_DONE) return;
+    camr_result_text(result, text, sizeof text, &length);
+    end("%s: %.*s", call, (int)length, text);
+}
+
+static uint64_t milliseconds(void)
+{
+    struct timespec now;
+    clock_gettime(CLOCK_MONOTONIC, &now);
+    return (uint64_t)now.tv_sec * 1000 + (uint64_t)now.tv_nsec / 1000000;
+}
+
+static uint64_t random_below(uint64_t limit)
+{
+    host.random = host.random * 6364136223846793005u + 1442695040888963407u;
+    return (host.random >> 33) % limit;
+}
+
+/* What a place holds in a generation: each block begins with its disk, its address and the generation, and goes on by these. */
+static void fill(unsigned char *bytes, const struct lun *lun, const struct place *place, uint64_t generation)
+{
+    for (unsigned block = 0; block < BLOCKS; block++) {
+        uint64_t words[BLOCK / 8] = {lun->number, (uint64_t)(place - lun->places) * BLOCKS + block, generation};
+        uint64_t word = (words[0] << 56 ^ words[1] << 40 ^ generation) * 0x9e3779b97f4a7c15u;
+        for (unsigned at = 3; at < BLOCK / 8; at++) words[at] = word += 0xd1b54a32d192ed03u;
+        memcpy(bytes + block * BLOCK, words, BLOCK);
+    }
+}
+
+/* Compares what was read with what its place may hold; from then on it holds what was read. */
+static void judge(struct command *command)
+{
+    static unsigned char expected[BYTES];
+    struct place *place = command->place;
+    uint64_t generation;
+    memcpy(&generation, command->buffer + 16, sizeof generation);
+    fill(expected, command->lun, place, generation);
+    host.read++;
+    if (generation >= place->oldest && generation <= place->newest && memcmp(expected, command->buffer, BYTES) == 0) {
+        place->oldest = place->newest = generation;
+        return;
+    }
+    host.wrong++;
+    printf("wrong: LUN %u place %u: generation %" PRIu64 " was read, and %" PRIu64 " to %" PRIu64 " were written\n", command->lun->number,
+           (unsigned)(place - command->lun->places), generation, place->oldest, place->newest);
+    place->oldest = 0;
+}
+
+/* ---- the trace, and what runs decide ------------------------------------------------------------------------------------------ */
+
+/* What a run decided, by its lines in the trace. */
+struct decision {
+    unsigned code;                  /* the final code, or 0 if the command waits again */
+    char ask[9];                    /* four bytes for the transport, in hexadecimal */
+};
+
+static void read_lines(char *lines, struct decision *decision)
+{
+    for (char *line = strtok(lines, "\n"); line != NULL; line = strtok(NULL, "\n")) {
+        unsigned helper;
+        char word[9] = "";
+        if (sscanf(line, "advance %*u %*u helper %u %8s", &helper, word) < 1) continue;
+        if (helper == 5) decision->code = (unsigned)strtoul(word, NULL, 16);
+        if (helper == 10) memcpy(decision->ask, word, sizeof word);
+    }
+}
+
+/* Writes the trace's lines that are new. */
+static void follow_trace(struct decision *decision)
+{
+    static char lines[65536];
+    camr_totals_t totals;
+    size_t written;
+    expect(camr_totals(host.engine, &totals), "camr_totals");
+    while (host.next < totals.history) {
+        expect(camr_trace(host.engine, host.next, lines, sizeof lines - 1, &written, &host.next), "camr_trace");
+        if (fwrite(lines, 1, written, host.file) != written) end("the trace cannot be written");
+        lines[written] = '\0';
+        if (decision != NULL) read_lines(lines, decision);
+    }
+}
+
+static void open_engine(void)
+{
+    static char manifest[1 << 20];
+    char fault[256], name[4096];
+    FILE *file = fopen(host.manifest, "rb");
+    if (file == NULL) end("%s cannot be read", host.manifest);
+    size_t length = fread(manifest, 1, sizeof manifest, file);
+    fclose(file);
+    camr_result result = camr_open(manifest, length, &host.engine, fault, sizeof fault);
+    if (result == CAMR_FAULTY) end("%s: %s", host.manifest, fault);
+    expect(result, "camr_open");
+    snprintf(name, sizeof name, "%s.%u", host.trace, host.files++);
+    host.file = fopen(name, "wb");
+    if (host.file == NULL) end("%s cannot be written", name);
+    host.next = 0;
+    host.begun = milliseconds();
+}
+
+/* Ends an engine's trace with its sums, which are all 0 for what is frozen, active or live. */
+static void close_engine(void)
+{
+    char line[128];
+    size_t written;
+    follow_trace(NULL);
+    expect(camr_trace_end(host.engine, line, sizeof line, &written), "camr_trace_end");
+    if (fwrite(line, 1, written, host.file) != written || fclose(host.file) != 0) end("the trace cannot be written");
+    camr_close(host.engine);
+}
+
+static void read_clock(uint64_t now)
+{
+    uint32_t removed;
+    expect(camr_clock(host.engine, now - host.begun, &removed), "camr_clock");
+    for (struct lun *lun = host.luns; removed != 0 && lun < host.luns + LUNS; lun++) lun->is_held = false;
+}
+
+static void release(uint32_t *freeze)
+{
+    uint32_t left;
+    if (*freeze == 0) return;
+    expect(camr_guest_release(host.engine, *freeze, &left), "camr_guest_release");
+    *freeze = 0;
+    for (struct lun *lun = host.luns; lun < host.luns + LUNS; lun++) lun->is_held = false;
+}
+
+static void done(struct iscsi_context *link, int status, void *data, void *private);
+
+/* The CDB of a command, its size, and how many bytes go to the device or come from it. */
+static enum scsi_xfer_dir describe(const struct command *command, unsigned char cdb[10], int *size, int *length)
+{
+    static const struct { uint8_t opcode, size; int length; enum scsi_xfer_dir direction; } rows[KINDS] = {
+        [INQUIRE] = {0x12, 6, 96, SCSI_XFER_READ},       [CAPACITY] = {0x25, 10, 8, SCSI_XFER_READ},
+        [READ] = {0x28, 10, BYTES, SCSI_XFER_READ},      [WRITE] = {0x2a, 10, BYTES, SCSI_XFER_WRITE},
+        [TEST] = {0x00, 6, 0, SCSI_XFER_NONE},           [REGISTER] = {0x5f, 10, 24, SCSI_XFER_WRITE},
+        [BEYOND] = {0x28, 10, BYTES, SCSI_XFER_READ},    [UNKNOWN_OPCODE] = {0xff, 6, 0, SCSI_XFER_NONE},
+        [NACA] = {0x00, 6, 0, SCSI_XFER_NONE},           [COMPARE] = {0x2f, 10, BYTES, SCSI_XFER_WRITE},
+        [ABSENT] = {0x00, 6, 0, SCSI_XFER_NONE},
+    };
+    uint32_t block = command->place != NULL ? (uint32_t)(command->place - command->lun->places) * BLOCKS : 0;
+    memset(cdb, 0, 10);
+    cdb[0] = rows[command->kind].opcode;
+    *size = rows[command->kind].size;
+    *length = rows[command->kind].length;
+    if (command->kind == BEYOND) block = 0x7fffff00;
+    if (command->kind == INQUIRE) cdb[4] = 96;
+    if (command->kind == NACA) cdb[5] = 0x04;
+    if (command->kind == COMPARE) cdb[1] = 0x02;
+    if (command->kind == REGISTER) {
+        cdb[1] = 0x06; /* register, and ignore the key that there is */
+        cdb[8] = 24;
+    } else if (*length == BYTES) {
+        for (unsigned at = 0; at < 4; at++) cdb[2 + at] = (unsigned char)(block >> (24 - 8 * at));
+        cdb[8] = BLOCKS;
+    }
+    return rows[command->kind].direction;
+}
+
+/* Gives a command to the device. If the connection takes none, it is as lost with it. */
+static void give(struct command *command)
+{
+    unsigned char cdb[10];
+    int size, length;
+    enum scsi_xfer_dir direction = describe(command, cdb, &size, &length);
+    struct iscsi_data data = {(size_t)length, command->buffer};
+    int lun = command->kind == ABSENT ? ABSENT_LUN : (int)command->lun->number;
+    command->state = IN_DEVICE;
+    command->timed_out = false;
+    command->deadline = milliseconds() + COMMAND_MS;
+    command->task = scsi_create_task(size, cdb, direction, length);
+    if (command->task == NULL) end("no memory");
+    if (direction == SCSI_XFER_READ) scsi_task_add_data_in_buffer(command->task, length, command->buffer);
+    if (iscsi_scsi_command_async(host.link, lun, command->task, done, direction == SCSI_XFER_WRITE ? &data : NULL, command) == 0) return;
+    scsi_free_scsi_task(command->task);
+    command->task = NULL;
+    host.is_lost = true;
+}
+
+/* Starts what the queue may start. It is not asked again until something has changed. */
+static void start_commands(struct lun *lun)
+{
+    while (lun->waiting != 0 && lun->active < ACTIVE && !lun->is_held) {
+        uint32_t ccb;
+        camr_result result = camr_dispatch(host.engine, lun->number - FIRST_LUN, &ccb);
+        lun->is_held = result == CAMR_FROZEN || result == CAMR_CONTROLLER_FROZEN || result == CAMR_NO_OPENING;
+        if (lun->is_held) return;
+        expect(result, "camr_dispatch");
+        struct command *command = lun->commands;
+        while (command->ccb != ccb) command++;
+        lun->waiting--;
+        lun->active++;
+        give(command);
+    }
+}
+
+/* Chooses a free place, and whether it is read or written. */
+static void choose_place(struct command *command)
+{
+    struct lun *lun = command->lun;
+    unsigned at = (unsigned)random_below(PLACES);
+    while (lun->places[at].is_busy) at = (at + 1) % PLACES;
+    struct place *place = command->place = &lun->places[at];
+    place->is_busy = true;
+    if (command->kind != COMPARE) command->kind = place->oldest == 0 || random_below(3) == 0 ? WRITE : READ;
+    if (command->kind == WRITE) fill(command->buffer, lun, place, ++place->newest);
+    if (command->kind == COMPARE) fill(command->buffer, lun, place, 0);
+}
+
+/* Submits a disk's next command, if there is one to be submitted. */
+static void submit(struct command *command)
+{
+    struct lun *lun = command->lun;
+    uint64_t now = milliseconds();
+    if (host.is_draining || (lun->stage != READ && lun->waiting + lun->active != 0)) return;
+    command->place = NULL;
+    command->kind = lun->stage;
+    if (lun->stage == READ && now >= lun->odd_at) {
+        lun->odd_at = now + ODD_MS;
+        command->kind = lun->next_odd;
+        lun->next_odd = lun->next_odd + 1 < KINDS ? lun->next_odd + 1 : TEST;
+    }
+    memset(command->buffer, 0, 24);
+    command->buffer[15] = (unsigned char)lun->number; /* the key that is registered */
+    if (command->kind == READ || command->kind == COMPARE) choose_place(command);
+    expect(camr_submit(host.engine, lun->number - FIRST_LUN, PRIORITY, RETRIES, &command->ccb), "camr_submit");
+    command->state = WAITING;
+    lun->waiting++;
+    host.submitted++;
+}
+
+/* A command has come to its end. */
+static void finish(struct command *command, unsigned code)
+{
+    struct place *place = command->place;
+    struct lun *lun = command->lun;
+    bool is_good = code == CAMR_REQ_CMP;
+    command->state = IDLE;
+    command->ccb = 0;
+    host.finished++;
+    if (!is_good) host.failed++;
+    if (command->kind == lun->stage && lun->stage < READ) {
+        if (!is_good) end("LUN %u cannot be asked what it is", lun->number);
+        if (lun->stage == INQUIRE && (command->buffer[0] & 0x1f) != 0) end("LUN %u is no disk", lun->number);
+        if (lun->stage == CAPACITY && (command->buffer[6] << 8 | command->buffer[7]) != BLOCK) end("LUN %u has other blocks", lun->number);
+        lun->stage++;
+    }
+    if (place == NULL) return;
+    place->is_busy = false;
+    if (command->kind == READ && is_good) judge(command);
+    if (command->kind == READ && !is_good) place->oldest = 0; /* a write heals it */
+    if (command->kind == WRITE && is_good) {
+        place->oldest = place->newest;
+        host.written++;
+    }
+}
+
+/* Carries out what a policy asked for: it is begun in the loop. */
+static void carry_out(struct lun *lun, const char *ask)
+{
+    bool is_load = strcmp(ask, "6c6f6164") == 0;                /* load */
+    if (strcmp(ask, "72736574") == 0) lun->reset_asked = true;  /* rset */
+    if (strcmp(ask, "6c696e6b") == 0 && host.stage == UP && !host.is_lost) { /* link */
+        told[LINKS]++;
+        host.is_lost = true;
+    }
+    if ((!is_load && strcmp(ask, "74657374") != 0) || lun->probe_freeze != 0) return; /* test */
+    expect(camr_guest_freeze(host.engine, lun->number - FIRST_LUN, GUEST_PROBE, &lun->probe_freeze), "camr_guest_freeze");
+    lun->load_asked = is_load;
+    lun->probe_is_out = false;
+    lun->probes = 0;
+    lun->probe_at = milliseconds();
+}
+
+static void count(uint8_t status, uint8_t scsi, const unsigned char *sense, size_t length)
+{
+    int32_t codes = -1;
+    size_t row = 0;
+    if (length >= 4 && (sense[0] & 0x7e) == 0x72) codes = (sense[1] & 0x0f) << 16 | sense[2] << 8 | sense[3];
+    if (length >= 14 && (sense[0] & 0x7e) == 0x70) codes = (sense[2] & 0x0f) << 16 | sense[12] << 8 | sense[13];
+    if (length != 0 && (sense[0] & 0x7e) == 0x72) told[DESCRIPTOR]++;
+    if (length != 0 && (sense[0] & 0x7d) == 0x71) told[DEFERRED]++;
+    if (length > MOST_SENSE) told[LONG]++;
+    while (row + 1 < sizeof met / sizeof *met &&
+           (met[row].status != status || met[row].scsi != scsi || (met[row].sense >= 0 && met[row].sense != codes)))
+        row++;
+    met[row].count++;
+}
+
+/* Reports a command to the engine, and lets the policy decide if it failed. */
+static void report(struct command *command, uint8_t status, uint8_t scsi, const unsigned char *sense, size_t length)
+{
+    struct lun *lun = command->lun;
+    struct decision decision = {0, ""};
+    camr_run *run = NULL;
+    uint64_t r0;
+    bool ended;
+    if (status != CAMR_REQ_CMP) {
+        count(status, scsi, sense, length);
+        read_clock(milliseconds()); /* a timer counts from the last reading */
+        follow_trace(NULL);
+    }
+    expect(camr_complete(host.engine, command->ccb, status, scsi, sense, length < MOST_SENSE ? length : MOST_SENSE, &run), "camr_complete");
+    lun->active--;
+    if (run == NULL) {
+        finish(command, CAMR_REQ_CMP);
+        return;
+    }
+    expect(camr_drive(host.engine, run, &r0, &ended), "camr_drive");
+    camr_run_free(run);
+    follow_trace(&decision);
+    lun->is_held = false;
+    if (decision.code != 0) {
+        finish(command, decision.code);
+    } else {
+        command->state = WAITING;
+        lun->waiting++;
+    }
+    carry_out(lun, decision.ask);
+}
+
+/* The connection has an answer, or none any more: what it cancels was cut off, and is reported when a new connection is there. */
+static void done(struct iscsi_context *link, int status, void *data, void *private)
+{
+    struct command *command = private;
+    struct scsi_task *task = command->task;
+    const unsigned char *sense = NULL;
+    size_t length = 0;
+    (void)link, (void)data;
+    command->task = NULL;
+    if (status == SCSI_STATUS_CANCELLED || status == SCSI_STATUS_ERROR || status == SCSI_STATUS_TIMEOUT) {
+        if (!host.cancels) host.is_lost = true;
+        scsi_free_scsi_task(task);
+        return;
+    }
+    if (status == SCSI_STATUS_CHECK_CONDITION && task->datain.size > 2) {
+        sense = task->datain.data + 2; /* after the two bytes of its length */
+        length = (size_t)(task->datain.data[0] << 8 | task->datain.data[1]);
+        if (length > (size_t)task->datain.size - 2) length = (size_t)task->datain.size - 2;
+    }
+    report(command, status == SCSI_STATUS_GOOD ? CAMR_REQ_CMP : CAMR_SCSI_STATUS_ERROR, (uint8_t)status, sense, length);
+    scsi_free_scsi_task(task);
+    if (command->state == IDLE) submit(command);
+    start_commands(command->lun);
+}
+
+static void lun_is_reset(struct iscsi_context *link, int status, void *data, void *private)
+{
+    struct lun *lun = private;
+    (void)link;
+    if (host.cancels) return;
+    if (status != SCSI_STATUS_GOOD || *(uint32_t *)data != ISCSI_TMR_FUNC_COMPLETE) host.is_lost = true;
+    else if (host.stage == RESETTING) host.resets_left--;
+    else lun->reset_is_out = false;
+}
+
+/* Whether the connection has nothing left to send. libiscsi lets a LUN RESET overtake what it has not sent. */
+static bool all_is_sent(void)
+{
+    if (iscsi_service(host.link, POLLOUT) < 0) host.is_lost = true;
+    return iscsi_out_queue_length(host.link) == 0;
+}
+
+static void send_reset(struct lun *lun)
+{
+    lun->reset_is_out = true;
+    lun->reset_deadline = milliseconds() + RESET_MS;
+    if (iscsi_task_mgmt_async(host.link, (int)lun->number, ISCSI_TM_LUN_RESET, 0xffffffff, 0, lun_is_reset, lun) != 0) host.is_lost = true;
+}
+
+/* Reports all that the device had: it surely has none of it any more. */
+static void report_all(struct lun *lun, uint8_t others)
+{
+    for (struct command *command = lun->commands; command < lun->commands + COMMANDS; command++) {
+        if (command->state != IN_DEVICE) continue;
+        host.cancels = true;
+        if (command->task != NULL && iscsi_scsi_cancel_task(host.link, command->task) != 0) host.is_lost = true;
+        host.cancels = false;
+        if (command->task != NULL) continue; /* it is half sent, and goes with the connection */
+        report(command, command->timed_out ? CAMR_CMD_TIMEOUT : others, 0, NULL, 0);
+    }
+    release(&lun->reset_freeze);
+}
+
+static void probed(struct iscsi_context *link, int status, void *data, void *private)
+{
+    struct lun *lun = private;
+    (void)link;
+    if (data != NULL) scsi_free_scsi_task(data);
+    if (host.cancels) return;
+    lun->probe_is_out = false;
+    lun->probe_at = milliseconds() + PROBE_MS;
+    if (status == SCSI_STATUS_GOOD && !lun->load_asked) release(&lun->probe_freeze);
+    lun->load_asked = false;
+}
+
+/* Asks a disk to load its medium and to start, if that was asked for, and then whether it is ready, until it is. */
+static void probe(struct lun *lun)
+{
+    if (++lun->probes > MOST_PROBES) release(&lun->probe_freeze); /* its commands fail, and the policy decides */
+    if (lun->probe_freeze == 0) return;
+    lun->probe_is_out = true;
+    told[lun->load_asked ? LOADS : TESTS]++;
+    struct scsi_task *task = lun->load_asked ? iscsi_startstopunit_task(host.link, (int)lun->number, 0, 0, 0, 0, 1, 1, probed, lun)
+                                             : iscsi_testunitready_task(host.link, (int)lun->number, probed, lun);
+    if (task == NULL) host.is_lost = true;
+}
+
+/* What a disk's time brings: time-outs, a reset that was asked for or answered, a probe, more commands. */
+static void look_after(struct lun *lun, uint64_t now)
+{
+    for (struct command *command = lun->commands; command < lun->commands + COMMANDS; command++) {
+        if (command->state == IDLE) submit(command);
+        if (command->state != IN_DEVICE || command->timed_out || now < command->deadline) continue;
+        command->timed_out = true;
+        lun->reset_asked = lun->reset_asked || lun->reset_freeze == 0;
+    }
+    if (lun->reset_asked && lun->reset_freeze == 0) {
+        expect(camr_guest_freeze(host.engine, lun->number - FIRST_LUN, GUEST_RESET, &lun->reset_freeze), "camr_guest_freeze");
+        lun->reset_deadline = now + RESET_MS;
+        told[RESETS]++;
+    }
+    if (lun->reset_asked && !lun->reset_is_out && all_is_sent()) {
+        lun->reset_asked = false;
+        send_reset(lun); /* the barrier: nothing is reported before this is answered */
+    }
+    if (lun->reset_freeze != 0 && !lun->reset_asked && !lun->reset_is_out) report_all(lun, CAMR_BDR_SENT);
+    if (lun->reset_freeze != 0 && now >= lun->reset_deadline) host.is_lost = true;
+    if (lun->probe_is_out && now >= lun->probe_at + RESET_MS) host.is_lost = true;
+    if (lun->probe_freeze != 0 && !lun->probe_is_out && lun->reset_freeze == 0 && now >= lun->probe_at) probe(lun);
+    start_commands(lun);
+}
+
+/* ---- the connection ------------------------------------------------------------------------------------------------------------- */
+
+static void logged_in(struct iscsi_context *link, int status, void *data, void *private)
+{
+    (void)link, (void)data, (void)private;
+    host.is_lost = status != SCSI_STATUS_GOOD && !host.cancels;
+    if (status != SCSI_STATUS_GOOD) return;
+    host.stage = RESETTING;
+    host.resets_left = LUNS;
+    for (struct lun *lun = host.luns; lun < host.luns + LUNS; lun++) send_reset(lun);
+}
+
+static void connected(struct iscsi_context *link, int status, void *data, void *private)
+{
+    (void)data, (void)private;
+    if (!host.cancels && (status != SCSI_STATUS_GOOD || iscsi_login_async(link, logged_in, NULL) != 0)) host.is_lost = true;
+}
+
+/* Freezes the controller, and gives the connection up with what it has. The commands stay active: the target may have them. */
+static void drop_link(uint64_t now)
+{
+    host.is_lost = false;
+    if (host.link_freeze == 0)
+        expect(camr_guest_freeze_controller(host.engine, 0, GUEST_LINK, &host.link_freeze), "camr_guest_freeze_controller");
+    host.cancels = true;
+    if (host.link != NULL) iscsi_destroy_context(host.link);
+    host.cancels = false;
+    host.link = NULL;
+    host.stage = DOWN;
+    host.link_at = now + PROBE_MS;
+}
+
+/* Begins a new connection. It has the same name as the one before, so that the target ends that one's session first. */
+static void begin_link(uint64_t now)
+{
+    host.link = iscsi_create_context("iqn.2026-11.test:transport");
+    if (host.link == NULL) end("no memory");
+    iscsi_set_targetname(host.link, host.target);
+    iscsi_set_session_type(host.link, ISCSI_SESSION_NORMAL);
+    iscsi_set_header_digest(host.link, ISCSI_HEADER_DIGEST_NONE);
+    iscsi_set_isid_oui(host.link, 0xca, 1);
+    iscsi_set_noautoreconnect(host.link, 1);
+    host.stage = CONNECTING;
+    host.link_at = now + LINK_MS;
+    if (iscsi_connect_async(host.link, host.portal, connected, NULL) != 0) host.is_lost = true;
+}
+
+static void look_after_link(uint64_t now)
+{
+    if (host.is_lost || ((host.stage == CONNECTING || host.stage == RESETTING) && now >= host.link_at)) drop_link(now);
+    if (host.stage == DOWN && now >= host.link_at) begin_link(now);
+    if (host.stage != RESETTING || host.is_lost || host.resets_left != 0) return;
+    /* each LUN was reset through the new connection: what the last one had is reported, and all goes on */
+    for (struct lun *lun = host.luns; lun < host.luns + LUNS; lun++) {
+        lun->reset_is_out = lun->reset_asked = lun->probe_is_out = false;
+        report_all(lun, CAMR_SCSI_BUS_RESET);
+    }
+    release(&host.link_freeze);
+    host.stage = UP;
+}
+
+/* Waits for the connection, at most until the next timer is due. */
+static void serve_link(uint64_t now)
+{
+    uint64_t due = 0, wait = TICK_MS;
+    bool is_due = false;
+    expect(camr_next_due(host.engine, &is_due, &due), "camr_next_due");
+    if (is_due && due + host.begun < now + wait) wait = due + host.begun > now ? due + host.begun - now : 0;
+    struct pollfd place = {-1, 0, 0};
+    if (host.link != NULL) {
+        place.fd = iscsi_get_fd(host.link);
+        place.events = (short)iscsi_which_events(host.link);
+        if (place.fd < 0) host.is_lost = true;
+    }
+    if (poll(&place, 1, (int)wait) > 0 && iscsi_service(host.link, place.revents) < 0) host.is_lost = true;
+    now = milliseconds();
+    if (is_due && due + host.begun <= now) read_clock(now);
+}
+
+static void say_how_far(uint64_t records)
+{
+    struct rusage usage;
+    getrusage(RUSAGE_SELF, &usage);
+    printf("%" PRIu64 " commands, %" PRIu64 " records, %" PRIu64 " wrong, at most %ld KB\n", host.finished, records, host.wrong,
+           usage.ru_maxrss);
+    fflush(NULL);
+}
+
+/* Goes on until that time, and then until nothing is left. With MOST_RECORDS in its history the engine is changed for a new one. */
+static void run_until(uint64_t last)
+{
+    uint64_t tick_at = 0, said_at = milliseconds();
+    camr_totals_t totals;
+    for (uint64_t now = milliseconds();; now = milliseconds()) {
+        serve_link(now);
+        look_after_link(milliseconds());
+        if (now < tick_at) continue;
+        tick_at = now + TICK_MS;
+        for (struct lun *lun = host.luns; lun < host.luns + LUNS && host.stage == UP; lun++) look_after(lun, now);
+        follow_trace(NULL);
+        expect(camr_totals(host.engine, &totals), "camr_totals");
+        if (now >= said_at + 1000) {
+            say_how_far(totals.history);
+            said_at = now;
+        }
+        host.is_draining = now >= last || totals.history >= MOST_RECORDS;
+        if (now >= last + QUIET_MS) end("not all came to an end: %" PRIu64 " of %" PRIu64 " commands", host.finished, host.submitted);
+        if (!host.is_draining || host.submitted != host.finished || totals.frozen != 0 || totals.active != 0 || totals.runs != 0) continue;
+        close_engine();
+        if (now >= last) return;
+        open_engine();
+        host.is_draining = false;
+    }
+}
+
+int main(int count, char **words)
+{
+    unsigned long seconds = count == 6 ? strtoul(words[5], NULL, 10) : 0;
+    if (seconds == 0) {
+        fprintf(stderr, "usage: transport MANIFEST TRACE PORTAL TARGET SECONDS\n");
+        return 2;
+    }
+    signal(SIGPIPE, SIG_IGN); /* libiscsi writes to a connection that may have ended */
+    host.manifest = words[1], host.trace = words[2], host.portal = words[3], host.target = words[4];
+    host.random = milliseconds();
+    for (unsigned number = 0; number < LUNS; number++) {
+        host.luns[number].number = number + FIRST_LUN;
+        host.luns[number].next_odd = TEST + number % (KINDS - TEST);
+        for (unsigned at = 0; at < COMMANDS; at++) host.luns[number].commands[at].lun = &host.luns[number];
+    }
+    open_engine();
+    uint64_t begun = milliseconds();
+    drop_link(begun);
+    run_until(begun + seconds * 1000);
+    host.cancels = true;
+    if (host.link != NULL) iscsi_destroy_context(host.link);
+    for (size_t row = 0; row < sizeof met / sizeof *met; row++) printf("met %s %" PRIu64 "\n", met[row].name, met[row].count);
+    for (size_t row = 0; row < TOLD; row++) printf("%s %" PRIu64 "\n", told_as[row], told[row]);
+    printf("%" PRIu64 " commands, %" PRIu64 " without success, %" PRIu64 " places read, %" PRIu64 " written, %" PRIu64 " wrong\n",
+           host.finished, host.failed, host.read, host.written, host.wrong);
+    return host.wrong == 0 ? 0 : 1;
+}

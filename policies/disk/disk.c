@@ -1,0 +1,129 @@
+/* Recovers the commands of a disk behind a network: which failures are tried again, after how long, and whether a retry counts.
+   README.md has the table. By four bytes in the trace it asks its transport for what a retry alone does not do. */
+#include "../../examples/policies/camr.h"
+#define APART static __attribute__((noinline))
+#define ASK(a, b, c, d) ((u32)(a) | (u32)(b) << 8 | (u32)(c) << 16 | (u32)(d) << 24)
+
+/* What is decided of a failure: how many milliseconds its queue stays frozen, at most 1,023, and these beside it. */
+enum { MILLISECONDS = 0x3ff, COUNTS = 1 << 10, NO_RETRY_HELPS = 1 << 11, WAS_CARRIED_OUT = 1 << 12 };
+enum {
+    DONE = 0x01,         /* the final code of a command that did what it was to do */
+    MOST_ATTEMPTS = 250, /* also a retry that does not count ends at last */
+    SCSI_ACA_ACTIVE = 0x30,
+    SCSI_TASK_ABORTED = 0x40,
+    SENSE_MISCOMPARE = 0xe
+};
+
+APART u64 final_code(const struct context *c, u64 decided);
+APART u64 by_status(const struct context *c);
+APART u64 by_scsi_status(const struct context *c);
+APART u64 by_sense(const struct context *c);
+APART u64 by_key(u64 key);
+APART u64 not_ready(const struct context *c);
+APART void ask(u32 word);
+
+u64 policy(struct context *c, u64 freeze)
+{
+    u64 decided = by_status(c);
+    u64 wait = decided & MILLISECONDS;
+    if (freeze) {
+        if (wait)
+            release_after(freeze, wait);
+        else
+            release(freeze);
+    }
+    u64 code = final_code(c, decided) & STATUS_CODE;
+    if (code)
+        finish(code);
+    else
+        requeue(decided & COUNTS ? 1 : 0);
+    return 0;
+}
+
+/* The code with which the command is finished, or 0 if it is tried again. */
+APART u64 final_code(const struct context *c, u64 decided)
+{
+    if (decided & WAS_CARRIED_OUT)
+        return DONE;
+    if (decided & NO_RETRY_HELPS || c->attempts > MOST_ATTEMPTS)
+        return c->status;
+    return decided & COUNTS && c->retries == 0 ? c->status : 0;
+}
+
+/* By the CAM status: what the transport saw. */
+APART u64 by_status(const struct context *c)
+{
+    u32 status = c->status & STATUS_CODE;
+    if (status == CAM_SCSI_STATUS_ERROR)
+        return by_scsi_status(c);
+    if (status == CAM_CMD_TIMEOUT) {
+        if (c->retries == 1)
+            ask(ASK('l', 'i', 'n', 'k'));
+        return 100 | COUNTS;
+    }
+    if (status == CAM_BUSY)
+        return 100;
+    if (status == CAM_SEL_TIMEOUT)
+        return 250 | COUNTS;
+    /* a neighbour's time-out or a lost connection took this command with it, or the transport asks for another try */
+    return 0;
+}
+
+/* By the SCSI status: what the device answered. */
+APART u64 by_scsi_status(const struct context *c)
+{
+    if (c->scsi == SCSI_CHECK_CONDITION)
+        return by_sense(c);
+    if (c->scsi == SCSI_BUSY)
+        return 100;
+    if (c->scsi == SCSI_TASK_SET_FULL)
+        return 20;
+    if (c->scsi == SCSI_RESERVATION_CONFLICT)
+        return 250 | COUNTS;
+    if (c->scsi == SCSI_ACA_ACTIVE) {
+        ask(ASK('r', 's', 'e', 't'));
+        return 20;
+    }
+    if (c->scsi == SCSI_TASK_ABORTED)
+        return 0;
+    return 100 | COUNTS;
+}
+
+APART u64 by_sense(const struct context *c)
+{
+    /* a deferred error is that of an earlier command: this one was not carried out */
+    if (c->sense_length != 0 && (c->sense[0] & 0x7d) == 0x71)
+        return 0;
+    if (c->key == SENSE_UNIT_ATTENTION)
+        return 0;
+    if (c->key == SENSE_RECOVERED_ERROR)
+        return WAS_CARRIED_OUT;
+    if (c->key == SENSE_NOT_READY)
+        return not_ready(c);
+    return by_key(c->key);
+}
+
+/* The keys whose sense codes make no difference. */
+APART u64 by_key(u64 key)
+{
+    if (key == SENSE_ABORTED_COMMAND)
+        return COUNTS;
+    if (key == SENSE_ILLEGAL_REQUEST || key == SENSE_DATA_PROTECT || key == SENSE_MISCOMPARE)
+        return NO_RETRY_HELPS;
+    return 100 | COUNTS;
+}
+
+/* 04/02 and 3a: the unit has to be started or loaded. Else it becomes ready by itself, and is asked until it is. */
+APART u64 not_ready(const struct context *c)
+{
+    if (c->asc == 0x3a || (c->asc == 0x04 && c->ascq == 0x02))
+        ask(ASK('l', 'o', 'a', 'd'));
+    else
+        ask(ASK('t', 'e', 's', 't'));
+    return 250 | COUNTS;
+}
+
+APART void ask(u32 word)
+{
+    trace(&word, sizeof word);
+}

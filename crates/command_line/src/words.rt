@@ -1,7 +1,7 @@
-// The words after the program's name, read as a plan. It relies on `usage` for what `clap` is given of them, and on `clap` for the
-// rest but the form of a number.
+// The words after the program's name, read as a plan. It relies on `usage` for what `clap` is given of them, on `clap` for the rest but
+// the form of a number, and on `text_page` for how words are shown.
 
-ghost use Rattle.std.specs.Prelude.{◌≡◌, IfErr, IfOk, MatchOption, codes, map, string_bytes};
+ghost use Rattle.std.specs.Prelude.{◌≡◌, ◌⊎◌, IfErr, IfOk, MatchOption, codes, map, string_bytes};
 ghost use Rattle.clap.specs.Words.{FailsBy, Text, fault_of, found_of, kind_of, rows_of};
 ghost use Rattle.clap.specs.Words.{subcommand_of, subcommand_rows_of};
 ghost use Rattle.command_line.specs.FoundPlan.{HasFound, IsRefused, PlansBehind, PlansFound, ReadsWatch, ReadsWorkers};
@@ -17,6 +17,7 @@ use crate::usage::{camr_command, run_command};
 use clap::error::ErrorKind;
 use clap::{ArgMatches, Error};
 use std::alloc::{AllocError, Global};
+use text_page::{ForeignText, escaped};
 
 /// Why the words are no plan: a mistake in them, or a request for help. Its text is for the user, and
 /// `exit_code` is the status to end with.
@@ -87,13 +88,78 @@ fn utf8_fault(alloc: Global) -> Result<Error, AllocError>
     )
 }
 
-/// What clap makes of the words.
+/// What clap makes of the words. If it refuses them, what it says of them is said of the words as they are shown.
 pub fn matches<'a>(alloc: Global, words: &'a [&'a str]) -> Result<ArgMatches<'a>, Error>
     ensures rows { IfOk result (λ m.
         subcommand_rows_of m ≡ subcommand_of camr_command (map (λ word. word.now) words.entry.now)) }
     ensures faults { FailsBy (fault_of camr_command (map (λ word. word.now) words.entry.now)) result }
 {
+    match parsed(alloc, words) {
+        Ok(matches) => Ok(matches),
+        Err(fault) => Err(retold(alloc, words, fault.kind())),
+    }
+}
+
+fn parsed<'a>(alloc: Global, words: &'a [&'a str]) -> Result<ArgMatches<'a>, Error>
+    ensures rows { IfOk result (λ m.
+        subcommand_rows_of m ≡ subcommand_of camr_command (map (λ word. word.now) words.entry.now)) }
+    ensures faults { FailsBy (fault_of camr_command (map (λ word. word.now) words.entry.now)) result }
+{
     camr_command(alloc)?.try_get_matches_from(words)
+}
+
+// The fault of that kind which the words have, told of them as they are shown.
+fn retold(alloc: Global, words: &[&str], kind: ErrorKind) -> Error
+    ensures { (kind_of result ≡ kind) ⊎ (kind_of result ≡ ErrorKind.OutOfMemory) }
+{
+    match fault_of_shown(alloc, words, kind) {
+        Ok(fault) => fault,
+        Err(error) => Error::from(error),
+    }
+}
+
+// What `clap` says of the words as they are shown. An escape is of no form that a word alone has, so they are refused as the words are;
+// if they were not, what is told names none of them.
+fn fault_of_shown(alloc: Global, words: &[&str], kind: ErrorKind) -> Result<Error, AllocError>
+    ensures { IfOk result (λ e. kind_of e ≡ kind) }
+{
+    let shown = shown_words(alloc, words)?;
+    match fault_in(alloc, shown.as_slice())? {
+        Some(fault) => of_kind(alloc, fault, kind),
+        None => nameless_fault(alloc, kind),
+    }
+}
+
+fn shown_words(alloc: Global, words: &[&str]) -> Result<Vec<String>, AllocError> {
+    let mut shown = Vec::with_capacity(alloc, words.len())?;
+    for word in words {
+        shown.push(escaped(alloc, word)?)?;
+    }
+    Ok(shown)
+}
+
+// What `clap` finds wrong with the words.
+fn fault_in(alloc: Global, words: &[String]) -> Result<Option<Error>, AllocError> {
+    match camr_command(alloc)?.try_get_matches_from(words) {
+        Ok(_matches) => Ok(None),
+        Err(fault) => Ok(Some(fault)),
+    }
+}
+
+fn of_kind(alloc: Global, fault: Error, kind: ErrorKind) -> Result<Error, AllocError>
+    ensures { IfOk result (λ e. kind_of e ≡ kind) }
+{
+    if fault.kind() == kind {
+        Ok(fault)
+    } else {
+        nameless_fault(alloc, kind)
+    }
+}
+
+fn nameless_fault(alloc: Global, kind: ErrorKind) -> Result<Error, AllocError>
+    ensures { IfOk result (λ e. kind_of e ≡ kind) }
+{
+    camr_command(alloc)?.error(kind, "the words are no command line")
 }
 
 // The plan of what clap found, and none where a number of workers is no plain one.
@@ -294,7 +360,8 @@ fn number_fault(alloc: Global, word: &str) -> Result<Error, AllocError>
     ensures { IfOk result (λ e. kind_of e ≡ ErrorKind.ValueValidation) }
 {
     let text = format!(in alloc;
-        "invalid value '{word}' for '--workers <N>': invalid digit found in string"
+        "invalid value '{}' for '--workers <N>': invalid digit found in string",
+        ForeignText(word)
     )?;
     run_fault(alloc, text.as_str())
 }
@@ -303,7 +370,8 @@ fn watch_fault(alloc: Global, word: &str) -> Result<Error, AllocError>
     ensures { IfOk result (λ e. kind_of e ≡ ErrorKind.ValueValidation) }
 {
     let text = format!(in alloc;
-        "invalid value '{word}' for '--watch <WHEN>': it is `terminal` or `lines`"
+        "invalid value '{}' for '--watch <WHEN>': it is `terminal` or `lines`",
+        ForeignText(word)
     )?;
     run_fault(alloc, text.as_str())
 }

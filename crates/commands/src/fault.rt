@@ -1,4 +1,5 @@
-// Why a plan was not carried out, as a line for the user and as a status. It relies on the faults of the parts.
+// Why a plan was not carried out, as a line for the user and as a status. It relies on the faults of the parts, and on `text_page` for
+// how a path is shown.
 
 ghost use Rattle.std.specs.Prelude.{◌≡◌, ◌≤◌, ◌⊎◌};
 ghost use Rattle.commands.specs.Faults.{fault_of_manifest, fault_of_program, fault_of_replay, fault_of_run, fault_of_scenario, fault_of_text, fault_of_trace, status_of};
@@ -11,6 +12,7 @@ use replay::{ReplayError, ReplayFault};
 use scenario::{FaultyLine, ScenarioError};
 use scenario_host::RunFault;
 use std::io::Write;
+use text_page::ForeignText;
 use thiserror::Error;
 use trace::{TraceError, TraceFault};
 
@@ -20,7 +22,7 @@ pub enum Fault<'a> {
     #[error("out of memory")]
     OutOfMemory,
     /// The file of that path cannot be read or written, or is to be text and is not UTF-8.
-    #[error("file {0}")]
+    #[error("file {}", ForeignText(*.0))]
     File(&'a str),
     /// The text says no program.
     #[error("{0}")]

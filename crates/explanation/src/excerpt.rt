@@ -1,10 +1,10 @@
 // A line of a text with a mark under the part that is meant. It relies on `manifest_layout` for lines.
 
 use manifest_layout::{Span, line_at};
-use text_page::Page;
+use text_page::{Page, is_shown};
 
 /// Puts where a part of a text stands, its line, and a mark under what of the part stands in that line. Columns count
-/// characters, from 1.
+/// characters of the text, from 1; marks stand under what is shown for them.
 pub fn print(page: &mut Page, path: &str, text: &str, part: Span) {
     let line = line_at(text, part.start);
     let before = line.column.min(line.text.len());
@@ -15,12 +15,12 @@ pub fn print(page: &mut Page, path: &str, text: &str, part: Span) {
     page.fill(":{}:{}\n      |\n", &[number, column as u64]);
     page.aligned(number, 5);
     page.text(" | ");
-    page.foreign(line.text);
-    page.text("\n      | ");
-    put_blanks(page, line.text, column);
     let marked = part.end.saturating_sub(part.start);
     let left = line.text.trim_end().len().saturating_sub(before);
-    put_marks(page, marked.min(left).max(1));
+    let wide = put_line(page, line.text, before, marked.min(left));
+    page.text("\n      | ");
+    page.blanks(wide.before);
+    put_marks(page, wide.part.max(1));
 }
 
 // How many characters the first bytes of a text are: those that continue one are not counted.
@@ -31,11 +31,33 @@ fn characters(text: &[u8], count: usize) -> usize {
         .count()
 }
 
-// Puts blanks as wide as what stands before a column.
-fn put_blanks(page: &mut Page, text: &str, column: usize) {
-    for letter in text.chars().take(column.saturating_sub(1)) {
-        page.text(if letter == '\t' { "\t" } else { " " });
+// How wide a line is shown: what stands before a part of it, in characters, and the part, in bytes.
+#[derive(Clone, Copy)]
+struct Wide {
+    before: usize,
+    part: usize,
+}
+
+// Puts a line of which a part begins at that byte and has so many, and answers how wide it is shown.
+fn put_line(page: &mut Page, line: &str, start: usize, count: usize) -> Wide {
+    let end = start.saturating_add(count);
+    let mut wide = Wide {
+        before: 0,
+        part: count,
+    };
+    for (place, letter) in line.char_indices() {
+        let from = page.len();
+        page.foreign_character(letter);
+        let shown = page.len().saturating_sub(from);
+        if place < start {
+            let blanks = if is_shown(letter) { 1 } else { shown };
+            wide.before = wide.before.saturating_add(blanks);
+        } else if place < end {
+            let more = shown.saturating_sub(letter.len_utf8());
+            wide.part = wide.part.saturating_add(more);
+        }
     }
+    wide
 }
 
 fn put_marks(page: &mut Page, count: usize) {

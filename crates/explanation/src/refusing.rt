@@ -39,7 +39,7 @@ pub fn print(
             };
             excerpt::print(page, path, text, part);
             page.text("  = here: ");
-            page.text(error.message());
+            page.foreign(error.message());
             page.text("\n");
             put_rule(page, "M1");
             Ok(())

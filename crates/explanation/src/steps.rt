@@ -85,8 +85,10 @@ fn put_indented(page: &mut Page, depth: usize, text: &str) -> usize {
     for _caller in 1..depth {
         page.text("  ");
     }
+    let before = page.len();
     page.foreign(text);
-    depth.saturating_mul(2).saturating_add(text.len())
+    let shown = page.len().saturating_sub(before);
+    depth.saturating_mul(2).saturating_add(shown)
 }
 
 // Whether there is more to tell of an instruction than how it is written.

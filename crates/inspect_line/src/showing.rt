@@ -1,4 +1,5 @@
-// The words after `show`, read as a plan. It relies on `command_line` for what `clap` is given of them.
+// The words after `show`, read as a plan. It relies on `command_line` for what `clap` is given of them, and on `text_page` for how a word is
+// shown.
 
 ghost use Rattle.std.specs.Prelude.{◌≡◌, ◌≤◌, ◌↔◌, ℕ, IsTrue, Option, MatchBool, MatchOption, None, IfOk, IfSome, codes};
 ghost use Rattle.clap.specs.Words.{first_of, found_of, kind_of, rows_of};
@@ -11,6 +12,7 @@ use clap::error::ErrorKind;
 use clap::{ArgMatches, Error};
 use command_line::{is_true, show_command};
 use std::alloc::{AllocError, Global};
+use text_page::ForeignText;
 use trace_events::Filter;
 
 /// The greatest number of a queue.
@@ -154,7 +156,8 @@ pub(crate) fn show_fault(alloc: Global, show: &ArgMatches) -> Result<Error, Allo
         let word = show.get_str(name).unwrap_or("0");
         if number_in(word, greatest).is_none() {
             let text = format!(in alloc;
-                "invalid value '{word}' for '--{name}': it is 0 to {greatest}, in decimal digits"
+                "invalid value '{}' for '--{name}': it is 0 to {greatest}, in decimal digits",
+                ForeignText(word)
             )?;
             return fault(alloc, text.as_str());
         }

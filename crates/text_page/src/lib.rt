@@ -11,6 +11,8 @@
 // has the figures.
 #![tactic(auto)]
 
+mod foreign;
 mod page;
 
+pub use foreign::{ForeignCharacter, ForeignText, escaped, is_shown};
 pub use page::Page;

@@ -1,5 +1,9 @@
-// A page of text. It relies on `itoa` for decimal digits.
+// A page of text. It relies on `itoa` for decimal digits, and on `foreign` for how a text from outside is shown.
 
+ghost use Rattle.std.specs.Prelude.{IfSome};
+ghost use Rattle.text_page.specs.Escaping.{escaped, shown_as};
+
+use crate::foreign::{ForeignCharacter, ForeignText};
 use itoa::Buffer;
 use std::alloc::{AllocError, Global};
 use std::fmt::Display;
@@ -20,6 +24,8 @@ pub struct Page {
 }
 
 impl Page {
+    ghost use Rattle.text_page.specs.Page.{Puts};
+
     /// An empty page.
     pub fn new(alloc: Global) -> Self {
         Page {
@@ -35,18 +41,18 @@ impl Page {
         }
     }
 
-    /// Puts a text after what is there that came from outside: from a manifest, a trace or the command line.
-    pub fn foreign(&mut self, text: &str) {
-        for character in text.chars() {
-            self.foreign_character(character);
-        }
+    /// Puts what is shown for a text that came from outside: from a manifest, a trace or the command line.
+    pub fn foreign(&mut self, text: &str)
+        ensures { Puts self.old (escaped text.now) self.new }
+    {
+        self.shown(&ForeignText(text));
     }
 
-    /// Puts one character of such a text. Here alone is decided how what came from outside is shown.
-    pub fn foreign_character(&mut self, character: char) {
-        if self.text.push(character).is_err() {
-            self.is_torn = true;
-        }
+    /// Puts what is shown for one character of such a text.
+    pub fn foreign_character(&mut self, character: char)
+        ensures { Puts self.old (shown_as character) self.new }
+    {
+        self.shown(&ForeignCharacter(character));
     }
 
     /// Puts a number.
@@ -83,7 +89,9 @@ impl Page {
     }
 
     /// Puts the text of a value of the program's own, as of a code or a fault.
-    pub fn shown<T: Display>(&mut self, value: &T) {
+    pub fn shown<T: Display>(&mut self, value: &T)
+        ensures { IfSome (T.output value.now) (λ text. Puts self.old text self.new) }
+    {
         if write!(self.text, "{value}").is_err() {
             self.is_torn = true;
         }

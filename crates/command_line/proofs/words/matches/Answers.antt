@@ -1,17 +1,16 @@
-use Rattle.std.proofs.Common.{◌≡◌, List, Bor, true, map, subst}
-use Rattle.std.proofs.lemmas.Result.{IfOk-weaker}
-use Rattle.clap.specs.Words.{App, FailsBy, HasMatchesOf, Text, fault_of, is_simple_and_free}
-use Rattle.command_line.proofs.PlainWords.{is_simple_alone, is_simple_camr}
+use Rattle.std.proofs.Common.{◌≡◌, ◌⊎◌, ◌∙◌, inl, inr, subst, sym}
+use Rattle.clap.specs.Words.{HasKind, IsAmong, Kinds, kind_of}
+use Rattle.clap.specs.declared.error.Error.{Error}
+use Rattle.clap.specs.declared.error.kind.ErrorKind.{ErrorKind}
+use Rattle.clap.specs.declared.error.kind.ErrorKind.TheVariants as kind
 use Rattle.command_line.proofs.words.matches.Goals as goal
 
-pub returns-clause-rows : goal.returns-clause-rows
-returns-clause-rows c =
-    let words : List Text = map (λ (word : Bor Text). word.now) c.args.words.now in
-    IfOk-weaker c.try_get_matches_from.result _ _
-    (λ m h. (subst (λ (app : App). HasMatchesOf app words m) c.in_ok-camr_command.ensures.0 h is_simple_alone).1) c.try_get_matches_from.ensures.matches
+-- a fault of the same kind is told
+told_so : (kinds : Kinds) (fault told : Error) (k : ErrorKind) → k ≡ kind_of fault → (kind_of told ≡ k) ⊎ (kind_of told ≡ kind.OutOfMemory)
+    → HasKind kinds fault → HasKind kinds told
+told_so kinds fault told k is (inl same) (inl memory) = inl (same ∙ is ∙ memory)
+told_so kinds fault told k is (inl same) (inr among) = inr (subst (λ x. IsAmong x kinds) (sym (same ∙ is)) among)
+told_so kinds fault told k is (inr memory) has = inl memory
 
-pub returns-clause-faults : goal.returns-clause-faults
-returns-clause-faults c =
-    let words : List Text = map (λ (word : Bor Text). word.now) c.args.words.now in
-    subst (λ (app : App). is_simple_and_free app ≡ true → FailsBy (fault_of app words) c.try_get_matches_from.result) c.in_ok-camr_command.ensures.0
-    c.try_get_matches_from.ensures.kinds is_simple_camr
+pub returns-in-Err-clause-faults : goal.returns-in-Err-clause-faults
+returns-in-Err-clause-faults c = told_so _ c.in-Err.fault c.retold.result c.kind.result c.kind.ensures c.retold.ensures c.in-Err.ensures.faults

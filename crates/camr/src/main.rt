@@ -2,43 +2,58 @@
 // on `command_line` for the words, on `commands` for what is carried out, and on `program_io` for the machine.
 #![tactic(auto)]
 
-ghost use Rattle.std.specs.Prelude.{◌≡◌, length, IfOk};
+ghost use Rattle.std.specs.Prelude.{◌≡◌, ◌<◌, ◌^◌, length, IfOk};
 ghost use Rattle.command_line.specs.Files.{input_paths};
 
 use calls::Notices;
 use command_line::{Manner, Plan, Watch, not_utf8, plan};
 use commands::{Fault, Handing, carry, report_usage, serve};
 use live::Input;
-use program_io::{Clocked, Feeder, Reading, Telling, replace, words};
+use program_io::{
+    Clocked, Disk, Feeder, MOST_MANIFEST, MOST_PROGRAM, MOST_SCENARIO, MOST_TEXT, MOST_TRACE,
+    Patient, Reading, Relay, Relayer, Telling, read_file, replace, words,
+};
+use std::fs::File;
 use std::io::{BufWriter, IsTerminal, Stderr, Write};
 use std::process::ExitCode;
+use std::random::RandomSource;
 use std::rt::{Files, Runtime};
 use std::sync::Wait;
 use std::thread::Threads;
-use std::{fs, io, thread};
+use std::{io, thread};
 
 fn main(rt: HostRuntime) -> ExitCode {
-    let mut err = rt.stderr();
-    let begin = move |feeder: Feeder| {
-        thread::spawn(&rt, move || feeder.read_all(&rt, rt.reader())).is_ok()
+    let told = rt.stderr();
+    let mut err = Patient::new(&rt, told);
+    let begin = move |feeder: Feeder, relayer: Relayer| {
+        thread::spawn(&rt, move || {
+            feeder.read_all(&rt, Patient::new(&rt, rt.reader()))
+        })
+        .is_ok()
+            && thread::spawn(&rt, move || {
+                relayer.write_all(&rt, Patient::new(&rt, rt.stderr()))
+            })
+            .is_ok()
     };
-    ExitCode::from(match BufWriter::new(rt.alloc(), io::writer(&rt)) {
+    let out = BufWriter::new(rt.alloc(), Patient::new(&rt, io::writer(&rt)));
+    ExitCode::from(match out {
         Ok(mut out) => {
-            let status = status(&rt, err, &mut out, &mut err, begin);
+            let status = status(&rt, told, &mut out, &mut err, begin);
             if out.flush().is_ok() { status } else { 2 }
         }
         Err(_) => Fault::OutOfMemory.report(&mut err),
     })
 }
 
-// Does what the words say, and answers the status to end with. `begin` starts a thread that reads standard input.
+// Does what the words say, and answers the status to end with. `begin` starts a thread that reads standard input, and one that writes what
+// is told on standard error.
 fn status<
-    R: Runtime + AllocGlobal + Threads + Wait + Sync,
+    R: Runtime + Files<File = File> + RandomSource + AllocGlobal + Threads + Wait + Sync,
     W: Write,
     E: Write,
-    B: FnOnce(Feeder) -> bool,
+    B: FnOnce(Feeder, Relayer) -> bool,
 >(rt: &R, told: Stderr, out: &mut W, err: &mut E, begin: B) -> u8
-    requires { (feeder : _) → B.pre begin feeder }
+    requires { (feeder : _) (relayer : _) → B.pre begin feeder relayer }
 {
     let words = match words(rt) {
         Ok(words) => words,
@@ -68,7 +83,7 @@ fn status<
 
 // Carries the plan out. What goes out goes into the plan's file, if it has one, where all went well.
 fn carry_out<
-    R: Runtime + AllocGlobal + Threads + Wait + Sync,
+    R: Runtime + Files<File = File> + RandomSource + AllocGlobal + Threads + Wait + Sync,
     N: Notices + Sync,
     W: Write,
     E: Write,
@@ -83,25 +98,23 @@ fn carry_out<
     if status != 0 {
         return status;
     }
-    match replace(rt, path, &bytes) {
+    match replace(rt.alloc(), &mut Disk::new(rt), path, &bytes) {
         Ok(()) => 0,
         Err(error) => unread(&error, path).report(err),
     }
 }
 
 // Serves what standard input asks of the engine of a manifest, a path and its bytes. What goes out is not kept for a whole buffer.
-// Where there is a clock, another thread reads.
-fn serve_line_by_line<R: Runtime + AllocGlobal + Wait, E: Write, B: FnOnce(Feeder) -> bool>(
-    rt: &R,
-    manner: Manner,
-    manifest: (&str, &[u8]),
-    err: &mut E,
-    begin: B,
-) -> u8
-    requires { (feeder : _) → B.pre begin feeder }
+// Where there is a clock, another thread reads, and another one tells what is no part of the trace: timers wait for neither.
+fn serve_line_by_line<
+    R: Runtime + AllocGlobal + Wait,
+    E: Write,
+    B: FnOnce(Feeder, Relayer) -> bool,
+>(rt: &R, manner: Manner, manifest: (&str, &[u8]), err: &mut E, begin: B) -> u8
+    requires { (feeder : _) (relayer : _) → B.pre begin feeder relayer }
 {
     if !manner.is_clocked {
-        return match Reading::of(rt.alloc(), rt.reader()) {
+        return match Reading::of(rt.alloc(), Patient::new(rt, rt.reader())) {
             Ok(mut input) => serve_input(rt, manner, manifest, &mut input, err),
             Err(_) => Fault::OutOfMemory.report(err),
         };
@@ -109,10 +122,15 @@ fn serve_line_by_line<R: Runtime + AllocGlobal + Wait, E: Write, B: FnOnce(Feede
     let Ok((mut input, feeder)) = Clocked::of(rt.alloc(), rt) else {
         return Fault::OutOfMemory.report(err);
     };
-    if !begin(feeder) {
+    let Ok((mut relay, relayer)) = Relay::of(rt.alloc(), rt) else {
+        return Fault::OutOfMemory.report(err);
+    };
+    if !begin(feeder, relayer) {
         return Fault::OutOfMemory.report(err);
     }
-    serve_input(rt, manner, manifest, &mut input, err)
+    let status = serve_input(rt, manner, manifest, &mut input, &mut relay);
+    relay.end();
+    status
 }
 
 // Serves what this input asks.
@@ -123,7 +141,7 @@ fn serve_input<R: Runtime + AllocGlobal, I: Input, E: Write>(
     input: &mut I,
     err: &mut E,
 ) -> u8 {
-    let mut out = io::writer(rt);
+    let mut out = Patient::new(rt, io::writer(rt));
     let mut out = Handing::new(&mut out);
     serve(
         rt.alloc(),
@@ -159,12 +177,27 @@ fn read_inputs<'a, R: Files + AllocGlobal>(
     let mut inputs = Vec::new(rt.alloc());
     for place in 0..plan.input_count() {
         let path = plan.input(place);
-        match fs::read(rt, path) {
+        match read_file(rt, path, most_bytes(plan, place)) {
             Ok(input) => inputs.push(input).map_err(|_| Fault::OutOfMemory)?,
             Err(error) => return Err(unread(&error, path)),
         }
     }
     Ok(inputs)
+}
+
+// How many bytes the file at that place of the line may have.
+fn most_bytes(plan: &Plan, place: usize) -> u64
+    ensures { result < 2 ^ 63 }
+{
+    match plan {
+        Plan::Asm(..) => MOST_TEXT,
+        Plan::Dis(_) => MOST_PROGRAM,
+        Plan::Run(..) if place > 0 => MOST_SCENARIO,
+        Plan::Replay(..) if place > 0 => MOST_TRACE,
+        Plan::Migrate(..) | Plan::Check(_) | Plan::Run(..) | Plan::Live(..) | Plan::Replay(..) => {
+            MOST_MANIFEST
+        }
+    }
 }
 
 // Why that file could not be read or written.

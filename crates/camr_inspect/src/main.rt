@@ -11,17 +11,21 @@ use command_line::not_utf8;
 use commands::{Fault, report_usage};
 use inspect_line::{Plan, plan};
 use inspection::carry;
-use program_io::{Telling, replace, words};
+use program_io::{Disk, MOST_MANIFEST, MOST_TRACE, Patient, Telling, read_file, replace, words};
+use std::fs::File;
+use std::io;
 use std::io::{BufWriter, IsTerminal, Stderr, Write};
 use std::process::ExitCode;
+use std::random::RandomSource;
 use std::rt::{Files, Runtime};
-use std::{fs, io};
 
 fn main(rt: HostRuntime) -> ExitCode {
-    let mut err = rt.stderr();
-    ExitCode::from(match BufWriter::new(rt.alloc(), io::writer(&rt)) {
+    let told = rt.stderr();
+    let mut err = Patient::new(&rt, told);
+    let out = BufWriter::new(rt.alloc(), Patient::new(&rt, io::writer(&rt)));
+    ExitCode::from(match out {
         Ok(mut out) => {
-            let status = status(&rt, err, &mut out, &mut err);
+            let status = status(&rt, told, &mut out, &mut err);
             if out.flush().is_ok() { status } else { 2 }
         }
         Err(_) => Fault::OutOfMemory.report(&mut err),
@@ -29,7 +33,7 @@ fn main(rt: HostRuntime) -> ExitCode {
 }
 
 // Does what the words say, and answers the status to end with.
-fn status<R: Runtime + AllocGlobal, W: Write, E: Write>(
+fn status<R: Runtime + Files<File = File> + RandomSource + AllocGlobal, W: Write, E: Write>(
     rt: &R,
     told: Stderr,
     out: &mut W,
@@ -64,14 +68,12 @@ fn tells(plan: &Plan, err: &Stderr) -> bool {
 }
 
 // Carries the plan out. What goes out goes into the plan's file, if it has one, where all went well.
-fn carry_out<R: Runtime + AllocGlobal, N: Notices, W: Write, E: Write>(
-    rt: &R,
-    plan: &Plan,
-    inputs: &[Vec<u8>],
-    notices: &N,
-    out: &mut W,
-    err: &mut E,
-) -> u8
+fn carry_out<
+    R: Runtime + Files<File = File> + RandomSource + AllocGlobal,
+    N: Notices,
+    W: Write,
+    E: Write,
+>(rt: &R, plan: &Plan, inputs: &[Vec<u8>], notices: &N, out: &mut W, err: &mut E) -> u8
     requires { length inputs.now ≡ length (input_paths plan.now) }
 {
     let Some(path) = plan.output() else {
@@ -82,7 +84,7 @@ fn carry_out<R: Runtime + AllocGlobal, N: Notices, W: Write, E: Write>(
     if status != 0 {
         return status;
     }
-    match replace(rt, path, &bytes) {
+    match replace(rt.alloc(), &mut Disk::new(rt), path, &bytes) {
         Ok(()) => 0,
         Err(error) => unread(&error, path).report(err),
     }
@@ -98,7 +100,13 @@ fn read_inputs<'a, R: Files + AllocGlobal>(
     let mut inputs = Vec::new(rt.alloc());
     for place in 0..plan.input_count() {
         let path = plan.input(place);
-        match fs::read(rt, path) {
+        // the manifest comes first, and then the trace
+        let most = if place == 0 {
+            MOST_MANIFEST
+        } else {
+            MOST_TRACE
+        };
+        match read_file(rt, path, most) {
             Ok(input) => inputs.push(input).map_err(|_| Fault::OutOfMemory)?,
             Err(error) => return Err(unread(&error, path)),
         }

@@ -1,6 +1,7 @@
 // The host of a live engine: it carries requests out, and keeps the runs and the tokens that are out. It relies on `engine_core` for the
 // engine, and on `hands` for what is out.
 
+ghost use Rattle.std.specs.Prelude.{◌≡◌};
 ghost use Rattle.live.specs.Growth.{Grows};
 
 use crate::reports::{LineFault, Reports};
@@ -18,17 +19,37 @@ pub(crate) enum HostFault {
     Unsettled,
 }
 
+/// The greatest clock reading, in milliseconds, that an engine takes.
+const LAST_READING: u64 = 1 << 62;
+
 /// An engine, and what is out of it.
 pub(crate) struct Host {
     pub(crate) engine: Engine,
-    pub(crate) hands: Hands,
-    /// Whether a run stays out until it is asked to go on; else it is driven to its end as soon as it starts.
-    pub(crate) is_stepped: bool,
+    hands: Hands,
+    // Whether a run stays out until it is asked to go on; else it is driven to its end as soon as it starts.
+    is_stepped: bool,
+    // the reading that is taken before the engine is asked next
+    pending: Option<u64>,
+    // The clock read more than an engine takes: it was told so once, and time stands still.
+    is_over: bool,
 }
 
 impl Host {
+    /// The host of an engine that was just opened.
+    pub(crate) fn new(engine: Engine, hands: Hands, is_stepped: bool) -> Self
+        ensures { result.engine ≡ engine }
+    {
+        Host {
+            engine,
+            hands,
+            is_stepped,
+            pending: None,
+            is_over: false,
+        }
+    }
+
     /// Carries the line of that number out, which stands without its line feed; none is one that cannot be a line. A clock reading that
-    /// is given is taken first, but before a line that says nothing. A line that is not carried out is told, and that is no fault.
+    /// is given is taken first, but before a line that is not carried out only if a timer is due. Such a line is told, and that is no fault.
     pub(crate) fn serve_line<N: Reports>(
         &mut self,
         line: Option<&str>,
@@ -47,10 +68,13 @@ impl Host {
             }
             None => None,
         };
-        if let Some(reading) = now {
-            self.read_clock(reading)?;
+        self.pending = now;
+        if self.is_due(now) {
+            self.read_pending()?;
         }
-        match self.carry_out(request, reports) {
+        let carried = self.carry_out(request, reports);
+        self.pending = None;
+        match carried {
             Ok(None) => Ok(()),
             Ok(Some(fault)) => {
                 reports.refused(fault, number);
@@ -64,7 +88,39 @@ impl Host {
     pub(crate) fn read_clock(&mut self, reading: u64) -> Result<(), HostFault>
         ensures { Grows self.old.engine self.new.engine }
     {
-        self.asked(Event::Clock { reading })
+        self.pending = Some(reading);
+        self.read_pending()
+    }
+
+    /// When the next timer is due, in milliseconds of the clock; none where time stands still.
+    pub(crate) fn next_due(&self) -> Option<u64> {
+        if self.is_over {
+            return None;
+        }
+        self.engine.next_due()
+    }
+
+    // Whether a timer is due at that reading.
+    fn is_due(&self, now: Option<u64>) -> bool {
+        match (now, self.next_due()) {
+            (Some(reading), Some(due)) => due <= reading,
+            _ => false,
+        }
+    }
+
+    // Takes the reading that is pending, if one is.
+    fn read_pending(&mut self) -> Result<(), HostFault>
+        ensures { Grows self.old.engine self.new.engine }
+    {
+        let Some(reading) = self.pending.take() else {
+            return Ok(());
+        };
+        if self.is_over {
+            return Ok(());
+        }
+        self.is_over = reading > LAST_READING;
+        let _ = self.told(Event::Clock { reading })?;
+        Ok(())
     }
 
     // Carries a request out, or tells why it is not carried out.
@@ -79,6 +135,7 @@ impl Host {
             None => Ok(Some(LineFault::Form)),
             Some(Request::Command(command)) => self.command(command),
             Some(Request::Totals) => {
+                self.read_pending()?;
                 reports.sums(self.engine.totals());
                 Ok(None)
             }
@@ -117,7 +174,7 @@ impl Host {
                     return self.drive(run);
                 }
             }
-            Command::Drain => {}
+            Command::Drain => self.read_pending()?,
             Command::GuestFreeze { place, guest } => {
                 self.asked(Event::GuestFreeze { place, guest })?
             }
@@ -190,6 +247,8 @@ impl Host {
             engine: _,
             hands,
             is_stepped: _,
+            pending: _,
+            is_over: _,
         } = self;
         hands.forfeit();
     }
@@ -201,9 +260,22 @@ impl Host {
         Ok(())
     }
 
+    // Takes the reading that is pending, and asks the engine.
+    fn ask(&mut self, event: Event<'_>) -> Result<Told, HostFault>
+        ensures { Grows self.old.engine self.new.engine }
+    {
+        match self.read_pending() {
+            Ok(()) => self.told(event),
+            Err(fault) => {
+                event.forfeit();
+                Err(fault)
+            }
+        }
+    }
+
     // Asks the engine, and keeps what it gives or what comes back. A refusal is recorded and no fault.
     #[tactic(auto, using(crate::proofs::Growing::grows_recorded))]
-    fn ask(&mut self, event: Event<'_>) -> Result<Told, HostFault>
+    fn told(&mut self, event: Event<'_>) -> Result<Told, HostFault>
         ensures { Grows self.old.engine self.new.engine }
     {
         match self.hands.ask(&mut self.engine, event) {

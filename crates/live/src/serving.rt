@@ -53,7 +53,8 @@ impl From<HostFault> for LiveFault {
 /// Carries out what the lines of an input ask of an engine of this configuration, each as it comes, until the input ends; then the runs that
 /// are out are driven to their ends, unless they are parked. What goes out is the engine's trace: its first line at once, the lines of what a
 /// line led to before the next one is waited for, and the last line at the end. Lines that are not carried out are reported. Where the input
-/// has a clock, it is read before each line, and while nothing comes whenever a timer is due.
+/// has a clock, it is read before each line that is carried out, and whenever a timer is due. Where it reads more than an engine takes, that
+/// is recorded once, and time stands still.
 pub fn serve<I: Input, S: Sink, N: Reports>(
     alloc: Global,
     config: Config,
@@ -72,11 +73,7 @@ pub fn serve<I: Input, S: Sink, N: Reports>(
         Ok(engine) => engine,
         Err(_) => return Err(LiveFault::OutOfMemory),
     };
-    let mut host = Host {
-        engine,
-        hands: Hands::empty(alloc),
-        is_stepped,
-    };
+    let mut host = Host::new(engine, Hands::empty(alloc), is_stepped);
     let mut lines = Lines::of(input);
     let served = serve_all(&mut host, input, &mut lines, &mut printed, out, reports);
     host.forfeit();
@@ -164,7 +161,7 @@ fn serve_what_comes<I: Input, N: Reports>(
     ensures unread { result ≡ Err Unread → IsTrue (I.has_failed input.new) }
     ensures written { result ≢ Err Unwritten }
 {
-    match lines.next(input, host.engine.next_due()) {
+    match lines.next(input, host.next_due()) {
         Next::Line => {
             host.serve_line(lines.line(), lines.number(), input.now(), reports)?;
             Ok(true)

@@ -1,7 +1,8 @@
 // The checks of the program that no command shows. It prints the name of each that fails, and how many pass; with words it runs the checks
-// of these names alone. It relies on `commands` and on `trace`.
+// of these names alone. It relies on `commands`, on `trace`, and on `program_io` for files.
 #![tactic(auto)]
 
+mod folders;
 mod noticing;
 mod printing;
 mod traces;
@@ -31,11 +32,14 @@ enum Check {
     RunWithoutMemory,
     AssemblyWithoutMemory,
     Line,
+    Folder,
+    NewFile,
+    Names,
     Done(Task),
 }
 
 /// All checks, with their names.
-const CHECKS: [(&str, Check); 15] = [
+const CHECKS: [(&str, Check); 18] = [
     ("words_of_notices", Check::NoticeWords),
     ("a_run_tells", Check::RunTells),
     ("a_replay_tells", Check::ReplayTells),
@@ -51,6 +55,9 @@ const CHECKS: [(&str, Check); 15] = [
         Check::AssemblyWithoutMemory,
     ),
     ("line_that_cannot_be_written", Check::Line),
+    ("each_call_of_a_folder_fails_once", Check::Folder),
+    ("a_new_file_is_whole_or_not_there", Check::NewFile),
+    ("names_are_planted", Check::Names),
     ("run_and_memory_refused_once", Check::Done(Task::Run)),
     (
         "replayed_and_memory_refused_once",
@@ -83,6 +90,9 @@ fn holds<R: Files + AllocGlobal + Threads + Wait + Sync>(
             writers::assembly_with_a_writer_without_memory(rt, alloc).ok()
         }
         Check::Line => writers::line_that_cannot_be_written(rt, alloc).ok(),
+        Check::Folder => folders::each_call_of_a_folder_fails_once(alloc).ok(),
+        Check::NewFile => folders::a_new_file_is_whole_or_not_there(alloc).ok(),
+        Check::Names => folders::names_are_planted(alloc).ok(),
         Check::Done(task) => Some(writers::done_and_memory_refused_once(rt, alloc, task)),
     }
 }

@@ -1,1 +1,2 @@
 pub mod Harmless
+mod Putting

@@ -1,6 +1,9 @@
 // A page of text. It relies on `itoa` for decimal digits, and on `foreign` for how a text from outside is shown.
 
-ghost use Rattle.std.specs.Prelude.{IfSome};
+ghost use Rattle.std.specs.Prelude.{◌≡◌, ◌↔◌, ◌-◌, ◌++◌, [], true, false, IfErr, IfSome, MatchResult, OnOk, codes, encode_utf8, length, replicate, string_bytes, string_len};
+ghost use Rattle.std.specs.Fmt.{decimal, digits, signed_decimal};
+ghost use Rattle.std.specs.IoError.{error_kind};
+ghost use Rattle.std.specs.Io.KnownBytes.{Appends};
 ghost use Rattle.text_page.specs.Escaping.{escaped, shown_as};
 
 use crate::foreign::{ForeignCharacter, ForeignText};
@@ -8,12 +11,7 @@ use itoa::Buffer;
 use std::alloc::{AllocError, Global};
 use std::fmt::Display;
 use std::io;
-use std::io::Write;
-
-/// The digits of base 16.
-const DIGITS: [&str; 16] = [
-    "0", "1", "2", "3", "4", "5", "6", "7", "8", "9", "a", "b", "c", "d", "e", "f",
-];
+use std::io::{ErrorKind, Write};
 
 /// Text for people, in memory. If memory is refused for a piece, the page is torn from then on: what stands on it is handed to nobody,
 /// and whoever asks for it gets that error.
@@ -24,10 +22,12 @@ pub struct Page {
 }
 
 impl Page {
-    ghost use Rattle.text_page.specs.Page.{Puts};
+    ghost use Rattle.text_page.specs.Page.{Adds, Puts, byte_digits, printable};
 
     /// An empty page.
-    pub fn new(alloc: Global) -> Self {
+    pub fn new(alloc: Global) -> Self
+        ensures { (result.is_torn ≡ false) × (string_bytes result.text ≡ []) }
+    {
         Page {
             text: String::new(alloc),
             is_torn: false,
@@ -35,7 +35,9 @@ impl Page {
     }
 
     /// Puts the program's own words after what is there.
-    pub fn text(&mut self, text: &str) {
+    pub fn text(&mut self, text: &str)
+        ensures { Puts self.old text.now self.new }
+    {
         if self.text.push_str(text).is_err() {
             self.is_torn = true;
         }
@@ -56,25 +58,35 @@ impl Page {
     }
 
     /// Puts a number.
-    pub fn number(&mut self, number: u64) {
+    pub fn number(&mut self, number: u64)
+        ensures { Puts self.old (decimal number) self.new }
+    {
         let mut digits = Buffer::new();
         self.text(digits.format(number));
     }
 
     /// Puts a number that may be negative.
-    pub fn signed(&mut self, number: i64) {
+    pub fn signed(&mut self, number: i64)
+        ensures { Puts self.old (signed_decimal number) self.new }
+    {
         let mut digits = Buffer::new();
         self.text(digits.format(number));
     }
 
     /// Puts a byte as two digits of base 16.
-    pub fn byte(&mut self, byte: u8) {
-        self.text(DIGITS[usize::from(byte / 16)]);
-        self.text(DIGITS[usize::from(byte % 16)]);
+    pub fn byte(&mut self, byte: u8)
+        ensures { Puts self.old (byte_digits byte) self.new }
+    {
+        if write!(self.text, "{byte:02x}").is_err() {
+            self.is_torn = true;
+        }
     }
 
     /// Puts a number with blanks before it, so that it is so wide at least.
-    pub fn aligned(&mut self, number: u64, width: usize) {
+    #[tactic(auto, using(crate::proofs::Putting::puts_both))]
+    pub fn aligned(&mut self, number: u64, width: usize)
+        ensures { Puts self.old (replicate (width - length (decimal number)) 32 ++ decimal number) self.new }
+    {
         let mut digits = Buffer::new();
         let digits = digits.format(number);
         self.blanks(width.saturating_sub(digits.len()));
@@ -82,8 +94,10 @@ impl Page {
     }
 
     /// Puts a word as a number of base 16, with `0x` before it.
-    pub fn word(&mut self, word: u64) {
-        if write!(self.text, "{word:#x}").is_err() {
+    pub fn word(&mut self, word: u64)
+        ensures { Puts self.old (codes "0x" ++ digits 16 false word) self.new }
+    {
+        if write!(self.text, "0x{word:x}").is_err() {
             self.is_torn = true;
         }
     }
@@ -98,7 +112,9 @@ impl Page {
     }
 
     /// Puts a byte as the character that it is; a dot, if it is none of the printable ones of ASCII.
-    pub fn ascii(&mut self, byte: u8) {
+    pub fn ascii(&mut self, byte: u8)
+        ensures { Puts self.old (encode_utf8 (printable byte)) self.new }
+    {
         let byte = if (b' '..=b'~').contains(&byte) {
             byte
         } else {
@@ -110,7 +126,10 @@ impl Page {
     }
 
     /// Puts a pattern of the program's own words. Each `{}` in it stands for the next of the numbers.
-    pub fn fill(&mut self, pattern: &str, numbers: &[u64]) {
+    #[tactic(auto, using(crate::proofs::Putting::adds_none, crate::proofs::Putting::adds_one))]
+    pub fn fill(&mut self, pattern: &str, numbers: &[u64])
+        ensures { Adds self.old self.new }
+    {
         let mut numbers = numbers.iter();
         for (place, words) in pattern.split("{}").enumerate() {
             if place > 0 {
@@ -123,25 +142,36 @@ impl Page {
     }
 
     /// Puts so many blanks.
-    pub fn blanks(&mut self, count: usize) {
+    #[tactic(auto, using(crate::proofs::Putting::puts_none, crate::proofs::Putting::puts_blank))]
+    pub fn blanks(&mut self, count: usize)
+        ensures { Puts self.old (replicate count 32) self.new }
+    {
         for _blank in 0..count {
             self.text(" ");
         }
     }
 
     /// How many bytes stand on it.
-    pub fn len(&self) -> usize {
+    pub fn len(&self) -> usize
+        ensures { result ≡ string_len self.now.text }
+    {
         self.text.len()
     }
 
     /// Whether none do.
-    pub fn is_empty(&self) -> bool {
+    pub fn is_empty(&self) -> bool
+        ensures { result ≡ true ↔ (string_bytes self.now.text ≡ []) }
+    {
         self.text.is_empty()
     }
 
     /// Writes what stands on it, and empties it. It fails if the page is torn, as an error for want of memory, without writing; or if
     /// the writer fails.
-    pub fn write_to<W: Write>(&mut self, out: &mut W) -> io::Result<()> {
+    pub fn write_to<W: Write>(&mut self, out: &mut W) -> io::Result<()>
+        ensures written { OnOk result ((self.old.is_torn ≡ false) × Appends (W.contents out.old) (W.contents out.new) (string_bytes self.old.text)) }
+        ensures emptied { self.old.is_torn ≡ false → (self.new.is_torn ≡ false) × (string_bytes self.new.text ≡ []) }
+        ensures torn { IfErr result (λ error. self.old.is_torn ≡ true → (error_kind error ≡ ErrorKind.OutOfMemory) × (out.new ≡ out.old) × (self.new ≡ self.old)) }
+    {
         if self.is_torn {
             return Err(io::Error::from(AllocError));
         }
@@ -151,7 +181,9 @@ impl Page {
     }
 
     /// What stands on it, unless it is torn.
-    pub fn finish(self) -> Result<String, AllocError> {
+    pub fn finish(self) -> Result<String, AllocError>
+        ensures { MatchResult result (λ text. (self.is_torn ≡ false) × (text ≡ self.text)) (λ _. self.is_torn ≡ true) }
+    {
         if self.is_torn {
             Err(AllocError)
         } else {

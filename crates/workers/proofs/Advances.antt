@@ -1,5 +1,5 @@
 -- A run that is driven, stop by stop.
-use Rattle.std.proofs.Common.{◌≡◌, ℕ, ◌+◌, false, List, [], ◌∷◌, ◌++◌, length, refl, ap, sym, subst, ◌∙◌, append-nil, arith, inl, inr, length-append}
+use Rattle.std.proofs.Common.{◌≡◌, ℕ, ◌+◌, Bool, true, List, [], ◌∷◌, ◌++◌, length, refl, ap, sym, subst, ◌∙◌, append-nil, arith, length-append}
 use Rattle.std.proofs.lemmas.List.Elements.{All-nil, All-cons, All-append}
 use Rattle.world.specs.World.{Setup, World}
 use Rattle.engine_core.specs.RunState.{RunState, StoppedState, before_stop}
@@ -13,7 +13,9 @@ use Rattle.engine_core.specs.Replies.{IsGiven}
 use Rattle.monitor.specs.Telling.{CallerState}
 use Rattle.engine_lock.specs.Sharing.{Section}
 use Rattle.workers.specs.Calls.{CallMade, made_none}
-use Rattle.workers.specs.Serving.{Drives, IsAdvanceOf, Leaves, ended, ended_by, is_given}
+use Rattle.workers.specs.declared.driving.Why.{Why}
+use Rattle.workers.specs.declared.driving.Why.TheVariants.{BudgetUsed}
+use Rattle.workers.specs.Serving.{AreCarriedOut, Drives, Ends, GoUntil, HasLeft, IsAdvanceOf, Leaves, ended, ended_by, is_given}
 use Rattle.workers.proofs.Made.{each_append, made_one}
 
 pub run_back : (r s : RunState) → back.Run r ≡ back.Run s → r ≡ s
@@ -41,9 +43,17 @@ module _ (setup : Setup) where
             ∙ (ap (λ (xs : List ℕ). xs ++ ended (call ∷ [])) drives.ends ∙ (append-nil (ended_by (Advance stopped) reply) ∙ is));
       }
 
-  -- The run was advanced so many times, and is at this stop.
+  -- one call more that was carried out
+  abbrev WasGiven : CallMade → Type 0
+  WasGiven call = is_given call.reply ≡ true
+
+  went_on : (calls : List CallMade) (call : CallMade) → AreCarriedOut calls → is_given call.reply ≡ true → AreCarriedOut (calls ++ call ∷ [])
+  went_on calls call went is = All-append WasGiven calls (call ∷ []) went (All-cons WasGiven call [] is (All-nil WasGiven))
+
+  -- The run was advanced so many times, each time with success, and is at this stop.
   pub record Drove (run : RunState) (before after : CallerState) (stopped : StoppedState) (turn : ℕ) : Type 0 where
     pub drives : Drives setup run.number [] before after
+    pub went : AreCarriedOut drives.calls
     pub many : length drives.calls ≡ turn
     pub number : stopped.number ≡ run.number
     pub program : stopped.segment.program ≡ run.program
@@ -52,6 +62,7 @@ module _ (setup : Setup) where
   pub sets_out : (run : RunState) (caller : CallerState) (stopped : StoppedState) → before_stop stopped ≡ run → Drove run caller caller stopped 0
   sets_out run caller stopped is = record {
     drives = record { calls = []; made = made_none caller; advances = All-nil (λ (call : CallMade). IsAdvanceOf run.number call.event); ends = refl };
+    went = All-nil WasGiven;
     many = refl;
     number = ap (λ (it : RunState). it.number) is;
     program = ap (λ (it : RunState). it.program) is;
@@ -59,35 +70,47 @@ module _ (setup : Setup) where
 
   module _ (run : RunState) (a b c : CallerState) (stopped : StoppedState) (turn : ℕ) (so_far : Drove run a b stopped turn) where
     -- it went on to its next stop
-    pub goes_on : (again : StoppedState) (reply : Reply) → Section setup (Advance stopped) reply b c → ended_by (Advance stopped) reply ≡ [] → again.number ≡ stopped.number → again.segment.program ≡ stopped.segment.program → Drove run a c again (turn + 1)
-    goes_on again reply section is number program = record {
+    pub goes_on : (again : StoppedState) (reply : Reply) → Section setup (Advance stopped) reply b c → is_given reply ≡ true → ended_by (Advance stopped) reply ≡ [] → again.number ≡ stopped.number → again.segment.program ≡ stopped.segment.program → Drove run a c again (turn + 1)
+    goes_on again reply section given is number program = record {
       drives = goes_further run.number [] a b c stopped reply so_far.drives so_far.number section is;
+      went = went_on so_far.drives.calls (record { event = Advance stopped; reply = reply }) so_far.went given;
       many = omega (arith, so_far.many, length-append so_far.drives.calls (record { event = Advance stopped; reply = reply } ∷ []));
       number = number ∙ so_far.number;
       program = program ∙ so_far.program;
     }
 
     -- it came to its exit
-    pub ends : (reply : Reply) → Section setup (Advance stopped) reply b c → ended_by (Advance stopped) reply ≡ stopped.number ∷ [] → Drives setup run.number (run.number ∷ []) a c
-    ends reply section is =
-        goes_further run.number (run.number ∷ []) a b c stopped reply so_far.drives so_far.number section (is ∙ ap (λ (n : ℕ). n ∷ []) so_far.number)
+    pub ends : (reply : Reply) → Section setup (Advance stopped) reply b c → is_given reply ≡ true → ended_by (Advance stopped) reply ≡ stopped.number ∷ [] → Ends setup run.number a c
+    ends reply section given is = record {
+      drives = goes_further run.number (run.number ∷ []) a b c stopped reply so_far.drives so_far.number section (is ∙ ap (λ (n : ℕ). n ∷ []) so_far.number);
+      went = went_on so_far.drives.calls (record { event = Advance stopped; reply = reply }) so_far.went given;
+    }
 
-    -- it came back, where an advance was not carried out
-    pub comes_back : (reply : Reply) (came : Back) (left : RunState) → Section setup (Advance stopped) reply b c → ended_by (Advance stopped) reply ≡ [] → is_given reply ≡ false → came ≡ back.Run (before_stop stopped) → came ≡ back.Run left → Leaves setup run left a c
-    comes_back reply came left section is refused owned back_is =
-        let same = run_back left (before_stop stopped) (sym back_is ∙ owned) in
-        let call : CallMade = record { event = Advance stopped; reply = reply } in record {
+    -- the advance that was replied to so
+    pub until : (is : Reply → Bool) (reply : Reply) → is reply ≡ true → GoUntil is (so_far.drives.calls ++ record { event = Advance stopped; reply = reply } ∷ [])
+    until is reply so = record {
+      before = so_far.drives.calls;
+      last = record { event = Advance stopped; reply = reply };
+      calls_are = refl;
+      went = so_far.went;
+      last_is = so;
+    }
+
+    -- it came back, where that advance was not carried out
+    pub comes_back : (why : Why) (reply : Reply) (came : Back) (left : RunState) → Section setup (Advance stopped) reply b c → ended_by (Advance stopped) reply ≡ [] → HasLeft why run.program.budget (so_far.drives.calls ++ record { event = Advance stopped; reply = reply } ∷ []) → came ≡ back.Run (before_stop stopped) → came ≡ back.Run left → Leaves setup run left why a c
+    comes_back why reply came left section is has_left owned back_is =
+        let same = run_back left (before_stop stopped) (sym back_is ∙ owned) in record {
           number = ap (λ (it : RunState). it.number) same ∙ so_far.number;
           program = ap (λ (it : RunState). it.program) same ∙ so_far.program;
           drives = goes_further run.number [] a b c stopped reply so_far.drives so_far.number section is;
-          why = inr (so_far.drives.calls, call, refl, refused);
+          has_left = has_left;
         }
 
   -- there were as many advances as may be
-  pub is_used_up : (run : RunState) (a b : CallerState) (stopped : StoppedState) (turn : ℕ) (left : RunState) → Drove run a b stopped turn → turn ≡ run.program.budget → left ≡ before_stop stopped → Leaves setup run left a b
+  pub is_used_up : (run : RunState) (a b : CallerState) (stopped : StoppedState) (turn : ℕ) (left : RunState) → Drove run a b stopped turn → turn ≡ run.program.budget → left ≡ before_stop stopped → Leaves setup run left BudgetUsed a b
   is_used_up run a b stopped turn left so_far used same = record {
     number = ap (λ (it : RunState). it.number) same ∙ so_far.number;
     program = ap (λ (it : RunState). it.program) same ∙ so_far.program;
     drives = so_far.drives;
-    why = inl (so_far.many ∙ used);
+    has_left = (so_far.many ∙ used, so_far.went);
   }

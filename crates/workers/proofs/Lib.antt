@@ -1,4 +1,5 @@
 pub mod Advances
 pub mod Made
 pub mod Parking
+pub mod Recording
 pub mod Turns

@@ -1,5 +1,5 @@
 -- What a worker does, step by step.
-use Rattle.std.proofs.Common.{◌≡◌, ℕ, suc, ◌+◌, ◌<◌, ◌≤◌, Bool, true, false, List, [], ◌∷◌, ◌++◌, map, length, take, drop, All, refl, ap, sym, subst, ◌∙◌, arith, append_assoc, append-nil, length-append}
+use Rattle.std.proofs.Common.{◌≡◌, ℕ, suc, ◌+◌, ◌<◌, ◌≤◌, Bool, true, false, ◌||◌, List, [], ◌∷◌, ◌++◌, map, length, take, drop, All, refl, ap, sym, subst, ◌∙◌, arith, append_assoc, append-nil, length-append}
 use Rattle.std.specs.Prelude.{slice_index_or}
 use Rattle.std.specs.List.{AllZip}
 use Rattle.std.proofs.lemmas.List.{take_all, drop_all, length-map}
@@ -16,15 +16,17 @@ use Rattle.engine_core.specs.declared.event.Event.TheVariants.{Submit, Dispatch,
 use Rattle.engine_core.specs.declared.reply.Given.{Given}
 use Rattle.engine_core.specs.declared.reply.Given.TheVariants.{Ccb, Done, Started, Goes, Ended, Freeze, Left, Removed, Parked, Resumed}
 use Rattle.engine_core.specs.declared.reply.Reply.{Reply}
-use Rattle.engine_core.specs.declared.reply.Reply.TheVariants.{Given as Gives}
+use Rattle.engine_core.specs.declared.reply.Reply.TheVariants.{Given as Gives, Refused, Unfit, OutOfMemory}
 use Rattle.monitor.specs.Telling.{CallerState}
-use Rattle.engine_lock.specs.Sharing.{Section}
+use Rattle.engine_lock.specs.Sharing.{Section, is_unfit}
 use Rattle.workers.specs.Calls.{CallMade, made_none, made_more}
 use Rattle.workers.proofs.Made.{each_append, made_then}
 use Rattle.workers.specs.declared.driving.TheConstants.{MOST_STARTED}
 use Rattle.workers.specs.declared.worker.Kept.{Kept}
 use Rattle.workers.specs.declared.worker.Kept.TheVariants.{Nothing, Completion, Run}
-use Rattle.workers.specs.Serving.{AreServed, Drives, HasDone, HasLeft, HasServed, HasStopped, IsAdvanceOf, IsLeftBy, IsReady, Leaves, SeatState, ServedState, Serves, StartsNone, Took, WorkerState, all_of, asked, asked_by, at_rest, completions_in, ended, ended_by, is_answered, nothing_served, runs_in, started, started_by, unanswered, unless, with_worker}
+use Rattle.workers.specs.declared.driving.Why.{Why}
+use Rattle.workers.specs.declared.driving.Why.TheVariants.{OutOfMemory as WantOfMemory, NotOut, BudgetUsed}
+use Rattle.workers.specs.Serving.{AreCarriedOut, AreServed, Ends, GoUntil, HasDone, HasLeft, HasServed, HasStopped, IsAdvanceOf, IsKeptFor, IsLeftBy, IsReady, Leaves, SeatState, ServedState, Serves, StartsNone, Took, WorkerState, all_of, asked, asked_by, at_rest, completions_in, ended, ended_by, is_answered, is_for_memory, is_given, is_memory, lacks_memory, nothing_served, runs_in, started, started_by, unanswered, unless, with_worker}
 
 pub took_none : (before after : PassView) → after ≡ before → Took before after []
 took_none before after same = record {
@@ -85,6 +87,54 @@ quiet number (call ∷ calls) all =
       starts = ap (λ (xs : List ℕ). xs ++ started calls) here.starts ∙ rest.starts;
     }
 
+-- ---- memory that was refused to a call
+
+pub lacks_append : (xs ys : List CallMade) → lacks_memory (xs ++ ys) ≡ (lacks_memory xs || lacks_memory ys)
+lacks_append [] ys = refl
+lacks_append (x ∷ xs) ys = lacks_or (is_memory x.reply) (lacks_memory (xs ++ ys)) (lacks_memory xs) (lacks_memory ys) (lacks_append xs ys)
+  where
+    lacks_or : (a b c d : Bool) → b ≡ (c || d) → (a || b) ≡ ((a || c) || d)
+    lacks_or true b c d same = refl
+    lacks_or false b c d same = same
+
+given_none : (reply : Reply) → is_given reply ≡ true → is_memory reply ≡ false
+given_none (Gives given) is = refl
+given_none (Refused refusal) is = refl
+given_none (Unfit back) is = refl
+given_none (OutOfMemory back) is = absurd (let bad : false ≡ true = is in cc)
+
+unfit_none : (reply : Reply) → is_unfit reply ≡ true → is_memory reply ≡ false
+unfit_none (Gives given) is = refl
+unfit_none (Refused refusal) is = refl
+unfit_none (Unfit back) is = refl
+unfit_none (OutOfMemory back) is = absurd (let bad : false ≡ true = is in cc)
+
+pub went_none : (calls : List CallMade) → AreCarriedOut calls → lacks_memory calls ≡ false
+went_none [] went = refl
+went_none (call ∷ calls) went =
+    ap (λ (b : Bool). b || lacks_memory calls) (given_none call.reply (All-head (λ (it : CallMade). is_given it.reply ≡ true) call calls went))
+    ∙ went_none calls (All-tail (λ (it : CallMade). is_given it.reply ≡ true) call calls went)
+
+lacks_last : (is : Reply → Bool) (calls : List CallMade) (until : GoUntil is calls) → lacks_memory calls ≡ (is_memory until.last.reply || false)
+lacks_last is calls until =
+    ap lacks_memory until.calls_are
+    ∙ (lacks_append until.before (until.last ∷ []) ∙ ap (λ (b : Bool). b || lacks_memory (until.last ∷ [])) (went_none until.before until.went))
+
+pub lacks_by : (why : Why) (budget : ℕ) (calls : List CallMade) → HasLeft why budget calls → lacks_memory calls ≡ is_for_memory why
+lacks_by WantOfMemory budget calls left = lacks_last is_memory calls left ∙ ap (λ (b : Bool). b || false) left.last_is
+lacks_by NotOut budget calls left = lacks_last is_unfit calls left ∙ ap (λ (b : Bool). b || false) (unfit_none left.last.reply left.last_is)
+lacks_by BudgetUsed budget calls left = went_none calls left.1
+
+or_false : (b : Bool) → (b || false) ≡ b
+or_false true = refl
+or_false false = refl
+
+answered_none : (reply : Reply) → is_answered reply ≡ true → is_memory reply ≡ false
+answered_none (Gives given) is = refl
+answered_none (Refused refusal) is = refl
+answered_none (Unfit back) is = refl
+answered_none (OutOfMemory back) is = absurd (let bad : false ≡ true = is in cc)
+
 -- the numbers of what is kept
 abbrev numbers : Kept → List ℕ
 numbers kept = map (λ (run : RunState). run.number) (runs_in kept)
@@ -109,6 +159,16 @@ one_started given run is completion = ap (λ (it : Given). started_by (Complete 
 keeps_none : (kept : Kept) (run : RunState) → runs_in kept ≡ [] → kept ≡ Run run → ⊥
 keeps_none kept run none is = omega (arith, ap length none, ap (λ (it : Kept). length (runs_in it)) is)
 
+holds_none : (kept : Kept) (completion : Outcome) → completions_in kept ≡ [] → kept ≡ Completion completion → ⊥
+holds_none kept completion none is = omega (arith, ap length none, ap (λ (it : Kept). length (completions_in it)) is)
+
+the_completion : (one other : Outcome) → Completion one ≡ Completion other → one ≡ other
+the_completion one other is = ap (λ (kept : Kept). its kept) is
+  where
+    its : Kept → Outcome
+    its (Completion it) = it
+    its kept = one
+
 the_same : (run left : RunState) → Run run ≡ Run left → run ≡ left
 the_same run left is = ap (λ (kept : Kept). the_run kept) is
   where
@@ -118,8 +178,8 @@ the_same run left is = ap (λ (kept : Kept). the_run kept) is
 
 module _ (setup : Setup) where
   -- nothing was taken
-  pub idles : (before : WorkerState) (pass : PassView) → Took before.pass pass [] → before.kept ≡ Nothing → HasDone setup before (record before { pass = pass })
-  idles before pass took free = record {
+  pub idles : (before : WorkerState) (pass : PassView) → Took before.pass pass [] → before.kept ≡ Nothing → before.out_of_memory ≡ false → HasDone setup before (record before { pass = pass })
+  idles before pass took free none = record {
     taken = [];
     pass = took;
     calls = [];
@@ -129,12 +189,14 @@ module _ (setup : Setup) where
     keeps = ap completions_in free;
     keeps_run = sym (ap numbers free);
     leaves = λ run is. absurd (keeps_none before.kept run (ap runs_in free) is);
+    holds = λ completion is. absurd (holds_none before.kept completion (ap completions_in free) is);
+    memory = none;
     starts = omega arith;
     ends = omega arith;
   }
 
   -- a completion was asked for, and then a run may have been driven
-  module _ (before : WorkerState) (caller : CallerState) (pass : PassView) (completion : Bor Outcome) (reply : Reply) (made : Section setup (Complete completion) reply before.caller caller) (took : Took before.pass pass (completion.now ∷ [])) (free : before.kept ≡ Nothing) where
+  module _ (before : WorkerState) (caller : CallerState) (pass : PassView) (completion : Bor Outcome) (reply : Reply) (made : Section setup (Complete completion) reply before.caller caller) (took : Took before.pass pass (completion.now ∷ [])) (free : before.kept ≡ Nothing) (none : before.out_of_memory ≡ false) where
     abbrev call : CallMade
     call = record { event = Complete completion; reply = reply }
 
@@ -153,13 +215,15 @@ module _ (setup : Setup) where
       keeps = ap completions_in free ∙ sym (ap (λ (it : Bool). unless it (completion.now ∷ []) ++ []) answered);
       keeps_run = ap (λ (xs : List ℕ). xs ++ []) no_run ∙ sym (ap numbers free);
       leaves = λ run is. absurd (keeps_none before.kept run (ap runs_in free) is);
+      holds = λ it is. absurd (holds_none before.kept it (ap completions_in free) is);
+      memory = none ∙ sym (ap (λ (b : Bool). b || false) (answered_none reply answered));
       starts = omega (arith, ap (λ (xs : List ℕ). length (xs ++ [])) no_run);
       ends = omega arith;
     }
 
     -- it was not, and is kept
-    pub keeps_one : is_answered reply ≡ false → started_by (Complete completion) reply ≡ [] → HasDone setup before (record before { caller = caller; pass = pass; kept = Completion completion.now })
-    keeps_one answered no_run = record {
+    pub keeps_one : (lacks : Bool) → is_answered reply ≡ false → IsKeptFor reply → is_memory reply ≡ lacks → started_by (Complete completion) reply ≡ [] → HasDone setup before (record before { caller = caller; pass = pass; kept = Completion completion.now; out_of_memory = lacks })
+    keeps_one lacks answered for lacking no_run = record {
       taken = completion.now ∷ [];
       pass = took;
       calls = call ∷ [];
@@ -169,14 +233,23 @@ module _ (setup : Setup) where
       keeps = sym (ap (λ (it : Bool). unless it (completion.now ∷ []) ++ []) answered);
       keeps_run = ap (λ (xs : List ℕ). xs ++ []) no_run;
       leaves = λ run is. absurd (keeps_none (Completion completion.now) run refl is);
+      holds = λ it is. record {
+        before = [];
+        last = call;
+        calls_are = refl;
+        its = ap (λ (x : Outcome). x ∷ []) (the_completion completion.now it is);
+        why = for;
+      };
+      memory = sym (ap (λ (b : Bool). b || false) lacking ∙ or_false lacks);
       starts = omega (arith, ap (λ (xs : List ℕ). length (xs ++ [])) no_run);
       ends = omega arith;
     }
 
     module _ (number : ℕ) (answered : is_answered reply ≡ true) (starts : started_by (Complete completion) reply ≡ number ∷ []) (after : CallerState) where
       -- the run that it started ended
-      pub ends_one : Drives setup number (number ∷ []) caller after → HasDone setup before (record before { caller = after; pass = pass; started = before.started + 1; ended = before.ended + 1 })
-      ends_one drives =
+      pub ends_one : Ends setup number caller after → HasDone setup before (record before { caller = after; pass = pass; started = before.started + 1; ended = before.ended + 1 })
+      ends_one ended_so =
+          let drives = ended_so.drives in
           let still = quiet number drives.calls drives.advances in record {
             taken = completion.now ∷ [];
             pass = took;
@@ -190,13 +263,15 @@ module _ (setup : Setup) where
                 ∙ (ap (λ (xs : List ℕ). number ∷ xs) still.starts
                 ∙ sym (ap (λ (xs : List ℕ). xs ++ numbers before.kept) drives.ends ∙ ap (λ (kept : Kept). number ∷ numbers kept) free));
             leaves = λ run is. absurd (keeps_none before.kept run (ap runs_in free) is);
+            holds = λ it is. absurd (holds_none before.kept it (ap completions_in free) is);
+            memory = none ∙ sym (ap (λ (b : Bool). b || lacks_memory drives.calls) (answered_none reply answered) ∙ went_none drives.calls ended_so.went);
             starts = omega (arith, ap (λ (xs : List ℕ). length (xs ++ started drives.calls)) starts, ap length still.starts);
             ends = omega (arith, ap length drives.ends);
           }
 
       -- or is kept
-      pub keeps_run_of : (begun run : RunState) → begun.number ≡ number → Leaves setup begun run caller after → HasDone setup before (record before { caller = after; pass = pass; kept = Run run; started = before.started + 1 })
-      keeps_run_of begun run same left =
+      pub keeps_run_of : (begun run : RunState) (why : Why) (lacks : Bool) → lacks ≡ is_for_memory why → begun.number ≡ number → Leaves setup begun run why caller after → HasDone setup before (record before { caller = after; pass = pass; kept = Run run; out_of_memory = lacks; started = before.started + 1 })
+      keeps_run_of begun run why lacks for same left =
           let calls = left.drives.calls in
           let still = quiet begun.number calls left.drives.advances in record {
             taken = completion.now ∷ [];
@@ -214,8 +289,11 @@ module _ (setup : Setup) where
               advances = calls;
               calls_are = refl;
               its = subst (λ (n : ℕ). All (λ (it : CallMade). IsAdvanceOf n it.event) calls) (sym left.number) left.drives.advances;
-              why = subst (λ (budget : ℕ). HasLeft budget calls) (sym (ap (λ it. it.budget) left.program)) left.why;
+              why = why;
+              has_left = subst (λ (budget : ℕ). HasLeft why budget calls) (sym (ap (λ it. it.budget) left.program)) left.has_left;
             });
+            holds = λ it is. absurd (holds_none (Run run) it refl is);
+            memory = for ∙ sym (ap (λ (b : Bool). b || lacks_memory calls) (answered_none reply answered) ∙ lacks_by why begun.program.budget calls left.has_left);
             starts = omega (arith, ap (λ (xs : List ℕ). length (xs ++ started calls)) starts, ap length still.starts);
             ends = omega (arith, ap length left.drives.ends);
           }
@@ -224,14 +302,14 @@ module _ (setup : Setup) where
 
   pub stays : (inbox : InboxView) (old : WorkerState) → IsReady inbox old → HasServed setup old old
   stays inbox old ready = record {
-    did = idles old old.pass (took_none old.pass old.pass refl) ready.free;
+    did = idles old old.pass (took_none old.pass old.pass refl) ready.free ready.memory;
     started = ready.started;
     ended = ready.ended;
   }
 
   pub finds_none : (inbox : InboxView) (old : WorkerState) (pass : PassView) → IsReady inbox old → pass ≡ old.pass → HasServed setup old (record old { pass = pass })
   finds_none inbox old pass ready same = record {
-    did = idles old pass (took_none old.pass pass same) ready.free;
+    did = idles old pass (took_none old.pass pass same) ready.free ready.memory;
     started = ready.started;
     ended = ready.ended;
   }
@@ -240,31 +318,31 @@ module _ (setup : Setup) where
     took : Took old.pass pass (completion.now ∷ [])
     took = took_one inbox old.pass pass completion.now ready.pass is takes
 
-    pub passes : is_answered reply ≡ true → ((it : Bor Outcome) → started_by (Complete it) reply ≡ []) → HasServed setup old (record { caller = caller; pass = pass; kept = old.kept; started = old.started; ended = old.ended })
+    pub passes : is_answered reply ≡ true → ((it : Bor Outcome) → started_by (Complete it) reply ≡ []) → HasServed setup old (record { caller = caller; pass = pass; kept = old.kept; out_of_memory = old.out_of_memory; started = old.started; ended = old.ended })
     passes answered no_run = record {
-      did = answers_one old caller pass completion reply made took ready.free answered (no_run completion);
+      did = answers_one old caller pass completion reply made took ready.free ready.memory answered (no_run completion);
       started = ready.started;
       ended = ready.ended;
     }
 
-    pub leaves_completion : is_answered reply ≡ false → ((it : Bor Outcome) → started_by (Complete it) reply ≡ []) → HasServed setup old (record { caller = caller; pass = pass; kept = Completion completion.now; started = old.started; ended = old.ended })
-    leaves_completion answered no_run = record {
-      did = keeps_one old caller pass completion reply made took ready.free answered (no_run completion);
+    pub leaves_completion : (lacks : Bool) → is_answered reply ≡ false → IsKeptFor reply → is_memory reply ≡ lacks → ((it : Bor Outcome) → started_by (Complete it) reply ≡ []) → HasServed setup old (record { caller = caller; pass = pass; kept = Completion completion.now; out_of_memory = lacks; started = old.started; ended = old.ended })
+    leaves_completion lacks answered for lacking no_run = record {
+      did = keeps_one old caller pass completion reply made took ready.free ready.memory lacks answered for lacking (no_run completion);
       started = ready.started;
       ended = ready.ended;
     }
 
     module _ (number : ℕ) (answered : is_answered reply ≡ true) (starts : (it : Bor Outcome) → started_by (Complete it) reply ≡ number ∷ []) (after : CallerState) (few : old.started + 1 ≤ MOST_STARTED) where
-      pub drives : Drives setup number (number ∷ []) caller after → HasServed setup old (record { caller = after; pass = pass; kept = old.kept; started = old.started + 1; ended = old.ended + 1 })
+      pub drives : Ends setup number caller after → HasServed setup old (record { caller = after; pass = pass; kept = old.kept; out_of_memory = old.out_of_memory; started = old.started + 1; ended = old.ended + 1 })
       drives driven = record {
-        did = ends_one old caller pass completion reply made took ready.free number answered (starts completion) after driven;
+        did = ends_one old caller pass completion reply made took ready.free ready.memory number answered (starts completion) after driven;
         started = few;
         ended = omega (arith, ready.ended);
       }
 
-      pub leaves_run : (begun run : RunState) → begun.number ≡ number → Leaves setup begun run caller after → HasServed setup old (record { caller = after; pass = pass; kept = Run run; started = old.started + 1; ended = old.ended })
-      leaves_run begun run same left = record {
-        did = keeps_run_of old caller pass completion reply made took ready.free number answered (starts completion) after begun run same left;
+      pub leaves_run : (begun run : RunState) (why : Why) (lacks : Bool) → lacks ≡ is_for_memory why → begun.number ≡ number → Leaves setup begun run why caller after → HasServed setup old (record { caller = after; pass = pass; kept = Run run; out_of_memory = lacks; started = old.started + 1; ended = old.ended })
+      leaves_run begun run why lacks for same left = record {
+        did = keeps_run_of old caller pass completion reply made took ready.free ready.memory number answered (starts completion) after begun run why lacks for same left;
         started = few;
         ended = omega (arith, ready.ended);
       }
@@ -278,8 +356,8 @@ module _ (setup : Setup) where
   }
 
   -- one service behind another
-  pub did_more : (a b c : WorkerState) → HasDone setup a b → b.kept ≡ Nothing → HasDone setup b c → HasDone setup a c
-  did_more a b c first free second =
+  pub did_more : (a b c : WorkerState) → HasDone setup a b → b.kept ≡ Nothing → b.out_of_memory ≡ false → HasDone setup b c → HasDone setup a c
+  did_more a b c first free none second =
       let xs = first.calls in
       let ys = second.calls in
       let answered : unanswered xs ≡ [] = sym first.keeps ∙ ap completions_in free in
@@ -304,14 +382,23 @@ module _ (setup : Setup) where
           calls_are = ap (λ (calls : List CallMade). xs ++ calls) left.calls_are ∙ sym (append_assoc xs left.before left.advances);
           its = left.its;
           why = left.why;
+          has_left = left.has_left;
         };
+        holds = λ completion is. let held = second.holds completion is in record {
+          before = xs ++ held.before;
+          last = held.last;
+          calls_are = ap (λ (calls : List CallMade). xs ++ calls) held.calls_are ∙ sym (append_assoc xs held.before (held.last ∷ []));
+          its = held.its;
+          why = held.why;
+        };
+        memory = second.memory ∙ sym (lacks_append xs ys ∙ ap (λ (b : Bool). b || lacks_memory ys) (sym first.memory ∙ none));
         starts = omega (arith, first.starts, second.starts, ap length (each_append (λ (it : CallMade). started_by it.event it.reply) xs ys), length-append (started xs) (started ys));
         ends = omega (arith, first.ends, second.ends, ap length (each_append (λ (it : CallMade). ended_by it.event it.reply) xs ys), length-append (ended xs) (ended ys));
       }
 
-  pub served_more : (a b c : WorkerState) → HasServed setup a b → b.kept ≡ Nothing → HasServed setup b c → HasServed setup a c
-  served_more a b c first free second = record {
-    did = did_more a b c first.did free second.did;
+  pub served_more : (a b c : WorkerState) → HasServed setup a b → b.kept ≡ Nothing → b.out_of_memory ≡ false → HasServed setup b c → HasServed setup a c
+  served_more a b c first free none second = record {
+    did = did_more a b c first.did free none second.did;
     started = second.started;
     ended = second.ended;
   }
@@ -341,25 +428,6 @@ module _ (setup : Setup) where
   stopped_each (seat ∷ seats) (worker ∷ workers) same at =
       All-cons HasStopped worker workers (at 0 worker (omega arith)) (stopped_each seats workers (omega (arith, same)) (λ i d lt. at (suc i) d (omega (arith, lt))))
 
-  -- seats that did not serve
-  pub idle_each : (seats : List SeatState) → AllZip (HasDone setup) (map at_rest seats) (map at_rest seats)
-  idle_each [] = tt
-  idle_each (seat ∷ seats) = (idles (at_rest seat) seat.pass (took_none seat.pass seat.pass refl) refl, idle_each seats)
-
-pub rest_of : (seats : List SeatState) (served : ServedState) → all_of (map at_rest seats) served ≡ record served { seats = served.seats ++ seats }
-rest_of [] served = ap (λ (xs : List SeatState). record served { seats = xs }) (sym (append-nil served.seats))
-rest_of (seat ∷ seats) served =
-    let started : served.started + 0 ≡ served.started = omega arith in
-    let ended : served.ended + 0 ≡ served.ended = omega arith in
-    rest_of seats (with_worker (at_rest seat) served)
-    ∙ (λ i. record {
-      seats = append_assoc served.seats (seat ∷ []) seats i;
-      started = started i;
-      ended = ended i;
-      completions = append-nil served.completions i;
-      runs = append-nil served.runs i;
-    })
-
 -- each seat may serve
 pub ready_each : (inbox : InboxView) (seats : List SeatState) → All (λ (seat : SeatState). IsOf inbox seat.pass) seats → All (IsReady inbox) (map at_rest seats)
 ready_each inbox [] are = All-nil (IsReady inbox)
@@ -368,6 +436,7 @@ ready_each inbox (seat ∷ seats) are =
     (record {
       pass = All-head (λ (it : SeatState). IsOf inbox it.pass) seat seats are;
       free = refl;
+      memory = refl;
       started = omega arith;
       ended = omega arith;
     })

@@ -1,3 +1,4 @@
 pub mod Calls
+pub mod Recorded
 pub mod Serving
 pub mod Settling

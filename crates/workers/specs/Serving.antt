@@ -1,6 +1,6 @@
 -- What a worker does: each completion that it took it asked the engine to complete, and keeps it where that was not answered; each
 -- run that it started has ended, or it keeps it.
-use Rattle.std.specs.Prelude.{◌≡◌, ◌⊎◌, ℕ, ◌+◌, ◌≤◌, Bool, true, false, List, [], ◌∷◌, ◌++◌, map, length, All}
+use Rattle.std.specs.Prelude.{◌≡◌, ◌⊎◌, ℕ, ◌+◌, ◌≤◌, Bool, true, false, ◌||◌, List, [], ◌∷◌, ◌++◌, map, length, All}
 use Rattle.std.specs.List.{AllZip}
 use Rattle.ccb.specs.Completion.{Outcome}
 use Rattle.inbox.specs.InboxLists.{Held}
@@ -11,12 +11,15 @@ use Rattle.engine_core.specs.RunState.{RunState}
 use Rattle.engine_core.specs.declared.event.Event.{Event}
 use Rattle.engine_core.specs.declared.event.Event.TheVariants.{Complete, Advance}
 use Rattle.engine_core.specs.declared.reply.Reply.{Reply}
-use Rattle.engine_core.specs.declared.reply.Reply.TheVariants.{Given, Refused}
+use Rattle.engine_core.specs.declared.reply.Reply.TheVariants.{Given, Refused, OutOfMemory}
 use Rattle.engine_core.specs.declared.reply.Given.{Given as WhatIsGiven}
 use Rattle.engine_core.specs.declared.reply.Given.TheVariants.{Started, Ended}
+use Rattle.engine_lock.specs.Sharing.{is_unfit}
 use Rattle.monitor.specs.Telling.{CallerState}
 use Rattle.workers.specs.Calls.{AreMade, CallMade, each}
 use Rattle.workers.specs.declared.driving.TheConstants.{MOST_STARTED}
+use Rattle.workers.specs.declared.driving.Why.{Why}
+use Rattle.workers.specs.declared.driving.Why.TheVariants.{OutOfMemory as WantOfMemory, NotOut, BudgetUsed}
 use Rattle.workers.specs.declared.worker.Kept.{Kept}
 use Rattle.workers.specs.declared.worker.Kept.TheVariants.{Nothing, Completion, Run}
 
@@ -27,14 +30,15 @@ pub record SeatState : Type 0 where
 pub record WorkerState : Type 0 where
   pub caller : CallerState
   pub pass : PassView
-  -- what it keeps
+  -- what it keeps, and whether that is for want of memory
   pub kept : Kept
+  pub out_of_memory : Bool
   -- how many runs it started, and how many it drove to their ends
   pub started : ℕ
   pub ended : ℕ
 
 abbrev pub at_rest : SeatState → WorkerState
-at_rest seat = record { caller = seat.caller; pass = seat.pass; kept = Nothing; started = 0; ended = 0 }
+at_rest seat = record { caller = seat.caller; pass = seat.pass; kept = Nothing; out_of_memory = false; started = 0; ended = 0 }
 
 -- the completion that is kept, and the run
 abbrev pub completions_in : Kept → List Outcome
@@ -94,10 +98,23 @@ abbrev pub ended_by : Event → Reply → List ℕ
 ended_by (Advance run) (Given (Ended r0)) = run.number ∷ []
 ended_by event reply = []
 
--- it was carried out
+-- it was carried out, or memory was refused
 abbrev pub is_given : Reply → Bool
 is_given (Given given) = true
 is_given reply = false
+
+abbrev pub is_memory : Reply → Bool
+is_memory (OutOfMemory back) = true
+is_memory reply = false
+
+-- memory was refused to one of these calls
+abbrev pub lacks_memory : List CallMade → Bool
+lacks_memory [] = false
+lacks_memory (call ∷ calls) = is_memory call.reply || lacks_memory calls
+
+abbrev pub is_for_memory : Why → Bool
+is_for_memory WantOfMemory = true
+is_for_memory why = false
 
 -- the completions that were asked for, and those of them that were not answered
 abbrev pub asked : List CallMade → List Outcome
@@ -113,19 +130,47 @@ started = each (λ call. started_by call.event call.reply)
 abbrev pub ended : List CallMade → List ℕ
 ended = each (λ call. ended_by call.event call.reply)
 
--- Why a run is not driven on behind these advances: the last of them was not carried out, or there were as many as its budget has
--- instructions.
-abbrev pub HasLeft : ℕ → List CallMade → Type 0
-HasLeft budget advances =
-    (length advances ≡ budget) ⊎ ((before : List CallMade) × (last : CallMade) × (advances ≡ before ++ last ∷ []) × (is_given last.reply ≡ false))
+-- each of these calls was carried out
+abbrev pub AreCarriedOut : List CallMade → Type 0
+AreCarriedOut calls = All (λ call. is_given call.reply ≡ true) calls
 
--- The last of these calls are advances of this run, behind which it is not driven on.
+-- Each of these calls was carried out but the last, and the last was replied to so.
+pub record GoUntil (is : Reply → Bool) (calls : List CallMade) : Type 0 where
+  pub before : List CallMade
+  pub last : CallMade
+  pub calls_are : calls ≡ before ++ last ∷ []
+  pub went : AreCarriedOut before
+  pub last_is : is last.reply ≡ true
+
+-- Why a run is not driven on after these advances: memory was refused to the last, or the engine did not have the run out then, or all
+-- were carried out, and there were as many as the run's budget has instructions.
+abbrev pub HasLeft : Why → ℕ → List CallMade → Type 0
+HasLeft WantOfMemory budget advances = GoUntil is_memory advances
+HasLeft NotOut budget advances = GoUntil is_unfit advances
+HasLeft BudgetUsed budget advances = (length advances ≡ budget) × AreCarriedOut advances
+
+-- The last of these calls are advances of this run, after which it is not driven on.
 pub record IsLeftBy (calls : List CallMade) (run : RunState) : Type 0 where
   pub before : List CallMade
   pub advances : List CallMade
   pub calls_are : calls ≡ before ++ advances
   pub its : All (λ call. IsAdvanceOf run.number call.event) advances
-  pub why : HasLeft run.program.budget advances
+  pub why : Why
+  pub has_left : HasLeft why run.program.budget advances
+
+-- a completion is kept after such a reply: memory was refused, or the engine refused it with another code than C1 and C3
+abbrev pub IsKeptFor : Reply → Type 0
+IsKeptFor (OutOfMemory back) = Unit {0}
+IsKeptFor (Refused refusal) = is_answered (Refused refusal) ≡ false
+IsKeptFor reply = ⊥
+
+-- The last of these calls asked for this completion, and was replied to so.
+pub record IsHeldBy (calls : List CallMade) (completion : Outcome) : Type 0 where
+  pub before : List CallMade
+  pub last : CallMade
+  pub calls_are : calls ≡ before ++ last ∷ []
+  pub its : asked_by last.event ≡ completion ∷ []
+  pub why : IsKeptFor last.reply
 
 -- why a worker serves no more: it keeps something, has started as many runs as it may, or found the inbox empty
 abbrev pub HasStopped : WorkerState → Type 0
@@ -144,6 +189,8 @@ module _ (setup : Setup) where
     pub keeps : completions_in after.kept ≡ unanswered calls
     pub keeps_run : started calls ≡ ended calls ++ map (λ run. run.number) (runs_in after.kept)
     pub leaves : (run : RunState) → after.kept ≡ Run run → IsLeftBy calls run
+    pub holds : (completion : Outcome) → after.kept ≡ Completion completion → IsHeldBy calls completion
+    pub memory : after.out_of_memory ≡ lacks_memory calls
     pub starts : after.started ≡ before.started + length (started calls)
     pub ends : after.ended ≡ before.ended + length (ended calls)
 
@@ -154,12 +201,17 @@ module _ (setup : Setup) where
     pub advances : All (λ call. IsAdvanceOf number call.event) calls
     pub ends : ended calls ≡ exited
 
-  -- The run is left where it could not be driven on: by these calls it was advanced and nothing else.
-  pub record Leaves (run left : RunState) (before after : CallerState) : Type 0 where
+  -- The run of this number came to its exit: each of these calls was carried out.
+  pub record Ends (number : ℕ) (before after : CallerState) : Type 0 where
+    pub drives : Drives number (number ∷ []) before after
+    pub went : AreCarriedOut drives.calls
+
+  -- The run is left where it could not be driven on, for this reason: by these calls it was advanced and nothing else.
+  pub record Leaves (run left : RunState) (why : Why) (before after : CallerState) : Type 0 where
     pub number : left.number ≡ run.number
     pub program : left.program ≡ run.program
     pub drives : Drives run.number [] before after
-    pub why : HasLeft run.program.budget drives.calls
+    pub has_left : HasLeft why run.program.budget drives.calls
 
 -- what a service gives back
 pub record ServedState : Type 0 where
@@ -168,9 +220,10 @@ pub record ServedState : Type 0 where
   pub ended : ℕ
   pub completions : List Outcome
   pub runs : List RunState
+  pub out_of_memory : Bool
 
 abbrev pub nothing_served : ServedState
-nothing_served = record { seats = []; started = 0; ended = 0; completions = []; runs = [] }
+nothing_served = record { seats = []; started = 0; ended = 0; completions = []; runs = []; out_of_memory = false }
 
 -- a worker's seat more, with what it keeps and counts
 abbrev pub with_worker : WorkerState → ServedState → ServedState
@@ -180,6 +233,7 @@ with_worker worker served = record {
   ended = served.ended + worker.ended;
   completions = served.completions ++ completions_in worker.kept;
   runs = served.runs ++ runs_in worker.kept;
+  out_of_memory = served.out_of_memory || worker.out_of_memory;
 }
 
 -- all of these, in their order
@@ -192,14 +246,15 @@ pub record AreServed (setup : Setup) (seats : List SeatState) (served : ServedSt
   pub workers : List WorkerState
   -- each seat served so
   pub each_did : AllZip (HasDone setup) (map at_rest seats) workers
-  -- and stopped so, or memory was refused before any did
-  pub stopped : All HasStopped workers ⊎ (workers ≡ map at_rest seats)
+  -- and stopped so
+  pub stopped : All HasStopped workers
   pub served_is : served ≡ all_of workers nothing_served
 
 -- it may serve this inbox
 pub record IsReady (inbox : InboxView) (worker : WorkerState) : Type 0 where
   pub pass : IsOf inbox worker.pass
   pub free : worker.kept ≡ Nothing
+  pub memory : worker.out_of_memory ≡ false
   pub started : worker.started ≤ MOST_STARTED
   pub ended : worker.ended ≤ worker.started
 

@@ -1,12 +1,12 @@
 // What a worker does with one completion: it is answered, and the run that it starts is driven to its end. It relies on
 // `engine_lock` for calls, and on `engine_core` for what a run executes by itself, outside the lock.
 
-ghost use Rattle.std.specs.Prelude.{◌≡◌, ℕ, true, false, ◌∷◌, [], IfErr, IfSome, IfNone, OnOk};
+ghost use Rattle.std.specs.Prelude.{◌≡◌, ℕ, true, false, IfErr, IfSome, IfNone, OnOk};
 ghost use Rattle.engine_core.specs.Replies.{IsRunBack};
 ghost use Rattle.engine_core.specs.declared.reply.Back.TheVariants as its;
 ghost use Rattle.engine_core.specs.declared.reply.Given.TheVariants.{Started};
 ghost use Rattle.engine_core.specs.declared.reply.Reply.TheVariants.{Refused};
-ghost use Rattle.workers.specs.Serving.{Drives, HasServed, HasStopped, IsReady, Leaves, StartsNone, is_answered};
+ghost use Rattle.workers.specs.Serving.{Ends, HasServed, HasStopped, IsReady, Leaves, StartsNone, is_answered, is_for_memory};
 
 use crate::gate::Gate;
 use crate::worker::{Kept, Worker};
@@ -14,6 +14,23 @@ use engine_core::{Back, CallRefusal, Event, Given, Reply, Run};
 use engine_lock::{Caller, Object, Shared};
 use inbox::Inbox;
 use std::sync::Wait;
+
+/// Why a run was not driven to its end.
+#[derive(Clone, Copy, Debug, PartialEq, Eq)]
+pub enum Why {
+    /// Memory was refused.
+    OutOfMemory,
+    /// C4: the engine does not have the run out.
+    NotOut,
+    /// The run was advanced as often as its program's budget has instructions. No run of an accepted program can be.
+    BudgetUsed,
+}
+
+/// A run that was not driven to its end, and why.
+pub struct Undriven {
+    pub run: Run,
+    pub why: Why,
+}
 
 /// How many runs one worker starts in one service at most: a sixteenth of the numbers that runs can have.
 pub(crate) const MOST_STARTED: u32 = u32::MAX / 16;
@@ -71,8 +88,8 @@ fn serve_next<B: Object, G: Gate, R: Wait>(
                     worker.ended += 1;
                     true
                 }
-                Err(run) => {
-                    worker.keep(Kept::Run(run));
+                Err(Undriven { run, why }) => {
+                    worker.keep(Kept::Run(run), is_for_memory(why));
                     false
                 }
             }
@@ -81,12 +98,12 @@ fn serve_next<B: Object, G: Gate, R: Wait>(
             if is_passed_over(refusal) {
                 return true;
             }
-            worker.keep(Kept::Completion(completion));
+            worker.keep(Kept::Completion(completion), false);
             false
         }
         Reply::OutOfMemory(back) => {
             back.forfeit();
-            worker.keep(Kept::Completion(completion));
+            worker.keep(Kept::Completion(completion), true);
             false
         }
         Reply::Unfit(back) => {
@@ -103,6 +120,13 @@ fn is_passed_over(refusal: CallRefusal) -> bool
     matches!(refusal, CallRefusal::Unknown | CallRefusal::NotActive)
 }
 
+// Whether memory was refused.
+fn is_for_memory(why: Why) -> bool
+    ensures { result ≡ is_for_memory why }
+{
+    matches!(why, Why::OutOfMemory)
+}
+
 // The run that was started, if one was.
 fn started_by(given: Given) -> Option<Run>
     ensures started { IfSome result (λ run. (freeze : ℕ) × (given ≡ Started run freeze)) }
@@ -117,18 +141,18 @@ fn started_by(given: Given) -> Option<Run>
     }
 }
 
-/// Drives a run to its end, stop by stop: what is private to it is executed outside the engine's lock. The run comes back where
-/// an advance is not carried out, as where memory is refused. Each turn executes an instruction at least, so an accepted program's
-/// run ends within its budget of turns.
+/// Drives a run to its end, stop by stop: what is private to it is executed outside the engine's lock. If an advance is not carried
+/// out, the run comes back with the reason. Each turn executes an instruction at least, so an accepted program's run ends within its
+/// budget of turns.
 pub fn drive<B: Object, G: Gate, R: Wait>(
     rt: &R,
     shared: &Shared<B>,
     gate: &G,
     caller: &mut Caller<B>,
     run: Run,
-) -> Result<(), Run>
-    ensures ended { OnOk result (Drives B.setup run.number (run.number ∷ []) caller.old caller.new) }
-    ensures kept { IfErr result (λ kept. Leaves B.setup run kept caller.old caller.new) }
+) -> Result<(), Undriven>
+    ensures ended { OnOk result (Ends B.setup run.number caller.old caller.new) }
+    ensures kept { IfErr result (λ back. Leaves B.setup run back.run back.why caller.old caller.new) }
 {
     let budget = run.program().budget();
     let mut stopped = run.to_stop();
@@ -137,7 +161,18 @@ pub fn drive<B: Object, G: Gate, R: Wait>(
         match shared.call(rt, caller, Event::Advance { run: stopped }) {
             Reply::Given(Given::Goes(run, _)) => stopped = run.to_stop(),
             Reply::Given(Given::Ended(_)) => return Ok(()),
-            Reply::Unfit(back) | Reply::OutOfMemory(back) => return Err(run_of(back)),
+            Reply::Unfit(back) => {
+                return Err(Undriven {
+                    run: run_of(back),
+                    why: Why::NotOut,
+                });
+            }
+            Reply::OutOfMemory(back) => {
+                return Err(Undriven {
+                    run: run_of(back),
+                    why: Why::OutOfMemory,
+                });
+            }
             Reply::Given(given) => {
                 given.forfeit();
                 unreachable!()
@@ -145,7 +180,10 @@ pub fn drive<B: Object, G: Gate, R: Wait>(
             Reply::Refused(_) => unreachable!(),
         }
     }
-    Err(stopped.back())
+    Err(Undriven {
+        run: stopped.back(),
+        why: Why::BudgetUsed,
+    })
 }
 
 /// The run that came back.

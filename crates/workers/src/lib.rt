@@ -9,8 +9,8 @@ mod serving;
 mod settling;
 mod worker;
 
-pub use driving::drive;
+pub use driving::{Undriven, Why, drive};
 pub use gate::{Gate, Open};
-pub use seat::{Seat, seated};
-pub use serving::{MAX_WORKERS, Served, serve};
+pub use seat::{Seat, Unseated, seated};
+pub use serving::{MAX_WORKERS, Served, Unserved, serve};
 pub use settling::{Settled, settle};

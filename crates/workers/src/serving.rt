@@ -1,7 +1,8 @@
 // The service: each seat serves in a thread of its own. It relies on `driving` for what one does.
 
-ghost use Rattle.std.specs.Prelude.{◌≡◌, ℕ, ◌<◌, ◌≤◌, [], All, IfOk, length, map, slice_index_or, vec_capacity};
+ghost use Rattle.std.specs.Prelude.{◌≡◌, ◌↔◌, ℕ, ◌<◌, ◌≤◌, [], All, IfErr, IfOk, IsTrue, length, map, slice_index_or, vec_capacity};
 ghost use Rattle.inbox.specs.Views.{IsOf};
+ghost use Rattle.workers.specs.Recorded.{AreRecorded};
 ghost use Rattle.workers.specs.Serving.{AreServed, HasServed, HasStopped, IsReady, WorkerState, all_of, at_rest, nothing_served};
 ghost use Rattle.workers.specs.declared.driving.TheConstants.{MOST_STARTED};
 
@@ -34,6 +35,14 @@ pub struct Served<B: Object> {
     pub completions: Vec<Completion>,
     /// The runs that were started and did not end, at most one a seat.
     pub runs: Vec<Run>,
+    /// Whether memory was refused to a seat, which keeps what it had then.
+    pub out_of_memory: bool,
+}
+
+/// Seats that did not serve, since memory was refused before any did.
+pub struct Unserved<B: Object> {
+    /// All seats, as they were given.
+    pub seats: Vec<Seat<B>>,
 }
 
 impl<B: Object> Model for Served<B> {
@@ -41,10 +50,17 @@ impl<B: Object> Model for Served<B> {
 
     ghost Value = { ServedState };
 
-    ghost view = { λ s. record { seats = s.seats.items; started = s.started; ended = s.ended; completions = s.completions.items; runs = s.runs.items } };
+    ghost view = { λ s. record { seats = s.seats.items; started = s.started; ended = s.ended; completions = s.completions.items; runs = s.runs.items; out_of_memory = s.out_of_memory } };
 }
 
 impl<B: Object> Served<B> {
+    /// Whether all that was taken was answered, and all that was started has ended.
+    pub fn is_whole(&self) -> bool
+        ensures { IsTrue result ↔ ((self.now.completions ≡ []) × (self.now.runs ≡ [])) }
+    {
+        self.completions.is_empty() && self.runs.is_empty()
+    }
+
     /// The seats alone. The completions that are kept are let go, and the runs are forfeited.
     pub fn into_seats(self) -> Vec<Seat<B>>
         ensures { result.items ≡ self.seats }
@@ -55,6 +71,7 @@ impl<B: Object> Served<B> {
             ended: _,
             completions: _,
             mut runs,
+            out_of_memory: _,
         } = self;
         while let Some(run) = runs.pop() {
             run.forfeit();
@@ -95,30 +112,26 @@ fn make_room<B: Object>(alloc: Global, seats: usize) -> Result<Room<B>, AllocErr
 /// Serves with 1 to 16 seats, each in a thread of its own where one can be made, the caller's thread with the first: each takes
 /// completions, has them answered, and drives the runs that start to their ends, until the inbox is empty. C1 and C3 are passed
 /// over. On another refusal, or where memory is refused, a seat keeps the completion or the run that it has, and serves no more;
-/// nothing is dropped. Where memory is refused before any seat serves, all seats come back unused.
+/// nothing is dropped. If memory is refused before any seat serves, all seats come back as they were.
 pub fn serve<B: Object + Send + Sync, G: Gate + Sync, R: Threads + Wait + Sync>(
     rt: &R,
     seats: Vec<Seat<B>>,
     shared: &Shared<B>,
     inbox: &Inbox,
     gate: &G,
-) -> Served<B>
+) -> Result<Served<B>, Unserved<B>>
     requires few { length seats.items ≤ MAX_WORKERS }
     requires passes { All (λ seat. IsOf inbox.now seat.pass) seats.items }
-    ensures served { AreServed B.setup seats.items result }
-    ensures all { length result.seats ≡ length seats.items }
-    ensures passes { All (λ seat. IsOf inbox.now seat.pass) result.seats }
+    ensures served { IfOk result (AreServed B.setup seats.items) }
+    // If no completion is kept, each seat's caller recorded the completions that its pass took.
+    ensures recorded { IfOk result (λ served. served.completions ≡ [] → AreRecorded seats.items served.seats) }
+    ensures passes { IfOk result (λ served. All (λ seat. IsOf inbox.now seat.pass) served.seats) }
+    ensures all { IfOk result (λ served. length served.seats ≡ length seats.items) }
+    ensures unserved { IfErr result (λ back. back.seats.items ≡ seats.items) }
 {
-    let alloc = *seats.allocator();
-    match make_room(alloc, seats.len()) {
-        Ok(room) => serve_in(rt, room, seats, shared, inbox, gate),
-        Err(AllocError) => Served {
-            seats,
-            started: 0,
-            ended: 0,
-            completions: Vec::new(alloc),
-            runs: Vec::new(alloc),
-        },
+    match make_room(*seats.allocator(), seats.len()) {
+        Ok(room) => Ok(serve_in(rt, room, seats, shared, inbox, gate)),
+        Err(AllocError) => Err(Unserved { seats }),
     }
 }
 
@@ -198,11 +211,13 @@ fn give_back<B: Object>(
 {
     let mut started = 0;
     let mut ended = 0;
+    let mut out_of_memory = false;
     while !workers.is_empty() {
         let Worker {
             caller,
             pass,
             kept,
+            out_of_memory: refused,
             started: more_started,
             ended: more_ended,
         } = workers.remove(0);
@@ -214,6 +229,7 @@ fn give_back<B: Object>(
         }
         started += more_started;
         ended += more_ended;
+        out_of_memory |= refused;
     }
     workers.destroy_empty();
     Served {
@@ -222,5 +238,6 @@ fn give_back<B: Object>(
         ended,
         completions,
         runs,
+        out_of_memory,
     }
 }

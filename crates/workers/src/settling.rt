@@ -67,6 +67,7 @@ pub fn settle<B: Object, R: Wait>(
         ended,
         completions,
         mut runs,
+        out_of_memory,
     } = served;
     park_by_first(rt, shared, &mut seats, &mut runs);
     if runs.is_empty() {
@@ -79,6 +80,7 @@ pub fn settle<B: Object, R: Wait>(
             ended,
             completions,
             runs,
+            out_of_memory,
         })
     }
 }

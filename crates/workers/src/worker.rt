@@ -20,11 +20,13 @@ pub(crate) enum Kept {
     Run(Run),
 }
 
-/// A seat that serves. Contracts see its caller, its pass, what it keeps, and how many runs it started and drove to their ends.
+/// A seat that serves. Contracts see its caller, its pass, what it keeps, whether it keeps that for want of memory, and how many
+/// runs it started and drove to their ends.
 pub(crate) struct Worker<B: Object> {
     pub(crate) caller: Caller<B>,
     pub(crate) pass: TakePass,
     pub(crate) kept: Kept,
+    pub(crate) out_of_memory: bool,
     pub(crate) started: u32,
     pub(crate) ended: u32,
 }
@@ -34,7 +36,7 @@ impl<B: Object> Model for Worker<B> {
 
     ghost Value = { WorkerState };
 
-    ghost view = { λ w. record { caller = w.caller; pass = w.pass; kept = w.kept; started = w.started; ended = w.ended } };
+    ghost view = { λ w. record { caller = w.caller; pass = w.pass; kept = w.kept; out_of_memory = w.out_of_memory; started = w.started; ended = w.ended } };
 }
 
 impl<B: Object> Worker<B> {
@@ -47,16 +49,18 @@ impl<B: Object> Worker<B> {
             caller,
             pass,
             kept: Kept::Nothing,
+            out_of_memory: false,
             started: 0,
             ended: 0,
         }
     }
 
-    /// Keeps this, where it keeps nothing.
-    pub(crate) fn keep(&mut self, kept: Kept)
+    /// Keeps this, where it keeps nothing, for want of memory or for another reason.
+    pub(crate) fn keep(&mut self, kept: Kept, out_of_memory: bool)
         requires { self.old.kept ≡ Nothing }
-        ensures { self.new ≡ record self.old { kept = kept } }
+        ensures { self.new ≡ record self.old { kept = kept; out_of_memory = out_of_memory } }
     {
+        self.out_of_memory = out_of_memory;
         match mem::replace(&mut self.kept, kept) {
             Kept::Nothing | Kept::Completion(_) => {}
             Kept::Run(run) => {

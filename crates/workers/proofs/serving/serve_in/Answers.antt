@@ -1,4 +1,4 @@
-use Rattle.std.proofs.Common.{◌≡◌, ℕ, ◌<◌, List, All, ap, inl, length, map, sym, subst, ◌∙◌, arith}
+use Rattle.std.proofs.Common.{◌≡◌, ℕ, ◌<◌, List, All, ap, length, map, sym, subst, ◌∙◌, arith}
 use Rattle.std.proofs.lemmas.List.{length-map}
 use Rattle.std.specs.Prelude.{slice_index_or}
 use Rattle.workers.specs.Serving.{HasServed, IsReady, WorkerState, all_of, at_rest, nothing_served}
@@ -29,7 +29,7 @@ returns g c =
     record {
       workers = c.serve_all.new.workers;
       each_did = serve_each g.B.Origin.setup c.args.seats.items c.serve_all.new.workers long each;
-      stopped = inl (stopped_each g.B.Origin.setup c.args.seats.items c.serve_all.new.workers long (λ i d lt. (c.serve_all.ensures i d (omega (arith, lt, long, same, ap length c.deref_mut.ensures.value))).1));
+      stopped = stopped_each g.B.Origin.setup c.args.seats.items c.serve_all.new.workers long (λ i d lt. (c.serve_all.ensures i d (omega (arith, lt, long, same, ap length c.deref_mut.ensures.value))).1);
       served_is = c.give_back.ensures
           ∙ ap (λ (ws : List WorkerState). all_of ws nothing_served) (whole c.take_seats.new.workers.len c.serve_all.new.workers c.take_seats.new.workers.items same (omega (arith, same, c.deref_mut.ensures.len, ap length c.deref_mut.ensures.value)));
     }

@@ -30,7 +30,7 @@ returns-then-is_empty-clause-passes g c inbox are =
 
 pub returns-else-is_empty-clause-unsettled : goal.returns-else-is_empty-clause-unsettled
 returns-else-is_empty-clause-unsettled g c =
-    let back : ServedState = record { seats = c.park_by_first.new.seats.items; started = c.served.inside.started; ended = c.served.inside.ended; completions = c.served.inside.completions.items; runs = c.park_by_first.new.runs.items } in
+    let back : ServedState = record { seats = c.park_by_first.new.seats.items; started = c.served.inside.started; ended = c.served.inside.ended; completions = c.served.inside.completions.items; runs = c.park_by_first.new.runs.items; out_of_memory = c.served.inside.out_of_memory } in
     subst (λ (s : ServedState). IsUnsettled g.B.Origin.setup s back) c.served.view_is
     (record {
       left = grind (arith, c.is_empty.ensures, c.if-is_empty.false);

@@ -1,8 +1,9 @@
 -- A text goes on behind what waited: pages, texts one behind the other, and records by their places.
 use Rattle.std.proofs.Common.{◌≡◌, ℕ, ◌+◌, ◌-◌, ◌<◌, Option, Some, None, Result, Ok, Err, List, [], ◌++◌, length, take, drop, get_or, refl, sym, ap, ◌∙◌, append_assoc, append-nil, subst, arith, inr, ◌⊎◌}
-use Rattle.std.specs.Prelude.{OnErr}
-use Rattle.std.proofs.lemmas.List.{get_or-drop, length-drop, take_all}
+use Rattle.std.specs.Prelude.{OnErr, OnOk}
+use Rattle.std.proofs.lemmas.List.{get_or-drop, length-drop, take-append-drop, take_all}
 use Rattle.std.specs.Fmt.{option_append}
+use Rattle.std.specs.Io.KnownBytes.{Appends}
 use Rattle.std.proofs.KnownBytes.{Appends-trans, Appends-nil}
 use Rattle.call_lines.specs.Written.{IsPut}
 use Rattle.call_lines.proofs.Tests.{same_text, parts_of}
@@ -32,6 +33,14 @@ fronts_cut text before old new failed fails written cut = λ more is.
 
 pub goes_none : (waiting : List ℕ) (old : Option (List ℕ)) → Goes (Some []) waiting old waiting old
 goes_none waiting old = record { more = []; is = refl; handed = []; whole = append-nil waiting; told = Appends-nil old }
+
+-- all of it is taken
+pub goes_out : (text : List ℕ) (old new : Option (List ℕ)) → Appends old new text → Goes (Some []) text old [] new
+goes_out text old new told = record { more = []; is = refl; handed = text; whole = refl; told = told }
+
+-- so many bytes of it are taken
+pub goes_taken : (text : List ℕ) (taken : ℕ) (old new : Option (List ℕ)) → Appends old new (take taken text) → Goes (Some []) text old (drop taken text) new
+goes_taken text taken old new told = record { more = []; is = refl; handed = take taken text; whole = append-nil text ∙ sym (take-append-drop taken text); told = told }
 
 pub goes_put : (text : Option (List ℕ)) (before waiting : List ℕ) (old : Option (List ℕ)) → IsPut text before waiting → Goes text before old waiting old
 goes_put None before waiting old put = absurd cc
@@ -102,9 +111,9 @@ fronts_handed text before mid old between new first second =
     subst (λ (t : Option (List ℕ)). Fronts t before old new) (append_nothing text) (fronts_behind text (Some []) before mid old between new first second)
 
 pub goes_on_handed : {T E : Type 0} (text : Option (List ℕ)) (r : Result T E) (before mid waiting : List ℕ) (old between new : Option (List ℕ)) → Goes text before old mid between
-    → GoesOn (Some []) mid between r waiting new → GoesOn text before old r waiting new
-goes_on_handed text (Ok done) before mid waiting old between new first second = goes_handed text before mid waiting old between new first second
-goes_on_handed text (Err fault) before mid waiting old between new first second = fronts_handed text before mid old between new first second
+    → GoesOn (Some []) mid between r waiting new → OnOk r (waiting ≡ []) → GoesOn text before old r [] new
+goes_on_handed text (Ok done) before mid waiting old between new first second all = subst (λ (t : List ℕ). Goes text before old t new) all (goes_handed text before mid waiting old between new first second)
+goes_on_handed text (Err fault) before mid waiting old between new first second all = fronts_handed text before mid old between new first second
 
 -- ---- where a write failed
 

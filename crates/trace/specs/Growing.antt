@@ -1,8 +1,10 @@
 -- A trace that is printed while its history grows: how far, and how a text more goes on.
-use Rattle.std.specs.Prelude.{◌≡◌, ℕ, Option, Some, List, ◌++◌, Result, Ok, Err}
+use Rattle.std.specs.Prelude.{◌≡◌, ◌+◌, ◌≤◌, ℕ, Option, Some, List, ◌++◌, Result, Ok, Err, drop, length, take}
 use Rattle.std.specs.Io.KnownBytes.{Appends}
+use Rattle.calls.specs.declared.record.Record.{Record}
 use Rattle.calls.specs.declared.trace.Version.{Version}
 use Rattle.trace.specs.Sinks.{HasFailed}
+use Rattle.trace.specs.TraceText.{records_text}
 
 -- the version, of how many records the lines were printed, and the bytes that were not yet handed on
 pub record GrowingState : Type 0 where
@@ -40,3 +42,10 @@ GoesOn text before old (Err fault) waiting new = (more : List ℕ) → text ≡ 
 abbrev pub FailsBySink : {T E : Type 0} → ℕ → Result T E → ℕ → Type 0
 FailsBySink failed (Ok done) fails = fails ≡ failed
 FailsBySink failed (Err fault) fails = HasFailed failed fails
+
+-- The lines of so many new records were printed, all of each: a front of what waited and of them was handed on, and the rest waits.
+pub record PrintsSome (records : List Record) (before : GrowingState) (old : Option (List ℕ)) (after : GrowingState) (new : Option (List ℕ)) : Type 0 where
+  pub count : ℕ
+  pub few : count ≤ length (drop before.printed records)
+  pub printed : after.printed ≡ before.printed + count
+  pub lines : Goes (records_text before.version (take count (drop before.printed records))) before.waiting old after.waiting new

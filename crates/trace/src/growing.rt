@@ -1,10 +1,10 @@
 // A trace that is printed while its history grows: its first line, then the lines of what is new, and at the end the sums. It relies on
 // `page` for what goes out, and on `printer` and `sums` for lines.
 
-ghost use Rattle.std.specs.Prelude.{◌≡◌, ◌+◌, ◌≤◌, ◌⊎◌, ℕ, [], Some, drop, take, length, OnErr, OnOk};
+ghost use Rattle.std.specs.Prelude.{◌≡◌, ◌+◌, ◌-◌, ◌^◌, ◌<◌, ◌≤◌, ◌⊎◌, ℕ, [], Some, drop, take, length, OnErr, OnOk};
 ghost use Rattle.call_lines.specs.Written.{IsPut};
 ghost use Rattle.trace.specs.HasText.{AllHaveText, HasText};
-ghost use Rattle.trace.specs.Growing.{FailsBySink, GoesOn, StopsIn};
+ghost use Rattle.trace.specs.Growing.{FailsBySink, Goes, GoesOn, PrintsSome, StopsIn};
 ghost use Rattle.trace.specs.TraceText.{header, record_text, records_text, totals_text};
 
 use crate::fitting::fits;
@@ -57,7 +57,8 @@ impl Growing {
         self.printed
     }
 
-    /// Prints the lines of the records that are new in a history. What finds no room is handed on.
+    /// Prints the lines of the records that are new in a history. What finds no room is handed on. After a failed write a further call
+    /// goes on from there: no byte that the sink took goes out again, and none is left out.
     pub fn print_news<S: Sink>(
         &mut self,
         records: &ChunkedList<Record>,
@@ -71,22 +72,26 @@ impl Growing {
         ensures failures { FailsBySink (S.failures out.old) result (S.failures out.new) }
         ensures version { self.new.version ≡ self.old.version }
         ensures printed { OnOk result (self.new.printed ≡ length records.now.items) }
+        ensures left { PrintsSome records.now.items self.old (S.bytes out.old) self.new (S.bytes out.new) }
     {
         let (from, all) = (self.printed, records.len());
         for number in 0..all - from {
             self.print_next(&records[from + number], out)?;
         }
-        self.printed = all;
         Ok(())
     }
 
     // Prints the line of one record more.
     fn print_next<S: Sink>(&mut self, entry: &Record, out: &mut S) -> Result<(), WriteFailed>
-        requires { HasText self.old.version entry.now }
+        requires spelled { HasText self.old.version entry.now }
+        requires few { self.old.printed < 2 ^ 64 - 1 }
         ensures text { GoesOn (record_text self.old.version entry.now) self.old.waiting (S.bytes out.old) result self.new.waiting (S.bytes out.new) }
         ensures stops { OnErr result (StopsIn (Some []) self.old.waiting (S.bytes out.old) (S.bytes out.new)) }
         ensures failures { FailsBySink (S.failures out.old) result (S.failures out.new) }
         ensures version { self.new.version ≡ self.old.version }
+        ensures printed { OnOk result (self.new.printed ≡ self.old.printed + 1) }
+        ensures still { OnErr result (self.new.printed ≡ self.old.printed) }
+        ensures left { OnErr result (Goes (Some []) self.old.waiting (S.bytes out.old) self.new.waiting (S.bytes out.new)) }
     {
         self.make_room(out)?;
         self.put(entry);
@@ -96,19 +101,21 @@ impl Growing {
     // The line of a record waits too, for which there is room.
     fn put(&mut self, entry: &Record)
         requires spelled { HasText self.old.version entry.now }
+        requires few { self.old.printed < 2 ^ 64 - 1 }
         requires room { length self.old.waiting + RECORD ≤ ROOM }
         ensures text { IsPut (record_text self.old.version entry.now) self.old.waiting self.new.waiting }
         ensures version { self.new.version ≡ self.old.version }
+        ensures printed { self.new.printed ≡ self.old.printed + 1 }
     {
         fits(entry);
         print_record(entry, &mut self.page.text);
+        self.printed += 1;
     }
 
     // So does the last line.
     fn put_totals(&mut self, totals: Totals)
         requires { length self.old.waiting + RECORD ≤ ROOM }
         ensures text { IsPut (totals_text totals) self.old.waiting self.new.waiting }
-        ensures printed { self.new.printed ≡ self.old.printed }
     {
         print_totals(totals, &mut self.page.text);
     }
@@ -117,6 +124,7 @@ impl Growing {
     fn make_room<S: Sink>(&mut self, out: &mut S) -> Result<(), WriteFailed>
         ensures text { GoesOn (Some []) self.old.waiting (S.bytes out.old) result self.new.waiting (S.bytes out.new) }
         ensures failures { FailsBySink (S.failures out.old) result (S.failures out.new) }
+        ensures left { Goes (Some []) self.old.waiting (S.bytes out.old) self.new.waiting (S.bytes out.new) }
         ensures room { OnOk result (length self.new.waiting + RECORD ≤ ROOM) }
         ensures version { self.new.version ≡ self.old.version }
         ensures printed { self.new.printed ≡ self.old.printed }
@@ -128,10 +136,11 @@ impl Growing {
         }
     }
 
-    /// Hands on what waits.
+    /// Hands on what waits. After a failed write the rest waits, and a further call hands it on.
     pub fn hand_on<S: Sink>(&mut self, out: &mut S) -> Result<(), WriteFailed>
         ensures text { GoesOn (Some []) self.old.waiting (S.bytes out.old) result self.new.waiting (S.bytes out.new) }
         ensures failures { FailsBySink (S.failures out.old) result (S.failures out.new) }
+        ensures left { Goes (Some []) self.old.waiting (S.bytes out.old) self.new.waiting (S.bytes out.new) }
         ensures all { OnOk result (self.new.waiting ≡ []) }
         ensures version { self.new.version ≡ self.old.version }
         ensures printed { self.new.printed ≡ self.old.printed }
@@ -143,13 +152,11 @@ impl Growing {
         }
     }
 
-    /// Prints the last line, and hands all on.
-    pub fn end<S: Sink>(&mut self, totals: Totals, out: &mut S) -> Result<(), WriteFailed>
-        ensures text { GoesOn (totals_text totals) self.old.waiting (S.bytes out.old) result self.new.waiting (S.bytes out.new) }
-        ensures stops { OnErr result (StopsIn (Some []) self.old.waiting (S.bytes out.old) (S.bytes out.new) ⊎ StopsIn (totals_text totals) self.old.waiting (S.bytes out.old) (S.bytes out.new)) }
+    /// Prints the last line, and hands all on. Nothing can be printed after it.
+    pub fn end<S: Sink>(mut self, totals: Totals, out: &mut S) -> Result<(), WriteFailed>
+        ensures text { GoesOn (totals_text totals) self.waiting (S.bytes out.old) result [] (S.bytes out.new) }
+        ensures stops { OnErr result (StopsIn (Some []) self.waiting (S.bytes out.old) (S.bytes out.new) ⊎ StopsIn (totals_text totals) self.waiting (S.bytes out.old) (S.bytes out.new)) }
         ensures failures { FailsBySink (S.failures out.old) result (S.failures out.new) }
-        ensures all { OnOk result (self.new.waiting ≡ []) }
-        ensures printed { self.new.printed ≡ self.old.printed }
     {
         self.make_room(out)?;
         self.put_totals(totals);

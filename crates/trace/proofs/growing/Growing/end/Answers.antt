@@ -13,7 +13,7 @@ pub returns-clause-text : goal.returns-clause-text
 returns-clause-text g c =
     goes_on_handed (totals_text c.args.totals) c.hand_on.result _ _ _ _ _ _
     (goes_behind_room (totals_text c.args.totals) _ _ _ _ _ c.in_ok-make_room.ensures.text c.put_totals.ensures.text)
-    c.hand_on.ensures.text
+    c.hand_on.ensures.text c.hand_on.ensures.all
 
 pub returns-in_err-make_room-clause-stops : goal.returns-in_err-make_room-clause-stops
 returns-in_err-make_room-clause-stops g c =

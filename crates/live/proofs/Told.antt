@@ -172,14 +172,14 @@ module _ (engine : EngineState) (printed : GrowingState) (base at : Option (List
           })
           stops
 
-      pub out_ended : (left : List ℕ) (to : Option (List ℕ)) → Goes (totals_text totals) printed.waiting at left to → left ≡ [] → IsOut engine.setup base to
-      out_ended left to goes empty =
-          let on = text_goes (front_text printed.version engine.history printed.printed) (totals_text totals) told.bytes told.handed printed.waiting left base at to told.is told.whole told.told goes in
+      pub out_ended : (to : Option (List ℕ)) → Goes (totals_text totals) printed.waiting at [] to → IsOut engine.setup base to
+      out_ended to goes =
+          let on = text_goes (front_text printed.version engine.history printed.printed) (totals_text totals) told.bytes told.handed printed.waiting [] base at to told.is told.whole told.told goes in
           record {
             records = engine.history;
             totals = sums;
             sums = (engine.world, run.run, refl);
             bytes = on.0;
             is = whole_is ∙ on.2;
-            told = subst (Appends base to) (sym (append-nil on.1) ∙ ap (λ (t : List ℕ). on.1 ++ t) (sym empty) ∙ sym on.3) on.4;
+            told = subst (Appends base to) (sym (append-nil on.1) ∙ sym on.3) on.4;
           }

@@ -1,6 +1,6 @@
 // Where bytes come from, and what a clock reads meanwhile. It relies on nothing.
 
-ghost use Rattle.std.specs.Prelude.{◌≡◌, Bool, IsTrue};
+ghost use Rattle.std.specs.Prelude.{◌≡◌, ◌≢◌, Bool, IsTrue};
 ghost use Rattle.live.specs.declared.input.Came.TheVariants.{Failed};
 
 /// What came.
@@ -23,7 +23,9 @@ pub trait Input {
     /// Waits for bytes, which then stand in place of those that came before, and not longer than until the clock reads `until`, in
     /// milliseconds, if there is a clock and that is given.
     fn wait(&mut self, until: Option<u64>) -> Came
-        ensures { result ≡ Failed → IsTrue (has_failed self.new) };
+        ensures failed { result ≡ Failed → IsTrue (has_failed self.new) }
+        // A read that fails is told by nothing else.
+        ensures still { result ≢ Failed → has_failed self.new ≡ has_failed self.old };
 
     /// The bytes that came last.
     fn bytes(&self) -> &[u8];

@@ -1,6 +1,6 @@
 // The lines of an input, one by one. It relies on `draft` for the line that comes, and on `input` for bytes.
 
-ghost use Rattle.std.specs.Prelude.{◌≡◌, IsTrue};
+ghost use Rattle.std.specs.Prelude.{◌≡◌, ◌≢◌, IsTrue};
 ghost use Rattle.live.specs.declared.lines.Next.TheVariants.{Failed};
 
 use crate::draft::Draft;
@@ -67,7 +67,8 @@ impl Lines {
 
     /// Waits for the next line, and not longer than until the clock reads `until`, if there is one.
     pub(crate) fn next<I: Input>(&mut self, input: &mut I, until: Option<u64>) -> Next
-        ensures { result ≡ Failed → IsTrue (I.has_failed input.new) }
+        ensures failed { result ≡ Failed → IsTrue (I.has_failed input.new) }
+        ensures still { result ≢ Failed → I.has_failed input.new ≡ I.has_failed input.old }
     {
         if self.is_whole {
             self.draft.clear();

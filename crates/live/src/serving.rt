@@ -66,16 +66,18 @@ pub fn serve<I: Input, S: Sink, N: Reports>(
     // All that went out is the trace of an engine of this configuration; where it stopped, it is a front of one.
     ensures told { Serves config (S.bytes out.old) result (S.bytes out.new) }
     ensures unread { result ≡ Err Unread → IsTrue (I.has_failed input.new) }
+    // The end of the input is no read that failed.
+    ensures still { OnOk result (I.has_failed input.new ≡ I.has_failed input.old) }
     ensures unwritten { result ≡ Err Unwritten → HasFailed (S.failures out.old) (S.failures out.new) }
 {
-    let mut printed = Growing::of(Version::of(config.helpers()));
+    let printed = Growing::of(Version::of(config.helpers()));
     let engine = match Engine::open(alloc, config) {
         Ok(engine) => engine,
         Err(_) => return Err(LiveFault::OutOfMemory),
     };
     let mut host = Host::new(engine, Hands::empty(alloc), is_stepped);
     let mut lines = Lines::of(input);
-    let served = serve_all(&mut host, input, &mut lines, &mut printed, out, reports);
+    let served = serve_all(&mut host, input, &mut lines, printed, out, reports);
     host.forfeit();
     served
 }
@@ -85,19 +87,20 @@ fn serve_all<I: Input, S: Sink, N: Reports>(
     host: &mut Host,
     input: &mut I,
     lines: &mut Lines,
-    printed: &mut Growing,
+    mut printed: Growing,
     out: &mut S,
     reports: &mut N,
 ) -> Result<(), LiveFault>
-    requires begun { IsInStep host.old.engine printed.old }
-    ensures told { (base : Option (List ℕ)) → IsTold host.old.engine.history printed.old base (S.bytes out.old) → Serves host.old.engine.setup base result (S.bytes out.new) }
+    requires begun { IsInStep host.old.engine printed }
+    ensures told { (base : Option (List ℕ)) → IsTold host.old.engine.history printed base (S.bytes out.old) → Serves host.old.engine.setup base result (S.bytes out.new) }
     ensures unread { result ≡ Err Unread → IsTrue (I.has_failed input.new) }
+    ensures still { OnOk result (I.has_failed input.new ≡ I.has_failed input.old) }
     ensures unwritten { result ≡ Err Unwritten → HasFailed (S.failures out.old) (S.failures out.new) }
 {
-    serve_lines(host, input, lines, printed, out, reports)?;
+    serve_lines(host, input, lines, &mut printed, out, reports)?;
     match host.drive_all() {
         Ok(()) => end(&host.engine, printed, out),
-        Err(fault) => Err(stop(&host.engine, printed, out, LiveFault::from(fault))),
+        Err(fault) => Err(stop(&host.engine, &mut printed, out, LiveFault::from(fault))),
     }
 }
 
@@ -115,6 +118,7 @@ fn serve_lines<I: Input, S: Sink, N: Reports>(
     ensures step { OnOk result (IsInStep host.new.engine printed.new) }
     ensures setup { host.new.engine.setup ≡ host.old.engine.setup }
     ensures unread { result ≡ Err Unread → IsTrue (I.has_failed input.new) }
+    ensures still { OnOk result (I.has_failed input.new ≡ I.has_failed input.old) }
     ensures unwritten { result ≡ Err Unwritten → HasFailed (S.failures out.old) (S.failures out.new) }
     ensures none { OnOk result (S.failures out.new ≡ S.failures out.old) }
 {
@@ -140,6 +144,7 @@ fn serve_next<I: Input, S: Sink, N: Reports>(
     ensures step { OnOk result (IsInStep host.new.engine printed.new) }
     ensures setup { host.new.engine.setup ≡ host.old.engine.setup }
     ensures unread { result ≡ Err Unread → IsTrue (I.has_failed input.new) }
+    ensures still { OnOk result (I.has_failed input.new ≡ I.has_failed input.old) }
     ensures unwritten { result ≡ Err Unwritten → HasFailed (S.failures out.old) (S.failures out.new) }
     ensures none { OnOk result (S.failures out.new ≡ S.failures out.old) }
 {
@@ -159,6 +164,7 @@ fn serve_what_comes<I: Input, N: Reports>(
 ) -> Result<bool, LiveFault>
     ensures grown { Grows host.old.engine host.new.engine }
     ensures unread { result ≡ Err Unread → IsTrue (I.has_failed input.new) }
+    ensures still { OnOk result (I.has_failed input.new ≡ I.has_failed input.old) }
     ensures written { result ≢ Err Unwritten }
 {
     match lines.next(input, host.next_due()) {
@@ -212,13 +218,13 @@ fn stop<S: Sink>(engine: &Engine, printed: &mut Growing, out: &mut S, fault: Liv
 }
 
 // Prints the records that are new, and the last line.
-fn end<S: Sink>(engine: &Engine, printed: &mut Growing, out: &mut S) -> Result<(), LiveFault>
-    requires begun { IsInStep engine.now printed.old }
-    ensures told { (base : Option (List ℕ)) → IsTold engine.now.history printed.old base (S.bytes out.old) → Serves engine.now.setup base result (S.bytes out.new) }
+fn end<S: Sink>(engine: &Engine, mut printed: Growing, out: &mut S) -> Result<(), LiveFault>
+    requires begun { IsInStep engine.now printed }
+    ensures told { (base : Option (List ℕ)) → IsTold engine.now.history printed base (S.bytes out.old) → Serves engine.now.setup base result (S.bytes out.new) }
     ensures unwritten { IfErr result (λ fault. fault ≡ Unwritten) }
     ensures failures { FailsBySink (S.failures out.old) result (S.failures out.new) }
 {
-    tell(engine, printed, out, false)?;
+    tell(engine, &mut printed, out, false)?;
     printed.end(engine.totals(), out)?;
     Ok(())
 }

@@ -9,4 +9,4 @@ returns-in_err-end-clause-told g c = λ base told.
 
 pub returns-clause-told : goal.returns-clause-told
 returns-clause-told g c = λ base told.
-    out_ended c.args.engine.now c.tell.new.printed base _ c.in_ok-tell.ensures.step (c.in_ok-tell.ensures.told base told) c.tell.ensures.run c.in_ok-tell.ensures.all c.totals.result c.totals.ensures.value _ _ c.in_ok-end.ensures.text c.in_ok-end.ensures.all
+    out_ended c.args.engine.now c.tell.new.printed base _ c.in_ok-tell.ensures.step (c.in_ok-tell.ensures.told base told) c.tell.ensures.run c.in_ok-tell.ensures.all c.totals.result c.totals.ensures.value _ c.in_ok-end.ensures.text

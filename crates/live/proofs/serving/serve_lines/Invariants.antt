@@ -8,5 +8,6 @@ invariant-loop g l = record {
   told : (base : Option (List ℕ)) → IsTold l.fn.host.engine.history l.fn.printed base (g.S.Sink.bytes l.fn.out) → IsTold l.host.engine.history l.printed base (g.S.Sink.bytes l.out);
   step : IsInStep l.host.engine l.printed;
   setup : l.host.engine.setup ≡ l.fn.host.engine.setup;
+  still : g.I.Input.has_failed l.input ≡ g.I.Input.has_failed l.fn.input;
   none : g.S.Sink.failures l.out ≡ g.S.Sink.failures l.fn.out;
 }

@@ -1,5 +1,5 @@
 -- What a try that came to nothing keeps, the next one finds.
-use Rattle.std.proofs.Common.{◌≡◌, ◌∙◌, ℕ, Option, Some, None, List, ◌++◌, sym, ap}
+use Rattle.std.proofs.Common.{◌∙◌, ℕ, Option, Some, None, List, ◌++◌, sym, ap}
 use Rattle.std.specs.Io.KnownBytes.{Appends, Consumes, Keeps}
 
 pub kept_consumes : (a b c : Option (List ℕ)) (bs : List ℕ) → Keeps a b → Consumes b c bs → Consumes a c bs

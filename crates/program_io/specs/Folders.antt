@@ -8,6 +8,8 @@ pub data Step : Type 0 where
   Led : (path out : List ℕ) → Step
   -- that stands there
   Looked : (out : List ℕ) → Look → Step
+  -- the number was drawn, which nobody can guess
+  Drawn : (number : ℕ) → Step
   -- an empty file of that name is made, where nothing stood, with that mode, and is open
   Made : (name : List ℕ) (mode : ℕ) → Step
   -- what stands there, no regular file of a folder, is open

@@ -26,7 +26,7 @@ pub enum Look {
 /// which asks it. A call that fails takes no step. Others may change the folder between two steps.
 pub trait Folder {
     ghost use Rattle.std.specs.Prelude.{◌≤◌, List, MatchResult, Option, length, string_bytes, take};
-    ghost use Rattle.program_io.specs.Folders.{Adds, Dressed, Led, Looked, Made, Moved, Opened, Put, Removed, Settled, Stays, Step, Synced};
+    ghost use Rattle.program_io.specs.Folders.{Adds, Drawn, Dressed, Led, Looked, Made, Moved, Opened, Put, Removed, Settled, Stays, Step, Synced};
 
     ghost steps: { Self → Option (List Step) };
 
@@ -40,7 +40,7 @@ pub trait Folder {
 
     /// A number that nobody can guess.
     fn chance(&mut self) -> io::Result<u64>
-        ensures { Stays (steps self.old) (steps self.new) };
+        ensures { MatchResult result (λ number. Adds (steps self.old) (Drawn number) (steps self.new)) (λ _. Stays (steps self.old) (steps self.new)) };
 
     /// Makes an empty file with that mode, from which the system takes its mask, and opens it. It follows no link, and fails with
     /// `AlreadyExists` where anything stands under that name.

@@ -31,8 +31,8 @@ pub fn read_file<R: Files + AllocGlobal>(rt: &R, path: &str, most: u64) -> io::R
     read_all(rt.alloc(), file, most)
 }
 
-// The bytes that a reader has, if they are at most so many.
-fn read_all<I: Read + Drop>(alloc: Global, reader: I, most: u64) -> io::Result<Vec<u8>>
+/// The bytes that a reader has, to its end. It fails with `FileTooLarge` if there are more than so many, of which no more than one is read.
+pub fn read_all<I: Read + Drop>(alloc: Global, reader: I, most: u64) -> io::Result<Vec<u8>>
     requires { most < 2 ^ 63 }
     ensures few { IfOk result (λ bytes. length bytes.items ≤ most) }
     ensures all { (bytes : List ℕ) → I.remaining reader ≡ Some bytes → IfOk result (λ read. read.items ≡ bytes) }

@@ -19,7 +19,9 @@ pub use clocked::Clocked;
 pub use disk::Disk;
 pub use feed::Feeder;
 pub use folder::{Folder, Look, Rights};
-pub use inputs::{MOST_MANIFEST, MOST_PROGRAM, MOST_SCENARIO, MOST_TEXT, MOST_TRACE, read_file};
+pub use inputs::{
+    MOST_MANIFEST, MOST_PROGRAM, MOST_SCENARIO, MOST_TEXT, MOST_TRACE, read_all, read_file,
+};
 pub use line::words;
 pub use patient::Patient;
 pub use reading::Reading;

@@ -1,8 +1,8 @@
 // A file that is written whole, or stays as it was. It relies on `folder` for the file system.
 
-ghost use Rattle.std.specs.Prelude.{◌≡◌, ◌≢◌, ℕ, Bool, false, List, Option, MatchResult, string_bytes};
+ghost use Rattle.std.specs.Prelude.{◌≡◌, ◌≢◌, ℕ, Bool, false, IfOk, List, None, Option, MatchResult, string_bytes};
 ghost use Rattle.program_io.specs.Folders.{Step};
-ghost use Rattle.program_io.specs.Replacing.{At, Draft, Drafting, IsDressedFor, MayTakePlace, Placed, Replaces, Seen, Stage, TakesBytes, draft_of, first_mode_of, new_draft, with_more};
+ghost use Rattle.program_io.specs.Replacing.{At, Draft, Drafting, IsDressedFor, IsFrontOf, MayTakePlace, Placed, Replaces, Seen, Stage, TakesBytes, beside, draft_of, first_mode_of, new_draft, with_more};
 ghost use Rattle.program_io.specs.declared.folder.Look.TheVariants.{Stream};
 
 use crate::folder::{Folder, Look};
@@ -14,12 +14,10 @@ use std::path::Path;
 /// How many names are tried for a new file.
 const TRIES: u32 = 100;
 
-/// How many characters of a file's name begin the name of the new one: with the rest of it they are at most 254 bytes.
-const KEPT: usize = 58;
-
 /// Writes a file anew: the bytes go into a new file beside it, which takes its place when they are all there and would outlast a stop of the
 /// machine. So at each moment the file has what it had or all that it gets, and whatever else stands there stays as it is. A link stays one,
-/// and where it leads is written. What takes the place of a file has its rights. What is no regular file, as a pipe, is written in its place.
+/// and where it leads is written. What takes the place of a file has its rights. What is no regular file, as a pipe, is written in its place,
+/// from the front.
 pub fn replace<F: Folder>(alloc: Global, folder: &mut F, path: &str, bytes: &[u8]) -> io::Result<()>
     ensures { Replaces path.now bytes.now (F.steps folder.old) result (F.steps folder.new) }
 {
@@ -33,7 +31,7 @@ pub fn replace<F: Folder>(alloc: Global, folder: &mut F, path: &str, bytes: &[u8
 
 // Writes to what stands there in its place.
 fn pour<F: Folder>(folder: &mut F, out: &str, bytes: &[u8]) -> io::Result<()>
-    ensures { (path : List ℕ) (base : Option (List Step)) → At path bytes.now base (F.steps folder.old) (Seen out.now Stream) → Replaces path bytes.now base result (F.steps folder.new) }
+    ensures { (path : List ℕ) (base : Option (List Step)) → At path bytes.now base (F.steps folder.old) (Seen out.now Stream None) → Replaces path bytes.now base result (F.steps folder.new) }
 {
     folder.open_stream(out)?;
     write_all(folder, bytes)
@@ -48,7 +46,7 @@ fn put_beside<F: Folder>(
     bytes: &[u8],
 ) -> io::Result<()>
     requires { MayTakePlace look }
-    ensures { (path : List ℕ) (base : Option (List Step)) → At path bytes.now base (F.steps folder.old) (Seen out.now look) → Replaces path bytes.now base result (F.steps folder.new) }
+    ensures { (path : List ℕ) (base : Option (List Step)) → At path bytes.now base (F.steps folder.old) (Seen out.now look None) → Replaces path bytes.now base result (F.steps folder.new) }
 {
     let name = create_beside(alloc, folder, out, look)?;
     match fill(folder, name.as_str(), out, look, bytes) {
@@ -71,7 +69,7 @@ fn create_beside<F: Folder>(
     look: Look,
 ) -> io::Result<String>
     requires { MayTakePlace look }
-    ensures { (path bytes : List ℕ) (base : Option (List Step)) → At path bytes base (F.steps folder.old) (Seen out.now look) → MatchResult result (λ name. At path bytes base (F.steps folder.new) (Drafting (new_draft out.now look (string_bytes name)))) (λ _. At path bytes base (F.steps folder.new) (Seen out.now look)) }
+    ensures { (path bytes : List ℕ) (base : Option (List Step)) → At path bytes base (F.steps folder.old) (Seen out.now look None) → MatchResult result (λ name. At path bytes base (F.steps folder.new) (Drafting (new_draft out.now look (string_bytes name)))) (λ _. (drawn : Option ℕ) × At path bytes base (F.steps folder.new) (Seen out.now look drawn)) }
 {
     for _ in 0..TRIES {
         let name = name_beside(alloc, out, folder.chance()?)?;
@@ -106,14 +104,15 @@ fn first_mode(look: Look) -> u32
     }
 }
 
-// The path of a file beside another, whose name begins as that one's.
-fn name_beside(alloc: Global, out: &str, number: u64) -> Result<String, AllocError> {
+// The path of a file beside another, whose name begins as that one's: with the rest of it, it has at most 254 bytes.
+fn name_beside(alloc: Global, out: &str, number: u64) -> Result<String, AllocError>
+    ensures { IfOk result (λ name. string_bytes name ≡ beside out.now number) }
+{
     let name = Path::new(out).file_name().unwrap_or("");
-    let mut beside: String = name.chars().take(KEPT).collect(alloc)?;
-    write!(beside, ".camr-{number:016x}")?;
+    let name = format!(in alloc; "{name:.58}.camr-{number:016x}")?;
     Ok(
         Path::new(out)
-            .with_file_name(alloc, beside.as_str())?
+            .with_file_name(alloc, name.as_str())?
             .into_string(),
     )
 }
@@ -135,10 +134,10 @@ fn fill<F: Folder>(
     folder.rename(name, out)
 }
 
-// Gives the new file the rights of what was seen.
+// Gives the new file, which has all of the bytes, the rights of what was seen.
 fn dress<F: Folder>(folder: &mut F, look: Look) -> io::Result<()>
     requires { MayTakePlace look }
-    ensures { (path whole out name written : List ℕ) (base : Option (List Step)) → At path whole base (F.steps folder.old) (Drafting (draft_of out look name written false false)) → MatchResult result (λ _. (dressed : Bool) × IsDressedFor look dressed × At path whole base (F.steps folder.new) (Drafting (draft_of out look name written dressed false))) (λ _. At path whole base (F.steps folder.new) (Drafting (draft_of out look name written false false))) }
+    ensures { (path whole out name : List ℕ) (base : Option (List Step)) → At path whole base (F.steps folder.old) (Drafting (draft_of out look name whole false false)) → MatchResult result (λ _. (dressed : Bool) × IsDressedFor look dressed × At path whole base (F.steps folder.new) (Drafting (draft_of out look name whole dressed false))) (λ _. At path whole base (F.steps folder.new) (Drafting (draft_of out look name whole false false))) }
 {
     match look {
         Look::File(rights) => folder.dress(rights),
@@ -148,7 +147,7 @@ fn dress<F: Folder>(folder: &mut F, look: Look) -> io::Result<()>
 
 // Writes all of the bytes to what is open.
 fn write_all<F: Folder>(folder: &mut F, bytes: &[u8]) -> io::Result<()>
-    ensures { (path whole : List ℕ) (base : Option (List Step)) (stage : Stage) → TakesBytes stage → At path whole base (F.steps folder.old) stage → MatchResult result (λ _. At path whole base (F.steps folder.new) (with_more stage bytes.now)) (λ _. (some : List ℕ) × At path whole base (F.steps folder.new) (with_more stage some)) }
+    ensures { (path whole : List ℕ) (base : Option (List Step)) (stage : Stage) → TakesBytes whole stage bytes.now → At path whole base (F.steps folder.old) stage → MatchResult result (λ _. At path whole base (F.steps folder.new) (with_more stage bytes.now)) (λ _. (some : List ℕ) × IsFrontOf some bytes.now × At path whole base (F.steps folder.new) (with_more stage some)) }
 {
     let mut written = 0;
     for _ in 0..u64::MAX {

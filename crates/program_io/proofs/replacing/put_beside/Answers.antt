@@ -1,4 +1,4 @@
-use Rattle.std.proofs.Common.{◌∙◌, List, ℕ, subst, sym}
+use Rattle.std.proofs.Common.{◌∙◌, List, None, ℕ, subst, sym}
 use Rattle.program_io.specs.Replacing.{At, Done, Drafting, Seen, new_draft}
 use Rattle.program_io.proofs.Stages.{removed_there, settled_there}
 use Rattle.program_io.proofs.replacing.put_beside.Goals as goal
@@ -16,4 +16,4 @@ returns g c = λ path base at.
     let made = c.in_ok-name.ensures path bytes base at in
     let named = subst (λ (n : List ℕ). At path bytes base (g.F.Folder.steps c.create_beside.new.folder) (Drafting (new_draft c.args.out.now c.args.look n))) (sym c.as_str.ensures.value) made in
     let left = c.in-Err.ensures path base named in
-    (Seen left.0.out left.0.look, removed_there path bytes base _ _ left.0 _ left.1 c.remove.ensures (c.as_str-in-Err.ensures.value ∙ sym c.as_str.ensures.value ∙ sym left.2), tt)
+    (Seen left.0.out left.0.look None, removed_there path bytes base _ _ left.0 _ left.1 c.remove.ensures (c.as_str-in-Err.ensures.value ∙ sym c.as_str.ensures.value ∙ sym left.2), tt)

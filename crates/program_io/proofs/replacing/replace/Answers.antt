@@ -1,4 +1,4 @@
-use Rattle.std.proofs.Common.{List, ℕ, refl, subst, sym}
+use Rattle.std.proofs.Common.{List, None, ℕ, refl, subst, sym}
 use Rattle.std.proofs.lemmas.Result.{err_from_is_err_and}
 use Rattle.program_io.specs.declared.folder.Look.{Look}
 use Rattle.program_io.specs.Replacing.{At, AtOut, Begun, Seen}
@@ -30,7 +30,7 @@ returns-in-Stream g c =
     let led = led_there path bytes base _ _ _ (begun_there path bytes base) c.in_ok-led.ensures in
     let there = subst (λ (o : List ℕ). At path bytes base (g.F.Folder.steps c.lead.new.self) (AtOut o)) (sym c.as_str-out.ensures.value) led in
     let seen = looked_there path bytes base _ _ _ _ _ there c.in_ok-look.ensures refl in
-    c.pour.ensures path base (subst (λ (l : Look). At path bytes base (g.F.Folder.steps c.look.new.self) (Seen c.as_str-out.result.now l)) c.in-Stream.is seen)
+    c.pour.ensures path base (subst (λ (l : Look). At path bytes base (g.F.Folder.steps c.look.new.self) (Seen c.as_str-out.result.now l None)) c.in-Stream.is seen)
 
 pub returns : goal.returns
 returns g c =

@@ -1,4 +1,3 @@
-use Rattle.std.proofs.KnownBytes.{Keeps-trans}
 use Rattle.program_io.proofs.Patience.{kept_consumes}
 use Rattle.program_io.proofs.patient.PatientRead.read.Goals as goal
 

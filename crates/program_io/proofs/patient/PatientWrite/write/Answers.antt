@@ -1,4 +1,3 @@
-use Rattle.std.proofs.KnownBytes.{Keeps-trans}
 use Rattle.program_io.proofs.Patience.{kept_appends}
 use Rattle.program_io.proofs.patient.PatientWrite.write.Goals as goal
 

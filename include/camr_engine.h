@@ -270,7 +270,8 @@ static inline camr_result camr_totals(camr_engine *engine, camr_totals_t *totals
  * before that of record 0 the first line of a trace. *written is how many bytes, and *next the record from which to go on: where
  * it is the number of records, there is no more. Where there is no record yet, the first line is put by itself, and *next stays 0:
  * a host that follows the trace asks when there is one. CAMR_NO_ROOM: no record's line finds room, that of record 0 together with
- * the first line; a line has at most 700 bytes, and the first one 13. CAMR_NO_TEXT, CAMR_NULL, CAMR_TOO_LONG.
+ * the first line, and the buffer is as it was; a line has at most 700 bytes, and the first one 13. CAMR_NO_TEXT, CAMR_NULL,
+ * CAMR_TOO_LONG. With each result the buffer is as it was from *written on.
  */
 static inline camr_result camr_trace(camr_engine *engine, uint64_t from, char *buffer, size_t length, size_t *written,
                                      uint64_t *next)
@@ -285,7 +286,7 @@ static inline camr_result camr_trace(camr_engine *engine, uint64_t from, char *b
 }
 
 /* Puts the last line of the trace, the sums so far, into a buffer: a trace that `camr replay` accepts is the lines of all records
- * and this one. CAMR_NO_ROOM, CAMR_NULL, CAMR_TOO_LONG. */
+ * and this one. CAMR_NO_ROOM, CAMR_NULL, CAMR_TOO_LONG. The buffer is as it was from *written on. */
 static inline camr_result camr_trace_end(camr_engine *engine, char *buffer, size_t length, size_t *written)
 {
     uint8_t none = 0;
@@ -317,7 +318,8 @@ static inline camr_result camr_advance(camr_engine *engine, camr_run *run, uint6
 }
 
 /* Stretches and advances a run until it has ended. What a result stops it at is as camr_stretch and camr_advance tell: what went
- * before is recorded. A run ends within its program's budget, so *ended is true where the result is CAMR_DONE. */
+ * before is recorded. A run ends within its program's budget, so *ended is true where the result is CAMR_DONE. With every other
+ * result *ended is false, and *r0 is R0 after the last stop that was recorded, or 0 if there was none. */
 static inline camr_result camr_drive(camr_engine *engine, camr_run *run, uint64_t *r0, bool *ended)
 {
     if (engine == NULL || run == NULL || r0 == NULL || ended == NULL) return CAMR_NULL;
@@ -366,7 +368,7 @@ static inline void camr_run_free(camr_run *run)
 /* ---- texts, and the heap ---------------------------------------------------------------------------------------------------- */
 
 /* Puts the front of a result's text into a buffer, as much as finds room: *written is how many bytes. CAMR_UNKNOWN: there is no
- * such result. CAMR_NULL, CAMR_TOO_LONG. */
+ * such result. CAMR_NULL, CAMR_TOO_LONG. The buffer is as it was from *written on. */
 static inline camr_result camr_result_text(camr_result result, char *buffer, size_t length, size_t *written)
 {
     uint8_t none = 0;

@@ -1,5 +1,5 @@
 -- What an export did: to the values behind its slots, and with the result that its number stands for.
-use Rattle.std.specs.Prelude.{◌≡◌, ℕ, Bool, true, false, List, Option, None, Some, SomeIff, Result, Ok, Err}
+use Rattle.std.specs.Prelude.{◌≡◌, ℕ, Bool, true, false, List, Option, None, Some, SomeIff, Result, Ok, Err, drop, length, min, take}
 use Rattle.std.specs.Global.{Box}
 use Rattle.ccb.specs.declared.cam_status.CamStatus.{CamStatus}
 use Rattle.ccb.specs.Completion.{Outcome, IsCompletion}
@@ -19,7 +19,7 @@ use Rattle.embedding.specs.declared.run_handle.HeldRun.{HeldRun}
 use Rattle.embedding.specs.declared.run_handle.RunHandle.{RunHandle}
 use Rattle.embedding.specs.Calls.{IsCalled, IsCompleted, IsFrozen, IsReleased, IsResumed}
 use Rattle.embedding.specs.Held.{is_same_run}
-use Rattle.embedding.specs.Results.{number_of}
+use Rattle.embedding.specs.Results.{number_of, text_of}
 use Rattle.opening.specs.declared.opening.OpenFault.{OpenFault}
 use Rattle.opening.specs.declared.opening.OpenFault.TheVariants as faults
 use Rattle.camr_c.specs.declared.engine_exports.Sums.{Sums}
@@ -42,6 +42,15 @@ Turns (Some before) (Some after) Told = Told before after
 abbrev pub Stays : {X : Type 0} → Option X → Option X → (X → Type 0) → Type 0
 Stays None new Told = ⊥
 Stays (Some it) new Told = (new ≡ Some it) × Told it
+
+-- the front of that result's text was put into a place, as much as finds room, and what stands after it is what stood there before
+abbrev pub FrontOf : CallResult → List ℕ → List ℕ → ℕ → Type 0
+FrontOf its before place written =
+    (written ≡ min (length (text_of its)) (length before)) × (take written place ≡ take written (text_of its)) × (drop written place ≡ drop written before)
+
+-- the same for the result of that number
+abbrev pub TextOf : ℕ → List ℕ → List ℕ → ℕ → Type 0
+TextOf number before place written = (its : CallResult) × (number ≡ number_of its) × FrontOf its before place written
 
 -- ---- calls that name no run
 

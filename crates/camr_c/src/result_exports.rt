@@ -1,6 +1,7 @@
 // The texts of results. It relies on `embedding` for them.
 
-ghost use Rattle.std.specs.Prelude.{◌≡◌, ◌<◌, ◌≤◌, MatchBool, false, length};
+ghost use Rattle.std.specs.Prelude.{◌≡◌, ◌<◌, ◌≤◌, MatchBool, true, false, length};
+ghost use Rattle.camr_c.specs.Exports.{TextOf};
 
 use embedding::{CallResult, put_front};
 
@@ -9,7 +10,8 @@ use embedding::{CallResult, put_front};
 pub extern "C" fn camr_raw_result_text(number: u32, place: &mut [u8], written: &mut usize) -> bool
     ensures known { MatchBool result (number < 22) (22 ≤ number) }
     ensures text { written.new ≤ length place.new }
-    ensures none { result ≡ false → written.new ≡ 0 }
+    ensures told { result ≡ true → TextOf number place.old place.new written.new }
+    ensures none { result ≡ false → (written.new ≡ 0) × (place.new ≡ place.old) }
 {
     match CallResult::numbered(number) {
         Some(result) => {

@@ -1,6 +1,6 @@
 // The calls that start runs, take them further, park and resume them. It relies on `embedding` for each.
 
-ghost use Rattle.std.specs.Prelude.{◌≡◌, ◌≢◌, ◌<◌, IsSome, None, Option};
+ghost use Rattle.std.specs.Prelude.{◌≡◌, ◌≢◌, ◌<◌, false, IsSome, None, Option};
 ghost use Rattle.ccb.specs.Completion.{Outcome};
 ghost use Rattle.embedding.specs.Calls.{IsAdvanced, IsDriven, IsParked};
 ghost use Rattle.embedding.specs.Held.{is_same_run, out_of, IsStretched};
@@ -91,8 +91,9 @@ pub extern "C" fn camr_raw_drive(
     requires engine { IsSome engine.old.held }
     requires run { IsSome run.old.held }
     ensures did { CalledWith result engine.old engine.new run.old run.new (λ its before after was is.
-        IsDriven its was is before after r0.new ended.new) }
+        IsDriven its was is before after r0.old r0.new ended.new) }
     ensures few { result < 22 }
+    ensures unended { result ≢ 0 → ended.new ≡ false }
 {
     engine.held().drive(run.held(), r0, ended).number()
 }

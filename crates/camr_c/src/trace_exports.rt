@@ -9,7 +9,8 @@ ghost use Rattle.camr_c.specs.Exports.{Did, Stays};
 use crate::engine_slot::EngineSlot;
 use embedding::PutLines;
 
-/// Puts whole lines of the trace: those of the records from this number on, behind the first line where that is 0.
+/// Puts whole lines of the trace: those of the records from this number on, after the first line if that is 0. What stands after them
+/// stays as it was.
 #[unsafe(no_mangle)]
 pub extern "C" fn camr_raw_trace(
     engine: &mut EngineSlot,
@@ -20,7 +21,7 @@ pub extern "C" fn camr_raw_trace(
 ) -> u32
     requires { IsSome engine.old.held }
     ensures did { Did result (λ its. Stays engine.old.held engine.new.held (λ it.
-        PutsLines its (version_of it.setup) it.history from place.new written.new next.new)) }
+        PutsLines its (version_of it.setup) it.history from place.old place.new written.new next.new)) }
     ensures few { result < 22 }
     ensures text { written.new ≤ length place.new }
 {
@@ -34,7 +35,7 @@ pub extern "C" fn camr_raw_trace(
     result.number()
 }
 
-/// Puts the last line of the trace: the sums so far.
+/// Puts the last line of the trace: the sums so far. What stands after it stays as it was.
 #[unsafe(no_mangle)]
 pub extern "C" fn camr_raw_trace_end(
     engine: &mut EngineSlot,
@@ -43,7 +44,7 @@ pub extern "C" fn camr_raw_trace_end(
 ) -> u32
     requires { IsSome engine.old.held }
     ensures did { Did result (λ its. Stays engine.old.held engine.new.held (λ it.
-        PutsSums its (totals_in it.history it.world) place.new written.new)) }
+        PutsSums its (totals_in it.history it.world) place.old place.new written.new)) }
     ensures few { result < 22 }
     ensures text { written.new ≤ length place.new }
 {

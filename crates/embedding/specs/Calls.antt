@@ -1,5 +1,5 @@
 -- What a result says of a call: it is recorded, carried out or refused, or nothing changed.
-use Rattle.std.specs.Prelude.{◌≡◌, ℕ, Bool, true, false, Option, Some, None, IsSome, List, [], ◌∷◌, ◌++◌, ◌⊎◌, length, Result, Ok, Err}
+use Rattle.std.specs.Prelude.{◌≡◌, ◌≢◌, ℕ, Bool, true, false, Option, Some, None, IsSome, List, [], ◌∷◌, ◌++◌, ◌⊎◌, length, Result, Ok, Err}
 use Rattle.std.specs.Global.{Box}
 use Rattle.freeze_ledger.specs.declared.place.Place.{Place}
 use Rattle.freeze_ledger.specs.Freezes.{entry_of}
@@ -116,31 +116,36 @@ pub record GoesOn (old new : EngineState) : Type 0 where
 
 -- ---- a run that is driven
 
--- one turn: the run is stretched to its next stop, taken over there, and goes on
-abbrev pub IsTurn : HeldRun → EngineState → HeldRun → EngineState → Type 0
-IsTurn was before held after = (stopped : HeldRun) × (r0 : ℕ) × IsStretched Done was stopped × IsAdvanced Done stopped held before after r0 false
+-- one turn: the run is stretched to its next stop, taken over there with this R0 after it, and goes on
+abbrev pub IsTurn : HeldRun → EngineState → HeldRun → EngineState → ℕ → Type 0
+IsTurn was before held after r0 = (stopped : HeldRun) × IsStretched Done was stopped × IsAdvanced Done stopped held before after r0 false
 
--- turns, by where each but the first began, the last of them first
-abbrev pub AreTurns : HeldRun → EngineState → List (HeldRun × EngineState) → HeldRun → EngineState → Type 0
-AreTurns was before [] held after = (held ≡ was) × (after ≡ before)
-AreTurns was before (between ∷ rest) held after = AreTurns was before rest between.0 between.1 × IsTurn between.0 between.1 held after
+-- where a turn begins: the run, the engine, and R0 as it was reported last
+abbrev pub Between : Type 0
+Between = HeldRun × EngineState × ℕ
 
--- what comes last: an advance with this result, after which the run has ended or which is not carried out
-abbrev pub IsLastAdvance : CallResult → HeldRun → HeldRun → EngineState → EngineState → ℕ → Bool → Type 0
-IsLastAdvance result was held before after r0 ended =
+-- turns, by where each began, the last of them first; if none is made, nothing changes
+abbrev pub AreTurns : Between → List Between → Between → Type 0
+AreTurns start [] end = (end.0 ≡ start.0) × (end.1 ≡ start.1) × (end.2 ≡ start.2)
+AreTurns start (between ∷ rest) end = AreTurns start rest between × IsTurn between.0 between.1 end.0 end.1 end.2
+
+-- what comes last: an advance with this result, after which the run has ended, or which is not carried out and reports nothing
+abbrev pub IsLastAdvance : CallResult → HeldRun → HeldRun → EngineState → EngineState → ℕ → ℕ → Bool → Type 0
+IsLastAdvance result was held before after reported r0 ended =
     (stopped : HeldRun) × IsStretched Done was stopped × IsAdvanced result stopped held before after r0 ended × (result ≡ Done → ended ≡ true)
+    × (result ≢ Done → (r0 ≡ reported) × (ended ≡ false))
 
--- or a run that is spent is told so, or as many turns were made as may be
-abbrev pub IsLast : CallResult → ℕ → HeldRun → HeldRun → EngineState → EngineState → ℕ → Bool → Type 0
-IsLast result turns was held before after r0 ended =
-    IsLastAdvance result was held before after r0 ended
-    ⊎ ((result ≡ results.Spent) × (was ≡ Spent) × (held ≡ Spent) × (after ≡ before))
-    ⊎ ((result ≡ Done) × (ended ≡ false) × (held ≡ was) × (after ≡ before) × (turns ≡ 4294967295))
+-- or the run is spent, which is reported; or as many turns were made as may be
+abbrev pub IsLast : CallResult → ℕ → HeldRun → HeldRun → EngineState → EngineState → ℕ → ℕ → Bool → Type 0
+IsLast result turns was held before after reported r0 ended =
+    IsLastAdvance result was held before after reported r0 ended
+    ⊎ ((result ≡ results.Spent) × (was ≡ Spent) × (held ≡ Spent) × (after ≡ before) × (r0 ≡ reported) × (ended ≡ false))
+    ⊎ ((result ≡ Done) × (ended ≡ false) × (held ≡ was) × (after ≡ before) × (r0 ≡ reported) × (turns ≡ 4294967295))
 
--- a drive with this result: turns, and what comes last
-pub record IsDriven (result : CallResult) (was held : HeldRun) (before after : EngineState) (r0 : ℕ) (ended : Bool) : Type 0 where
-  pub turns : List (HeldRun × EngineState)
-  pub run : HeldRun
-  pub engine : EngineState
-  pub are_turns : AreTurns was before turns run engine
-  pub last : IsLast result (length turns) run held engine after r0 ended
+-- A drive with this result: turns, and what comes last. If the result is another than Done, R0 is that of the last turn, or what it was
+-- before if there was no turn, and the run is not reported to have ended.
+pub record IsDriven (result : CallResult) (was held : HeldRun) (before after : EngineState) (reported r0 : ℕ) (ended : Bool) : Type 0 where
+  pub turns : List Between
+  pub last_turn : Between
+  pub are_turns : AreTurns (was, before, reported) turns last_turn
+  pub last : IsLast result (length turns) last_turn.0 held last_turn.1 after last_turn.2 r0 ended

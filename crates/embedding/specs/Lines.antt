@@ -1,5 +1,5 @@
 -- What of a trace stands in a place.
-use Rattle.std.specs.Prelude.{◌≡◌, ◌≢◌, ◌≤◌, ◌<◌, ◌+◌, ◌⊎◌, ◌==◌, ◌++◌, ℕ, Option, Some, None, List, [], ◌∷◌, if◌then◌else◌, length, slice_get, take, slice_range}
+use Rattle.std.specs.Prelude.{◌≡◌, ◌≢◌, ◌≤◌, ◌<◌, ◌+◌, ◌⊎◌, ◌==◌, ◌++◌, ℕ, Option, Some, None, List, [], ◌∷◌, if◌then◌else◌, drop, length, slice_get, take, slice_range}
 use Rattle.std.specs.Fmt.{option_append, with_newline}
 use Rattle.calls.specs.declared.record.Record.{Record}
 use Rattle.calls.specs.declared.totals.Totals.{Totals}
@@ -38,18 +38,21 @@ abbrev pub HasNoLine : List Record → ℕ → Type 0
 HasNoLine records number = (entry : Record) × (slice_get records number ≡ Some entry) × (line_of entry ≡ None)
 
 -- Lines that are put with this result, of the records from one on: as many as find room, and of each record that there is. Done, the line of
--- the first of them was put, if there is one, and that of the next record finds no room, or no record is left. Where the first line, or that
--- of the first record after it, finds no room, nothing is put. There is no other result but that the next record has no line.
-abbrev pub PutsLines : CallResult → Version → List Record → ℕ → List ℕ → ℕ → ℕ → Type 0
-PutsLines result version records from place written next =
+-- the first of them was put, if there is one, and that of the next record finds no room, or no record is left. If the first line, or that
+-- of the first record after it, finds no room, nothing is put, and the place is as it was before. There is no other result but that the
+-- next record has no line. Whatever the result, what stands after the lines is what stood there before.
+abbrev pub PutsLines : CallResult → Version → List Record → ℕ → List ℕ → List ℕ → ℕ → ℕ → Type 0
+PutsLines result version records from before place written next =
     (result ≢ NoRoom → AddsLines records (first_line version from) from (take written place) next × IsWithin records from next)
-    × (result ≡ NoRoom → (written ≡ 0) × (next ≡ from)
+    × (result ≡ NoRoom → (written ≡ 0) × (next ≡ from) × (place ≡ before)
     × ((length place < length (first_line version from)) ⊎ ((from < length records) × FindsNoRoom records from place (length (first_line version from)))))
     × (result ≡ Done → FindsNoRoom records next place written × (from < length records → from < next))
     × (result ≢ NoRoom → result ≢ Done → (result ≡ NoText) × HasNoLine records next)
+    × (drop written place ≡ drop written before)
 
--- the last line that is put with this result: where it is not, it finds no room
-abbrev pub PutsSums : CallResult → Totals → List ℕ → ℕ → Type 0
-PutsSums result totals place written =
-    (result ≡ Done → totals_text totals ≡ Some (take written place))
-    × (result ≢ Done → (result ≡ NoRoom) × (written ≡ 0) × ((line : List ℕ) → totals_text totals ≡ Some line → length place < length line))
+-- The last line that is put with this result: if it is not put, it finds no room, and the place is as it was before. What stands after it
+-- is what stood there before.
+abbrev pub PutsSums : CallResult → Totals → List ℕ → List ℕ → ℕ → Type 0
+PutsSums result totals before place written =
+    (result ≡ Done → (totals_text totals ≡ Some (take written place)) × (drop written place ≡ drop written before))
+    × (result ≢ Done → (result ≡ NoRoom) × (written ≡ 0) × (place ≡ before) × ((line : List ℕ) → totals_text totals ≡ Some line → length place < length line))

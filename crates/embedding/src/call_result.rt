@@ -2,7 +2,7 @@
 // a call is not carried out.
 
 ghost use Rattle.std.specs.Prelude.{◌≡◌, ◌<◌, ◌≤◌, MatchOption};
-ghost use Rattle.embedding.specs.Results.{number_of, number_of_refusal, result_of, released_result, advanced_result};
+ghost use Rattle.embedding.specs.Results.{number_of, number_of_refusal, result_of, released_result, advanced_result, text_of, text_of_refusal};
 
 use engine_core::{AdvanceFault, CallFault, CallRefusal, ReleaseFault};
 
@@ -61,7 +61,9 @@ fn refusal_number(refusal: CallRefusal) -> u32
 }
 
 // A refusal's text, which begins with its code.
-fn refusal_text(refusal: CallRefusal) -> &'static str {
+fn refusal_text(refusal: CallRefusal) -> &'static str
+    ensures { result.now ≡ text_of_refusal refusal }
+{
     match refusal {
         CallRefusal::Unknown => "C1: no such queue, controller, CCB or parked run",
         CallRefusal::Limit => "C2: a limit is reached",
@@ -131,7 +133,9 @@ impl CallResult {
     }
 
     /// Its text, one line without a line feed. A refusal's begins with its code.
-    pub fn text(self) -> &'static str {
+    pub fn text(self) -> &'static str
+        ensures { result.now ≡ text_of self }
+    {
         match self {
             CallResult::Done => "done",
             CallResult::OutOfMemory => "memory was refused, and nothing changed",

@@ -1,7 +1,7 @@
 // The calls of an engine that start, take further, park and resume runs, each with the run in its host's handle. It relies on
 // `engine_core` for each call.
 
-ghost use Rattle.std.specs.Prelude.{◌≡◌, ◌≢◌, true};
+ghost use Rattle.std.specs.Prelude.{◌≡◌, ◌≢◌, true, false};
 ghost use Rattle.calls.specs.declared.call.Call.TheVariants.{Complete};
 ghost use Rattle.embedding.specs.Calls.{IsAdvanced, IsCompleted, IsDriven, IsParked, IsResumed, GoesOn};
 ghost use Rattle.embedding.specs.Held.{is_same_run, out_of};
@@ -76,11 +76,13 @@ impl EngineHandle {
     }
 
     /// Takes a run from stop to stop until it has ended, with R0 at its exit. A run has no more stops than its program's budget
-    /// has instructions: where that many were made, it would go on, which is told.
-    #[tactic(auto, using(crate::proofs::Going::goes_then, crate::proofs::Going::goes_none, crate::proofs::Driving::ends_spent, crate::proofs::Driving::ends_last, crate::proofs::Driving::ends_open))]
+    /// has instructions: if that many were made, it would go on, which is reported. If the result is another than `Done`, R0 is that
+    /// after the last stop that was taken over, or as it was, and `ended` is false.
+    #[tactic(auto, using(crate::proofs::Going::goes_then, crate::proofs::Going::goes_none, crate::proofs::Driving::ends_spent, crate::proofs::Driving::ends_open))]
     pub fn drive(&mut self, run: &mut RunHandle, r0: &mut u64, ended: &mut bool) -> CallResult
         ensures recorded { GoesOn self.old self.new }
-        ensures driven { IsDriven result run.old.held run.new.held self.old self.new r0.new ended.new }
+        ensures driven { IsDriven result run.old.held run.new.held self.old self.new r0.old r0.new ended.new }
+        ensures unended { result ≢ CallResult.Done → ended.new ≡ false }
         ensures ended { result ≡ CallResult.Done → ended.new ≡ true → run.new.held ≡ HeldRun.Spent }
         ensures same { is_same_run run.old run.new }
     {

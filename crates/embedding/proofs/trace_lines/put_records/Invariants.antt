@@ -1,4 +1,4 @@
-use Rattle.std.proofs.Common.{◌≡◌, ◌≤◌, length, take}
+use Rattle.std.proofs.Common.{◌≡◌, ◌≤◌, drop, length, take}
 use Rattle.embedding.specs.Lines.{AddsLines, IsWithin}
 use Rattle.embedding.proofs.trace_lines.put_records.Given as goal
 
@@ -8,4 +8,7 @@ invariant-loop-number l = record {
   next : l.put.next ≡ l.number;
   within : IsWithin l.records.items l.fn.put.next l.number;
   lines : AddsLines l.fn.records.items (take l.fn.put.written l.fn.place) l.fn.put.next (take l.put.written l.place) l.put.next;
+  onward : l.fn.put.written ≤ l.put.written;
+  begun : l.number ≡ l.fn.put.next → (l.put.written ≡ l.fn.put.written) × (l.place ≡ l.fn.place);
+  behind : drop l.put.written l.place ≡ drop l.put.written l.fn.place;
 }

@@ -1,7 +1,5 @@
 use Rattle.std.proofs.Common.{◌≡◌, false, List, length}
-use Rattle.engine_core.specs.EngineState.{EngineState}
-use Rattle.embedding.specs.declared.run_handle.HeldRun.{HeldRun}
-use Rattle.embedding.specs.Calls.{AreTurns, GoesOn}
+use Rattle.embedding.specs.Calls.{AreTurns, Between, GoesOn}
 use Rattle.embedding.specs.Held.{is_same_run}
 use Rattle.embedding.proofs.engine_handle.EngineHandle.drive.Given as goal
 
@@ -10,5 +8,5 @@ invariant-loop-turn l = record {
   goes : GoesOn l.fn.self l.self;
   goes_on : l.ended ≡ false;
   same : is_same_run l.fn.run l.run;
-  turns : (steps : List (HeldRun × EngineState)) × (length steps ≡ l.turn) × AreTurns l.fn.run.held l.fn.self steps l.run.held l.self;
+  turns : (steps : List Between) × (length steps ≡ l.turn) × AreTurns (l.fn.run.held, l.fn.self, l.fn.r0) steps (l.run.held, l.self, l.r0);
 }

@@ -6,4 +6,4 @@ mod reading;
 mod steps;
 
 pub use reading::{FaultyLine, ScenarioError, command_of, is_skipped, read};
-pub use steps::{Command, Step};
+pub use steps::{Command, KeptCommand, Step};

@@ -1,12 +1,12 @@
 // Reads a scenario: a command a line, by the rows of the calls' lines, and `drain`. It relies on `call_lines` for these rows and on
 // `ccb` for what a completion may say.
 
-ghost use Rattle.std.specs.Prelude.{◌≡◌, ◌≤◌, length, IfErr, IfOk};
+ghost use Rattle.std.specs.Prelude.{◌≡◌, ◌≤◌, [], length, IfErr, IfOk};
 ghost use Rattle.call_lines.specs.Written.{Reads};
 ghost use Rattle.scenario.specs.Commands.{clock_read, command_made, command_text, completed_by, controller_named, dispatched, device_named, frozen, released, reported, submitted};
 ghost use Rattle.scenario.specs.Said.{IfFault, IsFaultyLine, Keeps, Say, is_skipped, lines_of};
 
-use crate::steps::{Command, Step};
+use crate::steps::{Command, KeptCommand, Step};
 use base::{OrMemory, ShortBytes};
 use call_lines::{
     Slots, Value, Word, byte_in, bytes_in, long_number_in, number_in, read_line, status_in,
@@ -28,19 +28,45 @@ pub fn read(alloc: Global, text: &str) -> Result<Vec<Step>, ScenarioError>
     ensures said { IfOk result (λ steps. Say (lines_of text.now) steps.items) }
     ensures faulty { IfErr result (IfFault (IsFaultyLine text.now)) }
 {
-    let mut steps = Vec::new(alloc);
+    let mut steps = room_for(alloc, text);
     let (mut rest, mut number) = (text, 1usize);
     while let Some((line, behind)) = rest.split_once('\n') {
-        keep(&mut steps, number, line)?;
+        keep(alloc, &mut steps, number, line)?;
         rest = behind;
         number += 1;
     }
-    keep(&mut steps, number, rest)?;
+    keep(alloc, &mut steps, number, rest)?;
     Ok(steps)
 }
 
+// No steps, with room for those of the text if there is memory for all at once.
+fn room_for(alloc: Global, text: &str) -> Vec<Step>
+    ensures { result.items ≡ [] }
+{
+    match Vec::with_capacity(alloc, count_of(text)) {
+        Ok(steps) => steps,
+        Err(AllocError) => Vec::new(alloc),
+    }
+}
+
+// How many lines of a text say something.
+fn count_of(text: &str) -> usize {
+    let mut count = 0usize;
+    for line in text.lines() {
+        if !is_skipped(line) {
+            count = count.saturating_add(1);
+        }
+    }
+    count
+}
+
 // Keeps what the line of that number says, if it says anything.
-fn keep(steps: &mut Vec<Step>, number: usize, line: &str) -> Result<(), ScenarioError>
+fn keep(
+    alloc: Global,
+    steps: &mut Vec<Step>,
+    number: usize,
+    line: &str,
+) -> Result<(), ScenarioError>
     ensures { Keeps number line.now steps.old.items result steps.new.items }
 {
     if is_skipped(line) {
@@ -50,7 +76,7 @@ fn keep(steps: &mut Vec<Step>, number: usize, line: &str) -> Result<(), Scenario
         Some(command) => {
             let step = Step {
                 line: number,
-                command,
+                command: KeptCommand::new(alloc, command)?,
             };
             steps.push(step).map_err(AllocError::from)?;
             Ok(())

@@ -12,6 +12,7 @@ use Rattle.monitor.specs.LegalHistory.{made_by, records}
 use Rattle.scenario.specs.declared.steps.Command.{Command}
 use Rattle.scenario.specs.declared.steps.Command.TheVariants.{Submit, Dispatch, Complete, Drain, GuestFreeze, GuestRelease, Clock}
 use Rattle.scenario.specs.declared.steps.Step.{Step}
+use Rattle.workers.specs.Recorded.{completion_in, completions_of}
 use Rattle.scenario_host.specs.Asked.{AreOf, by_host, call_in, call_of, calls_of, is_by_host, is_hosts, with_call}
 
 abbrev IsHosts : Record → Type 0
@@ -127,3 +128,17 @@ count_more records place made within is =
 pub asks_one : (asks : Option Call) (before after : List Record) → MatchOption asks (after ≡ before) (λ call. (answer : CallAnswer) × (after ≡ before ++ Called answer call ∷ [])) → length after ≡ length before + length (with_call asks [])
 asks_one None before after same = omega (arith, ap length same)
 asks_one (Some call) before after told = omega (arith, ap length told.1, length-append before (Called told.0 call ∷ []))
+
+-- ---- completions
+
+completions_push : (xs : List Record) (x : Record) → length (completions_of (xs ++ x ∷ [])) ≡ length (completions_of xs) + length (completion_in x)
+completions_push [] x = omega (arith, length-append (completion_in x) [])
+completions_push (first ∷ xs) x =
+    omega (arith, completions_push xs x, length-append (completion_in first) (completions_of (xs ++ x ∷ [])), length-append (completion_in first) (completions_of xs))
+
+-- those of one place more
+pub completions_more : (records : List Record) (place : ℕ) (made : Record) → place < length records → made ≡ get_or records place made
+    → length (completions_of (take (place + 1) records)) ≡ length (completions_of (take place records)) + length (completion_in made)
+completions_more records place made within is =
+    ap (λ (xs : List Record). length (completions_of xs)) (take_more records place made within ∙ ap (λ (it : Record). take place records ++ it ∷ []) (sym is))
+    ∙ completions_push (take place records) made

@@ -1,5 +1,9 @@
 mod Counted
+mod Followed
 mod Holding
 mod Lent
+mod Passes
+mod Ranges
 mod Steps
+mod Taken
 mod Whole

@@ -4,20 +4,23 @@ use Rattle.std.specs.Prelude.{MatchOption, slice_index_or}
 use mathlib.Core.List.{map-append}
 use Rattle.std.proofs.lemmas.List.{take-append-drop, take_more}
 use Rattle.freeze_ledger.specs.declared.freeze.Freeze.{Freeze}
+use Rattle.ccb.specs.Completion.{Outcome}
 use Rattle.calls.specs.declared.call.Call.{Call}
 use Rattle.calls.specs.declared.call_answer.CallAnswer.{CallAnswer}
 use Rattle.calls.specs.declared.record.Record.{Record}
 use Rattle.calls.specs.declared.record.Record.TheVariants.{Called}
 use Rattle.scenario.specs.declared.steps.Step.{Step}
 use Rattle.scenario_host.specs.Asked.{AreOf, call_in, call_of, calls_of, is_held, with_call}
-use Rattle.scenario_host.specs.Faults.{IsUnheldAt, line_of}
+use Rattle.scenario_host.specs.Served.{completes_of, completion_for}
+use Rattle.scenario_host.specs.Faults.{StopsAt, line_of}
 use Rattle.scenario_host.specs.Holding.{Asks, HoldsAll, IsOfStep}
 use Rattle.scenario_host.specs.declared.host.RunFault.{RunFault}
 
 -- so many steps were carried out
-pub record Done (steps : List Step) (count : ℕ) (made : List Record) (tokens : List Freeze) : Type 0 where
+pub record Done (steps : List Step) (count : ℕ) (made : List Record) (tokens : List Freeze) (put : List Outcome) : Type 0 where
   pub asked : AreOf made (calls_of (take count steps))
   pub holds : HoldsAll made tokens
+  pub put_is : put ≡ completes_of (take count steps)
 
 with_append : (o : Option Call) (calls more : List Call) → with_call o (calls ++ more) ≡ with_call o calls ++ more
 with_append None calls more = refl
@@ -26,6 +29,12 @@ with_append (Some call) calls more = refl
 calls_push : (steps : List Step) (step : Step) → calls_of (steps ++ step ∷ []) ≡ calls_of steps ++ with_call (call_of step.command) []
 calls_push [] step = refl
 calls_push (first ∷ rest) step = ap (with_call (call_of first.command)) (calls_push rest step) ∙ with_append (call_of first.command) (calls_of rest) (with_call (call_of step.command) [])
+
+completes_push : (steps : List Step) (step : Step) → completes_of (steps ++ step ∷ []) ≡ completes_of steps ++ completion_for step.command
+completes_push [] step = append-nil (completion_for step.command)
+completes_push (first ∷ rest) step =
+    ap (λ (xs : List Outcome). completion_for first.command ++ xs) (completes_push rest step)
+    ∙ sym (append_assoc (completion_for first.command) (completes_of rest) (completion_for step.command))
 
 -- one call more, if the step has one
 asks_by : (o : Option Call) (calls : List Call) (before after : List Record) → AreOf before calls → MatchOption o (after ≡ before) (λ call. (answer : CallAnswer) × (after ≡ before ++ Called answer call ∷ [])) → AreOf after (calls ++ with_call o [])
@@ -39,17 +48,21 @@ asks_by (Some call) calls before after are told =
 here_is : (steps : List Step) (index : ℕ) (step : Step) → index < length steps → step ≡ slice_index_or steps index step → take (index + 1) steps ≡ take index steps ++ step ∷ []
 here_is steps index step inside is = take_more steps index step inside ∙ ap (λ (s : Step). take index steps ++ s ∷ []) (sym is)
 
-pub none_done : (steps : List Step) (made : List Record) (tokens : List Freeze) → made ≡ [] → Done steps 0 made tokens
-none_done steps made tokens none = record {
+pub none_done : (steps : List Step) (made : List Record) (tokens : List Freeze) (put : List Outcome) → made ≡ [] → put ≡ [] → Done steps 0 made tokens put
+none_done steps made tokens put none put_none = record {
   asked = ap (map call_in) none;
   holds = λ number held. absurd (let bad : false ≡ true = sym (ap (is_held number) none) ∙ held in cc);
+  put_is = put_none;
 }
 
-pub one_more : (steps : List Step) (index : ℕ) (step : Step) (before after : List Record) (tokens now : List Freeze) → Done steps index before tokens → index < length steps → step ≡ slice_index_or steps index step → Asks step before after → HoldsAll after now → Done steps (index + 1) after now
-one_more steps index step before after tokens now done inside is asks holds = record {
+pub one_more : (steps : List Step) (index : ℕ) (step : Step) (before after : List Record) (tokens now : List Freeze) (put more : List Outcome) → Done steps index before tokens put → index < length steps → step ≡ slice_index_or steps index step → Asks step before after → HoldsAll after now → more ≡ put ++ completion_for step.command → Done steps (index + 1) after now more
+one_more steps index step before after tokens now put more done inside is asks holds more_is = record {
   asked = subst (λ (some : List Step). AreOf after (calls_of some)) (sym (here_is steps index step inside is))
       (subst (AreOf after) (sym (calls_push (take index steps) step)) (asks_by (call_of step.command) (calls_of (take index steps)) before after done.asked asks));
   holds = holds;
+  put_is = more_is
+      ∙ (ap (λ (xs : List Outcome). xs ++ completion_for step.command) done.put_is
+      ∙ (sym (completes_push (take index steps) step) ∙ ap completes_of (sym (here_is steps index step inside is))));
 }
 
 split_at : (steps : List Step) (index : ℕ) (step : Step) → index < length steps → step ≡ slice_index_or steps index step → steps ≡ take index steps ++ step ∷ drop (index + 1) steps
@@ -58,21 +71,24 @@ split_at steps index step inside is =
     ∙ (ap (λ (some : List Step). some ++ drop (index + 1) steps) (here_is steps index step inside is) ∙ append_assoc (take index steps) (step ∷ []) (drop (index + 1) steps))
 
 -- the step at which it stopped
-pub stopped_at : (steps : List Step) (index : ℕ) (step : Step) (before after : List Record) (tokens : List Freeze) (fault : RunFault) → Done steps index before tokens → index < length steps → step ≡ slice_index_or steps index step → IsOfStep step before after fault → (line : ℕ) → line_of fault ≡ Some line → IsUnheldAt steps after line
-stopped_at steps index step before after tokens fault done inside is of line named =
-    let it = of line named in
-    subst (λ (made : List Record). IsUnheldAt steps made line) (sym it.same)
-    (record {
-      before = take index steps;
-      step = step;
-      after = drop (index + 1) steps;
-      steps_are = split_at steps index step inside is;
-      freeze = it.freeze;
-      release = it.release;
-      line_is = it.line_is;
-      asked = done.asked;
-      unheld = it.unheld;
-    })
+pub stopped_at : (steps : List Step) (index : ℕ) (step : Step) (before after : List Record) (tokens : List Freeze) (put now : List Outcome) (fault : RunFault) (count : ℕ) → count ≡ index → Done steps index before tokens put → index < length steps → step ≡ slice_index_or steps index step → IsOfStep step before after fault → (line_of fault ≢ None → now ≡ put)
+    → (line : ℕ) → line_of fault ≡ Some line → StopsAt steps count after now line
+stopped_at steps index step before after tokens put now fault count count_is done inside is of stays line named =
+    let it = of line named in record {
+      unheld = record {
+        before = take index steps;
+        step = step;
+        after = drop (index + 1) steps;
+        steps_are = split_at steps index step inside is;
+        freeze = it.freeze;
+        release = it.release;
+        line_is = it.line_is;
+        asked = subst (λ (made : List Record). AreOf made (calls_of (take index steps))) (sym it.same) done.asked;
+        unheld = ap (is_held it.freeze) it.same ∙ it.unheld;
+      };
+      before_is = ap (λ (n : ℕ). take n steps) (sym count_is);
+      put_is = stays (λ none. let bad : Some line ≡ None = sym named ∙ none in absurd cc) ∙ done.put_is;
+    }
 
 -- a fault that names a line left what was made as it was
 some_line : (o : Option ℕ) → o ≢ None → (line : ℕ) × (o ≡ Some line)

@@ -1,5 +1,5 @@
 -- The whole history of an engine that was shared, with its sums.
-use Rattle.std.proofs.Common.{◌≡◌, ◌≢◌, ℕ, List, [], ◌∷◌, ◌++◌, All, Some, None, ap, length, sym, subst, ◌∙◌}
+use Rattle.std.proofs.Common.{◌≡◌, ◌≢◌, ◌+◌, ℕ, List, [], ◌∷◌, ◌++◌, All, take, Some, None, ap, append-nil, length, refl, sym, subst, ◌∙◌}
 use Rattle.std.proofs.lemmas.List.Elements.{All-head}
 use Rattle.calls.specs.declared.record.Record.{Record}
 use Rattle.calls.specs.declared.totals.Totals.{Totals}
@@ -13,10 +13,15 @@ use Rattle.engine_core.specs.EngineState.{EngineState}
 use Rattle.monitor.specs.Telling.{Agrees, CallerState}
 use Rattle.engine_lock.specs.Sharing.{Closes, IsSince}
 use Rattle.scenario.specs.declared.steps.Step.{Step}
-use Rattle.scenario_host.specs.Asked.{AreOf, by_host, calls_of}
-use Rattle.scenario_host.specs.Faults.{IsOfRun, IsOfSteps, IsUnheldAt, line_of}
+use Rattle.ccb.specs.Completion.{Outcome}
+use Rattle.workers.specs.Recorded.{completions_of}
+use Rattle.scenario_host.specs.Asked.{AreOf, by_host, calls_of, is_held}
+use Rattle.scenario_host.specs.Served.{AreServed, HasTaken, completes_of}
+use Rattle.scenario_host.specs.Faults.{IsOfRun, IsOfSteps, line_of}
 use Rattle.scenario_host.specs.Traces.{HasMade, IsOfScenario, IsTraceOf}
+use Rattle.scenario_host.specs.Turns.{AreInTurn, AreInTurnSoFar}
 use Rattle.scenario_host.proofs.Counted.{all_are_own}
+use Rattle.scenario_host.proofs.Taken.{in_their_order}
 use Rattle.scenario_host.specs.declared.host.RunFault.{RunFault}
 
 -- the host's caller is the first of those that are handed in
@@ -53,16 +58,49 @@ whole_trace setup begun calls engine version records totals since spoken all sum
 made_all : (steps : List Step) (caller : CallerState) (told : List Record) → HasMade caller told → AreOf caller.mine (calls_of steps) → length (by_host told) ≡ length caller.mine → by_host told ≡ caller.mine
 made_all steps caller told made are count = all_are_own steps caller.number made.history told caller.mine are made.own made.its count
 
-pub of_scenario : (steps : List Step) (caller : CallerState) (told : List Record) → HasMade caller told → AreOf caller.mine (calls_of steps) → length (by_host told) ≡ length caller.mine → IsOfScenario steps told
-of_scenario steps caller told made are count = subst (λ (rs : List Record). AreOf rs (calls_of steps)) (sym (made_all steps caller told made are count)) are
+-- what was put was recorded, or is left
+served_so : (workers : ℕ) (put left asked some : List Outcome) (told : List Record) → HasTaken workers put left told → length (completions_of told) + length left ≡ length put → put ≡ asked → left ≡ some → AreServed asked some told
+served_so workers put left asked some told taken many put_is left_is =
+    subst (λ (xs : List Outcome). AreServed xs some told) put_is
+    (subst (λ (xs : List Outcome). AreServed put xs told) left_is (record { workers = workers; taken = taken; no_more = many }))
+
+pub of_scenario : (steps : List Step) (caller : CallerState) (told : List Record) (workers : ℕ) (put left : List Outcome) → HasMade caller told → AreOf caller.mine (calls_of steps) → length (by_host told) ≡ length caller.mine
+    → HasTaken workers put left told → length (completions_of told) + length left ≡ length put → put ≡ completes_of steps → left ≡ [] → AreInTurn steps told → IsOfScenario steps told
+of_scenario steps caller told workers put left made are count taken many put_is none turns = record {
+  asked = subst (λ (rs : List Record). AreOf rs (calls_of steps)) (sym (made_all steps caller told made are count)) are;
+  served = served_so workers put left (completes_of steps) [] told taken many put_is none;
+  turns = turns;
+}
+
+pub in_order : (steps : List Step) (told : List Record) (workers : ℕ) (put left : List Outcome) → HasTaken workers put left told → length (completions_of told) + length left ≡ length put → put ≡ completes_of steps → left ≡ [] → workers ≡ 1 → completions_of told ≡ completes_of steps
+in_order steps told workers put left taken many put_is none one =
+    sym (append-nil (completions_of told))
+    ∙ (ap (λ (xs : List Outcome). completions_of told ++ xs) (sym none) ∙ (in_their_order workers put left told taken many one ∙ put_is))
 
 -- a fault by the records that the host made is one in the history that the run leaves
-pub of_run : (setup : Setup) (steps : List Step) (caller : CallerState) (version : Version) (told : List Record) (totals : Totals) (fault : RunFault) → IsTraceOf setup version told totals → HasMade caller told → IsOfSteps steps caller.mine fault
-    → ((line_of fault ≢ None) → length (by_host told) ≡ length caller.mine) → IsOfRun setup steps fault
-of_run setup steps caller version told totals fault trace made of count line named =
+pub of_run : (setup : Setup) (steps : List Step) (caller : CallerState) (version : Version) (told : List Record) (totals : Totals) (fault : RunFault) (workers count : ℕ) (put left : List Outcome) → IsTraceOf setup version told totals → HasMade caller told → IsOfSteps steps count caller.mine put fault
+    → ((line_of fault ≢ None) → (length (by_host told) ≡ length caller.mine) × HasTaken workers put left told × (length (completions_of told) + length left ≡ length put) × AreInTurnSoFar (take count steps) told) → IsOfRun setup steps fault
+of_run setup steps caller version told totals fault workers count put left trace made of all line named =
     let it = of line named in
-    let many = count (λ none. let bad : Some line ≡ None = sym named ∙ none in absurd cc) in record {
+    let so = all (λ none. let bad : Some line ≡ None = sym named ∙ none in absurd cc) in
+    let same = made_all it.unheld.before caller told made it.unheld.asked so.0 in record {
       history = told;
       legal = (trace.world, trace.run);
-      unheld = subst (λ (rs : List Record). IsUnheldAt steps rs line) (sym (made_all it.before caller told made it.asked many)) it;
+      unheld = record {
+        before = it.unheld.before;
+        step = it.unheld.step;
+        after = it.unheld.after;
+        steps_are = it.unheld.steps_are;
+        freeze = it.unheld.freeze;
+        release = it.unheld.release;
+        line_is = it.unheld.line_is;
+        asked = subst (λ (rs : List Record). AreOf rs (calls_of it.unheld.before)) (sym same) it.unheld.asked;
+        unheld = ap (is_held it.unheld.freeze) same ∙ it.unheld.unheld;
+      };
+      left = left;
+      served = served_so workers put left (completes_of it.unheld.before) left told so.1 so.2 it.put_is refl;
+      turns = subst (λ (some : List Step). AreInTurnSoFar some told) (sym it.before_is) so.3;
     }
+
+pub some_line : (line : ℕ) (fault : RunFault) → line_of fault ≡ Some line → line_of fault ≢ None
+some_line line fault named none = let bad : Some line ≡ None = sym named ∙ none in absurd cc

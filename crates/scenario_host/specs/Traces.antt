@@ -1,5 +1,6 @@
--- What the trace of a scenario is: a whole history of one engine, with its sums, of which the host made the scenario's calls.
-use Rattle.std.specs.Prelude.{◌≡◌, List}
+-- What the trace of a scenario is: a whole history of one engine, with its sums, of which the host made the scenario's calls, and
+-- workers asked for its completions.
+use Rattle.std.specs.Prelude.{◌≡◌, List, []}
 use Rattle.calls.specs.declared.record.Record.{Record}
 use Rattle.calls.specs.declared.totals.Totals.{Totals}
 use Rattle.calls.specs.declared.trace.Version.{Version}
@@ -13,6 +14,8 @@ use Rattle.monitor.specs.LegalHistory.{made_by, records}
 use Rattle.monitor.specs.Telling.{CallerState}
 use Rattle.scenario.specs.declared.steps.Step.{Step}
 use Rattle.scenario_host.specs.Asked.{AreOf, by_host, calls_of}
+use Rattle.scenario_host.specs.Served.{AreServed, completes_of}
+use Rattle.scenario_host.specs.Turns.{AreInTurn}
 
 -- the records are a run of a lawful setup from its opening, in its vocabulary, and these are its sums
 pub record IsTraceOf (setup : Setup) (version : Version) (records : List Record) (totals : Totals) : Type 0 where
@@ -28,6 +31,10 @@ pub record HasMade (caller : CallerState) (told : List Record) : Type 0 where
   pub its : records history ≡ told
   pub own : made_by caller.number history ≡ caller.mine
 
--- what the host made is the scenario's calls, each once and in their order; all else is what workers make
-abbrev pub IsOfScenario : List Step → List Record → Type 0
-IsOfScenario steps told = AreOf (by_host told) (calls_of steps)
+-- What the host made is the scenario's calls, each once and in their order; what workers asked for is its completions, each once. A
+-- completion stands after the host put it, and before the host's first call after the drain that served it; no run is live at a call of
+-- the host.
+pub record IsOfScenario (steps : List Step) (told : List Record) : Type 0 where
+  pub asked : AreOf (by_host told) (calls_of steps)
+  pub served : AreServed (completes_of steps) [] told
+  pub turns : AreInTurn steps told

@@ -2,15 +2,18 @@
 // from which they are served. It relies on `hands` for the guests' tokens, on `engine_lock` for the engine's replies, and on
 // `workers` for serving.
 
-ghost use Rattle.std.specs.Prelude.{◌≡◌, ◌≢◌, ◌+◌, ◌≤◌, [], All, IfErr, MatchResult, OnOk, None, length, vec_capacity};
+ghost use Rattle.std.specs.Prelude.{◌≡◌, ◌≢◌, ℕ, ◌+◌, ◌≤◌, ◌∷◌, ◌++◌, [], All, IfErr, MatchResult, OnOk, None, Some, length, vec_capacity};
 ghost use Rattle.inbox.specs.Views.{IsOf};
+ghost use Rattle.workers.specs.Recorded.{AreRecorded};
 ghost use Rattle.scenario_host.specs.Asked.{AreOf, call_of, calls_of, with_call};
 ghost use Rattle.scenario_host.specs.Faults.{IsOfSteps, line_of};
+ghost use Rattle.scenario_host.specs.Served.{IsKept, completes_of, completion_for};
 ghost use Rattle.scenario_host.specs.Holding.{Asks, AsksAlone, HoldsAll, HoldsBut, IsAsked, IsOfStep, IsSaid};
 ghost use Rattle.workers.specs.declared.serving.TheConstants.{MAX_WORKERS};
 ghost use Rattle.scenario_host.specs.declared.host.RunFault.TheVariants.{OutOfMemory};
 
 use crate::asking::Asked;
+use crate::counting::Counts;
 use crate::watching::Watching;
 use calls::Notices;
 use ccb::Completion;
@@ -24,7 +27,7 @@ use std::alloc::AllocError;
 use std::mem;
 use std::sync::{Mutex, Wait};
 use std::thread::Threads;
-use workers::{Seat, Served, serve, settle};
+use workers::{Gate, Seat, Served, Unserved, serve, settle};
 
 /// Why a run stopped.
 #[derive(Clone, Copy, Debug, PartialEq, Eq)]
@@ -32,8 +35,10 @@ pub enum RunFault {
     OutOfMemory,
     /// N2: the `grelease` of that line is of a freeze whose token is not held.
     NotHeld(usize),
-    /// A completion finds no room in an inbox that was served until it was empty, a guest's freeze is gone whose token is held, a
-    /// caller is missing at the end, or somebody else made calls such as the host's. None of these can be.
+    /// An inbox that was served until it was empty has a completion or has no room for one, a worker kept a run that is not out, a run
+    /// used its program's budget up, a completion was refused with another code than C1 and C3, a guest's freeze is gone whose token is
+    /// held, a caller or a pass is missing at the end, a run is live then, or the history has calls of somebody else. None of these can
+    /// be.
     Unsettled,
 }
 
@@ -57,6 +62,9 @@ pub(crate) struct Host<'a, B: Object, N: Notices> {
     pub(crate) put: PutPass,
     // to see whether the workers left a completion
     pub(crate) take: TakePass,
+    // none, with room for all passes at the end
+    pub(crate) puts: Vec<PutPass>,
+    pub(crate) takes: Vec<TakePass>,
     pub(crate) seats: Vec<Seat<B>>,
     pub(crate) watch: Mutex<Watch<B>>,
     pub(crate) notices: &'a N,
@@ -65,38 +73,65 @@ pub(crate) struct Host<'a, B: Object, N: Notices> {
     pub(crate) ghost seats_are: { All (λ seat. IsOf inbox seat.pass) seats.items },
     pub(crate) ghost few: { length seats.items ≤ MAX_WORKERS },
     pub(crate) ghost room: { (callers.items ≡ []) × (length seats.items + 1 ≤ vec_capacity callers) },
+    pub(crate) ghost take_room: { (takes.items ≡ []) × (length seats.items + 1 ≤ vec_capacity takes) },
+    pub(crate) ghost put_room: { (puts.items ≡ []) × (1 ≤ vec_capacity puts) },
 }
 
 impl<'a, B: Object + Send + Sync, N: Notices + Sync> Host<'a, B, N> {
-    /// Carries the steps out in their order, and serves the completions that are left then. How many calls were recorded, and why it
-    /// stopped.
+    /// Carries the steps out in their order, and serves the completions that are left then. How many steps were carried out, how many
+    /// calls were recorded and how many completions were put, and why it stopped.
     pub(crate) fn carry_out_all<R: Threads + Wait + Sync>(
         &mut self,
         rt: &R,
         steps: &[Step],
-    ) -> (usize, Result<(), RunFault>)
-        requires { self.old.caller.mine ≡ [] }
+    ) -> (Counts, Result<(), RunFault>)
+        requires none { (self.old.caller.mine ≡ []) × (self.old.put.account.put ≡ []) }
+        requires kept { IsKept self.old.inbox self.old.put self.old.take self.old.seats.items }
         ensures asked { OnOk result.1 (AreOf self.new.caller.mine (calls_of steps.now)) }
-        ensures fault { IfErr result.1 (IsOfSteps steps.now self.new.caller.mine) }
-        ensures count { MatchResult result.1 (λ _. result.0 ≡ length self.new.caller.mine) (λ fault. (line_of fault ≢ None) → result.0 ≡ length self.new.caller.mine) }
+        ensures put { OnOk result.1 (self.new.put.account.put ≡ completes_of steps.now) }
+        ensures kept { OnOk result.1 (IsKept self.new.inbox self.new.put self.new.take self.new.seats.items) }
+        ensures fault { IfErr result.1 (IsOfSteps steps.now result.0.steps self.new.caller.mine self.new.put.account.put) }
+        ensures stays { IfErr result.1 (λ fault. (line_of fault ≢ None) → IsKept self.new.inbox self.new.put self.new.take self.new.seats.items) }
+        ensures all { length self.new.seats.items ≡ length self.old.seats.items }
+        ensures steps { result.0.steps ≤ length steps.now }
+        ensures calls { MatchResult result.1 (λ _. result.0.calls ≡ length self.new.caller.mine) (λ fault. (line_of fault ≢ None) → result.0.calls ≡ length self.new.caller.mine) }
+        ensures completions { MatchResult result.1 (λ _. result.0.completions ≡ length self.new.put.account.put) (λ fault. (line_of fault ≢ None) → result.0.completions ≡ length self.new.put.account.put) }
     {
-        let mut asked = 0;
+        let mut carried = 0;
+        let mut calls = 0;
+        let mut completions = 0;
         for step in steps {
             if let Err(fault) = self.carry_out(rt, step) {
-                return (asked, Err(fault));
+                let counts = Counts {
+                    steps: carried,
+                    calls,
+                    completions,
+                };
+                return (counts, Err(fault));
             }
-            asked += calls_in(step.command);
+            carried += 1;
+            calls += calls_in(step.command.get());
+            completions += completions_for(step.command.get());
         }
-        (asked, self.drain(rt))
+        let counts = Counts {
+            steps: carried,
+            calls,
+            completions,
+        };
+        (counts, self.drain(rt))
     }
 
     fn carry_out<R: Threads + Wait + Sync>(&mut self, rt: &R, step: &Step) -> Result<(), RunFault>
         requires { HoldsAll self.old.caller.mine self.old.hands.tokens }
         ensures asked { OnOk result (Asks step.now self.old.caller.mine self.new.caller.mine) }
         ensures holds { OnOk result (HoldsAll self.new.caller.mine self.new.hands.tokens) }
+        ensures put { OnOk result (self.new.put.account.put ≡ self.old.put.account.put ++ completion_for step.now.command) }
+        ensures kept { OnOk result (IsKept self.old.inbox self.old.put self.old.take self.old.seats.items → IsKept self.new.inbox self.new.put self.new.take self.new.seats.items) }
+        ensures all { length self.new.seats.items ≡ length self.old.seats.items }
         ensures fault { IfErr result (IsOfStep step.now self.old.caller.mine self.new.caller.mine) }
+        ensures stays { IfErr result (λ fault. (line_of fault ≢ None) → (self.new.inbox ≡ self.old.inbox) × (self.new.put ≡ self.old.put) × (self.new.take ≡ self.old.take) × (self.new.seats.items ≡ self.old.seats.items)) }
     {
-        match step.command {
+        match step.command.get() {
             Command::Submit {
                 queue,
                 priority,
@@ -129,6 +164,8 @@ impl<'a, B: Object + Send + Sync, N: Notices + Sync> Host<'a, B, N> {
         requires holds { HoldsBut event self.old.caller.mine self.old.hands.tokens }
         ensures asked { OnOk result (IsAsked event.entry self.old.caller.mine self.new.caller.mine) }
         ensures holds { OnOk result (HoldsAll self.new.caller.mine self.new.hands.tokens) }
+        ensures same { (self.new.inbox ≡ self.old.inbox) × (self.new.put ≡ self.old.put) × (self.new.take ≡ self.old.take) × (self.new.seats.items ≡ self.old.seats.items) }
+        ensures all { length self.new.seats.items ≡ length self.old.seats.items }
         ensures fault { IfErr result (λ fault. line_of fault ≡ None) }
     {
         let mut asked = Asked {
@@ -152,6 +189,9 @@ impl<'a, B: Object + Send + Sync, N: Notices + Sync> Host<'a, B, N> {
         completion: Completion,
     ) -> Result<(), RunFault>
         ensures same { (self.new.caller ≡ self.old.caller) × (self.new.hands ≡ self.old.hands) }
+        ensures put { OnOk result (self.new.put.account.put ≡ self.old.put.account.put ++ completion ∷ []) }
+        ensures kept { OnOk result (IsKept self.old.inbox self.old.put self.old.take self.old.seats.items → IsKept self.new.inbox self.new.put self.new.take self.new.seats.items) }
+        ensures all { length self.new.seats.items ≡ length self.old.seats.items }
         ensures fault { IfErr result (λ fault. line_of fault ≡ None) }
     {
         let Err(completion) = self.inbox.put(rt, &mut self.put, completion) else {
@@ -164,10 +204,11 @@ impl<'a, B: Object + Send + Sync, N: Notices + Sync> Host<'a, B, N> {
         }
     }
 
-    // Serves until the inbox is empty. What a worker keeps it keeps for want of memory, and where there is none for serving the
-    // inbox is left as it was. The runs that are kept are parked.
+    // Serves until the inbox is empty.
     fn drain<R: Threads + Wait + Sync>(&mut self, rt: &R) -> Result<(), RunFault>
-        ensures same { (self.new.caller ≡ self.old.caller) × (self.new.hands ≡ self.old.hands) }
+        ensures same { (self.new.caller ≡ self.old.caller) × (self.new.hands ≡ self.old.hands) × (self.new.put ≡ self.old.put) }
+        ensures kept { OnOk result (IsKept self.old.inbox self.old.put self.old.take self.old.seats.items → IsKept self.new.inbox self.new.put self.new.take self.new.seats.items) }
+        ensures all { length self.new.seats.items ≡ length self.old.seats.items }
         ensures fault { IfErr result (λ fault. line_of fault ≡ None) }
     {
         let none = Vec::new(*self.seats.allocator());
@@ -177,15 +218,54 @@ impl<'a, B: Object + Send + Sync, N: Notices + Sync> Host<'a, B, N> {
             watch: &self.watch,
             notices: self.notices,
         };
-        let served = serve(rt, seats, &self.shared, &self.inbox, &gate);
-        let kept = served.completions.len() + served.runs.len();
-        let back = seats_behind(rt, served, &self.shared, &self.inbox);
+        let (back, served) = serve_by(rt, seats, &self.shared, &self.inbox, &gate);
         mem::replace(&mut self.seats, back).destroy_empty();
-        if kept == 0 && self.inbox.take(rt, &mut self.take).is_none() {
-            Ok(())
-        } else {
-            Err(RunFault::OutOfMemory)
+        match served {
+            Ok(()) => match self.inbox.take(rt, &mut self.take) {
+                None => Ok(()),
+                Some(_) => Err(RunFault::Unsettled),
+            },
+            Err(fault) => Err(fault),
         }
+    }
+}
+
+// Serves with these seats, which come back, and says why not all was served. Runs that are kept are parked then, and completions that
+// are kept are let go.
+fn serve_by<B: Object + Send + Sync, G: Gate + Sync, R: Threads + Wait + Sync>(
+    rt: &R,
+    seats: Vec<Seat<B>>,
+    shared: &Shared<B>,
+    inbox: &Inbox,
+    gate: &G,
+) -> (Vec<Seat<B>>, Result<(), RunFault>)
+    requires few { length seats.items ≤ MAX_WORKERS }
+    requires passes { All (λ seat. IsOf inbox.now seat.pass) seats.items }
+    ensures recorded { OnOk result.1 (AreRecorded seats.items result.0.items) }
+    ensures all { length result.0.items ≡ length seats.items }
+    ensures passes { All (λ seat. IsOf inbox.now seat.pass) result.0.items }
+    ensures fault { IfErr result.1 (λ fault. line_of fault ≡ None) }
+{
+    match serve(rt, seats, shared, inbox, gate) {
+        Ok(served) => {
+            if served.is_whole() {
+                return (served.into_seats(), Ok(()));
+            }
+            let fault = fault_for(served.out_of_memory);
+            (seats_behind(rt, served, shared, inbox), Err(fault))
+        }
+        Err(Unserved { seats }) => (seats, Err(RunFault::OutOfMemory)),
+    }
+}
+
+// Why something is kept.
+fn fault_for(out_of_memory: bool) -> RunFault
+    ensures { line_of result ≡ None }
+{
+    if out_of_memory {
+        RunFault::OutOfMemory
+    } else {
+        RunFault::Unsettled
     }
 }
 
@@ -201,6 +281,22 @@ fn calls_in(command: Command) -> usize
         | Command::GuestFreeze { .. }
         | Command::GuestRelease { .. }
         | Command::Clock { .. } => 1,
+    }
+}
+
+// How many completions are put for such a command.
+fn completions_for(command: Command) -> usize
+    ensures many { result ≡ length (completion_for command) }
+    ensures few { result ≤ 1 }
+{
+    match command {
+        Command::Complete { .. } => 1,
+        Command::Submit { .. }
+        | Command::Dispatch { .. }
+        | Command::Drain
+        | Command::GuestFreeze { .. }
+        | Command::GuestRelease { .. }
+        | Command::Clock { .. } => 0,
     }
 }
 
@@ -231,7 +327,7 @@ fn seats_behind<B: Object, R: Wait>(
 {
     match settle(rt, served, shared) {
         Ok(settled) => settled.into_seats(),
-        // a run that the engine does not have out, which no worker keeps
+        // a run that the engine does not have out
         Err(unsettled) => unsettled.into_seats(),
     }
 }

@@ -6,6 +6,7 @@ mod asking;
 mod counting;
 mod host;
 mod running;
+mod turns;
 mod watching;
 
 pub use host::RunFault;

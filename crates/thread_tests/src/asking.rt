@@ -4,7 +4,7 @@ use calls::{Totals, Trace};
 use engine_core::{Engine, Event, Given, Reply, Run};
 use engine_lock::{Caller, Object, Shared, Unclosed};
 use std::sync::Wait;
-use workers::{Open, drive};
+use workers::{Open, Undriven, drive};
 
 /// What a reply gives; nothing if it gives nothing.
 pub fn given_by(reply: Reply) -> Option<Given> {
@@ -59,7 +59,7 @@ pub fn ends<B: Object, R: Wait>(
 ) -> bool {
     match drive(rt, shared, &Open, caller, run) {
         Ok(()) => true,
-        Err(run) => {
+        Err(Undriven { run, why: _ }) => {
             run.forfeit();
             false
         }

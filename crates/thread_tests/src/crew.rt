@@ -16,7 +16,7 @@ use std::alloc::{AllocError, Global};
 use std::mem;
 use std::sync::Wait;
 use std::thread::Threads;
-use workers::{Gate, Open, Seat, Served, Settled, seated, serve, settle};
+use workers::{Gate, Open, Seat, Served, Settled, seated, settle};
 
 /// How many completions find room in the inbox.
 const CAPACITY: usize = 16;
@@ -127,7 +127,15 @@ fn crew_of<B: Object, R: Wait>(
     requires room { (room.items ≡ []) × (length takes.items ≤ vec_capacity room) }
 {
     let put = only(&inbox, puts);
-    let seats = seated(rt, shared, &inbox, takes, room);
+    let seats = match seated(rt, shared, &inbox, takes, room) {
+        Ok(seats) => seats,
+        Err(unseated) => {
+            unseated.forfeit();
+            put.forfeit();
+            inbox.forfeit();
+            return None;
+        }
+    };
     match caller_of(rt, shared) {
         Some(caller) => Some(Crew {
             caller,
@@ -279,6 +287,7 @@ impl<B: Object> Crew<B> {
             ended: 0,
             completions: Vec::new(alloc),
             runs,
+            out_of_memory: true,
         };
         let (_, back) = self.settle_all(rt, shared, served);
         Some(back)
@@ -341,7 +350,7 @@ impl<B: Object + Send + Sync> Crew<B> {
     ) -> Option<u32> {
         let none = Vec::new(*self.seats.allocator());
         let seats = mem::replace(&mut self.seats, none);
-        let served = serve(rt, seats, shared, &self.inbox, &Open);
+        let served = serve_by(rt, Service::Workers, seats, shared, &self.inbox, &Open);
         let parked = served.runs.first().map(|run| run.number());
         let (completions, _) = self.settle_all(rt, shared, served);
         self.put_back(rt, &completions);

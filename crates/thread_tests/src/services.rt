@@ -9,7 +9,7 @@ use inbox::Inbox;
 use std::alloc::AllocError;
 use std::sync::Wait;
 use std::thread::Threads;
-use workers::{Gate, Seat, Served, serve};
+use workers::{Gate, Seat, Served, Unserved, serve};
 
 /// Who serves.
 #[derive(Clone, Copy)]
@@ -36,9 +36,28 @@ pub fn serve_by<B: Object + Send + Sync, G: Gate + Sync, R: Threads + Wait + Syn
     ensures passes { All (λ seat. IsOf inbox.now seat.pass) result.seats }
 {
     match service {
-        Service::Workers => serve(rt, seats, shared, inbox, gate),
+        Service::Workers => serve_or_not(rt, seats, shared, inbox, gate),
         Service::OneThread => serve_alone(rt, seats, shared, inbox, gate),
         Service::Nobody => unserved(seats),
+    }
+}
+
+// Each seat serves in a thread of its own. Nobody does if memory is refused.
+fn serve_or_not<B: Object + Send + Sync, G: Gate + Sync, R: Threads + Wait + Sync>(
+    rt: &R,
+    seats: Vec<Seat<B>>,
+    shared: &Shared<B>,
+    inbox: &Inbox,
+    gate: &G,
+) -> Served<B>
+    requires few { length seats.items ≤ MAX_WORKERS }
+    requires passes { All (λ seat. IsOf inbox.now seat.pass) seats.items }
+    ensures all { length result.seats ≡ length seats.items }
+    ensures passes { All (λ seat. IsOf inbox.now seat.pass) result.seats }
+{
+    match serve(rt, seats, shared, inbox, gate) {
+        Ok(served) => served,
+        Err(Unserved { seats }) => unserved(seats),
     }
 }
 
@@ -71,13 +90,15 @@ fn serve_alone<B: Object + Send + Sync, G: Gate + Sync, R: Threads + Wait + Sync
         ended,
         completions,
         runs,
-    } = serve(rt, one, shared, inbox, gate);
+        out_of_memory,
+    } = serve_or_not(rt, one, shared, inbox, gate);
     Served {
         seats: with_last(inbox, seats, one),
         started,
         ended,
         completions,
         runs,
+        out_of_memory,
     }
 }
 
@@ -113,5 +134,6 @@ fn unserved<B: Object>(seats: Vec<Seat<B>>) -> Served<B>
         ended: 0,
         completions: Vec::new(alloc),
         runs: Vec::new(alloc),
+        out_of_memory: false,
     }
 }

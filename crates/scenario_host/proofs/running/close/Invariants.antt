@@ -1,13 +1,18 @@
-use Rattle.std.proofs.Common.{◌≤◌, ◌+◌, vec_len}
+use Rattle.std.proofs.Common.{◌≡◌, ◌≤◌, ◌+◌, ◌∷◌, ◌++◌, All, map, vec_len}
 use Rattle.std.specs.Prelude.{vec_capacity}
-use Rattle.scenario_host.proofs.Whole.{HasFirst}
+use Rattle.inbox.specs.Views.{IsOf}
+use Rattle.scenario_host.proofs.Taken.{caller_of, pass_of}
 use Rattle.scenario_host.proofs.running.close.Given as goal
 
-abbrev pub invariant-loop-seat : goal.invariant-loop-seat
-invariant-loop-seat g l = record {
-  room : vec_len l.callers + vec_len l.seats ≤ vec_capacity l.callers;
-  first : HasFirst l.fn.host.caller l.callers.items;
+abbrev pub invariant-loop-seats : goal.invariant-loop-seats
+invariant-loop-seats g l = record {
+  callers : l.callers.items ++ map caller_of l.seats.items ≡ l.fn.host.caller ∷ map caller_of l.fn.host.seats.items;
+  takes : l.takes.items ++ map pass_of l.seats.items ≡ l.fn.host.take ∷ map pass_of l.fn.host.seats.items;
+  are : All (IsOf l.inbox) l.takes.items;
+  rest : All (λ seat. IsOf l.inbox seat.pass) l.seats.items;
+  caller_room : vec_len l.callers + vec_len l.seats ≤ vec_capacity l.callers;
+  take_room : vec_len l.takes + vec_len l.seats ≤ vec_capacity l.takes;
 }
 
-abbrev pub decreases-loop-seat : goal.decreases-loop-seat
-decreases-loop-seat g l = vec_len l.seats
+abbrev pub decreases-loop-seats : goal.decreases-loop-seats
+decreases-loop-seats g l = vec_len l.seats

@@ -151,6 +151,8 @@ fn of_kind(alloc: Global, fault: Error, kind: ErrorKind) -> Result<Error, AllocE
 {
     if fault.kind() == kind {
         Ok(fault)
+    } else if fault.kind() == ErrorKind::OutOfMemory {
+        Err(AllocError)
     } else {
         nameless_fault(alloc, kind)
     }

@@ -29,6 +29,11 @@ second_is [] x y read there = absurd cc
 second_is (z ∷ []) x y read there = absurd cc
 second_is (z ∷ w ∷ zs) x y read there = cc
 
+-- what is so of the bytes of the first that is read, is so of the one that stands there
+pub of_first : (P : List ℕ → Type 0) (files : List (Vec ℕ Global)) {a : Vec ℕ Global} {one : List ℕ} → a ≡ get_or files 0 a → one ≡ a.items → P one
+    → (first : Vec ℕ Global) → slice_get files 0 ≡ Some first → P first.items
+of_first P files read same holds first one = rw (← first_is files _ first read one, ← same) holds
+
 -- what is so of the bytes of two that are read, is so of those that stand there
 pub of_both : (P : List ℕ → List ℕ → Type 0) (files : List (Vec ℕ Global)) {a b : Vec ℕ Global} {one two : List ℕ} → a ≡ get_or files 0 a → b ≡ get_or files 1 b
     → one ≡ a.items → two ≡ b.items → P one two

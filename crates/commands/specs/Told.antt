@@ -1,10 +1,12 @@
 -- What the status of a plan tells of the files that it reads.
-use Rattle.std.specs.Prelude.{◌≡◌, ◌⊎◌, ℕ, List, Option, Some, Err}
+use Rattle.std.specs.Prelude.{◌≡◌, ◌⊎◌, ◌++◌, ◌∷◌, [], ℕ, List, Option, Some, Err, codes}
 use Rattle.std.specs.Io.KnownBytes.{Appends, Keeps}
+use Rattle.bpf_insn.specs.declared.program.Slot.{Slot}
 use Rattle.bpf_decode.specs.Spells.{Spells}
 use Rattle.bpf_decode.specs.FirstFault.{HasFault as HasDecodeFault}
 use Rattle.bpf_decode.specs.declared.fault.DecodeFault.{DecodeFault}
 use Rattle.bpf_asm.specs.Assembly.{Says, HasFault as HasAsmFault}
+use Rattle.bpf_asm.specs.Canon.{canon}
 use Rattle.bpf_asm.specs.declared.fault.AsmFault.{AsmFault}
 use Rattle.live.specs.Telling.{IsBegun}
 use Rattle.manifest.specs.declared.ManifestFault.{ManifestFault}
@@ -115,7 +117,36 @@ IsAccepted plan first second = Unit {0}
 abbrev pub IsOfScenarioText : List ℕ → Trace → Type 0
 IsOfScenarioText text trace = (steps : List Step) × Say (lines_of text) steps × IsOfScenario steps trace.records.items
 
--- what a plan put out that was carried out: a run, the trace of its scenario on an engine of its manifest
+-- The one text says a program, and the bytes spell it; the bytes spell one, and the text is that of it.
+abbrev pub IsAssembled : List ℕ → List ℕ → Type 0
+IsAssembled text bytes = (program : List Slot) × Says text program × Spells bytes program
+
+abbrev pub IsDisassembled : List ℕ → List ℕ → Type 0
+IsDisassembled bytes text = (program : List Slot) × Spells bytes program × (text ≡ canon program)
+
+-- The text is a manifest, and the trace that of a history of an engine of its setup.
+abbrev pub IsTraceUnder : List ℕ → List ℕ → Type 0
+IsTraceUnder manifest text = (trace : Trace) × IsOfManifest manifest trace × (trace_text trace ≡ Some text)
+
+-- the same of an engine of which nothing was asked
+abbrev pub IsIdleUnder : List ℕ → List ℕ → Type 0
+IsIdleUnder manifest text = (trace : Trace) × IsOfManifest manifest trace × (trace_text trace ≡ Some text) × (trace.records.items ≡ [])
+
+-- a text of this kind went out
+abbrev pub PutsOut : (List ℕ → Type 0) → Option (List ℕ) → Option (List ℕ) → Type 0
+PutsOut Is old new = (text : List ℕ) × Appends old new text × Is text
+
+-- what went out of a plan that is carried out, by its first file; of the verdicts nothing is said
+abbrev pub IsOutput : Plan → List ℕ → Option (List ℕ) → Option (List ℕ) → Type 0
+IsOutput (Asm text program) input old new = PutsOut (IsAssembled input) old new
+IsOutput (Dis program) input old new = PutsOut (IsDisassembled input) old new
+IsOutput (Check manifest) input old new = Unit {0}
+IsOutput (Migrate manifest migrated) input old new = PutsOut (IsMigrated input) old new
+IsOutput (Run workers watch manifest scenario) input old new = PutsOut (IsTraceUnder input) old new
+IsOutput (Live manner manifest) input old new = PutsOut (IsIdleUnder input) old new
+IsOutput (Replay manifest trace) input old new = PutsOut (λ output. output ≡ codes "accepted" ++ 10 ∷ []) old new
+
+-- of a run: the trace of its scenario on an engine of its manifest
 abbrev pub IsPutOut : Plan → List ℕ → List ℕ → Option (List ℕ) → Option (List ℕ) → Type 0
 IsPutOut (Run workers watch manifest scenario) first second old new =
     (trace : Trace) × IsOfManifest first trace × IsOfScenarioText second trace × IsPrinted trace old new

@@ -1,6 +1,7 @@
 // What is read as text, and what becomes of what goes out. It relies on `fault`.
 
-ghost use Rattle.std.specs.Prelude.{◌≡◌, IsUtf8, MatchResult};
+ghost use Rattle.std.specs.Prelude.{◌≡◌, ◌≢◌, ◌≤◌, IsUtf8, MatchResult};
+ghost use Rattle.std.specs.Io.KnownBytes.{Appends};
 ghost use Rattle.commands.specs.Faults.{status_of};
 
 use crate::fault::Fault;
@@ -12,6 +13,17 @@ pub fn status<E: Write>(written: io::Result<()>, err: &mut E) -> u8
     ensures { MatchResult written (λ _. result ≡ 0) (λ _. result ≡ 2) }
 {
     match written {
+        Ok(()) => 0,
+        Err(error) => unwritten(error, err),
+    }
+}
+
+/// Writes these bytes, and answers the status.
+pub(crate) fn write<W: Write, E: Write>(bytes: &[u8], out: &mut W, err: &mut E) -> u8
+    ensures status { (result ≢ 1) × (result ≤ 2) }
+    ensures written { result ≡ 0 → Appends (W.contents out.old) (W.contents out.new) bytes.now }
+{
+    match out.write_all(bytes) {
         Ok(()) => 0,
         Err(error) => unwritten(error, err),
     }

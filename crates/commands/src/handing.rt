@@ -22,6 +22,7 @@ impl<'a, W: Write> Handing<'a, W> {
     pub fn new(out: &'a mut W) -> Self
         ensures same { result.out.ghost_name ≡ out.entry.ghost_name }
         ensures bytes { W.contents result.out.now ≡ W.contents out.old }
+        ensures none { result.failures ≡ 0 }
     {
         Handing {
             out,

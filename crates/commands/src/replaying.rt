@@ -1,11 +1,12 @@
 // The verdict on a trace. It relies on `replay`.
 
-ghost use Rattle.std.specs.Prelude.{◌≡◌, ◌≤◌, IfErr, IfOk, IsErrAnd, IsUtf8};
+ghost use Rattle.std.specs.Prelude.{◌≡◌, ◌≤◌, ◌++◌, ◌∷◌, [], IfErr, IfOk, IsErrAnd, IsUtf8, codes};
+ghost use Rattle.std.specs.Io.KnownBytes.{Keeps};
 ghost use Rattle.commands.specs.Faults.{status_of};
-ghost use Rattle.commands.specs.Told.{IsAcceptedTrace, IsRejectedTrace};
+ghost use Rattle.commands.specs.Told.{IsAcceptedTrace, IsRejectedTrace, PutsOut};
 
 use crate::fault::Fault;
-use crate::files::{status, text};
+use crate::files::{text, write};
 use calls::{Notices, Trace};
 use manifest::Manifest;
 use replay::replay;
@@ -25,10 +26,12 @@ pub(crate) fn print_verdict<N: Notices, W: Write, E: Write>(
     ensures manifest { ¬ (IsUtf8 manifest.entry.1.now) → result ≡ 2 }
     ensures trace { ¬ (IsUtf8 trace.entry.1.now) → result ≡ 2 }
     ensures done { result ≡ 0 → IsAcceptedTrace manifest.entry.1.now trace.entry.1.now }
+    ensures output { result ≡ 0 → PutsOut (λ output. output ≡ codes "accepted" ++ 10 ∷ []) (W.contents out.old) (W.contents out.new) }
     ensures rejected { result ≡ 1 → IsRejectedTrace manifest.entry.1.now trace.entry.1.now }
+    ensures nothing { result ≡ 1 → Keeps (W.contents out.old) (W.contents out.new) }
 {
     match replayed(alloc, manifest, trace, notices) {
-        Ok(_) => status(out.write_all(b"accepted\n"), err),
+        Ok(_) => write(b"accepted\n", out, err),
         Err(fault) => fault.report(err),
     }
 }

@@ -1,7 +1,7 @@
 // A manifest's engine that is asked over a pipe. It relies on `live` for what its lines ask and what goes out, and on `manifest` for the
 // engine's configuration.
 
-ghost use Rattle.std.specs.Prelude.{◌≡◌, ◌≢◌, ◌≤◌, false, IfErr, IfOk, IsErrAnd, IsUtf8};
+ghost use Rattle.std.specs.Prelude.{◌≡◌, ◌≢◌, ◌≤◌, IfErr, IfOk, IsErrAnd, IsUtf8};
 ghost use Rattle.std.specs.Io.KnownBytes.{Keeps};
 ghost use Rattle.live.specs.Telling.{IsBegun, IsOut};
 ghost use Rattle.manifest.specs.Meaning.{Means};
@@ -10,10 +10,9 @@ ghost use Rattle.commands.specs.Told.{IsFaultyManifest, IsManifest, IsServed, Is
 
 use crate::fault::Fault;
 use crate::files::text;
-use crate::handing::Handing;
 use calls::{Notice, Totals};
 use engine_config::Config;
-use live::{Came, Input, LineFault, LiveFault, Reports};
+use live::{Input, LineFault, LiveFault, Reports};
 use manifest::Manifest;
 use std::alloc::Global;
 use std::io::Write;
@@ -38,6 +37,8 @@ pub fn serve<I: Input, S: Sink, E: Write>(
     ensures done { result ≡ 0 → IsManifest manifest.entry.1.now }
     // All that went out is a trace that a replay over the manifest accepts.
     ensures accepted { result ≡ 0 → IsServed manifest.entry.1.now (S.bytes out.old) (S.bytes out.new) }
+    // It is at its end only where no read failed.
+    ensures read { result ≡ 0 → I.has_failed input.new ≡ I.has_failed input.old }
     // Where it stopped, it is a front of one.
     ensures stopped { result ≡ 2 → IsStopped manifest.entry.1.now (S.bytes out.old) (S.bytes out.new) }
     ensures refused { result ≡ 1 → IsFaultyManifest manifest.entry.1.now }
@@ -47,23 +48,6 @@ pub fn serve<I: Input, S: Sink, E: Write>(
         Ok(manifest) => serve_on(alloc, manifest.config, is_stepped, input, out, err),
         Err(fault) => fault.report(err),
     }
-}
-
-/// The same where nothing is asked.
-pub(crate) fn serve_nothing<W: Write, E: Write>(
-    alloc: Global,
-    manifest: (&str, &[u8]),
-    is_stepped: bool,
-    out: &mut W,
-    err: &mut E,
-) -> u8
-    ensures status { result ≤ 2 }
-    ensures no_text { ¬ (IsUtf8 manifest.entry.1.now) → result ≡ 2 }
-    ensures done { result ≡ 0 → IsManifest manifest.entry.1.now }
-    ensures refused { result ≡ 1 → IsFaultyManifest manifest.entry.1.now }
-{
-    let mut handing = Handing::new(out);
-    serve(alloc, manifest, is_stepped, &mut Nothing, &mut handing, err)
 }
 
 // The manifest, a path and its bytes.
@@ -86,6 +70,7 @@ fn serve_on<I: Input, S: Sink, E: Write>(
 ) -> u8
     ensures status { (result ≢ 1) × (result ≤ 2) }
     ensures whole { result ≡ 0 → IsOut config (S.bytes out.old) (S.bytes out.new) }
+    ensures read { result ≡ 0 → I.has_failed input.new ≡ I.has_failed input.old }
     ensures begun { result ≡ 2 → IsBegun config (S.bytes out.old) (S.bytes out.new) }
 {
     let mut telling = Telling { err: &mut *err };
@@ -124,25 +109,5 @@ impl<E: Write> Reports for Telling<'_, E> {
 
     fn sums(&mut self, totals: Totals) {
         let _ = writeln!(self.err, "camr: {}", Notice::Sums(totals));
-    }
-}
-
-// An input that is at its end.
-#[derive(Clone, Copy, Debug)]
-struct Nothing;
-
-impl Input for Nothing {
-    ghost has_failed = { λ _. false };
-
-    fn wait(&mut self, _until: Option<u64>) -> Came {
-        Came::End
-    }
-
-    fn bytes(&self) -> &[u8] {
-        &[]
-    }
-
-    fn now(&self) -> Option<u64> {
-        None
     }
 }

@@ -1,7 +1,8 @@
 // The checks of the program that no command shows. It prints the name of each that fails, and how many pass; with words it runs the checks
-// of these names alone. It relies on `commands`, on `trace`, and on `program_io` for files.
+// of these names alone. It relies on `commands`, on `trace`, on `live` for what an input is, and on `program_io` for files.
 #![tactic(auto)]
 
+mod clocks;
 mod folders;
 mod noticing;
 mod printing;
@@ -35,11 +36,12 @@ enum Check {
     Folder,
     NewFile,
     Names,
+    LateClock,
     Done(Task),
 }
 
 /// All checks, with their names.
-const CHECKS: [(&str, Check); 18] = [
+const CHECKS: [(&str, Check); 19] = [
     ("words_of_notices", Check::NoticeWords),
     ("a_run_tells", Check::RunTells),
     ("a_replay_tells", Check::ReplayTells),
@@ -58,6 +60,7 @@ const CHECKS: [(&str, Check); 18] = [
     ("each_call_of_a_folder_fails_once", Check::Folder),
     ("a_new_file_is_whole_or_not_there", Check::NewFile),
     ("names_are_planted", Check::Names),
+    ("a_clock_beyond_the_last_reading", Check::LateClock),
     ("run_and_memory_refused_once", Check::Done(Task::Run)),
     (
         "replayed_and_memory_refused_once",
@@ -93,6 +96,7 @@ fn holds<R: Files + AllocGlobal + Threads + Wait + Sync>(
         Check::Folder => folders::each_call_of_a_folder_fails_once(alloc).ok(),
         Check::NewFile => folders::a_new_file_is_whole_or_not_there(alloc).ok(),
         Check::Names => folders::names_are_planted(alloc).ok(),
+        Check::LateClock => Some(clocks::a_clock_beyond_the_last_reading(alloc)),
         Check::Done(task) => Some(writers::done_and_memory_refused_once(rt, alloc, task)),
     }
 }

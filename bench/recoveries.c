@@ -1,13 +1,14 @@
-/* How many failed completions a second are recovered by the calls of the C library: one CCB on one queue fails 20,000 times, and the
- * policy of programs/recovery.hex lets it wait again. It prints a line as the benchmark does, and ends with 1 where a call is
- * answered otherwise. The manifest's path is its only word. */
+/* How many failed completions a second are recovered by the calls of the C library, and how many I/Os succeed. One CCB on the first queue
+ * fails 20,000 times, and the policy of programs/recovery.hex lets it wait again. On the second queue 300,000 I/Os are submitted, started
+ * and completed without an error, while 32 are active. It prints lines as the benchmark does, and ends with 1 if a call is answered
+ * otherwise. The manifest's path is its only word. */
 #define CAMR_ENGINE_HEAP
 #define _POSIX_C_SOURCE 199309L
 #include "camr_engine.h"
 #include <stdio.h>
 #include <time.h>
 
-enum { COMPLETIONS = 20000 };
+enum { COMPLETIONS = 20000, IOS = 300000, ACTIVE = 32 };
 
 static double seconds(void)
 {
@@ -29,6 +30,25 @@ static bool recover(camr_engine *engine)
     return done;
 }
 
+static bool start(camr_engine *engine, uint32_t *ccb)
+{
+    return camr_submit(engine, 1, 0, 1, ccb) == CAMR_DONE && camr_dispatch(engine, 1, ccb) == CAMR_DONE;
+}
+
+static bool serve(camr_engine *engine)
+{
+    uint32_t active[ACTIVE];
+    camr_run *run;
+    for (int place = 0; place < ACTIVE; place++)
+        if (!start(engine, &active[place])) return false;
+    for (int count = 0; count < IOS; count++) {
+        uint32_t *ccb = &active[count % ACTIVE];
+        if (camr_complete(engine, *ccb, CAMR_REQ_CMP, 0, NULL, 0, &run) != CAMR_DONE || run != NULL) return false;
+        if (!start(engine, ccb)) return false;
+    }
+    return true;
+}
+
 int main(int argc, char **argv)
 {
     static char manifest[4096];
@@ -44,6 +64,9 @@ int main(int argc, char **argv)
     for (int count = 0; count < COMPLETIONS; count++)
         if (!recover(engine)) return 1;
     printf("recoveries-c %.0f a second\n", COMPLETIONS / (seconds() - begun));
+    begun = seconds();
+    if (!serve(engine)) return 1;
+    printf("ios-c %.0f a second\n", IOS / (seconds() - begun));
     camr_close(engine);
     return 0;
 }

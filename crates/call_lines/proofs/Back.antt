@@ -1,7 +1,7 @@
 -- Calls and their words with values: there and back, a line a row.
 use Rattle.std.proofs.Common.{◌≡◌, ℕ, Some, None, List, refl, sym, ap, ◌∙◌}
 use Rattle.ccb.specs.Completion.{Outcome}
-use Rattle.freeze_ledger.specs.declared.place.Place.TheVariants.{Controller, Device}
+use Rattle.ccb.specs.declared.place.Place.TheVariants.{Controller, Device}
 use Rattle.calls.specs.declared.call.Call.{Call}
 use Rattle.calls.specs.declared.call.Call.TheVariants as calls
 use Rattle.call_lines.specs.Calls.{one, two, three, completed, values_of, word_of, word_text, call_of}

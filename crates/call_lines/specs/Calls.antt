@@ -2,7 +2,7 @@
 use Rattle.std.specs.Prelude.{ℕ, Option, Some, None, List, [], codes, unwrap_or}
 use Rattle.ccb.specs.Completion.{Outcome}
 use Rattle.ccb.specs.declared.cam_status.CamStatus.TheVariants.{RequestInProgress}
-use Rattle.freeze_ledger.specs.declared.place.Place.TheVariants.{Controller, Device}
+use Rattle.ccb.specs.declared.place.Place.TheVariants.{Controller, Device}
 use Rattle.calls.specs.declared.call.Call.{Call}
 use Rattle.calls.specs.declared.call.Call.TheVariants as calls
 use Rattle.call_lines.specs.Values.{byte_in, bytes_in, long_number_at, number_at, status_in}

@@ -10,8 +10,7 @@ use crate::value::{Value, byte_in, bytes_in, long_number_at, number_at, status_i
 use crate::word::Word;
 use base::ShortBytes;
 use calls::{Call, CompletionRecord};
-use ccb::{CamStatus, CcbId, Completion, QueueId};
-use freeze_ledger::Place;
+use ccb::{CamStatus, CcbId, Completion, Place, QueueId};
 use std::alloc::{AllocError, Global};
 
 /// The word of a call.

@@ -2,8 +2,7 @@
 // device reports.
 
 use crate::completion_record::CompletionRecord;
-use ccb::QueueId;
-use freeze_ledger::Place;
+use ccb::{Place, QueueId};
 
 /// A call of the engine.
 #[derive(Debug, Drop)]

@@ -5,7 +5,7 @@ use Rattle.ccb.specs.declared.cam_status.CamStatus.{CamStatus}
 use Rattle.ccb.specs.Completion.{Outcome, IsCompletion}
 use Rattle.ccb.specs.Status.{IsDecodedFrom}
 use Rattle.freeze_ledger.specs.declared.freeze.Freeze.{Freeze}
-use Rattle.freeze_ledger.specs.declared.place.Place.{Place}
+use Rattle.ccb.specs.declared.place.Place.{Place}
 use Rattle.freeze_ledger.specs.Deadlines.{some_timer}
 use Rattle.transport.specs.Freezing.{IsNextDue}
 use Rattle.calls.specs.declared.call.Call.{Call}

@@ -2,7 +2,7 @@
 
 ghost use Rattle.std.specs.Prelude.{◌≡◌, ◌≢◌, ◌<◌, ◌≤◌, IsSome, None, Result, false, length};
 ghost use Rattle.std.specs.Global.{Box};
-ghost use Rattle.freeze_ledger.specs.declared.place.Place.TheVariants.{Device, Controller};
+ghost use Rattle.ccb.specs.declared.place.Place.TheVariants.{Device, Controller};
 ghost use Rattle.calls.specs.declared.call.Call.TheVariants.{Submit, Dispatch, Clock};
 ghost use Rattle.calls.specs.declared.call_answer.CallAnswer.TheVariants as answers;
 ghost use Rattle.world.specs.TotalsOf.{totals_in};
@@ -13,9 +13,8 @@ ghost use Rattle.camr_c.specs.Exports.{Called, Frozen, IsOpened, Released, Stays
 
 use crate::engine_slot::EngineSlot;
 use crate::loose::Loose;
-use ccb::QueueId;
+use ccb::{Place, QueueId};
 use embedding::CallResult;
-use freeze_ledger::Place;
 use opening::{OpenFault, open, put_fault};
 use std::alloc::Global;
 

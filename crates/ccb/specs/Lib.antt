@@ -4,3 +4,4 @@ pub mod Completion
 pub mod Ccb
 pub mod Context
 pub mod Rising
+pub mod Places

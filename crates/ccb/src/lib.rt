@@ -1,5 +1,6 @@
 // What a CAM Control Block (CCB, ANSI X3.232) is to the recovery engine: its number and queue, status
-// and flags, the completion that a device answers it with, and the context that a program reads.
+// and flags, the completion that a device answers it with, the context that a program reads, and what
+// can be frozen: a device queue or a controller.
 // It relies on `sense_record` for the sense fields, `bitflags` for flags, `byteorder` for words.
 #![tactic(auto)]
 
@@ -8,12 +9,14 @@ mod ccb;
 mod ccb_flags;
 mod completion;
 mod context_bytes;
+mod place;
 
 pub use crate::cam_status::CamStatus;
 pub use crate::ccb::Ccb;
 pub use crate::ccb_flags::CcbFlags;
 pub use crate::completion::Completion;
 pub use crate::context_bytes::{CONTEXT_BYTES, context};
+pub use crate::place::Place;
 
 /// The number of a CCB. Numbers are given from 1 upward and never used again.
 #[derive(Clone, Copy, Debug, PartialEq, Eq, Hash, PartialOrd, Ord)]

@@ -2,7 +2,7 @@
 use Rattle.std.proofs.Common.{◌≡◌, ℕ, ◌+◌, List, [], ◌∷◌, ◌++◌, None, IsSome, Contains, inl, inr, refl, ap, sym, subst, ◌∙◌, arith}
 use Rattle.std.specs.List.{insert}
 use Rattle.freeze_ledger.specs.declared.freeze.Holder.TheVariants.{Guest}
-use Rattle.freeze_ledger.specs.declared.place.Place.{Place}
+use Rattle.ccb.specs.declared.place.Place.{Place}
 use Rattle.freeze_ledger.specs.declared.freeze.Freeze.{Freeze}
 use Rattle.freeze_ledger.specs.Freezes.{entry_of, without}
 use Rattle.calls.specs.declared.call.Call.{Call}

@@ -1,7 +1,7 @@
 -- What a result says of a call: it is recorded, carried out or refused, or nothing changed.
 use Rattle.std.specs.Prelude.{◌≡◌, ◌≢◌, ℕ, Bool, true, false, Option, Some, None, IsSome, List, [], ◌∷◌, ◌++◌, ◌⊎◌, length, Result, Ok, Err}
 use Rattle.std.specs.Global.{Box}
-use Rattle.freeze_ledger.specs.declared.place.Place.{Place}
+use Rattle.ccb.specs.declared.place.Place.{Place}
 use Rattle.freeze_ledger.specs.Freezes.{entry_of}
 use Rattle.calls.specs.declared.call.Call.{Call}
 use Rattle.bpf_semantics.specs.declared.stop.Stop.TheVariants as stops

@@ -15,9 +15,9 @@ ghost use Rattle.engine_core.specs.Unrecorded.{guests_of};
 ghost use Rattle.embedding.specs.Calls.{IsCalled, IsFrozen, IsReleased};
 
 use crate::call_result::CallResult;
-use ccb::{CcbId, QueueId};
+use ccb::{CcbId, Place, QueueId};
 use engine_core::{CallFault, Engine, GuestToken, Totals, put_token, take_token};
-use freeze_ledger::{FreezeToken, Place};
+use freeze_ledger::FreezeToken;
 use std::alloc::Global;
 use std::marker::Model;
 

@@ -10,7 +10,7 @@ use Rattle.ccb.specs.declared.ccb.Ccb.{Ccb}
 use Rattle.ccb.specs.declared.completion.Completion.{Completion}
 use Rattle.freeze_ledger.specs.declared.freeze.Freeze.{Freeze}
 use Rattle.freeze_ledger.specs.declared.freeze.Holder.TheVariants.{Guest}
-use Rattle.freeze_ledger.specs.declared.place.Place.{Place}
+use Rattle.ccb.specs.declared.place.Place.{Place}
 use Rattle.runs.specs.RunsState.{RunsState}
 use Rattle.engine_core.specs.RunState.{RunState, StoppedState, IsOutUnder}
 use Rattle.runs.specs.Admits.{IsOutWith}

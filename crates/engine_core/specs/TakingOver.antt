@@ -1,8 +1,8 @@
 -- What it takes to take a segment over, and what that leaves.
 use Rattle.std.specs.Prelude.{◌≡◌, ℕ, List, Some}
-use Rattle.freeze_ledger.specs.declared.place.Place.{Place}
-use Rattle.freeze_ledger.specs.declared.place.Place.TheVariants.{Controller}
-use Rattle.freeze_ledger.specs.Places.{device}
+use Rattle.ccb.specs.declared.place.Place.{Place}
+use Rattle.ccb.specs.declared.place.Place.TheVariants.{Controller}
+use Rattle.ccb.specs.Places.{device}
 use Rattle.helpers.specs.declared.table.Deed.{Deed}
 use Rattle.helpers.specs.declared.table.Deed.TheVariants as deeds
 use Rattle.helpers.specs.Table.{row_of}

@@ -5,8 +5,8 @@ ghost use Rattle.helpers.specs.declared.table.Deed.TheVariants as deeds;
 ghost use Rattle.interpreter.specs.Segments.{SegmentState};
 ghost use Rattle.engine_core.specs.TakingOver.{IsCalled, Asks, AsksOf, AsksToFreeze, Answers, AnswersOf};
 
-use ccb::QueueId;
-use freeze_ledger::{Holder, Place};
+use ccb::{Place, QueueId};
+use freeze_ledger::Holder;
 use helpers::{Answer, Deed, Request, Written};
 use runs::Runs;
 use transport::Transport;

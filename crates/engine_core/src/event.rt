@@ -7,8 +7,8 @@ ghost use Rattle.engine_core.specs.Replies.{is_park, owned};
 use crate::reply::Back;
 use crate::run::Run;
 use crate::stopped::Stopped;
-use ccb::{Completion, QueueId};
-use freeze_ledger::{FreezeToken, Place};
+use ccb::{Completion, Place, QueueId};
+use freeze_ledger::FreezeToken;
 
 /// A call of the engine. What it owns comes back where it is not carried out.
 pub enum Event<'a> {

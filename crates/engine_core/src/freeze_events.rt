@@ -10,8 +10,9 @@ ghost use Rattle.engine_core.specs.Performing.{Performs};
 use crate::reply::{Given, Reply};
 use crate::told::{refused, removed_told};
 use calls::{Call, CallAnswer, Record};
+use ccb::Place;
 use engine_config::Config;
-use freeze_ledger::{FreezeToken, Place};
+use freeze_ledger::FreezeToken;
 use transport::Transport;
 
 /// A guest has a freeze more of the place, or C1, or C2.

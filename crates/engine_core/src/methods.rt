@@ -4,7 +4,7 @@
 ghost use Rattle.std.specs.Prelude.{◌≡◌, IfOk, IfErr, MatchResult};
 ghost use Rattle.freeze_ledger.specs.declared.freeze.Holder.TheVariants.{Guest};
 ghost use Rattle.engine_core.specs.RunState.{before_stop, IsOut, IsOutUnder};
-ghost use Rattle.freeze_ledger.specs.declared.place.Place.TheVariants.{Controller, Device};
+ghost use Rattle.ccb.specs.declared.place.Place.TheVariants.{Controller, Device};
 ghost use Rattle.calls.specs.declared.call.Call.TheVariants.{Submit, Dispatch, Complete, GuestFreeze, GuestRelease, Clock, Park, Resume};
 ghost use Rattle.calls.specs.declared.call_answer.CallAnswer.TheVariants as answers;
 ghost use Rattle.calls.specs.declared.record.Record.TheVariants.{Called, Advance};
@@ -18,8 +18,8 @@ use crate::event::Event;
 use crate::reply::Reply;
 use crate::run::Run;
 use crate::stopped::Stopped;
-use ccb::{CcbId, Completion, QueueId};
-use freeze_ledger::{FreezeToken, Place};
+use ccb::{CcbId, Completion, Place, QueueId};
+use freeze_ledger::FreezeToken;
 
 impl Engine {
     /// Submits a CCB to a queue, with a priority (the lowest number starts first) and how often it may be tried

@@ -1,12 +1,12 @@
 // How an engine is asked: by its events, or by its methods. It relies on `engine_core` for both, and on `interpreter` for what a run
 // does apart.
 
-use ccb::CcbId;
+use ccb::{CcbId, Place};
 use engine_core::{
     AdvanceAnswer, AdvanceFault, Back, CallFault, CompleteAnswer, Engine, Event, Given,
     ReleaseFault, Reply, Run, Stopped,
 };
-use freeze_ledger::{FreezeToken, Place};
+use freeze_ledger::FreezeToken;
 use hands::Answers;
 use interpreter::{Segment, to_stop};
 use std::alloc::AllocError;

@@ -2,7 +2,7 @@
 use Rattle.std.proofs.Common.{◌≡◌, ◌≢◌, ◌⊎◌, ℕ, zero, suc, ◌+◌, ◌<◌, ◌≤◌, List, Option, Some, None, inl, inr, refl, ap, sym, subst, ◌∙◌, arith}
 use Rattle.std.proofs.lemmas.Bool.{cases_eq}
 use Rattle.freeze_ledger.specs.declared.freeze.Freeze.{Freeze}
-use Rattle.freeze_ledger.specs.Places.{index_of}
+use Rattle.ccb.specs.Places.{index_of}
 use Rattle.freeze_ledger.specs.Entries.{freeze_at, Changes}
 use Rattle.freeze_ledger.specs.Chained.{Leads, LeadsTo, lower, higher}
 use Rattle.freeze_ledger.specs.Links.{unless, first_with}

@@ -8,8 +8,8 @@ use Rattle.std.proofs.Math.ListN.{length-set}
 use Rattle.std.specs.List.{remove, sum_by}
 use Rattle.slab.specs.Slab.{Slab, slab_len, Updates, with_value}
 use Rattle.slab.proofs.SlabLemmas.{Updates-with_value}
-use Rattle.freeze_ledger.specs.declared.place.Place.{Place}
-use Rattle.freeze_ledger.specs.Places.{index_of, is_place}
+use Rattle.ccb.specs.declared.place.Place.{Place}
+use Rattle.ccb.specs.Places.{index_of, is_place}
 use Rattle.freeze_ledger.specs.declared.freeze.Freeze.{Freeze}
 use Rattle.freeze_ledger.specs.declared.freeze.Holder.TheVariants.{Timer}
 use Rattle.freeze_ledger.specs.Freezes.{frozen, without, handed_over}

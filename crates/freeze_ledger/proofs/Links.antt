@@ -6,7 +6,7 @@ use Rattle.freeze_ledger.specs.declared.chains.Link.{Link}
 use Rattle.freeze_ledger.specs.declared.chains.Ends.{Ends}
 use Rattle.freeze_ledger.specs.declared.freeze.Freeze.{Freeze}
 use Rattle.freeze_ledger.specs.declared.freeze.Holder.TheVariants.{Timer}
-use Rattle.freeze_ledger.specs.Places.{index_of}
+use Rattle.ccb.specs.Places.{index_of}
 use Rattle.freeze_ledger.specs.Entries.{EntriesState, freeze_at, Changes}
 use Rattle.freeze_ledger.specs.Invariant.{AreApart, AreGiven}
 use Rattle.freeze_ledger.specs.Links.{no_link, no_ends, link_at, ends_at, led_on, led_back, appended, left, ends_with, ends_without, first_with, unless, IsWithin}

@@ -6,7 +6,7 @@ use Rattle.ccb.specs.Rising.{AreRising}
 use Rattle.freeze_ledger.specs.declared.freeze.Freeze.{Freeze}
 use Rattle.freeze_ledger.specs.declared.freeze.Holder.{Holder}
 use Rattle.freeze_ledger.specs.declared.freeze.Holder.TheVariants.{Timer}
-use Rattle.freeze_ledger.specs.declared.place.Place.{Place}
+use Rattle.ccb.specs.declared.place.Place.{Place}
 use Rattle.freeze_ledger.specs.Freezes.{entry_of, handed_over, holders_of, names, without}
 use Rattle.freeze_ledger.specs.Invariant.{AreNumbered}
 

@@ -5,10 +5,10 @@ use Rattle.std.proofs.lemmas.List.{length-map}
 use Rattle.std.proofs.lemmas.List.Sums.{length-filter}
 use Rattle.freeze_ledger.specs.declared.freeze.Freeze.{Freeze}
 use Rattle.freeze_ledger.specs.declared.freeze.Holder.{Holder}
-use Rattle.freeze_ledger.specs.declared.place.Place.{Place}
+use Rattle.ccb.specs.declared.place.Place.{Place}
 use Rattle.freeze_ledger.specs.declared.chains.Link.{Link}
 use Rattle.freeze_ledger.specs.declared.chains.Ends.{Ends}
-use Rattle.freeze_ledger.specs.Places.{index_of}
+use Rattle.ccb.specs.Places.{index_of}
 use Rattle.freeze_ledger.specs.Freezes.{names, frozen, holders_of}
 use Rattle.freeze_ledger.specs.Entries.{EntriesState, all_of}
 use Rattle.freeze_ledger.specs.Invariant.{AreNumbered, AreApart, AreGiven}

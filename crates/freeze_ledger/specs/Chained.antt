@@ -3,7 +3,7 @@ use Rattle.std.specs.Prelude.{◌≡◌, ℕ, ◌+◌, ◌<◌, List, length, Op
 use Rattle.freeze_ledger.specs.declared.chains.Link.{Link}
 use Rattle.freeze_ledger.specs.declared.chains.Ends.{Ends}
 use Rattle.freeze_ledger.specs.declared.freeze.Freeze.{Freeze}
-use Rattle.freeze_ledger.specs.Places.{index_of}
+use Rattle.ccb.specs.Places.{index_of}
 use Rattle.freeze_ledger.specs.Entries.{freeze_at, EntriesState}
 use Rattle.freeze_ledger.specs.Links.{link_at, ends_at}
 

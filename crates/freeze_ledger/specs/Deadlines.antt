@@ -3,7 +3,7 @@ use Rattle.std.specs.Prelude.{◌≡◌, ℕ, Bool, true, false, ◌==◌, ◌||
 use Rattle.std.specs.List.{list_all, list_any}
 use Rattle.std.specs.declared.cmp.Reverse.{Reverse}
 use Rattle.freeze_ledger.specs.declared.deadline.Deadline.{Deadline}
-use Rattle.freeze_ledger.specs.declared.place.Place.{Place}
+use Rattle.ccb.specs.declared.place.Place.{Place}
 use Rattle.freeze_ledger.specs.declared.freeze.Holder.{Holder}
 use Rattle.freeze_ledger.specs.declared.freeze.Holder.TheVariants.{Run, Timer, Guest}
 use Rattle.freeze_ledger.specs.declared.freeze.Freeze.{Freeze}

@@ -5,8 +5,8 @@ use Rattle.freeze_ledger.specs.declared.freeze.Holder.{Holder}
 use Rattle.freeze_ledger.specs.declared.freeze.Holder.TheVariants.{Run, Timer, Guest}
 use Rattle.freeze_ledger.specs.declared.freeze.Freeze.{Freeze}
 use Rattle.freeze_ledger.specs.declared.ledger.TheConstants.{MAX_FREEZES, MAX_FREEZE_NUMBER, MAX_PLACE_FREEZES}
-use Rattle.freeze_ledger.specs.declared.place.Place.{Place}
-use Rattle.freeze_ledger.specs.Places.{is_place}
+use Rattle.ccb.specs.declared.place.Place.{Place}
+use Rattle.ccb.specs.Places.{is_place}
 
 -- the freeze is one of this place
 abbrev pub names : Place → Freeze → Bool

@@ -4,8 +4,8 @@ use Rattle.ccb.specs.Rising.{AreRising}
 use Rattle.slab.specs.Slab.{Slab, slab_len}
 use Rattle.freeze_ledger.specs.declared.freeze.Freeze.{Freeze}
 use Rattle.freeze_ledger.specs.declared.ledger.TheConstants.{MAX_FREEZES}
-use Rattle.freeze_ledger.specs.declared.place.Place.{Place}
-use Rattle.freeze_ledger.specs.Places.{index_of}
+use Rattle.ccb.specs.declared.place.Place.{Place}
+use Rattle.ccb.specs.Places.{index_of}
 use Rattle.freeze_ledger.specs.Freezes.{frozen}
 use Rattle.freeze_ledger.specs.Entries.{freeze_at, freezes_in}
 

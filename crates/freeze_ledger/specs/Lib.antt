@@ -1,4 +1,3 @@
-pub mod Places
 pub mod Freezes
 pub mod State
 pub mod Entries

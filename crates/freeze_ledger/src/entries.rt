@@ -9,11 +9,11 @@ ghost use Rattle.freeze_ledger.specs.Deadlines.{deadlines_of, timers_in};
 ghost use Rattle.freeze_ledger.specs.Entries.{EntriesState, all_of, freeze_at, Changes, AreListed};
 ghost use Rattle.freeze_ledger.specs.Freezes.{entry_of, frozen, meets_limit, without, handed_over};
 ghost use Rattle.freeze_ledger.specs.Invariant.{AreApart, AreGiven, AreKnown};
-ghost use Rattle.freeze_ledger.specs.Places.{index_of};
+ghost use Rattle.ccb.specs.Places.{index_of};
 
 use crate::freeze::{Freeze, Holder};
 use crate::ledger::{MAX_FREEZE_NUMBER, MAX_FREEZES, MAX_PLACE_FREEZES};
-use crate::place::Place;
+use ccb::Place;
 use slab::Slab;
 use std::alloc::{AllocError, Global};
 use std::marker::Model;

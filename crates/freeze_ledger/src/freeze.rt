@@ -2,7 +2,7 @@
 
 ghost use Rattle.std.specs.Prelude.{◌≡◌, ◌↔◌, IsTrue};
 
-use crate::place::Place;
+use ccb::Place;
 
 /// Who keeps a place frozen.
 #[derive(Clone, Copy, Debug, PartialEq, Eq)]

@@ -3,7 +3,7 @@
 ghost use Rattle.std.specs.Prelude.{◌≡◌};
 
 use crate::freeze::{Freeze, Holder};
-use crate::place::Place;
+use ccb::Place;
 use std::marker::Model;
 
 /// Stands for one freeze that was taken. It is neither copied nor dropped: it is given back to a

@@ -10,7 +10,7 @@ ghost use Rattle.freeze_ledger.specs.Entries.{all_of, freeze_at, ledger_of};
 ghost use Rattle.freeze_ledger.specs.Freezes.{meets_limit};
 ghost use Rattle.freeze_ledger.specs.Freezes as freezes;
 ghost use Rattle.freeze_ledger.specs.declared.freeze.Holder.TheVariants.{Timer};
-ghost use Rattle.freeze_ledger.specs.Places.{index_of};
+ghost use Rattle.ccb.specs.Places.{index_of};
 ghost use Rattle.freeze_ledger.specs.State.{next_freeze, with_entry, with_freezes};
 
 use crate::chains::Chains;
@@ -18,7 +18,7 @@ use crate::deadline::Deadline;
 use crate::deadlines::Deadlines;
 use crate::entries::Entries;
 use crate::freeze::{Freeze, Holder};
-use crate::place::Place;
+use ccb::Place;
 
 /// Enters a freeze as the last of its place, with its deadline where a timer holds it; answers its key and what it is.
 pub(crate) fn enter(

@@ -5,7 +5,7 @@ ghost use Rattle.std.specs.Prelude.{◌≡◌, ◌<◌, ◌≤◌, ◌↔◌, []
 ghost use Rattle.ccb.specs.Rising.{AreRising};
 ghost use Rattle.freeze_ledger.specs.Deadlines.{IsFirstDeadline, some_timer};
 ghost use Rattle.freeze_ledger.specs.Freezes.{frozen, meets_limit, entry_of, without, handed_over, HasTimer, holders_of};
-ghost use Rattle.freeze_ledger.specs.Places.{index_of, places_of};
+ghost use Rattle.ccb.specs.Places.{index_of, places_of};
 ghost use Rattle.freeze_ledger.specs.State.{LedgerState, empty_ledger, next_freeze, with_entry, with_freezes};
 
 use crate::chains::Chains;
@@ -15,7 +15,7 @@ use crate::freeze::Holder;
 use crate::freeze_token::FreezeToken;
 use crate::holders::Holders;
 use crate::indexed::{enter, hand_over, take_out};
-use crate::place::Place;
+use ccb::Place;
 use std::alloc::{AllocError, Global};
 use std::marker::Model;
 

@@ -11,10 +11,8 @@ mod freeze_token;
 mod holders;
 mod indexed;
 mod ledger;
-mod place;
 
 pub use freeze::{Freeze, Holder};
 pub use freeze_token::FreezeToken;
 pub use holders::Holders;
 pub use ledger::{Ledger, MAX_FREEZE_NUMBER, MAX_FREEZES, MAX_PLACE_FREEZES};
-pub use place::Place;

@@ -9,7 +9,7 @@ use Rattle.ccb.specs.Completion.{Outcome}
 use Rattle.ccb.specs.Status.{code_of}
 use Rattle.ccb.specs.declared.cam_status.CamStatus.TheVariants.{RequestInProgress}
 use Rattle.freeze_ledger.specs.declared.freeze.Freeze.{Freeze}
-use Rattle.freeze_ledger.specs.declared.place.Place.TheVariants.{Controller, Device}
+use Rattle.ccb.specs.declared.place.Place.TheVariants.{Controller, Device}
 use Rattle.freeze_ledger.specs.Freezes.{entry_of, meets_limit}
 use Rattle.calls.specs.declared.call.Call.{Call}
 use Rattle.calls.specs.declared.call.Call.TheVariants as calls

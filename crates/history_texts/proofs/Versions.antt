@@ -7,10 +7,10 @@ use Rattle.std.proofs.lemmas.List.Elements.{recursion_from_All}
 use Rattle.std.proofs.lemmas.List.Sums.{sum_by-cons}
 use Rattle.ccb.specs.declared.QueueId.{QueueId}
 use Rattle.freeze_ledger.specs.declared.freeze.Freeze.{Freeze}
-use Rattle.freeze_ledger.specs.declared.place.Place.{Place}
-use Rattle.freeze_ledger.specs.declared.place.Place.TheVariants.{Controller, Device}
+use Rattle.ccb.specs.declared.place.Place.{Place}
+use Rattle.ccb.specs.declared.place.Place.TheVariants.{Controller, Device}
 use Rattle.freeze_ledger.specs.Freezes.{frozen, names}
-use Rattle.freeze_ledger.specs.Places.{is_place}
+use Rattle.ccb.specs.Places.{is_place}
 use Rattle.helpers.specs.Table.{is_there, row_of as helper_row}
 use Rattle.helpers.specs.declared.columns.Tells.{Tells}
 use Rattle.helpers.specs.declared.columns.Tells.TheVariants as tells

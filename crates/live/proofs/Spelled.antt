@@ -15,7 +15,7 @@ use Rattle.call_lines.specs.Texts.{number_text}
 use Rattle.call_lines.specs.Written.{Reads}
 use Rattle.call_lines.proofs.Tests.{joined, parts_of, same_bytes, same_text}
 use Rattle.call_lines.proofs.Held.{as_one, holds_nothing, holds_number, slots_of}
-use Rattle.freeze_ledger.specs.declared.place.Place.TheVariants.{Controller, Device}
+use Rattle.ccb.specs.declared.place.Place.TheVariants.{Controller, Device}
 use Rattle.scenario.specs.Commands.{command_text}
 use Rattle.scenario.specs.declared.steps.Command.{Command as TheCommand}
 use Rattle.scenario.specs.declared.steps.Command.TheVariants as commands

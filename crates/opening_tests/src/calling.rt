@@ -1,8 +1,7 @@
 // The calls of a host as they are, each with what it answers: their clauses stay here, so that the checks are proved without them.
 
-use ccb::{CamStatus, CcbId, Completion, QueueId};
+use ccb::{CamStatus, CcbId, Completion, Place, QueueId};
 use embedding::{CallResult, EngineHandle, PutLines, RunHandle};
-use freeze_ledger::Place;
 use opening::{OpenFault, open};
 use std::alloc::Global;
 

@@ -6,7 +6,7 @@ use Rattle.std.proofs.lemmas.Slice.Eq.{bytes_eq-Decides}
 use Rattle.std.proofs.lemmas.List.Elements.{All-from_get_or}
 use Rattle.ccb.specs.Completion.{Outcome, IsCompletion}
 use Rattle.ccb.specs.declared.cam_status.CamStatus.TheVariants.{RequestInProgress}
-use Rattle.freeze_ledger.specs.declared.place.Place.TheVariants.{Controller, Device}
+use Rattle.ccb.specs.declared.place.Place.TheVariants.{Controller, Device}
 use Rattle.call_lines.specs.declared.kind.Kind.TheVariants as kinds
 use Rattle.ccb.specs.declared.cam_status.CamStatus.{CamStatus}
 use Rattle.ccb.specs.Status.{code_of}

@@ -2,8 +2,8 @@
 use Rattle.std.specs.Prelude.{ℕ, nat_lt, Option, Some, None, List, codes, if◌then◌else◌}
 use Rattle.ccb.specs.Status.{code_of}
 use Rattle.ccb.specs.declared.cam_status.CamStatus.{CamStatus}
-use Rattle.freeze_ledger.specs.declared.place.Place.{Place}
-use Rattle.freeze_ledger.specs.declared.place.Place.TheVariants.{Controller, Device}
+use Rattle.ccb.specs.declared.place.Place.{Place}
+use Rattle.ccb.specs.declared.place.Place.TheVariants.{Controller, Device}
 use Rattle.call_lines.specs.Calls.{one, two, three, completed}
 use Rattle.call_lines.specs.Lines.{line_text}
 use Rattle.call_lines.specs.Values.{byte_in, bytes_in, long_number_in, number_in, status_in}

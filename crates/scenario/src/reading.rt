@@ -11,8 +11,7 @@ use base::{OrMemory, ShortBytes};
 use call_lines::{
     Slots, Value, Word, byte_in, bytes_in, long_number_in, number_in, read_line, status_in,
 };
-use ccb::{CamStatus, CcbId, Completion, QueueId};
-use freeze_ledger::Place;
+use ccb::{CamStatus, CcbId, Completion, Place, QueueId};
 use std::alloc::{AllocError, Global};
 
 /// N1: the line of that number, from 1, is not of the form.

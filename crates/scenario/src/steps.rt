@@ -4,8 +4,7 @@ ghost use Rattle.std.specs.Prelude.{◌≡◌, [], IfOk};
 ghost use Rattle.ccb.specs.Completion.{IsCompletion};
 ghost use Rattle.scenario.specs.declared.steps.Command.TheVariants.{Complete};
 
-use ccb::{CamStatus, CcbId, Completion, QueueId};
-use freeze_ledger::Place;
+use ccb::{CamStatus, CcbId, Completion, Place, QueueId};
 use std::alloc::{AllocError, Global};
 use std::marker::Model;
 use std::mem::size_of;

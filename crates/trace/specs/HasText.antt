@@ -1,7 +1,7 @@
 -- Which records have a text in a version. That their numbers and bytes are as their types have them is no part of it.
 use Rattle.std.specs.Prelude.{◌<◌, ◌^◌, All, IsSome, List}
 use Rattle.std.specs.List.{AllByRecursion}
-use Rattle.freeze_ledger.specs.declared.place.Place.TheVariants.{Controller, Device}
+use Rattle.ccb.specs.declared.place.Place.TheVariants.{Controller, Device}
 use Rattle.calls.specs.declared.call.Call.{Call}
 use Rattle.calls.specs.declared.call.Call.TheVariants as calls
 use Rattle.calls.specs.declared.call_answer.CallAnswer.{CallAnswer}

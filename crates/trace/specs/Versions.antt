@@ -1,6 +1,6 @@
 -- Which records a text of a version may have: in the first nothing is told of controllers, but that there is none of a number.
 use Rattle.std.specs.Prelude.{Bool, false, not, true}
-use Rattle.freeze_ledger.specs.declared.place.Place.TheVariants.{Controller}
+use Rattle.ccb.specs.declared.place.Place.TheVariants.{Controller}
 use Rattle.helpers.specs.Table.{is_there}
 use Rattle.helpers.specs.declared.limits.HelperSet.TheVariants.{Queues}
 use Rattle.calls.specs.declared.call.Call.{Call}

@@ -5,7 +5,7 @@ ghost use Rattle.std.specs.Prelude.{◌<◌, ◌^◌, All};
 ghost use Rattle.trace.specs.HasText.{AnswerFits, CallFits, Fits, StopFits};
 
 use calls::{Call, CallAnswer, Record, StoppedAt};
-use freeze_ledger::Place;
+use ccb::Place;
 
 /// The numbers of a record are below 2^32, or 2^64, and its bytes are bytes.
 pub(crate) fn fits(entry: &Record)

@@ -6,7 +6,7 @@ ghost use Rattle.trace.specs.TraceText.{header};
 ghost use Rattle.trace.specs.Versions.{is_answer_of_one, is_held, is_of, is_stop_of_one, is_unknown};
 
 use calls::{Call, CallAnswer, CallRefusal, Record, StoppedAt, Version};
-use freeze_ledger::Place;
+use ccb::Place;
 use helpers::HelperSet;
 
 /// The first line, with its line feed.

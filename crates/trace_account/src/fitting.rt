@@ -1,9 +1,8 @@
 // Whether an event is wanted. It relies on `trace_events` for what is wanted, and on `engine_config` for which queues are under a
 // controller.
 
-use ccb::QueueId;
+use ccb::{Place, QueueId};
 use engine_config::Config;
-use freeze_ledger::Place;
 use trace_events::{Event, Filter};
 
 /// Whether the event fits all that is wanted.

@@ -2,8 +2,7 @@
 
 use crate::filling::Filling;
 use crate::names::{failure_of, name_of_code, refusal_words, status_name};
-use ccb::CamStatus;
-use freeze_ledger::Place;
+use ccb::{CamStatus, Place};
 use text_page::Page;
 use trace_events::{Cause, Event, Programs, Subject};
 

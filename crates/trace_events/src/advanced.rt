@@ -6,9 +6,8 @@ use crate::event::{Cause, Event, Happening, Subject};
 use crate::walk::Walk;
 use base::ShortBytes;
 use calls::StoppedAt;
-use ccb::{CamStatus, CcbId, QueueId};
+use ccb::{CamStatus, CcbId, Place, QueueId};
 use engine_core::{QueueInfo, RunInfo};
-use freeze_ledger::Place;
 use helpers::{Arguments, Deed, Helper};
 use std::alloc::AllocError;
 

@@ -4,8 +4,7 @@ use crate::event::{Cause, Event, Happening, Subject};
 use crate::times::RunTimes;
 use crate::walk::Walk;
 use calls::{Call, CallAnswer, CallRefusal, CompletionRecord};
-use ccb::{CcbId, QueueId};
-use freeze_ledger::Place;
+use ccb::{CcbId, Place, QueueId};
 use std::alloc::AllocError;
 
 impl Walk<'_> {

@@ -3,9 +3,8 @@
 
 use base::ShortBytes;
 use calls::CallRefusal;
-use ccb::CamStatus;
+use ccb::{CamStatus, Place};
 use engine_core::QueueInfo;
-use freeze_ledger::Place;
 
 /// What an event is about. What it is not about is absent.
 #[derive(Clone, Copy, Default)]

@@ -4,7 +4,7 @@ use crate::event::{Cause, Event, Happening, Subject};
 use crate::times::FreezeTimes;
 use crate::walk::Walk;
 use calls::CallAnswer;
-use freeze_ledger::Place;
+use ccb::Place;
 use std::alloc::AllocError;
 
 impl Walk<'_> {

@@ -2,8 +2,7 @@
 // which says the rest. It relies on `event` for why a freeze is there.
 
 use crate::event::Cause;
-use ccb::CamStatus;
-use freeze_ledger::Place;
+use ccb::{CamStatus, Place};
 use std::alloc::{AllocError, Global};
 use std::collections::BTreeMap;
 

@@ -4,9 +4,10 @@
 use crate::event::{Event, Happening, Subject};
 use crate::times::{FreezeTimes, RunTimes, Times};
 use calls::Record;
+use ccb::Place;
 use engine_config::Config;
 use engine_core::Unrecorded;
-use freeze_ledger::{Holder, Place};
+use freeze_ledger::Holder;
 use std::alloc::{AllocError, Global};
 use std::collections::BTreeMap;
 

@@ -1,8 +1,8 @@
 // The lanes of a picture: one for each queue and, below these, one for each controller. It relies on `engine_config` for how many there
 // are.
 
+use ccb::Place;
 use engine_config::Config;
-use freeze_ledger::Place;
 
 /// How high a lane is, where the first begins, and where the columns begin.
 pub(crate) const HEIGHT: u64 = 36;

@@ -1,6 +1,6 @@
 // A stretch of the picture: how long something was so. It relies on `freeze_ledger` for places.
 
-use freeze_ledger::Place;
+use ccb::Place;
 use text_page::Page;
 
 /// What a lane has rows for, from above.

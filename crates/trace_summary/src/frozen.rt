@@ -1,6 +1,6 @@
 // How long places were frozen. It relies on `trace_events` for when a freeze comes and goes.
 
-use freeze_ledger::Place;
+use ccb::Place;
 use trace_events::{Event, Happening};
 
 /// How long a place was frozen, in milliseconds.

@@ -1,8 +1,8 @@
 // What a summary says of what is left: runs, freezes with their holders, and CCBs. It relies on `trace_events` for the world.
 
-use ccb::CcbId;
+use ccb::{CcbId, Place};
 use engine_core::CcbState;
-use freeze_ledger::{Holder, Place};
+use freeze_ledger::Holder;
 use text_page::Page;
 use trace_events::{FreezeTimes, RunTimes, Walk};
 

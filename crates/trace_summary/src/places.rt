@@ -1,7 +1,7 @@
 // What a summary says of how long a place was frozen, in one form for queues and controllers. It relies on `sums`.
 
 use crate::sums::Sums;
-use freeze_ledger::Place;
+use ccb::Place;
 use text_page::Page;
 
 /// Puts how long the place was frozen.

@@ -2,8 +2,7 @@
 
 use crate::places::print_frozen;
 use crate::sums::Sums;
-use ccb::QueueId;
-use freeze_ledger::Place;
+use ccb::{Place, QueueId};
 use helpers::Helper;
 use text_page::Page;
 use trace_account::name_of_code;

@@ -2,7 +2,7 @@
 use Rattle.std.proofs.Common.{◌≡◌, ℕ, ◌<◌, List, length, ap, sym, subst, ◌∙◌}
 use Rattle.std.proofs.lemmas.List.{length-map}
 use Rattle.dev_queue.specs.State.{QueueState}
-use Rattle.freeze_ledger.specs.Places.{device}
+use Rattle.ccb.specs.Places.{device}
 use Rattle.freeze_ledger.specs.Freezes.{frozen}
 use Rattle.freeze_ledger.specs.State.{LedgerState}
 use Rattle.world.specs.declared.queue_info.QueueInfo.{QueueInfo}

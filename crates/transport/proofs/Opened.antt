@@ -3,7 +3,7 @@ use Rattle.std.proofs.Common.{◌≡◌, ℕ, ◌<◌, ◌≤◌, List, [], ◌�
 use Rattle.std.proofs.lemmas.List.{get_or-map, length-map}
 use Rattle.dev_queue.specs.State.{QueueState, empty_queue}
 use Rattle.freeze_ledger.specs.State.{LedgerState, empty_ledger}
-use Rattle.freeze_ledger.specs.Places.{places_of}
+use Rattle.ccb.specs.Places.{places_of}
 use Rattle.transport.specs.Listed.{ListState, no_live}
 use Rattle.transport.specs.Queues.{queue_at, queue_state_of}
 use Rattle.transport.specs.Invariant.{KeepsTransport}

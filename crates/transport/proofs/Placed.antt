@@ -1,8 +1,8 @@
 -- That a ledger has the place of each queue, and of each controller.
 use Rattle.std.proofs.Common.{ℕ, ◌<◌, arith}
 use Rattle.std.proofs.Math.Nat.{le-max_left, le-max_right}
-use Rattle.freeze_ledger.specs.declared.place.Place.TheVariants.{Controller}
-use Rattle.freeze_ledger.specs.Places.{device, index_of, places_of}
+use Rattle.ccb.specs.declared.place.Place.TheVariants.{Controller}
+use Rattle.ccb.specs.Places.{device, index_of, places_of}
 
 pub queue_placed : (queues queue : ℕ) → queue < queues → index_of (device queue) < places_of queues 8
 queue_placed queues queue below = omega (arith, below, le-max_left queues 8)

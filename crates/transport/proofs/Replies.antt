@@ -7,8 +7,8 @@ use Rattle.std.proofs.lemmas.List.{length-map}
 use Rattle.ccb.specs.declared.CcbId.{CcbId}
 use Rattle.ccb.specs.declared.ccb.Ccb.{Ccb}
 use Rattle.ccb.specs.Ccb.{submitted, started}
-use Rattle.freeze_ledger.specs.declared.place.Place.TheVariants.{Controller}
-use Rattle.freeze_ledger.specs.Places.{device}
+use Rattle.ccb.specs.declared.place.Place.TheVariants.{Controller}
+use Rattle.ccb.specs.Places.{device}
 use Rattle.freeze_ledger.specs.Freezes.{frozen}
 use Rattle.dev_queue.specs.State.{QueueState, live}
 use Rattle.dev_queue.specs.Faults.{insert_fault, start_fault}

@@ -15,7 +15,7 @@ use Rattle.world.proofs.Steps.Moves.{ccb_key, ccb_found}
 use Rattle.world.specs.World.{Transport}
 use Rattle.transport.specs.Listed.{ListState}
 use Rattle.transport.specs.Queues.{queue_at, with_gone}
-use Rattle.freeze_ledger.specs.Places.{places_of}
+use Rattle.ccb.specs.Places.{places_of}
 use Rattle.transport.specs.Invariant.{KeepsTable, KeepsTransport, seen}
 use Rattle.transport.proofs.Listed.{listed_as}
 use Rattle.transport.proofs.Told.{entered_is, started_is, recovering_is, requeued_is, finished_is}

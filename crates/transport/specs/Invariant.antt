@@ -4,7 +4,7 @@ use Rattle.std.specs.Prelude.{◌≡◌, ℕ, ◌<◌, ◌≤◌, List, length, 
 use Rattle.ccb.specs.Rising.{AreRising}
 use Rattle.dev_queue.specs.State.{QueueState}
 use Rattle.freeze_ledger.specs.State.{LedgerState}
-use Rattle.freeze_ledger.specs.Places.{places_of}
+use Rattle.ccb.specs.Places.{places_of}
 use Rattle.world.specs.Capacities.{most_controllers, most_queues}
 use Rattle.world.specs.World.{Transport}
 use Rattle.transport.specs.Listed.{ListState}

@@ -1,8 +1,8 @@
 // One list of 10,000 random calls of a ledger, which answers as a plain list of its entries does. The list stands here as
 // the model: in the order of numbers, searched from its front by each call.
 
-use ccb::QueueId;
-use freeze_ledger::{Freeze, FreezeToken, Holder, Ledger, Place};
+use ccb::{Place, QueueId};
+use freeze_ledger::{Freeze, FreezeToken, Holder, Ledger};
 use std::alloc::{AllocError, Global};
 use timer_events::expire_due;
 

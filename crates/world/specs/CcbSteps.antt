@@ -11,7 +11,7 @@ use Rattle.ccb.specs.Completion.{Outcome}
 use Rattle.ccb.specs.Ccb.{submitted, started, completed}
 use Rattle.ccb.specs.Context.{context_of}
 use Rattle.freeze_ledger.specs.declared.freeze.Holder.TheVariants.{Run}
-use Rattle.freeze_ledger.specs.declared.place.Place.TheVariants.{Device}
+use Rattle.ccb.specs.declared.place.Place.TheVariants.{Device}
 use Rattle.freeze_ledger.specs.Freezes.{meets_limit}
 use Rattle.bpf_semantics.specs.MachineState.{entry}
 use Rattle.calls.specs.declared.call_answer.CallAnswer.TheVariants as answers

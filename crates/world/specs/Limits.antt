@@ -1,7 +1,7 @@
 -- The limits that every world keeps.
 use Rattle.std.specs.Prelude.{◌≡◌, ℕ, ◌<◌, ◌≤◌, ◌^◌, true, false, List, Some, length, map, All}
 use Rattle.ccb.specs.Rising.{AreRising}
-use Rattle.freeze_ledger.specs.declared.place.Place.{Place}
+use Rattle.ccb.specs.declared.place.Place.{Place}
 use Rattle.freeze_ledger.specs.Freezes.{frozen}
 use Rattle.helpers.specs.declared.table.Helper.TheVariants.{FreezeController}
 use Rattle.helpers.specs.Table.{is_there}

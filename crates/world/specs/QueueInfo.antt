@@ -2,7 +2,7 @@
 use Rattle.std.specs.Prelude.{ℕ, List, [], ◌∷◌, slice_index}
 use Rattle.std.specs.List.{flat_map}
 use Rattle.byteorder.specs.Endian.{little_bytes}
-use Rattle.freeze_ledger.specs.Places.{device}
+use Rattle.ccb.specs.Places.{device}
 use Rattle.freeze_ledger.specs.Freezes.{frozen}
 use Rattle.world.specs.declared.queue_info.QueueInfo.{QueueInfo}
 use Rattle.world.specs.World.{World}

@@ -1,8 +1,8 @@
 -- Why a call is refused: its tests in their order, each with the refusal that is told. The first that holds is the answer, and
 -- a refused call leaves the world as it was.
 use Rattle.std.specs.Prelude.{Bool, false, not, ◌&&◌, nat_lt, nat_le, if◌then◌else◌, List, [], ◌∷◌, Option, Some, None, is_none, slice_index}
-use Rattle.freeze_ledger.specs.declared.place.Place.{Place}
-use Rattle.freeze_ledger.specs.declared.place.Place.TheVariants.{Controller, Device}
+use Rattle.ccb.specs.declared.place.Place.{Place}
+use Rattle.ccb.specs.declared.place.Place.TheVariants.{Controller, Device}
 use Rattle.freeze_ledger.specs.Freezes.{frozen, meets_limit}
 use Rattle.calls.specs.declared.call.Call.{Call}
 use Rattle.calls.specs.declared.call.Call.TheVariants.{Submit, Dispatch, Complete, GuestFreeze, GuestRelease, Clock, Park, Resume}

@@ -5,9 +5,9 @@ use Rattle.ccb.specs.Ccb.{requeued}
 use Rattle.freeze_ledger.specs.declared.freeze.Holder.{Holder}
 use Rattle.freeze_ledger.specs.declared.freeze.Holder.TheVariants.{Run, Timer, Guest}
 use Rattle.freeze_ledger.specs.declared.freeze.Freeze.{Freeze}
-use Rattle.freeze_ledger.specs.declared.place.Place.{Place}
-use Rattle.freeze_ledger.specs.declared.place.Place.TheVariants.{Controller}
-use Rattle.freeze_ledger.specs.Places.{device}
+use Rattle.ccb.specs.declared.place.Place.{Place}
+use Rattle.ccb.specs.declared.place.Place.TheVariants.{Controller}
+use Rattle.ccb.specs.Places.{device}
 use Rattle.freeze_ledger.specs.Freezes.{entry_of, frozen, meets_limit}
 use Rattle.helpers.specs.declared.limits.HelperLimits.{HelperLimits}
 use Rattle.helpers.specs.declared.table.Deed.{Deed}

@@ -11,7 +11,7 @@ use Rattle.ccb.specs.Context.{context_of}
 use Rattle.std.specs.Prelude.{is_none}
 use Rattle.freeze_ledger.specs.declared.freeze.Holder.TheVariants.{Run}
 use Rattle.freeze_ledger.specs.Freezes.{frozen, meets_limit}
-use Rattle.freeze_ledger.specs.declared.place.Place.TheVariants.{Controller, Device}
+use Rattle.ccb.specs.declared.place.Place.TheVariants.{Controller, Device}
 use Rattle.helpers.specs.declared.columns.Asked.{Asked}
 use Rattle.helpers.specs.declared.columns.Asked.TheVariants.{Queue, HeldFreeze, Within, Table, Index, Word, Room, Bytes}
 use Rattle.helpers.specs.declared.limits.HelperLimits.{HelperLimits}

@@ -7,8 +7,8 @@ use Rattle.std.specs.List.{count_by}
 use Rattle.ccb.specs.Rising.{AreRising}
 use Rattle.freeze_ledger.specs.declared.freeze.Holder.TheVariants.{Timer}
 use Rattle.freeze_ledger.specs.declared.freeze.Freeze.{Freeze}
-use Rattle.freeze_ledger.specs.declared.place.Place.{Place}
-use Rattle.freeze_ledger.specs.Places.{index_of, is_place}
+use Rattle.ccb.specs.declared.place.Place.{Place}
+use Rattle.ccb.specs.Places.{index_of, is_place}
 use Rattle.freeze_ledger.specs.Freezes.{names, frozen, entry_of, without, handed_over, is_due, due_at, not_due_at}
 use Rattle.world.proofs.Lists.Found.{put, at_head, at_tail, put_tail, found_key, missing_push, leave_same}
 use Rattle.world.proofs.Lists.Rising.{put_here, found_bounds, count_gone}

@@ -11,8 +11,8 @@ use Rattle.ccb.specs.Context.{context_of}
 use Rattle.freeze_ledger.specs.declared.freeze.Holder.{Holder}
 use Rattle.freeze_ledger.specs.declared.freeze.Holder.TheVariants.{Run}
 use Rattle.freeze_ledger.specs.declared.freeze.Freeze.{Freeze}
-use Rattle.freeze_ledger.specs.declared.place.Place.{Place}
-use Rattle.freeze_ledger.specs.declared.place.Place.TheVariants.{Device}
+use Rattle.ccb.specs.declared.place.Place.{Place}
+use Rattle.ccb.specs.declared.place.Place.TheVariants.{Device}
 use Rattle.freeze_ledger.specs.Freezes.{meets_limit, entry_of}
 use Rattle.bpf_semantics.specs.MachineState.{entry}
 use Rattle.calls.specs.declared.call.Call.TheVariants.{Complete}

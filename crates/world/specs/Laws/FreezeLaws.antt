@@ -1,9 +1,9 @@
 -- The laws of frozen counts and freezes: what holds in every run of the world.
 use Rattle.std.specs.Prelude.{◌≡◌, ℕ, ◌+◌, ◌==◌, true, false, if◌then◌else◌, List, ◌∷◌, ◌++◌, map, filter, length, IsSome, Some}
 use Rattle.freeze_ledger.specs.declared.freeze.Freeze.{Freeze}
-use Rattle.freeze_ledger.specs.declared.place.Place.{Place}
-use Rattle.freeze_ledger.specs.declared.place.Place.TheVariants.{Controller, Device}
-use Rattle.freeze_ledger.specs.Places.{is_place, device}
+use Rattle.ccb.specs.declared.place.Place.{Place}
+use Rattle.ccb.specs.declared.place.Place.TheVariants.{Controller, Device}
+use Rattle.ccb.specs.Places.{is_place, device}
 use Rattle.freeze_ledger.specs.Freezes.{names, frozen, entry_of, due_at}
 use Rattle.ccb.specs.Completion.{Outcome}
 use Rattle.helpers.specs.declared.table.Deed.{Deed}

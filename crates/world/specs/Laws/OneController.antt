@@ -2,7 +2,7 @@
 -- one controller is over all of them.
 use Rattle.std.specs.Prelude.{◌≡◌, Bool, true, false, not, List, map}
 use Rattle.std.specs.List.{list_all}
-use Rattle.freeze_ledger.specs.declared.place.Place.TheVariants.{Controller, Device}
+use Rattle.ccb.specs.declared.place.Place.TheVariants.{Controller, Device}
 use Rattle.helpers.specs.declared.limits.HelperSet.TheVariants.{Controllers, Queues}
 use Rattle.calls.specs.declared.call.Call.{Call}
 use Rattle.calls.specs.declared.call.Call.TheVariants.{GuestFreeze}

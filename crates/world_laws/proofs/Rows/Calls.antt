@@ -14,7 +14,7 @@ use Rattle.helpers.specs.declared.limits.HelperLimits.{HelperLimits}
 use Rattle.calls.specs.declared.record.StoppedAt.TheVariants.{Helper as AtHelper, Finish}
 use Rattle.calls.specs.declared.record.Record.TheVariants.{Advance}
 use Rattle.world.specs.declared.ccb_state.CcbState.TheVariants.{InRecovery}
-use Rattle.freeze_ledger.specs.Places.{device}
+use Rattle.ccb.specs.Places.{device}
 use Rattle.world.specs.World.{Setup, LiveRun, World}
 use Rattle.world.specs.Told.{plain, traces, finishes}
 use Rattle.world.specs.Event.{call, Event, executes, result}

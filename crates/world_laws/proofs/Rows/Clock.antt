@@ -7,7 +7,7 @@ use Rattle.calls.specs.declared.call_refusal.CallRefusal.TheVariants.{Limit, Goe
 use Rattle.calls.specs.declared.call.Call.TheVariants.{Clock}
 use Rattle.calls.specs.declared.call_answer.CallAnswer.TheVariants as answers
 use Rattle.calls.specs.declared.record.Record.TheVariants.{Called}
-use Rattle.freeze_ledger.specs.Places.{device}
+use Rattle.ccb.specs.Places.{device}
 use Rattle.world.specs.World.{World}
 use Rattle.world.specs.Event.{refused}
 use Rattle.world_laws.proofs.Rows.Words.{clock_reads, expired}

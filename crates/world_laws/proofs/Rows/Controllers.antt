@@ -3,8 +3,8 @@ use Rattle.std.proofs.Common.{◌≡◌, ℕ, true, false, List, [], ◌∷◌, 
 use Rattle.freeze_ledger.specs.declared.freeze.Holder.{Holder}
 use Rattle.freeze_ledger.specs.declared.freeze.Holder.TheVariants.{Run, Guest}
 use Rattle.freeze_ledger.specs.declared.freeze.Freeze.{Freeze}
-use Rattle.freeze_ledger.specs.declared.place.Place.TheVariants.{Controller}
-use Rattle.freeze_ledger.specs.Places.{device}
+use Rattle.ccb.specs.declared.place.Place.TheVariants.{Controller}
+use Rattle.ccb.specs.Places.{device}
 use Rattle.freeze_ledger.specs.Freezes.{frozen}
 use Rattle.helpers.specs.declared.limits.HelperSet.TheVariants.{Controllers}
 use Rattle.helpers.specs.declared.table.Helper.TheVariants as helpers

@@ -6,7 +6,7 @@ use Rattle.calls.specs.declared.call_refusal.CallRefusal.TheVariants.{Unknown, L
 use Rattle.calls.specs.declared.call.Call.TheVariants.{GuestFreeze, GuestRelease}
 use Rattle.calls.specs.declared.call_answer.CallAnswer.TheVariants as answers
 use Rattle.calls.specs.declared.record.Record.TheVariants.{Called}
-use Rattle.freeze_ledger.specs.Places.{device}
+use Rattle.ccb.specs.Places.{device}
 use Rattle.world.specs.World.{World, opening}
 use Rattle.world.specs.Event.{refused}
 use Rattle.world_laws.proofs.Rows.Words.{guest_freeze, guest_release, freeze_given, count_left}

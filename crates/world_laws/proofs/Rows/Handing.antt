@@ -19,7 +19,7 @@ use Rattle.calls.specs.declared.record.Record.{Record}
 use Rattle.calls.specs.declared.call.Call.TheVariants.{Submit, Dispatch, Complete, Clock}
 use Rattle.calls.specs.declared.call_answer.CallAnswer.TheVariants as answers
 use Rattle.calls.specs.declared.record.Record.TheVariants.{Called, Advance}
-use Rattle.freeze_ledger.specs.Places.{device}
+use Rattle.ccb.specs.Places.{device}
 use Rattle.world.specs.World.{QueueSetup, Setup, World, opening}
 use Rattle.world.specs.Told.{plain, finishes}
 use Rattle.world.specs.Event.{private, call, exit, Event, executes, Reply, went_on, result}

@@ -14,7 +14,7 @@ use Rattle.calls.specs.declared.call_answer.CallAnswer.TheVariants as answers
 use Rattle.calls.specs.declared.record.Record.TheVariants.{Called, Advance}
 use Rattle.calls.specs.declared.call_refusal.CallRefusal.TheVariants.{NotActive, Frozen}
 use Rattle.world.specs.declared.ccb_state.CcbState.TheVariants.{Waiting}
-use Rattle.freeze_ledger.specs.Places.{device}
+use Rattle.ccb.specs.Places.{device}
 use Rattle.world.specs.World.{LiveRun, World, opening}
 use Rattle.world.specs.Told.{plain}
 use Rattle.world.specs.Event.{private, call, exit, Event, executes, Reply, went_on, result, refused}

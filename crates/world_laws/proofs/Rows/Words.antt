@@ -1,7 +1,7 @@
 -- Events and replies as the worked rows spell them.
 use Rattle.std.proofs.Common.{ℕ}
 use Rattle.ccb.specs.Completion.{Outcome}
-use Rattle.freeze_ledger.specs.Places.{device}
+use Rattle.ccb.specs.Places.{device}
 use Rattle.calls.specs.declared.call.Call.TheVariants.{Submit, Dispatch, Complete, GuestFreeze, GuestRelease, Clock, Park, Resume}
 use Rattle.calls.specs.declared.call_answer.CallAnswer.TheVariants as answers
 use Rattle.world.specs.Event.{Event, called, Reply, replies}

@@ -18,7 +18,7 @@ use Rattle.bpf_insn.specs.declared.program.Slot.{Slot}
 use Rattle.bpf_insn.specs.declared.program.Slot.TheVariants.{First}
 use Rattle.table_store.specs.Tables.{zero_table}
 use Rattle.world.specs.declared.ccb_state.CcbState.{CcbState}
-use Rattle.freeze_ledger.specs.Places.{device}
+use Rattle.ccb.specs.Places.{device}
 use Rattle.world.specs.World.{QueueSetup, Setup, LiveCcb, World, Transport, Runs}
 use Rattle.world.specs.Event.{Event, Reply}
 use Rattle.world.specs.Step.{step}

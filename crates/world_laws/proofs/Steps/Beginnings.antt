@@ -12,7 +12,7 @@ use Rattle.ccb.specs.Completion.{Outcome}
 use Rattle.ccb.specs.Ccb.{completed}
 use Rattle.ccb.specs.Context.{context_of}
 use Rattle.ccb.proofs.Contexts.{is_context}
-use Rattle.freeze_ledger.specs.declared.place.Place.TheVariants.{Device}
+use Rattle.ccb.specs.declared.place.Place.TheVariants.{Device}
 use Rattle.bpf_semantics.specs.Reached.{IsEntry}
 use Rattle.calls.specs.declared.call.Call.TheVariants.{Complete}
 use Rattle.calls.specs.declared.call_answer.CallAnswer.TheVariants as answers

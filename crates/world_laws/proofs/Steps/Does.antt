@@ -16,8 +16,8 @@ use Rattle.helpers.specs.declared.request.Answer.{Answer}
 use Rattle.helpers.specs.Table.{row_of, answer_number}
 use Rattle.bpf_semantics.specs.Step.{answered, IsAnswer}
 use Rattle.world.specs.declared.ccb_state.CcbState.TheVariants.{Waiting}
-use Rattle.freeze_ledger.specs.declared.place.Place.{Place}
-use Rattle.freeze_ledger.specs.Places.{is_place}
+use Rattle.ccb.specs.declared.place.Place.{Place}
+use Rattle.ccb.specs.Places.{is_place}
 use Rattle.world.specs.World.{Setup, queue_count, queue_setup, LiveCcb, LiveRun, World}
 use Rattle.world.specs.Lookups.{ccb_of, with_ccb, run_of}
 use Rattle.world.specs.Refusals.{is_unknown}

@@ -8,8 +8,8 @@ use Rattle.ccb.specs.Ccb.{started, completed, requeued}
 use Rattle.freeze_ledger.specs.declared.freeze.Holder.{Holder}
 use Rattle.freeze_ledger.specs.declared.freeze.Holder.TheVariants.{Run, Timer, Guest}
 use Rattle.freeze_ledger.specs.declared.freeze.Freeze.{Freeze}
-use Rattle.freeze_ledger.specs.declared.place.Place.TheVariants.{Device}
-use Rattle.freeze_ledger.specs.Places.{device}
+use Rattle.ccb.specs.declared.place.Place.TheVariants.{Device}
+use Rattle.ccb.specs.Places.{device}
 use Rattle.freeze_ledger.specs.Freezes.{entry_of, is_due}
 use Rattle.helpers.specs.declared.columns.Gives.{Gives}
 use Rattle.helpers.specs.declared.columns.Gives.TheVariants.{Number, NewFreeze}

@@ -18,7 +18,7 @@ use Rattle.bpf_semantics.specs.Calls.{is_held}
 use Rattle.bpf_semantics.specs.Step.{request_at, exit_at, IsAnswer, held_without, answered, changed_by, after_call}
 use Rattle.bpf_semantics.specs.Reached.{Steps}
 use Rattle.world.specs.FreezeSteps.{frozen_with}
-use Rattle.freeze_ledger.specs.Places.{is_place, device}
+use Rattle.ccb.specs.Places.{is_place, device}
 use Rattle.world.specs.World.{Setup, queue_count, LiveRun, World}
 use Rattle.world.specs.Lookups.{run_of, with_run}
 use Rattle.world.specs.Told.{told_of}

@@ -1,5 +1,5 @@
 use Rattle.std.proofs.Common.{ℕ, ap, ◌∙◌}
-use Rattle.freeze_ledger.specs.declared.place.Place.TheVariants.{Controller}
+use Rattle.ccb.specs.declared.place.Place.TheVariants.{Controller}
 use Rattle.freeze_ledger.specs.Freezes.{frozen}
 use Rattle.helpers.specs.declared.table.Deed.TheVariants as deeds
 use Rattle.world_laws.proofs.Deeds.{tell_controller}

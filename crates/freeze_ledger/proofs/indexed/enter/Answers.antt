@@ -8,7 +8,7 @@ use Rattle.freeze_ledger.specs.Deadlines.{is_timer, timers_in, deadlines_of}
 use Rattle.freeze_ledger.specs.Entries.{EntriesState, all_of, freeze_at, Changes}
 use Rattle.freeze_ledger.specs.declared.chains.Link.{Link}
 use Rattle.freeze_ledger.specs.declared.chains.Ends.{Ends}
-use Rattle.freeze_ledger.specs.Places.{index_of}
+use Rattle.ccb.specs.Places.{index_of}
 use Rattle.freeze_ledger.specs.Invariant.{AreApart, AreGiven}
 use Rattle.freeze_ledger.specs.Links.{appended, ends_at, ends_with}
 use Rattle.freeze_ledger.specs.Chained.{IsChained}

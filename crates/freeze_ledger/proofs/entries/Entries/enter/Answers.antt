@@ -1,7 +1,7 @@
 use Rattle.std.proofs.Common.{◌≡◌, ◌+◌, ◌<◌, ◌∙◌, ◌++◌, ◌∷◌, [], length, false, ap, sym, subst, refl, arith}
 use Rattle.slab.specs.Slab.{slab_len}
 use Rattle.freeze_ledger.specs.declared.freeze.Freeze.{Freeze}
-use Rattle.freeze_ledger.specs.Places.{index_of}
+use Rattle.ccb.specs.Places.{index_of}
 use Rattle.freeze_ledger.specs.Freezes.{meets_limit}
 use Rattle.freeze_ledger.specs.Entries.{EntriesState, all_of, freezes_in}
 use Rattle.freeze_ledger.proofs.Kept.{kept_entered, count_at, changes, entered_apart}

@@ -1,7 +1,7 @@
 use Rattle.std.proofs.Common.{◌≡◌, ◌≢◌, ℕ, ◌<◌, List, Option, Some, None, IsSome, IfSome, IfNone, OnSome, Contains, refl, subst}
 use Rattle.freeze_ledger.specs.declared.freeze.Freeze.{Freeze}
 use Rattle.freeze_ledger.specs.Freezes.{entry_of}
-use Rattle.freeze_ledger.specs.Places.{index_of}
+use Rattle.ccb.specs.Places.{index_of}
 use Rattle.freeze_ledger.specs.Entries.{EntriesState, all_of, freeze_at, freezes_in}
 use Rattle.freeze_ledger.specs.Invariant.{AreApart, AreGiven, AreKnown}
 use Rattle.freeze_ledger.proofs.Slots.{listed, stands, entry_there}

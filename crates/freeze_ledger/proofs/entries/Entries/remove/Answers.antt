@@ -1,6 +1,6 @@
 use Rattle.std.proofs.Common.{◌≡◌, cond, ◌∙◌, Some, ap, sym, subst, arith}
 use Rattle.freeze_ledger.specs.declared.freeze.Freeze.{Freeze}
-use Rattle.freeze_ledger.specs.Places.{index_of}
+use Rattle.ccb.specs.Places.{index_of}
 use Rattle.freeze_ledger.specs.Freezes.{without}
 use Rattle.freeze_ledger.specs.Deadlines.{is_timer, timers_in}
 use Rattle.freeze_ledger.specs.Entries.{freeze_at, EntriesState, all_of}

@@ -1,7 +1,7 @@
 use Rattle.std.proofs.Common.{◌≡◌, ℕ, ◌<◌, ◌∙◌, List, map, ap, sym, subst}
 use Rattle.ccb.specs.Rising.{AreRising}
 use Rattle.freeze_ledger.specs.declared.freeze.Holder.{Holder}
-use Rattle.freeze_ledger.specs.Places.{index_of}
+use Rattle.ccb.specs.Places.{index_of}
 use Rattle.freeze_ledger.specs.Freezes.{holders_of}
 use Rattle.freeze_ledger.specs.State.{LedgerState}
 use Rattle.freeze_ledger.specs.Entries.{EntriesState, all_of}

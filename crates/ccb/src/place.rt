@@ -1,9 +1,9 @@
-// What freezes: a place of the transport. It relies on the name of a queue.
+// What can be frozen: a device queue or a controller. It relies on the name of a queue.
 
 ghost use Rattle.std.specs.Prelude.{◌≡◌};
-ghost use Rattle.freeze_ledger.specs.Places.{index_of, is_place};
+ghost use Rattle.ccb.specs.Places.{index_of, is_place};
 
-use ccb::QueueId;
+use crate::QueueId;
 
 /// A part of the transport that freezes name.
 #[derive(Clone, Copy, Debug, PartialEq, Eq)]
@@ -27,7 +27,7 @@ impl Place {
     }
 
     /// Whether both are one place.
-    pub(crate) fn is_same(self, other: Place) -> bool
+    pub fn is_same(self, other: Place) -> bool
         ensures { result ≡ is_place self other }
     {
         self.index() == other.index()

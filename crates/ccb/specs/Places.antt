@@ -1,7 +1,7 @@
 -- What freezes: places, and which of them are the same.
 use Rattle.std.specs.Prelude.{ℕ, ◌+◌, ◌*◌, ◌==◌, max, Bool}
-use Rattle.freeze_ledger.specs.declared.place.Place.{Place}
-use Rattle.freeze_ledger.specs.declared.place.Place.TheVariants.{Controller, Device}
+use Rattle.ccb.specs.declared.place.Place.{Place}
+use Rattle.ccb.specs.declared.place.Place.TheVariants.{Controller, Device}
 
 -- the number of a place, which no other has: even ones for the device queues, and odd ones for the controllers
 abbrev pub index_of : Place → ℕ

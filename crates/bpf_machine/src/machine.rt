@@ -1,5 +1,5 @@
 // The machine of the code, of fixed size: it is copied and compared without memory. It relies on `registers`,
-// `open_calls`, `held_freezes` and `stack_frame` for what it keeps, on `stepping` for an instruction within a function, on
+// `open_calls`, `held_freezes` and `bpf_stack_frame` for what it keeps, on `stepping` for an instruction within a function, on
 // `bpf_insn` for programs, and on `helpers` for the calls.
 
 ghost use Rattle.std.specs.Prelude.{◌≡◌, ◌+◌, ◌<◌, ◌↔◌, [], true, false, Some, None, IsTrue, if◌then◌else◌, length};
@@ -13,7 +13,7 @@ ghost use Rattle.bpf_semantics.specs.Stops.{stop_at};
 ghost use Rattle.bpf_semantics.specs.Reached.{IsEntry, PrivateSteps};
 ghost use Rattle.bpf_machine.specs.Able.{CanGoOn, GoesOnWithin};
 ghost use Rattle.bpf_machine.specs.Unchecked.{StandsApart};
-ghost use Rattle.stack_frame.specs.declared.frames.TheConstants.{MAX_FRAMES};
+ghost use Rattle.bpf_stack_frame.specs.declared.frames.TheConstants.{MAX_FRAMES};
 
 use crate::held_freezes::HeldFreezes;
 use crate::memory::{CONTEXT_ADDRESS, FRAME_ADDRESS, FRAME_BYTES, FRAME_DISTANCE, in_frames};
@@ -24,7 +24,7 @@ use base::ShortBytes;
 use bpf_insn::{Callee, Insn, Program, Reg, jump_target};
 use bpf_semantics::Stop;
 use helpers::{Answer, Arguments, Asked, Change, Helper, Request, Tells, Written};
-use stack_frame::Frames;
+use bpf_stack_frame::Frames;
 use std::marker::Model;
 
 /// The frame pointer of the outermost frame: behind its last byte.

@@ -1,5 +1,5 @@
 // Loads and stores, on the context and the live frames (RFC 9669, sections 5.1 and 5.2). Only where an address lies
-// is tested; a machine that is not stuck has what it reads and where it writes. It relies on `stack_frame` for stack
+// is tested; a machine that is not stuck has what it reads and where it writes. It relies on `bpf_stack_frame` for stack
 // bytes, on `byteorder` for words of the context, and on `extensions` for signs.
 
 ghost use Rattle.std.specs.Prelude.{◌≡◌, ◌+◌, ◌<◌, ◌≤◌, IfSome, length};
@@ -10,7 +10,7 @@ ghost use Rattle.bpf_machine.specs.Unchecked.{context_offset, frame_place, word_
 use bpf_insn::{LoadForm, SignExtension, StoreSize};
 use bpf_words::extend;
 use byteorder::{ByteOrder, LittleEndian};
-use stack_frame::Frames;
+use bpf_stack_frame::Frames;
 
 /// Where the context lies.
 pub const CONTEXT_ADDRESS: u64 = 0x1000_0000;

@@ -1,10 +1,10 @@
 // The local calls that have not returned, in a place of fixed size. It relies on `base` for how they are kept, and
-// on `stack_frame` for how many there may be.
+// on `bpf_stack_frame` for how many there may be.
 
 ghost use Rattle.std.specs.Prelude.{◌≡◌, ◌<◌, ◌+◌, ◌↔◌, [], ◌∷◌, IsTrue, None, length, replicate};
 
 use base::{Blank, PaddedList};
-use stack_frame::MAX_FRAMES;
+use bpf_stack_frame::MAX_FRAMES;
 use std::marker::Model;
 
 /// The most calls that are open at a time: the outermost function is not called.

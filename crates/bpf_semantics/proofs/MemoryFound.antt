@@ -4,7 +4,7 @@ use Rattle.std.specs.Prelude.{◌||◌, is_some, take, drop}
 use Rattle.std.specs.Option.{option_map, option_and_then}
 use Rattle.std.specs.Int.{Width, byte_len, bytes_low_first}
 use Rattle.byteorder.specs.Endian.{little_bytes}
-use Rattle.stack_frame.specs.Frame.{all_written, written_at}
+use Rattle.bpf_stack_frame.specs.Frame.{all_written, written_at}
 use Rattle.std.proofs.lemmas.Bool.{cases_Bool, cond-true, cond-false}
 use Rattle.bpf_semantics.specs.MachineState.{MachineState, context_address}
 use Rattle.bpf_semantics.specs.Frames.{frame_start, is_inside, frame_bytes, has_room, has_written, frames_with}

@@ -12,7 +12,7 @@ use Rattle.bpf_insn.specs.declared.reg.Reg.{Reg}
 use Rattle.bpf_insn.specs.declared.reg.Reg.TheVariants.{R1, R2, R3, R10}
 use Rattle.helpers.specs.declared.limits.HelperLimits.{HelperLimits}
 use Rattle.helpers.specs.Table.{of_queues}
-use Rattle.stack_frame.specs.Frame.{written_at}
+use Rattle.bpf_stack_frame.specs.Frame.{written_at}
 use Rattle.bpf_semantics.specs.MachineState.{MachineState, entry, register}
 use Rattle.bpf_semantics.specs.Step.{does}
 use Rattle.bpf_semantics.specs.Stuck.{insn_is_stuck}

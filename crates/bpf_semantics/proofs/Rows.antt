@@ -22,7 +22,7 @@ use Rattle.helpers.specs.declared.table.Helper.TheVariants as helpers
 use Rattle.helpers.specs.declared.request.Answer.{Answer}
 use Rattle.helpers.specs.declared.request.Request.{Request}
 use Rattle.helpers.specs.Table.{answer_number, asking, of_queues, row_of, telling}
-use Rattle.stack_frame.specs.Frame.{written_at}
+use Rattle.bpf_stack_frame.specs.Frame.{written_at}
 use Rattle.bpf_semantics.specs.declared.stop.Stop.TheVariants.{Helper as AtHelper, Exit as AtExit}
 use Rattle.bpf_semantics.specs.MachineState.{OpenCall, MachineState, entry, register, unwritten_frame, with_register, moved_to}
 use Rattle.bpf_semantics.specs.Calls.{arguments_at, obeys}

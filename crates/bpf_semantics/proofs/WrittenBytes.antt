@@ -1,7 +1,7 @@
 -- Bytes that are all written are read as their numbers.
 use Rattle.std.proofs.Common.{◌≡◌, ℕ, List, [], ◌∷◌, Option, Some, None, map, refl, ap, sym, ◌∙◌}
 use Rattle.std.specs.Option.{option_map}
-use Rattle.stack_frame.specs.Frame.{all_written, byte_of}
+use Rattle.bpf_stack_frame.specs.Frame.{all_written, byte_of}
 
 pub some_same : {X : Type 0} (x y : X) → Some x ≡ Some y → x ≡ y
 some_same x y e = cc

@@ -18,7 +18,7 @@ use Rattle.helpers.specs.declared.request.Request.{Request}
 use Rattle.helpers.specs.Table.{asks, is_there, row_of}
 use Rattle.bpf_semantics.specs.declared.bounds.TheConstants.{MAX_HELD}
 use Rattle.bpf_semantics.specs.MachineState.{MachineState, register}
-use Rattle.stack_frame.specs.Frame.{all_written as written_bytes}
+use Rattle.bpf_stack_frame.specs.Frame.{all_written as written_bytes}
 use Rattle.bpf_semantics.specs.Frames.{frame_bytes, has_room, has_written}
 
 -- what an argument is; a register that the helper does not read counts as 0

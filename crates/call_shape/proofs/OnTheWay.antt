@@ -11,7 +11,7 @@ use Rattle.call_shape.specs.Calls.{begins}
 use Rattle.call_shape.specs.OnTheWay.{AreBegun, IsOnTheWay}
 use Rattle.call_shape.specs.Shape.{AreOrdered, IsLawful}
 use Rattle.call_shape.specs.StaticPath.{Standing, outermost, called, LeadsTo}
-use Rattle.stack_frame.specs.declared.frames.TheConstants.{MAX_FRAMES}
+use Rattle.bpf_stack_frame.specs.declared.frames.TheConstants.{MAX_FRAMES}
 use Rattle.call_shape.proofs.Lawful.{calls_lawfully, goes_on_lawfully}
 use Rattle.call_shape.proofs.Paths.{HasPath, joined, one_frame_at_least}
 use Rattle.call_shape.proofs.WaysOut.{ways_out_lem}

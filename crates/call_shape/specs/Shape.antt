@@ -12,7 +12,7 @@ use Rattle.call_shape.specs.StaticPath.{StaticPath, outermost, depth}
 use Rattle.call_shape.specs.WrittenOut.{IsWrittenOut}
 use Rattle.call_shape.specs.declared.fault.ShapeFault.{ShapeFault}
 use Rattle.call_shape.specs.declared.fault.ShapeFault.TheVariants.{OpenEnd, TargetOutside, TargetSecondSlot, TargetBackward, NoSuchFunction, LeavesFunction, CallCycle, TooManyFrames, TooLong}
-use Rattle.stack_frame.specs.declared.frames.TheConstants.{MAX_FRAMES}
+use Rattle.bpf_stack_frame.specs.declared.frames.TheConstants.{MAX_FRAMES}
 use Rattle.call_shape.specs.declared.lawful_shape.TheConstants.{MAX_WRITTEN_OUT}
 
 -- where an instruction jumps to, if it is a jump

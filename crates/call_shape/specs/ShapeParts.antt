@@ -6,7 +6,7 @@ use Rattle.call_shape.specs.Shape.{IsLawful}
 use Rattle.call_shape.specs.StaticPath.{IsFrames}
 use Rattle.call_shape.specs.Walk.{IsOrderOf}
 use Rattle.call_shape.specs.WrittenOut.{IsWrittenOut}
-use Rattle.stack_frame.specs.declared.frames.TheConstants.{MAX_FRAMES}
+use Rattle.bpf_stack_frame.specs.declared.frames.TheConstants.{MAX_FRAMES}
 use Rattle.call_shape.specs.declared.lawful_shape.TheConstants.{MAX_WRITTEN_OUT}
 use Rattle.call_shape.specs.declared.postorder.Postorder.{Postorder}
 

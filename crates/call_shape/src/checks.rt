@@ -17,7 +17,7 @@ use crate::postorder::Postorder;
 use crate::walk::Walk;
 use crate::written_out::written_out_of;
 use bpf_insn::{MAX_SLOTS, Program};
-use stack_frame::MAX_FRAMES;
+use bpf_stack_frame::MAX_FRAMES;
 
 /// The program's shape, or the lowest fault that holds, with the lowest slot that has it. It takes no memory, and time
 /// that grows with the slots. Only where calls lie on a cycle it takes more, to name the first of them.

@@ -3,7 +3,7 @@
 ghost use Rattle.std.specs.Prelude.{◌≡◌, ◌≤◌};
 ghost use Rattle.bpf_insn.specs.Program.{IsProgram};
 ghost use Rattle.call_shape.specs.Shape.{IsLawful};
-ghost use Rattle.stack_frame.specs.declared.frames.TheConstants.{MAX_FRAMES};
+ghost use Rattle.bpf_stack_frame.specs.declared.frames.TheConstants.{MAX_FRAMES};
 ghost use Rattle.call_shape.specs.declared.lawful_shape.TheConstants.{MAX_WRITTEN_OUT};
 
 use crate::postorder::Postorder;

@@ -1,5 +1,5 @@
 // The shape of a program: its functions end, jumps lead forward within their function, and no chain of local calls
-// comes back. What is said of its ways, the static paths, rests on this alone. It relies on `bpf_insn`, and on `stack_frame`
+// comes back. What is said of its ways, the static paths, rests on this alone. It relies on `bpf_insn`, and on `bpf_stack_frame`
 // for how many frames there may be.
 #![tactic(auto)]
 

@@ -1,15 +1,15 @@
 // The program: it reads the words after its name and the files that they name, and carries them out. It relies
-// on `command_line` for the words, on `commands` for what is carried out, and on `program_io` for the machine.
+// on `cli_line` for the words, on `cli_commands` for what is carried out, and on `cli_io` for the machine.
 #![tactic(auto)]
 
 ghost use Rattle.std.specs.Prelude.{◌≡◌, ◌<◌, ◌^◌, length, IfOk};
-ghost use Rattle.command_line.specs.Files.{input_paths};
+ghost use Rattle.cli_line.specs.Files.{input_paths};
 
-use calls::Notices;
-use command_line::{Manner, Plan, Watch, not_utf8, plan};
-use commands::{Fault, Handing, carry, report_usage, serve};
-use live::Input;
-use program_io::{
+use world_calls::Notices;
+use cli_line::{Manner, Plan, Watch, not_utf8, plan};
+use cli_commands::{Fault, Handing, carry, report_usage, serve};
+use host_live::Input;
+use cli_io::{
     Clocked, Disk, Feeder, MOST_MANIFEST, MOST_PROGRAM, MOST_SCENARIO, MOST_TEXT, MOST_TRACE,
     Patient, Reading, Relay, Relayer, Telling, read_file, replace, words,
 };

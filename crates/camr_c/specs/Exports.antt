@@ -7,21 +7,21 @@ use Rattle.ccb.specs.Status.{IsDecodedFrom}
 use Rattle.freeze_ledger.specs.declared.freeze.Freeze.{Freeze}
 use Rattle.ccb.specs.declared.place.Place.{Place}
 use Rattle.freeze_ledger.specs.Deadlines.{some_timer}
-use Rattle.transport.specs.Freezing.{IsNextDue}
-use Rattle.calls.specs.declared.call.Call.{Call}
-use Rattle.calls.specs.declared.call.Call.TheVariants.{Complete}
-use Rattle.calls.specs.declared.call_answer.CallAnswer.{CallAnswer}
-use Rattle.calls.specs.declared.totals.Totals.{Totals}
+use Rattle.engine_transport.specs.Freezing.{IsNextDue}
+use Rattle.world_calls.specs.declared.call.Call.{Call}
+use Rattle.world_calls.specs.declared.call.Call.TheVariants.{Complete}
+use Rattle.world_calls.specs.declared.call_answer.CallAnswer.{CallAnswer}
+use Rattle.world_calls.specs.declared.totals.Totals.{Totals}
 use Rattle.engine_core.specs.EngineState.{EngineState}
-use Rattle.embedding.specs.declared.call_result.CallResult.{CallResult}
-use Rattle.embedding.specs.declared.call_result.CallResult.TheVariants.{Done, OutOfMemory, NoCompletion, NotUtf8, Faulty}
-use Rattle.embedding.specs.declared.run_handle.HeldRun.{HeldRun}
-use Rattle.embedding.specs.declared.run_handle.RunHandle.{RunHandle}
-use Rattle.embedding.specs.Calls.{IsCalled, IsCompleted, IsFrozen, IsReleased, IsResumed}
-use Rattle.embedding.specs.Held.{is_same_run}
-use Rattle.embedding.specs.Results.{number_of, text_of}
-use Rattle.opening.specs.declared.opening.OpenFault.{OpenFault}
-use Rattle.opening.specs.declared.opening.OpenFault.TheVariants as faults
+use Rattle.host_embedding.specs.declared.call_result.CallResult.{CallResult}
+use Rattle.host_embedding.specs.declared.call_result.CallResult.TheVariants.{Done, OutOfMemory, NoCompletion, NotUtf8, Faulty}
+use Rattle.host_embedding.specs.declared.run_handle.HeldRun.{HeldRun}
+use Rattle.host_embedding.specs.declared.run_handle.RunHandle.{RunHandle}
+use Rattle.host_embedding.specs.Calls.{IsCalled, IsCompleted, IsFrozen, IsReleased, IsResumed}
+use Rattle.host_embedding.specs.Held.{is_same_run}
+use Rattle.host_embedding.specs.Results.{number_of, text_of}
+use Rattle.host_opening.specs.declared.opening.OpenFault.{OpenFault}
+use Rattle.host_opening.specs.declared.opening.OpenFault.TheVariants as faults
 use Rattle.camr_c.specs.declared.engine_exports.Sums.{Sums}
 use Rattle.camr_c.specs.declared.engine_slot.EngineSlot.{EngineSlot}
 use Rattle.camr_c.specs.declared.run_slot.RunSlot.{RunSlot}

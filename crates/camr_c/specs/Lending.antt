@@ -4,9 +4,9 @@ use base.Fml.{Fml}
 use denote.Ref.{MutBor}
 use denote.Follow.{follows}
 use Rattle.engine_core.specs.EngineState.{EngineState}
-use Rattle.embedding.specs.contracts.engine_handle.EngineHandle.{the_row as engine_row}
-use Rattle.embedding.specs.declared.run_handle.RunHandle.{RunHandle}
-use Rattle.embedding.specs.contracts.run_handle.RunHandle.{the_row as run_row}
+use Rattle.host_embedding.specs.contracts.engine_handle.EngineHandle.{the_row as engine_row}
+use Rattle.host_embedding.specs.declared.run_handle.RunHandle.{RunHandle}
+use Rattle.host_embedding.specs.contracts.run_handle.RunHandle.{the_row as run_row}
 use Rattle.camr_c.specs.declared.engine_slot.EngineSlot.{EngineSlot}
 use Rattle.camr_c.specs.contracts.engine_slot.EngineSlot.{the_row as engine_slot_row}
 use Rattle.camr_c.specs.declared.run_slot.RunSlot.{RunSlot}

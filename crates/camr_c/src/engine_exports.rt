@@ -1,21 +1,21 @@
-// The calls of an engine that name no run. It relies on `embedding` for each.
+// The calls of an engine that name no run. It relies on `host_embedding` for each.
 
 ghost use Rattle.std.specs.Prelude.{◌≡◌, ◌≢◌, ◌<◌, ◌≤◌, IsSome, None, Result, false, length};
 ghost use Rattle.std.specs.Global.{Box};
 ghost use Rattle.ccb.specs.declared.place.Place.TheVariants.{Device, Controller};
-ghost use Rattle.calls.specs.declared.call.Call.TheVariants.{Submit, Dispatch, Clock};
-ghost use Rattle.calls.specs.declared.call_answer.CallAnswer.TheVariants as answers;
+ghost use Rattle.world_calls.specs.declared.call.Call.TheVariants.{Submit, Dispatch, Clock};
+ghost use Rattle.world_calls.specs.declared.call_answer.CallAnswer.TheVariants as answers;
 ghost use Rattle.world.specs.TotalsOf.{totals_in};
 ghost use Rattle.engine_core.specs.EngineState.{EngineState};
-ghost use Rattle.opening.specs.declared.opening.OpenFault.{OpenFault as TheFault};
-ghost use Rattle.opening.specs.Opened.{Opens};
+ghost use Rattle.host_opening.specs.declared.opening.OpenFault.{OpenFault as TheFault};
+ghost use Rattle.host_opening.specs.Opened.{Opens};
 ghost use Rattle.camr_c.specs.Exports.{Called, Frozen, IsOpened, Released, Stays, TellsDue, sums_of};
 
 use crate::engine_slot::EngineSlot;
 use crate::loose::Loose;
 use ccb::{Place, QueueId};
-use embedding::CallResult;
-use opening::{OpenFault, open, put_fault};
+use host_embedding::CallResult;
+use host_opening::{OpenFault, open, put_fault};
 use std::alloc::Global;
 
 /// The sums of an engine, as C has them.

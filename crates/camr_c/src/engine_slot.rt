@@ -4,7 +4,7 @@ ghost use Rattle.std.specs.Prelude.{Option};
 ghost use Rattle.engine_core.specs.EngineState.{EngineState as Value};
 
 use crate::loose::Loose;
-use embedding::EngineHandle;
+use host_embedding::EngineHandle;
 use std::alloc::Global;
 use std::marker::Model;
 
@@ -16,7 +16,7 @@ pub struct EngineSlot {
 }
 
 impl Model for EngineSlot {
-    ghost use Rattle.embedding.specs.contracts.engine_handle.EngineHandle.{the_row};
+    ghost use Rattle.host_embedding.specs.contracts.engine_handle.EngineHandle.{the_row};
     ghost use Rattle.camr_c.specs.Holding.{holds};
 
     ghost also_owns = { λ slot. holds the_row slot.at slot.held };

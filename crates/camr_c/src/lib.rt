@@ -1,5 +1,5 @@
 // The engine for a host that is written in C: an export for each call, over the slots in which the host holds an engine and runs.
-// It relies on `embedding` for what each call does. `include/camr_engine.h` declares what stands here.
+// It relies on `host_embedding` for what each call does. `include/camr_engine.h` declares what stands here.
 #![tactic(auto)]
 
 mod engine_exports;

@@ -1,9 +1,9 @@
-// The texts of results. It relies on `embedding` for them.
+// The texts of results. It relies on `host_embedding` for them.
 
 ghost use Rattle.std.specs.Prelude.{◌≡◌, ◌<◌, ◌≤◌, MatchBool, true, false, length};
 ghost use Rattle.camr_c.specs.Exports.{TextOf};
 
-use embedding::{CallResult, put_front};
+use host_embedding::{CallResult, put_front};
 
 /// Puts the front of a result's text, as much as finds room: whether there is a result of that number.
 #[unsafe(no_mangle)]

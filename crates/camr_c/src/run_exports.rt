@@ -1,16 +1,16 @@
-// The calls that start runs, take them further, park and resume them. It relies on `embedding` for each.
+// The calls that start runs, take them further, park and resume them. It relies on `host_embedding` for each.
 
 ghost use Rattle.std.specs.Prelude.{◌≡◌, ◌≢◌, ◌<◌, false, IsSome, None, Option};
 ghost use Rattle.ccb.specs.Completion.{Outcome};
-ghost use Rattle.embedding.specs.Calls.{IsAdvanced, IsDriven, IsParked};
-ghost use Rattle.embedding.specs.Held.{is_same_run, out_of, IsStretched};
+ghost use Rattle.host_embedding.specs.Calls.{IsAdvanced, IsDriven, IsParked};
+ghost use Rattle.host_embedding.specs.Held.{is_same_run, out_of, IsStretched};
 ghost use Rattle.camr_c.specs.Exports.{Did, Turns, Stays, CalledWith, IsReported, Completed, Resumed};
 
 use crate::engine_slot::EngineSlot;
 use crate::loose::Loose;
 use crate::run_slot::RunSlot;
 use ccb::{CamStatus, CcbId, Completion};
-use embedding::CallResult;
+use host_embedding::CallResult;
 use std::alloc::Global;
 
 // The completion that a device reports, of its numbers.

@@ -1,10 +1,10 @@
 // Where a host written in C holds a run: a pointer to its block, which no one but this library follows. It relies on `loose`.
 
 ghost use Rattle.std.specs.Prelude.{Option};
-ghost use Rattle.embedding.specs.declared.run_handle.RunHandle.{RunHandle as Value};
+ghost use Rattle.host_embedding.specs.declared.run_handle.RunHandle.{RunHandle as Value};
 
 use crate::loose::Loose;
-use embedding::RunHandle;
+use host_embedding::RunHandle;
 use std::alloc::Global;
 use std::marker::Model;
 
@@ -16,7 +16,7 @@ pub struct RunSlot {
 }
 
 impl Model for RunSlot {
-    ghost use Rattle.embedding.specs.contracts.run_handle.RunHandle.{the_row};
+    ghost use Rattle.host_embedding.specs.contracts.run_handle.RunHandle.{the_row};
     ghost use Rattle.camr_c.specs.Holding.{holds};
 
     ghost also_owns = { λ slot. holds the_row slot.at slot.held };

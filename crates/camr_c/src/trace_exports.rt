@@ -1,13 +1,13 @@
-// The trace of an engine as text. It relies on `embedding` for lines.
+// The trace of an engine as text. It relies on `host_embedding` for lines.
 
 ghost use Rattle.std.specs.Prelude.{◌<◌, ◌≤◌, IsSome, length};
 ghost use Rattle.world.specs.World.{version_of};
 ghost use Rattle.world.specs.TotalsOf.{totals_in};
-ghost use Rattle.embedding.specs.Lines.{PutsLines, PutsSums};
+ghost use Rattle.host_embedding.specs.Lines.{PutsLines, PutsSums};
 ghost use Rattle.camr_c.specs.Exports.{Did, Stays};
 
 use crate::engine_slot::EngineSlot;
-use embedding::PutLines;
+use host_embedding::PutLines;
 
 /// Puts whole lines of the trace: those of the records from this number on, after the first line if that is 0. What stands after them
 /// stays as it was.

@@ -1,17 +1,17 @@
 // The program that explains manifests and codes, and shows traces: it reads the words after its name and the files that they name, and
-// carries them out. It relies on `inspect_line` for the words, on `inspection` for what is carried out, and on `program_io` for the
+// carries them out. It relies on `cli_inspect_line` for the words, on `cli_inspection` for what is carried out, and on `cli_io` for the
 // machine.
 #![tactic(auto)]
 
 ghost use Rattle.std.specs.Prelude.{◌≡◌, length, IfOk};
-ghost use Rattle.inspect_line.specs.Files.{input_paths};
+ghost use Rattle.cli_inspect_line.specs.Files.{input_paths};
 
-use calls::Notices;
-use command_line::not_utf8;
-use commands::{Fault, report_usage};
-use inspect_line::{Plan, plan};
-use inspection::carry;
-use program_io::{Disk, MOST_MANIFEST, MOST_TRACE, Patient, Telling, read_file, replace, words};
+use world_calls::Notices;
+use cli_line::not_utf8;
+use cli_commands::{Fault, report_usage};
+use cli_inspect_line::{Plan, plan};
+use cli_inspection::carry;
+use cli_io::{Disk, MOST_MANIFEST, MOST_TRACE, Patient, Telling, read_file, replace, words};
 use std::fs::File;
 use std::io;
 use std::io::{BufWriter, IsTerminal, Stderr, Write};

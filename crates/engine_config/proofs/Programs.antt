@@ -6,7 +6,7 @@ use Rattle.std.specs.declared.sync.Arc.{Arc}
 use Rattle.std.specs.declared.vec.Vec.{Vec}
 use Rattle.std.proofs.lemmas.List.{map_more, map_push, take_all}
 use Rattle.std.proofs.lemmas.Simd.{map-map}
-use Rattle.accepted.specs.declared.accepted.Accepted.{Accepted}
+use Rattle.bpf_accepted.specs.declared.accepted.Accepted.{Accepted}
 use Rattle.helpers.specs.declared.limits.HelperLimits.{HelperLimits}
 use Rattle.world.specs.World.{QueueSetup}
 use Rattle.engine_config.specs.Configured.{AreProgramsGiven, AreProgramsOf, Given, queue_of, setup_of}

@@ -4,8 +4,8 @@ use Rattle.std.specs.Global.{Global}
 use Rattle.std.specs.Arc.{arc_value}
 use Rattle.std.specs.declared.sync.Arc.{Arc}
 use Rattle.helpers.specs.declared.limits.HelperLimits.{HelperLimits}
-use Rattle.accepted.specs.declared.accepted.Accepted.{Accepted}
-use Rattle.accepted.specs.Verdict.{Verdict, IsAccepted}
+use Rattle.bpf_accepted.specs.declared.accepted.Accepted.{Accepted}
+use Rattle.bpf_accepted.specs.Verdict.{Verdict, IsAccepted}
 use Rattle.world.specs.Capacities.{most_openings, most_queues, most_tables, most_words}
 use Rattle.world.specs.World.{QueueSetup, Setup}
 use Rattle.world.specs.Lawful.{AreUnder, IsLawful}

@@ -1,17 +1,17 @@
-// What an engine is opened with. It relies on `given` for the queues as they are given, on `accepted` for accepted programs and
+// What an engine is opened with. It relies on `given` for the queues as they are given, on `bpf_accepted` for accepted programs and
 // on `helpers` for their limits.
 
 ghost use Rattle.std.specs.Prelude.{◌≡◌, ◌<◌, ◌≤◌, ◌↔◌, length, map, All, IsSome, IsTrue, IfSome, IfOk};
 ghost use Rattle.std.specs.Arc.{arc_value};
 ghost use Rattle.helpers.specs.declared.limits.HelperSet.TheVariants.{Controllers};
-ghost use Rattle.accepted.specs.Verdict.{IsAccepted};
+ghost use Rattle.bpf_accepted.specs.Verdict.{IsAccepted};
 ghost use Rattle.world.specs.World.{queue_count, queue_setup};
 ghost use Rattle.world.specs.Capacities.{most_controllers, most_queues};
 ghost use Rattle.world.specs.Lawful.{AreUnder, IsLawful};
 ghost use Rattle.engine_config.specs.Configured.{AreProgramsGiven, AreProgramsOf, IsConfigured, IsGivenUnder, IsKnown, alone_of, controllers_of, queue_of, queue_seen, queues_of, setup_of, under_of};
 
 use crate::given::{GivenQueue, GivenQueues, are_under};
-use accepted::Accepted;
+use bpf_accepted::Accepted;
 use ccb::QueueId;
 use helpers::{HelperLimits, HelperSet};
 use std::alloc::{AllocError, Global};

@@ -1,10 +1,10 @@
-// The device queues as a configuration is given them, with controllers or without. It relies on `accepted` for their programs.
+// The device queues as a configuration is given them, with controllers or without. It relies on `bpf_accepted` for their programs.
 
 ghost use Rattle.std.specs.Prelude.{◌≡◌, ◌<◌, ◌≤◌, ◌↔◌, length, All, IsTrue, slice_index_or};
 ghost use Rattle.world.specs.Capacities.{most_controllers};
 ghost use Rattle.engine_config.specs.Configured.{controllers_of, queue_seen, queues_of, under_of};
 
-use accepted::Accepted;
+use bpf_accepted::Accepted;
 use std::sync::Arc;
 use world::MAX_CONTROLLERS;
 

@@ -4,9 +4,9 @@ use Rattle.std.specs.Prelude.{IfOk, IfNone, IsSome, OnErr}
 use Rattle.std.specs.Result.{is_err}
 use Rattle.std.proofs.lemmas.List.Sums.{count_by-le-length}
 use Rattle.ccb.specs.declared.QueueId.{QueueId}
-use Rattle.runs.specs.Admits.{KnowsProgram}
-use Rattle.runs.specs.RunsState.{RunsState}
-use Rattle.calls.specs.declared.record.Record.{Record}
+use Rattle.engine_runs.specs.Admits.{KnowsProgram}
+use Rattle.engine_runs.specs.RunsState.{RunsState}
+use Rattle.world_calls.specs.declared.record.Record.{Record}
 use Rattle.world.specs.World.{Transport, Setup, LiveRun, World, queue_setup}
 use Rattle.engine_core.specs.declared.event.Event.{Event}
 use Rattle.engine_core.specs.declared.event.Event.TheVariants.{Submit, Dispatch, Complete, Advance, Clock, GuestFreeze, GuestRelease, Park, Resume}

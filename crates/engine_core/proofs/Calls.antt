@@ -16,16 +16,16 @@ use Rattle.bpf_semantics.specs.Calls.{is_held, meets, meets_need, meets_rule}
 use Rattle.bpf_semantics.specs.MachineState.{MachineState}
 use Rattle.bpf_semantics.specs.Step.{IsAnswer, IsGiven, IsWritten}
 use Rattle.interpreter.specs.Segments.{SegmentState}
-use Rattle.runs.specs.RunsState.{RunsState, tokens_at}
-use Rattle.runs.specs.Tokens.{AreTokensWith}
+use Rattle.engine_runs.specs.RunsState.{RunsState, tokens_at}
+use Rattle.engine_runs.specs.Tokens.{AreTokensWith}
 use Rattle.ccb.specs.Rising.{AreRising}
 use Rattle.freeze_ledger.specs.declared.freeze.Freeze.{Freeze}
 use Rattle.freeze_ledger.specs.Freezes.{entry_of}
 use Rattle.world.proofs.Lists.Entries.{FreezesRise}
-use Rattle.runs.specs.RunPlaces.{HasRunAt}
+use Rattle.engine_runs.specs.RunPlaces.{HasRunAt}
 use Rattle.table_store.specs.Tables.{HasWord}
 use Rattle.world.specs.declared.ccb_state.CcbState.TheVariants.{InRecovery}
-use Rattle.calls.specs.declared.record.Record.{Record}
+use Rattle.world_calls.specs.declared.record.Record.{Record}
 use Rattle.world.specs.Limits.{AnswerLimits}
 use Rattle.world.specs.World.{Transport, Setup, queue_count, LiveCcb, LiveRun, World}
 use Rattle.world.specs.Lookups.{ccb_of}

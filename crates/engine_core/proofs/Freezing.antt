@@ -13,9 +13,9 @@ use Rattle.helpers.specs.declared.request.Request.{Request}
 use Rattle.helpers.specs.Table.{row_of}
 use Rattle.bpf_semantics.specs.MachineState.{MachineState}
 use Rattle.interpreter.specs.Segments.{SegmentState}
-use Rattle.runs.specs.RunsState.{RunsState, tokens_at}
-use Rattle.runs.specs.RunPlaces.{HasRunAt}
-use Rattle.transport.proofs.Placed.{queue_placed, controller_placed}
+use Rattle.engine_runs.specs.RunsState.{RunsState, tokens_at}
+use Rattle.engine_runs.specs.RunPlaces.{HasRunAt}
+use Rattle.engine_transport.proofs.Placed.{queue_placed, controller_placed}
 use Rattle.world.specs.World.{QueueSetup, no_queue, queue_count, queue_setup, LiveRun, Transport, World}
 use Rattle.world.specs.Lawful.{AreUnder}
 use Rattle.world.specs.RunSteps.{step_request, takes}

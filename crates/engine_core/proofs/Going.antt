@@ -3,18 +3,18 @@ use Rattle.std.proofs.Common.{suc, ◌+◌, inr, ◌≡◌, ℕ, List, Some, ref
 use Rattle.bpf_insn.specs.declared.program.Slot.{Slot}
 use Rattle.bpf_semantics.specs.MachineState.{MachineState}
 use Rattle.bpf_semantics.specs.Reached.{Reached}
-use Rattle.accepted.specs.Verdict.{Verdict, IsAccepted}
+use Rattle.bpf_accepted.specs.Verdict.{Verdict, IsAccepted}
 use Rattle.helpers.specs.declared.request.Answer.{Answer}
 use Rattle.bpf_semantics.specs.Reached.{PrivateSteps}
 use Rattle.bpf_semantics.specs.Step.{IsAnswer, answered}
 use Rattle.bpf_semantics.specs.Stops.{stop_at}
 use Rattle.interpreter.proofs.Stops.{segment_calls, segment_reaches}
 use Rattle.interpreter.specs.Segments.{SegmentState, IsSegment, stop_there, stretch}
-use Rattle.runs.specs.RunsState.{RunsState}
-use Rattle.runs.specs.Admits.{IsOutWith}
-use Rattle.runs.specs.RunPlaces.{HasRunAt}
+use Rattle.engine_runs.specs.RunsState.{RunsState}
+use Rattle.engine_runs.specs.Admits.{IsOutWith}
+use Rattle.engine_runs.specs.RunPlaces.{HasRunAt}
 use Rattle.engine_core.specs.RunState.{RunState, StoppedState, IsOut, IsOutUnder, IsReached, before_stop}
-use Rattle.calls.specs.declared.record.Record.{Record}
+use Rattle.world_calls.specs.declared.record.Record.{Record}
 use Rattle.helpers.specs.declared.request.Request.{Request}
 use Rattle.bpf_semantics.specs.declared.stop.Stop.TheVariants.{Helper}
 use Rattle.world.specs.World.{Transport, Setup, LiveRun, World, queue_setup}

@@ -7,7 +7,7 @@ use Rattle.freeze_ledger.specs.declared.freeze.Holder.{Holder}
 use Rattle.freeze_ledger.specs.declared.freeze.Holder.TheVariants.{Run, Timer, Guest}
 use Rattle.freeze_ledger.specs.declared.freeze.Freeze.{Freeze}
 use Rattle.freeze_ledger.specs.Freezes.{entry_of, without, is_due, handed_over}
-use Rattle.calls.specs.declared.call.Call.TheVariants.{GuestFreeze, GuestRelease}
+use Rattle.world_calls.specs.declared.call.Call.TheVariants.{GuestFreeze, GuestRelease}
 use Rattle.world.specs.World.{Setup, World}
 use Rattle.world.specs.Event.{private, Event, called, executes, Reply, went_on}
 use Rattle.world.specs.FreezeSteps.{is_guest}
@@ -22,7 +22,7 @@ use Rattle.world_laws.proofs.Kept.{step_keeps}
 use Rattle.world_laws.proofs.Steps.Does.{FreezeDeed, leaves_freezes, takes_one, gives_one_back, hands_one_over}
 use Rattle.world_laws.proofs.Steps.Calls.{Asks}
 use Rattle.world_laws.proofs.Steps.Cases.{Case, case_of, refuses, submits, dispatches, finishes_one, recovers_one, recovers_unfrozen, freezes_one, releases_one, reads_clock, turns_one, goes_on_one, asks_one, exits}
-use Rattle.calls.specs.declared.record.StoppedAt.{StoppedAt}
+use Rattle.world_calls.specs.declared.record.StoppedAt.{StoppedAt}
 use Rattle.engine_core.specs.Unrecorded.{AreTokens, guests_of}
 
 abbrev its_guest : Freeze → Bool

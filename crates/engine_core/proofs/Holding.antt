@@ -10,9 +10,9 @@ use Rattle.freeze_ledger.specs.declared.freeze.Holder.{Holder}
 use Rattle.freeze_ledger.specs.declared.freeze.Holder.TheVariants.{Run, Timer, Guest}
 use Rattle.freeze_ledger.specs.declared.freeze.Freeze.{Freeze}
 use Rattle.freeze_ledger.specs.Freezes.{entry_of, without, handed_over, is_due, not_due_at}
-use Rattle.numbered_slots.proofs.Numbers.{map_remove}
-use Rattle.runs.specs.RunPlaces.{HasRunAt}
-use Rattle.runs.specs.RunsState.{RunsState, tokens_at, tokens_of}
+use Rattle.cam_numbered_slots.proofs.Numbers.{map_remove}
+use Rattle.engine_runs.specs.RunPlaces.{HasRunAt}
+use Rattle.engine_runs.specs.RunsState.{RunsState, tokens_at, tokens_of}
 use Rattle.world.specs.World.{LiveRun, Runs, Setup, Transport, World}
 use Rattle.world.specs.Lookups.{run_of, with_run}
 use Rattle.world.specs.RunSteps.{is_run}
@@ -26,7 +26,7 @@ use Rattle.world.proofs.Lists.Placed.{apart, below, found_at, remove_is_leave}
 use Rattle.world.proofs.Lists.Rising.{missing_high, rising_filter}
 use Rattle.world.proofs.Steps.Moves.{run_key}
 use Rattle.world_laws.proofs.Sound.{IsSound}
-use Rattle.transport.specs.Freezing.{took}
+use Rattle.engine_transport.specs.Freezing.{took}
 use Rattle.engine_core.specs.Invariant.{HoldEntries}
 use Rattle.engine_core.proofs.Standing.{none_held}
 

@@ -1,10 +1,10 @@
 -- Where the calls lead, from what the tables tell of their steps.
 use Rattle.std.proofs.Common.{◌≡◌, List, length, Some, refl}
-use Rattle.runs.specs.RunsState.{RunsState}
-use Rattle.calls.specs.declared.call.Call.{Call}
-use Rattle.calls.specs.declared.call_answer.CallAnswer.{CallAnswer}
-use Rattle.calls.specs.declared.record.Record.{Record}
-use Rattle.calls.specs.declared.record.Record.TheVariants.{Called}
+use Rattle.engine_runs.specs.RunsState.{RunsState}
+use Rattle.world_calls.specs.declared.call.Call.{Call}
+use Rattle.world_calls.specs.declared.call_answer.CallAnswer.{CallAnswer}
+use Rattle.world_calls.specs.declared.record.Record.{Record}
+use Rattle.world_calls.specs.declared.record.Record.TheVariants.{Called}
 use Rattle.world.specs.World.{Runs, Transport, Setup, World, queue_count}
 use Rattle.world.specs.Event.{replies}
 use Rattle.world.specs.Step.{step_call}

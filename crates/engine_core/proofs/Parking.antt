@@ -3,12 +3,12 @@ use Rattle.std.proofs.Common.{◌≡◌, ℕ, ◌+◌, ◌<◌, ◌≤◌, Bool,
 use Rattle.std.specs.Option.{option_map}
 use Rattle.std.proofs.lemmas.Bool.{cond-true, cond-false}
 use Rattle.ccb.specs.Rising.{AreRising}
-use Rattle.runs.specs.RunsState.{RunsState}
-use Rattle.calls.specs.declared.record.Record.{Record}
-use Rattle.calls.specs.declared.call.Call.TheVariants.{Park, Resume}
-use Rattle.calls.specs.declared.call_answer.CallAnswer.TheVariants as answers
-use Rattle.calls.specs.declared.record.Record.TheVariants.{Called}
-use Rattle.calls.specs.declared.call_refusal.CallRefusal.TheVariants.{Unknown}
+use Rattle.engine_runs.specs.RunsState.{RunsState}
+use Rattle.world_calls.specs.declared.record.Record.{Record}
+use Rattle.world_calls.specs.declared.call.Call.TheVariants.{Park, Resume}
+use Rattle.world_calls.specs.declared.call_answer.CallAnswer.TheVariants as answers
+use Rattle.world_calls.specs.declared.record.Record.TheVariants.{Called}
+use Rattle.world_calls.specs.declared.call_refusal.CallRefusal.TheVariants.{Unknown}
 use Rattle.bpf_semantics.specs.Reached.{Reached}
 use Rattle.world.specs.World.{Transport, LiveRun, Setup, World, queue_count, queue_setup}
 use Rattle.world.specs.Lookups.{run_of, with_run}

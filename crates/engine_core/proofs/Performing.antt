@@ -11,19 +11,19 @@ use Rattle.ccb.specs.declared.completion.Completion.{Completion}
 use Rattle.freeze_ledger.specs.declared.freeze.Freeze.{Freeze}
 use Rattle.freeze_ledger.specs.declared.freeze.Holder.TheVariants.{Guest}
 use Rattle.ccb.specs.declared.place.Place.{Place}
-use Rattle.runs.specs.RunsState.{RunsState}
+use Rattle.engine_runs.specs.RunsState.{RunsState}
 use Rattle.engine_core.specs.RunState.{RunState, StoppedState, IsOutUnder}
-use Rattle.runs.specs.Admits.{IsOutWith}
-use Rattle.calls.specs.declared.call.Call.{Call}
-use Rattle.calls.specs.declared.call.Call.TheVariants as its
-use Rattle.calls.specs.declared.call_answer.CallAnswer.{CallAnswer}
-use Rattle.calls.specs.declared.call_answer.CallAnswer.TheVariants as answers
-use Rattle.calls.specs.declared.call_refusal.CallRefusal.{CallRefusal}
-use Rattle.calls.specs.declared.call_refusal.CallRefusal.TheVariants.{Unknown}
-use Rattle.calls.specs.declared.record.Record.{Record}
-use Rattle.calls.specs.declared.record.Record.TheVariants.{Called, Advance as AdvanceRecord}
-use Rattle.calls.specs.declared.record.StoppedAt.{StoppedAt}
-use Rattle.calls.specs.Answered.{ccb_answer, removed_answer}
+use Rattle.engine_runs.specs.Admits.{IsOutWith}
+use Rattle.world_calls.specs.declared.call.Call.{Call}
+use Rattle.world_calls.specs.declared.call.Call.TheVariants as its
+use Rattle.world_calls.specs.declared.call_answer.CallAnswer.{CallAnswer}
+use Rattle.world_calls.specs.declared.call_answer.CallAnswer.TheVariants as answers
+use Rattle.world_calls.specs.declared.call_refusal.CallRefusal.{CallRefusal}
+use Rattle.world_calls.specs.declared.call_refusal.CallRefusal.TheVariants.{Unknown}
+use Rattle.world_calls.specs.declared.record.Record.{Record}
+use Rattle.world_calls.specs.declared.record.Record.TheVariants.{Called, Advance as AdvanceRecord}
+use Rattle.world_calls.specs.declared.record.StoppedAt.{StoppedAt}
+use Rattle.world_calls.specs.Answered.{ccb_answer, removed_answer}
 use Rattle.world.specs.World.{Transport, Setup, LiveRun, World, queue_count}
 use Rattle.world.specs.Lookups.{run_of}
 use Rattle.world.specs.Event.{replies, refused}

@@ -4,8 +4,8 @@ use Rattle.std.specs.Option.{option_map}
 use Rattle.std.proofs.lemmas.Bool.{cond-true}
 use Rattle.bpf_semantics.specs.MachineState.{MachineState}
 use Rattle.bpf_semantics.specs.Reached.{PrivateSteps}
-use Rattle.calls.specs.declared.record.StoppedAt.{StoppedAt}
-use Rattle.calls.specs.declared.record.Record.TheVariants.{Advance}
+use Rattle.world_calls.specs.declared.record.StoppedAt.{StoppedAt}
+use Rattle.world_calls.specs.declared.record.Record.TheVariants.{Advance}
 use Rattle.world.specs.World.{Setup, LiveRun, World}
 use Rattle.world.specs.Lookups.{run_of}
 use Rattle.world.specs.Event.{private, executes, went_on, result}

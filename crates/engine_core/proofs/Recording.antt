@@ -2,8 +2,8 @@
 use Rattle.std.proofs.Common.{◌≡◌, List, [], ◌∷◌, ◌++◌, length, ap, sym, subst, ◌∙◌}
 use Rattle.std.proofs.lemmas.List.Concat.{flat_map-append}
 use Rattle.std.proofs.Common.{append-nil}
-use Rattle.runs.specs.RunsState.{RunsState}
-use Rattle.calls.specs.declared.record.Record.{Record}
+use Rattle.engine_runs.specs.RunsState.{RunsState}
+use Rattle.world_calls.specs.declared.record.Record.{Record}
 use Rattle.world.specs.World.{Runs, Setup, Transport, World, queue_count, opening}
 use Rattle.world.specs.Event.{Event, Reply}
 use Rattle.world.specs.WorldRun.{Leads, WorldRun}

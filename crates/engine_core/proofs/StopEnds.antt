@@ -19,12 +19,12 @@ use Rattle.bpf_semantics.specs.Step.{request_at, HasRoom, HasRoomFor, answered}
 use Rattle.bpf_semantics.specs.declared.stop.Stop.{Stop}
 use Rattle.bpf_semantics.specs.declared.stop.Stop.TheVariants.{Helper, Exit}
 use Rattle.interpreter.specs.Segments.{SegmentState, IsSegment, StandsAt}
-use Rattle.runs.specs.RunsState.{RunsState, tokens_at, tokens_of}
+use Rattle.engine_runs.specs.RunsState.{RunsState, tokens_at, tokens_of}
 use Rattle.std.specs.List.{remove}
-use Rattle.runs.specs.RunPlaces.{HasRunAt}
-use Rattle.calls.specs.declared.record.Record.{Record}
-use Rattle.calls.specs.declared.record.Record.TheVariants.{Advance}
-use Rattle.calls.specs.declared.record.StoppedAt.TheVariants.{Exit as at_exit_stop}
+use Rattle.engine_runs.specs.RunPlaces.{HasRunAt}
+use Rattle.world_calls.specs.declared.record.Record.{Record}
+use Rattle.world_calls.specs.declared.record.Record.TheVariants.{Advance}
+use Rattle.world_calls.specs.declared.record.StoppedAt.TheVariants.{Exit as at_exit_stop}
 use Rattle.world.specs.World.{Runs, Transport, Setup, LiveRun, World}
 use Rattle.world.specs.Lookups.{run_of, with_run}
 use Rattle.world.specs.Flat.{events_of}

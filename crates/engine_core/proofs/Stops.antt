@@ -13,9 +13,9 @@ use Rattle.bpf_semantics.specs.Reached.{PrivateSteps}
 use Rattle.interpreter.specs.Segments.{SegmentState, IsSegment}
 use Rattle.engine_core.specs.RunState.{IsOutAs}
 use Rattle.bpf_insn.specs.declared.program.Slot.{Slot}
-use Rattle.calls.specs.declared.record.StoppedAt.{StoppedAt}
-use Rattle.calls.specs.declared.record.StoppedAt.TheVariants.{Exit as at_exit_stop}
-use Rattle.calls.specs.declared.record.Record.TheVariants.{Advance}
+use Rattle.world_calls.specs.declared.record.StoppedAt.{StoppedAt}
+use Rattle.world_calls.specs.declared.record.StoppedAt.TheVariants.{Exit as at_exit_stop}
+use Rattle.world_calls.specs.declared.record.Record.TheVariants.{Advance}
 use Rattle.world.specs.World.{Runs, Transport, Setup, LiveRun, World}
 use Rattle.world.specs.Lawful.{IsLawful}
 use Rattle.world.specs.Lookups.{run_of, with_run}

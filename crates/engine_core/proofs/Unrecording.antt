@@ -6,19 +6,19 @@ use Rattle.std.proofs.lemmas.List.{get_or_default}
 use Rattle.ccb.specs.Completion.{Outcome, IsCompletion}
 use Rattle.freeze_ledger.specs.declared.freeze.Freeze.{Freeze}
 use Rattle.freeze_ledger.specs.Freezes.{entry_of}
-use Rattle.runs.specs.Admits.{IsOutWith}
-use Rattle.runs.specs.RunsState.{RunsState, no_runs}
-use Rattle.runs.specs.RunPlaces.{HasRunAt}
+use Rattle.engine_runs.specs.Admits.{IsOutWith}
+use Rattle.engine_runs.specs.RunsState.{RunsState, no_runs}
+use Rattle.engine_runs.specs.RunPlaces.{HasRunAt}
 use Rattle.helpers.specs.declared.limits.HelperLimits.{HelperLimits}
 use Rattle.bpf_semantics.specs.declared.stop.Stop.{Stop}
 use Rattle.bpf_semantics.specs.declared.stop.Stop.TheVariants.{Helper, Exit}
-use Rattle.calls.specs.declared.call.Call.{Call}
-use Rattle.calls.specs.declared.call.Call.TheVariants.{Submit, Dispatch, Complete, Clock, GuestRelease, Park, Resume}
-use Rattle.calls.specs.declared.call_answer.CallAnswer.{CallAnswer}
-use Rattle.calls.specs.declared.call_answer.CallAnswer.TheVariants as answers
-use Rattle.calls.specs.declared.record.StoppedAt.{StoppedAt}
-use Rattle.calls.specs.declared.record.Record.{Record}
-use Rattle.calls.specs.declared.record.Record.TheVariants.{Called, Advance}
+use Rattle.world_calls.specs.declared.call.Call.{Call}
+use Rattle.world_calls.specs.declared.call.Call.TheVariants.{Submit, Dispatch, Complete, Clock, GuestRelease, Park, Resume}
+use Rattle.world_calls.specs.declared.call_answer.CallAnswer.{CallAnswer}
+use Rattle.world_calls.specs.declared.call_answer.CallAnswer.TheVariants as answers
+use Rattle.world_calls.specs.declared.record.StoppedAt.{StoppedAt}
+use Rattle.world_calls.specs.declared.record.Record.{Record}
+use Rattle.world_calls.specs.declared.record.Record.TheVariants.{Called, Advance}
 use Rattle.world.specs.World.{Setup, LiveRun, Transport, World, opening}
 use Rattle.world.specs.Lawful.{IsLawful}
 use Rattle.world.specs.Lookups.{run_of}

@@ -5,10 +5,10 @@ use Rattle.ccb.specs.Completion.{Outcome}
 use Rattle.world.specs.declared.ccb_state.CcbState.TheVariants.{Active}
 use Rattle.world.specs.World.{Setup, World}
 use Rattle.world.specs.Lookups.{ccb_of}
-use Rattle.calls.specs.declared.call_answer.CallAnswer.TheVariants as answers
+use Rattle.world_calls.specs.declared.call_answer.CallAnswer.TheVariants as answers
 use Rattle.world.specs.Event.{Reply, replies, refused}
 use Rattle.world.specs.CcbSteps.{run_meets_limit, finishes, recovers}
-use Rattle.transport.specs.Listed.{IsPlaceOf}
+use Rattle.engine_transport.specs.Listed.{IsPlaceOf}
 use Rattle.engine_core.specs.declared.course.Course.{Course}
 use Rattle.engine_core.specs.declared.course.Course.TheVariants.{Refuse, Finish, Recover}
 

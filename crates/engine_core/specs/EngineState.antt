@@ -1,7 +1,7 @@
 -- What contracts see of an engine: its setup, its history, and the world that its fields are.
 use Rattle.std.specs.Prelude.{◌≡◌, true, List, [], ◌∷◌, ◌++◌, Contains}
 use Rattle.freeze_ledger.specs.declared.freeze.Freeze.{Freeze}
-use Rattle.calls.specs.declared.record.Record.{Record}
+use Rattle.world_calls.specs.declared.record.Record.{Record}
 use Rattle.world.specs.World.{Setup, Runs, Transport, World, opening}
 use Rattle.world.specs.Lawful.{IsLawful}
 use Rattle.world.specs.FreezeSteps.{is_guest}

@@ -1,8 +1,8 @@
 -- What an engine keeps.
 use Rattle.std.specs.Prelude.{◌≡◌, ℕ, ◌+◌, ◌≤◌, List, count_by, map}
 use Rattle.freeze_ledger.specs.declared.freeze.Freeze.{Freeze}
-use Rattle.runs.specs.RunsState.{RunsState, tokens_of}
-use Rattle.calls.specs.declared.record.Record.{Record}
+use Rattle.engine_runs.specs.RunsState.{RunsState, tokens_of}
+use Rattle.world_calls.specs.declared.record.Record.{Record}
 use Rattle.world.specs.World.{Setup, LiveRun, Transport}
 use Rattle.world.specs.Laws.FreezeLaws.{entries_of}
 use Rattle.engine_core.specs.EngineState.{world_of, IsRun}

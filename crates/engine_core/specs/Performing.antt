@@ -1,9 +1,9 @@
 -- What an event needs of an engine's parts, and what it makes of them.
 use Rattle.std.specs.Prelude.{◌≡◌, ℕ, ◌+◌, ◌≤◌, List, Some, Contains, true}
-use Rattle.runs.specs.RunsState.{RunsState}
-use Rattle.runs.specs.Admits.{IsOutWith}
-use Rattle.runs.specs.RunPlaces.{HasRunAt}
-use Rattle.calls.specs.declared.record.Record.{Record}
+use Rattle.engine_runs.specs.RunsState.{RunsState}
+use Rattle.engine_runs.specs.Admits.{IsOutWith}
+use Rattle.engine_runs.specs.RunPlaces.{HasRunAt}
+use Rattle.world_calls.specs.declared.record.Record.{Record}
 use Rattle.world.specs.World.{Setup, LiveRun, Transport, World}
 use Rattle.world.specs.Lookups.{run_of}
 use Rattle.world.specs.FreezeSteps.{is_guest}

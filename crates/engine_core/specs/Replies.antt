@@ -5,13 +5,13 @@ use Rattle.bpf_insn.specs.declared.program.Slot.{Slot}
 use Rattle.ccb.specs.declared.CcbId.{CcbId}
 use Rattle.ccb.specs.declared.QueueId.{QueueId}
 use Rattle.freeze_ledger.specs.declared.freeze.Holder.TheVariants.{Guest}
-use Rattle.calls.specs.declared.call.Call.{Call}
-use Rattle.calls.specs.declared.call.Call.TheVariants as its
-use Rattle.calls.specs.declared.call_answer.CallAnswer.{CallAnswer}
-use Rattle.calls.specs.declared.call_answer.CallAnswer.TheVariants as answers
-use Rattle.calls.specs.declared.call_refusal.CallRefusal.{CallRefusal}
-use Rattle.calls.specs.declared.record.Record.{Record}
-use Rattle.calls.specs.declared.record.Record.TheVariants.{Called, Advance as advanced}
+use Rattle.world_calls.specs.declared.call.Call.{Call}
+use Rattle.world_calls.specs.declared.call.Call.TheVariants as its
+use Rattle.world_calls.specs.declared.call_answer.CallAnswer.{CallAnswer}
+use Rattle.world_calls.specs.declared.call_answer.CallAnswer.TheVariants as answers
+use Rattle.world_calls.specs.declared.call_refusal.CallRefusal.{CallRefusal}
+use Rattle.world_calls.specs.declared.record.Record.{Record}
+use Rattle.world_calls.specs.declared.record.Record.TheVariants.{Called, Advance as advanced}
 use Rattle.engine_core.specs.RunState.{IsOut, IsOutUnder, before_stop}
 use Rattle.world.specs.World.{Setup, World, queue_setup}
 use Rattle.engine_core.specs.declared.answers.CompleteAnswer.{CompleteAnswer}

@@ -3,7 +3,7 @@ use Rattle.std.specs.Prelude.{◌≡◌, ℕ, true, List, Some}
 use Rattle.bpf_insn.specs.declared.program.Slot.{Slot}
 use Rattle.bpf_semantics.specs.MachineState.{MachineState}
 use Rattle.bpf_semantics.specs.Reached.{Reached}
-use Rattle.accepted.specs.Verdict.{Verdict}
+use Rattle.bpf_accepted.specs.Verdict.{Verdict}
 use Rattle.interpreter.specs.Segments.{SegmentState, IsSegment}
 use Rattle.world.specs.World.{Setup, queue_setup, LiveRun, World}
 use Rattle.world.specs.Lookups.{run_of}

@@ -13,12 +13,12 @@ use Rattle.bpf_semantics.specs.MachineState.{MachineState}
 use Rattle.bpf_semantics.specs.Step.{IsAnswer}
 use Rattle.bpf_semantics.specs.declared.stop.Stop.TheVariants.{Helper as at_helper, Exit as at_exit}
 use Rattle.interpreter.specs.Segments.{SegmentState, IsSegment}
-use Rattle.runs.specs.RunsState.{RunsState}
-use Rattle.runs.specs.RunPlaces.{HasRunAt}
+use Rattle.engine_runs.specs.RunsState.{RunsState}
+use Rattle.engine_runs.specs.RunPlaces.{HasRunAt}
 use Rattle.engine_core.specs.RunState.{IsOutAs, RunState, StoppedState, before_stop}
-use Rattle.calls.specs.declared.record.StoppedAt.{StoppedAt}
-use Rattle.calls.specs.declared.record.Record.{Record}
-use Rattle.calls.specs.declared.record.Record.TheVariants.{Advance}
+use Rattle.world_calls.specs.declared.record.StoppedAt.{StoppedAt}
+use Rattle.world_calls.specs.declared.record.Record.{Record}
+use Rattle.world_calls.specs.declared.record.Record.TheVariants.{Advance}
 use Rattle.world.specs.World.{Setup, LiveRun, Runs, Transport, World}
 use Rattle.world.specs.Lookups.{run_of, with_run}
 use Rattle.world.specs.Event.{Event, Reply}

@@ -2,19 +2,19 @@
 use Rattle.std.specs.Prelude.{◌≡◌, ℕ, List, [], ◌∷◌, ◌++◌, length, filter, count_by, Option, Some, None, map}
 use Rattle.ccb.specs.Rising.{AreRising}
 use Rattle.freeze_ledger.specs.declared.freeze.Freeze.{Freeze}
-use Rattle.calls.specs.declared.call.Call.{Call}
-use Rattle.calls.specs.declared.call_answer.CallAnswer.{CallAnswer}
-use Rattle.calls.specs.declared.call_answer.CallAnswer.TheVariants as answers
-use Rattle.calls.specs.declared.record.StoppedAt.{StoppedAt}
-use Rattle.calls.specs.declared.record.Record.{Record}
-use Rattle.calls.specs.declared.record.Record.TheVariants.{Called, Advance}
-use Rattle.calls.specs.declared.totals.Totals.{Totals}
+use Rattle.world_calls.specs.declared.call.Call.{Call}
+use Rattle.world_calls.specs.declared.call_answer.CallAnswer.{CallAnswer}
+use Rattle.world_calls.specs.declared.call_answer.CallAnswer.TheVariants as answers
+use Rattle.world_calls.specs.declared.record.StoppedAt.{StoppedAt}
+use Rattle.world_calls.specs.declared.record.Record.{Record}
+use Rattle.world_calls.specs.declared.record.Record.TheVariants.{Called, Advance}
+use Rattle.world_calls.specs.declared.totals.Totals.{Totals}
 use Rattle.world.specs.World.{Setup, Runs, Transport, World, opening}
 use Rattle.world.specs.Lookups.{is_active}
 use Rattle.world.specs.FreezeSteps.{is_guest}
 use Rattle.world.specs.WorldRun.{WorldRun}
 use Rattle.world.specs.Flat.{flat}
-use Rattle.runs.specs.RunsState.{RunsState}
+use Rattle.engine_runs.specs.RunsState.{RunsState}
 use Rattle.engine_core.specs.declared.event.Event.{Event}
 use Rattle.engine_core.specs.declared.event.Event.TheVariants as events
 use Rattle.engine_core.specs.Invariant.{KeepsEngine}

@@ -1,7 +1,7 @@
-// What the engine's methods answer beside their values. It relies on `calls` for refusals, and on `run` for runs.
+// What the engine's methods answer beside their values. It relies on `world_calls` for refusals, and on `run` for runs.
 
 use crate::run::Run;
-use calls::CallRefusal;
+use world_calls::CallRefusal;
 use thiserror::Error;
 
 /// Why a call was not carried out.

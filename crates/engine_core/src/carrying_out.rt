@@ -1,5 +1,5 @@
-// What the calls of helpers do, a function a deed. It relies on `transport` for the run's CCB, its queue, the freezes and
-// the clock, and on `runs` for the run, its tokens and the tables.
+// What the calls of helpers do, a function a deed. It relies on `engine_transport` for the run's CCB, its queue, the freezes and
+// the clock, and on `engine_runs` for the run, its tokens and the tables.
 
 ghost use Rattle.helpers.specs.declared.table.Deed.TheVariants as deeds;
 ghost use Rattle.interpreter.specs.Segments.{SegmentState};
@@ -8,8 +8,8 @@ ghost use Rattle.engine_core.specs.TakingOver.{IsCalled, Asks, AsksOf, AsksToFre
 use ccb::{Place, QueueId};
 use freeze_ledger::Holder;
 use helpers::{Answer, Deed, Request, Written};
-use runs::Runs;
-use transport::Transport;
+use engine_runs::Runs;
+use engine_transport::Transport;
 
 /// Does what the call of a helper asks: its answer. What a call records is told by the record of the advance.
 #[inline(always)]

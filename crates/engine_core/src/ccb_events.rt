@@ -1,9 +1,9 @@
-// The events that are about CCBs: a submission, a start and a completion. It relies on `transport` for CCBs and their
+// The events that are about CCBs: a submission, a start and a completion. It relies on `engine_transport` for CCBs and their
 // queues, and on `course` for what becomes of a completed one.
 
 ghost use Rattle.std.specs.Prelude.{◌≡◌, List, IfOk, IfErr};
-ghost use Rattle.calls.specs.declared.record.Record.{Record as TheRecord};
-ghost use Rattle.runs.specs.RunsState.{RunsState};
+ghost use Rattle.world_calls.specs.declared.record.Record.{Record as TheRecord};
+ghost use Rattle.engine_runs.specs.RunsState.{RunsState};
 ghost use Rattle.world.specs.World.{Setup};
 ghost use Rattle.engine_core.specs.declared.event.Event.TheVariants.{Submit, Dispatch, Complete};
 ghost use Rattle.engine_core.specs.declared.reply.Back.TheVariants as back;
@@ -13,12 +13,12 @@ ghost use Rattle.engine_core.specs.Performing.{Performs};
 use crate::course::{Course, decide, recover};
 use crate::reply::{Back, Given, Reply};
 use crate::told::{ccb_told, refused};
-use calls::{Call, CallAnswer, CompletionRecord, Record};
+use world_calls::{Call, CallAnswer, CompletionRecord, Record};
 use ccb::{Completion, QueueId};
 use engine_config::Config;
-use runs::Runs;
+use engine_runs::Runs;
 use std::alloc::{AllocError, Global};
-use transport::Transport;
+use engine_transport::Transport;
 
 /// A CCB waits, or C1, or C2.
 #[inline(always)]

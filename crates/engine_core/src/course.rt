@@ -1,28 +1,28 @@
-// What a completion asks for, and how a run starts. It relies on `transport` for CCBs and
-// freezes, on `runs` for runs, and on `config` for the program of a queue.
+// What a completion asks for, and how a run starts. It relies on `engine_transport` for CCBs and
+// freezes, on `engine_runs` for runs, and on `config` for the program of a queue.
 
 ghost use Rattle.std.specs.Prelude.{◌≡◌, ◌<◌, true, false, List, IfOk, OnErr};
-ghost use Rattle.calls.specs.declared.record.Record.{Record as TheRecord};
+ghost use Rattle.world_calls.specs.declared.record.Record.{Record as TheRecord};
 ghost use Rattle.ccb.specs.Completion.{IsCompletion};
 ghost use Rattle.world.specs.World.{Setup, World, queue_count};
-ghost use Rattle.calls.specs.declared.call.Call.TheVariants.{Complete};
-ghost use Rattle.calls.specs.declared.call_answer.CallAnswer.TheVariants as answers;
+ghost use Rattle.world_calls.specs.declared.call.Call.TheVariants.{Complete};
+ghost use Rattle.world_calls.specs.declared.call_answer.CallAnswer.TheVariants as answers;
 ghost use Rattle.world.specs.Event.{replies};
 ghost use Rattle.world.specs.CcbSteps.{is_success, run_meets_limit, recovers};
 ghost use Rattle.world.specs.Step.{step_call};
-ghost use Rattle.transport.specs.Listed.{IsPlaceOf};
+ghost use Rattle.engine_transport.specs.Listed.{IsPlaceOf};
 ghost use Rattle.engine_core.specs.Courses.{takes, IsActive, IsOpen};
 ghost use Rattle.engine_core.specs.Invariant.{HoldEntries, KeepsEngine};
 ghost use Rattle.engine_core.specs.RunState.{IsOutUnder};
 
 use crate::run::Run;
-use calls::CallRefusal;
+use world_calls::CallRefusal;
 use ccb::{CamStatus, Ccb, Completion};
 use engine_config::Config;
-use runs::Runs;
+use engine_runs::Runs;
 use std::alloc::AllocError;
 use std::sync::Arc;
-use transport::Transport;
+use engine_transport::Transport;
 
 /// What is to be done about a completion.
 #[derive(Drop)]

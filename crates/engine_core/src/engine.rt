@@ -5,9 +5,9 @@
 ghost use Rattle.std.specs.Prelude.{◌≡◌, ◌↔◌, IsTrue, ◌+◌, ◌≤◌, ◌++◌, ◌∷◌, [], length, false, IsNone, IfSome, IfOk, IfErr, OnErr};
 ghost use Rattle.engine_config.specs.Configured.{AreProgramsOf};
 ghost use Rattle.freeze_ledger.specs.Deadlines.{some_timer};
-ghost use Rattle.transport.specs.Freezing.{IsNextDue};
-ghost use Rattle.runs.specs.Admits.{IsOutWith};
-ghost use Rattle.runs.specs.RunsState.{no_runs};
+ghost use Rattle.engine_transport.specs.Freezing.{IsNextDue};
+ghost use Rattle.engine_runs.specs.Admits.{IsOutWith};
+ghost use Rattle.engine_runs.specs.RunsState.{no_runs};
 ghost use Rattle.world.specs.World.{opening, version_of};
 ghost use Rattle.world.specs.Lawful.{IsLawful};
 ghost use Rattle.world.specs.TotalsOf.{TotalsOf, totals_in};
@@ -20,17 +20,17 @@ use crate::event::Event;
 use crate::parts::Parts;
 use crate::reply::Reply;
 use crate::run::Run;
-use accepted::Accepted;
-use calls::{Record, Totals, Trace, Version};
+use bpf_accepted::Accepted;
+use world_calls::{Record, Totals, Trace, Version};
 use ccb::QueueId;
-use chunked_list::ChunkedList;
+use base_chunked_list::ChunkedList;
 use engine_config::Config;
 use interpreter::Segment;
-use runs::{MAX_RUNS, Runs};
+use engine_runs::{MAX_RUNS, Runs};
 use std::alloc::{AllocError, Global};
 use std::marker::Model;
 use std::sync::Arc;
-use transport::Transport;
+use engine_transport::Transport;
 
 /// The room that a call makes in the history: for its own record, and for one of each run, which may be parked behind it.
 const ROOM: usize = 1 + MAX_RUNS;

@@ -1,7 +1,7 @@
-// The events that are about freezes and the clock. It relies on `transport` for both.
+// The events that are about freezes and the clock. It relies on `engine_transport` for both.
 
 ghost use Rattle.std.specs.Prelude.{◌≡◌, Contains, true};
-ghost use Rattle.runs.specs.RunsState.{RunsState};
+ghost use Rattle.engine_runs.specs.RunsState.{RunsState};
 ghost use Rattle.world.specs.World.{Setup};
 ghost use Rattle.world.specs.FreezeSteps.{is_guest};
 ghost use Rattle.engine_core.specs.declared.event.Event.TheVariants.{Clock, GuestFreeze, GuestRelease};
@@ -9,11 +9,11 @@ ghost use Rattle.engine_core.specs.Performing.{Performs};
 
 use crate::reply::{Given, Reply};
 use crate::told::{refused, removed_told};
-use calls::{Call, CallAnswer, Record};
+use world_calls::{Call, CallAnswer, Record};
 use ccb::Place;
 use engine_config::Config;
 use freeze_ledger::FreezeToken;
-use transport::Transport;
+use engine_transport::Transport;
 
 /// A guest has a freeze more of the place, or C1, or C2.
 pub(crate) fn guest_freeze(

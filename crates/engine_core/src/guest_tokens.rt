@@ -1,5 +1,5 @@
 // The tokens of guests' freezes, where nobody else keeps them: found by number. It relies on `freeze_ledger` for tokens, and on
-// `numbered_slots` for the search.
+// `cam_numbered_slots` for the search.
 
 ghost use Rattle.std.specs.Prelude.{◌≡◌, ◌<◌, ◌≤◌, Contains, None, IfSome, IfNone, length, vec_capacity};
 ghost use Rattle.std.specs.List.{insert};
@@ -7,7 +7,7 @@ ghost use Rattle.freeze_ledger.specs.Freezes.{entry_of, without};
 ghost use Rattle.engine_core.specs.Unrecorded.{AreTokens};
 
 use freeze_ledger::FreezeToken;
-use numbered_slots::{Numbered, place_for};
+use cam_numbered_slots::{Numbered, place_for};
 use std::marker::Model;
 
 /// The right of a guest to give a freeze back. Where it is dropped, as with its engine, the freeze is forfeited.

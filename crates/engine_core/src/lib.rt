@@ -1,6 +1,6 @@
 // The engine: one call at a time on the world's device queues, CCBs, freezes and recovery runs, each answer one
-// record of a history that is kept whole. It relies on `world` for what the calls mean, on `transport` for CCBs, queues and
-// freezes, and on `runs` for runs.
+// record of a history that is kept whole. It relies on `world` for what the calls mean, on `engine_transport` for CCBs, queues and
+// freezes, and on `engine_runs` for runs.
 #![tactic(auto)]
 
 mod answers;
@@ -25,7 +25,7 @@ mod told;
 mod unrecorded;
 
 pub use answers::{AdvanceAnswer, AdvanceFault, CallFault, CompleteAnswer, ReleaseFault};
-pub use calls::{Call, CallAnswer, CallRefusal, Record, StoppedAt, Totals, Trace};
+pub use world_calls::{Call, CallAnswer, CallRefusal, Record, StoppedAt, Totals, Trace};
 pub use engine::Engine;
 pub use engine_config::Config;
 pub use event::Event;
@@ -34,6 +34,6 @@ pub use reply::{Back, Given, Reply};
 pub use run::Run;
 pub use run_info::RunInfo;
 pub use stopped::Stopped;
-pub use transport::LiveCcb;
+pub use engine_transport::LiveCcb;
 pub use unrecorded::Unrecorded;
 pub use world::{CcbState, QueueInfo};

@@ -1,8 +1,8 @@
 // The parts of an engine beside its configuration and its history: what an event needs of them, and what it makes of them.
-// It relies on `transport` for CCBs, queues, freezes and the clock, and on `runs` for runs and tables.
+// It relies on `engine_transport` for CCBs, queues, freezes and the clock, and on `engine_runs` for runs and tables.
 
 ghost use Rattle.std.specs.Prelude.{◌≡◌, false, List, IfOk, IfNone, IfSome, IfErr};
-ghost use Rattle.calls.specs.declared.record.Record.{Record as TheRecord};
+ghost use Rattle.world_calls.specs.declared.record.Record.{Record as TheRecord};
 ghost use Rattle.world.specs.World.{Setup, World};
 ghost use Rattle.engine_core.specs.Invariant.{KeepsEngine};
 ghost use Rattle.engine_core.specs.Performing.{FitsAt, Performs, world_with};
@@ -13,12 +13,12 @@ use crate::event::Event;
 use crate::freeze_events::{guest_freeze, guest_release, read_clock};
 use crate::reply::{Back, Reply};
 use crate::run_events::{advance, park, resume};
-use calls::Record;
+use world_calls::Record;
 use ccb::QueueId;
 use engine_config::Config;
-use runs::Runs;
+use engine_runs::Runs;
 use std::alloc::Global;
-use transport::Transport;
+use engine_transport::Transport;
 
 /// What CAM keeps, and the runs of recovery programs.
 #[derive(Drop)]

@@ -1,4 +1,4 @@
-// What the engine replies to a call. It relies on `run` for runs, on `calls` for refusals, and on `freeze_ledger` for
+// What the engine replies to a call. It relies on `run` for runs, on `world_calls` for refusals, and on `freeze_ledger` for
 // tokens.
 
 ghost use Rattle.std.specs.Prelude.{◌≡◌};
@@ -10,7 +10,7 @@ ghost use Rattle.engine_core.specs.Faults.{FaultIs};
 
 use crate::answers::{AdvanceAnswer, CallFault, CompleteAnswer};
 use crate::run::Run;
-use calls::CallRefusal;
+use world_calls::CallRefusal;
 use ccb::CcbId;
 use freeze_ledger::FreezeToken;
 

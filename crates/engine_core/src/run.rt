@@ -1,14 +1,14 @@
-// A run that is out: the right to take it further. It relies on `accepted` for its program, on `bpf_machine` for its
+// A run that is out: the right to take it further. It relies on `bpf_accepted` for its program, on `bpf_machine` for its
 // machine, and on `interpreter` for what it executes by itself.
 
 ghost use Rattle.std.specs.Prelude.{◌≡◌, ◌↔◌, IsTrue};
 ghost use Rattle.std.specs.Arc.{arc_value};
-ghost use Rattle.accepted.specs.Verdict.{IsAccepted};
+ghost use Rattle.bpf_accepted.specs.Verdict.{IsAccepted};
 ghost use Rattle.interpreter.specs.Segments.{IsWithinBudget};
 ghost use Rattle.engine_core.specs.RunState.{IsReached, IsStopped, before_stop};
 
 use crate::stopped::Stopped;
-use accepted::Accepted;
+use bpf_accepted::Accepted;
 use bpf_machine::Machine;
 use ccb::QueueId;
 use interpreter::{Segment, go_to_stop};

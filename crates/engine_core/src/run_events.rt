@@ -1,12 +1,12 @@
-// The events of a run: an advance, a park and a resume. It relies on `runs` for what is recorded of a run, and on
+// The events of a run: an advance, a park and a resume. It relies on `engine_runs` for what is recorded of a run, and on
 // `taking_over` for what its segment's stop does.
 
 ghost use Rattle.std.specs.Prelude.{◌≡◌, ℕ, List, IfOk, IfErr};
 ghost use Rattle.world.specs.World.{Transport as TheTransport};
-ghost use Rattle.calls.specs.declared.record.Record.{Record as TheRecord};
-ghost use Rattle.runs.specs.Admits.{IsOutWith};
+ghost use Rattle.world_calls.specs.declared.record.Record.{Record as TheRecord};
+ghost use Rattle.engine_runs.specs.Admits.{IsOutWith};
 ghost use Rattle.world.specs.World.{Setup, LiveRun};
-ghost use Rattle.runs.specs.RunPlaces.{HasRunAt};
+ghost use Rattle.engine_runs.specs.RunPlaces.{HasRunAt};
 ghost use Rattle.engine_core.specs.declared.event.Event.TheVariants.{Advance, Park, Resume};
 ghost use Rattle.engine_core.specs.declared.reply.Back.TheVariants as back;
 ghost use Rattle.engine_core.specs.Invariant.{KeepsEngine};
@@ -18,12 +18,12 @@ use crate::run::Run;
 use crate::stopped::Stopped;
 use crate::taking_over::{recorded, take_over};
 use crate::told::refused;
-use calls::{Call, CallAnswer, CallRefusal, Record};
+use world_calls::{Call, CallAnswer, CallRefusal, Record};
 use engine_config::Config;
-use runs::Runs;
+use engine_runs::Runs;
 use std::alloc::{AllocError, Global};
 use std::sync::Arc;
-use transport::Transport;
+use engine_transport::Transport;
 
 /// What the run at this place executed is taken over. Where memory is refused nothing changes, and the run comes back.
 #[inline(always)]

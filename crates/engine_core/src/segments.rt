@@ -1,9 +1,9 @@
-// An advance of a run and a segment that stand apart. It relies on `methods` for a run at its stop, and on `runs` for what
+// An advance of a run and a segment that stand apart. It relies on `methods` for a run at its stop, and on `engine_runs` for what
 // is recorded of a run.
 
 ghost use Rattle.std.specs.Prelude.{◌≡◌, IfOk, IfErr, MatchResult};
-ghost use Rattle.accepted.specs.Verdict.{IsAccepted};
-ghost use Rattle.calls.specs.declared.record.Record.TheVariants.{Advance};
+ghost use Rattle.bpf_accepted.specs.Verdict.{IsAccepted};
+ghost use Rattle.world_calls.specs.declared.record.Record.TheVariants.{Advance};
 ghost use Rattle.engine_core.specs.Answers.{stopped_at, r0_of, GoesOrEnds};
 ghost use Rattle.engine_core.specs.EngineState.{IsRun, Records};
 ghost use Rattle.engine_core.specs.Faults.{AdmitsUnlessTold};

@@ -6,19 +6,19 @@ ghost use Rattle.std.specs.Arc.{arc_value};
 ghost use Rattle.bpf_semantics.specs.declared.stop.Stop.TheVariants.{Helper};
 ghost use Rattle.bpf_semantics.specs.Step.{IsAnswer, HasRoomFor, answered};
 ghost use Rattle.interpreter.specs.Segments.{StandsAt, stretch};
-ghost use Rattle.runs.specs.RunPlaces.{HasRunAt};
+ghost use Rattle.engine_runs.specs.RunPlaces.{HasRunAt};
 ghost use Rattle.world.specs.World.{LiveRun};
 ghost use Rattle.engine_core.specs.RunState.{IsStopped, before_stop};
 ghost use Rattle.engine_core.specs.TakingOver.{Goes, Stands};
 
 use crate::run::Run;
-use accepted::Accepted;
+use bpf_accepted::Accepted;
 use bpf_machine::Machine;
 use bpf_semantics::Stop;
 use ccb::QueueId;
 use helpers::{Answer, Request};
 use interpreter::stop_of;
-use runs::Runs;
+use engine_runs::Runs;
 use std::marker::Model;
 use std::sync::Arc;
 

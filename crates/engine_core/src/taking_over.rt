@@ -1,5 +1,5 @@
 // What the stop of a run's segment does, and what is recorded of it. It relies on `carrying_out` for what a call does, and on
-// `runs` for the run.
+// `engine_runs` for the run.
 
 ghost use Rattle.std.specs.Prelude.{◌≡◌, ℕ, IfOk};
 ghost use Rattle.bpf_semantics.specs.declared.stop.Stop.TheVariants.{Helper};
@@ -15,11 +15,11 @@ use crate::reply::Given;
 use crate::run::Run;
 use crate::stopped::Stopped;
 use bpf_semantics::Stop;
-use calls::{StoppedAt, TracedBytes};
+use world_calls::{StoppedAt, TracedBytes};
 use helpers::{Request, Tells};
-use runs::Runs;
+use engine_runs::Runs;
 use std::alloc::{AllocError, Global};
-use transport::Transport;
+use engine_transport::Transport;
 
 /// What is recorded of a stop. Only bytes that a call tells take memory.
 #[inline(always)]

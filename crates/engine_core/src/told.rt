@@ -1,13 +1,13 @@
-// What is replied and recorded of a call that gives a value, or is refused. It relies on `reply` and on `calls`.
+// What is replied and recorded of a call that gives a value, or is refused. It relies on `reply` and on `world_calls`.
 
 ghost use Rattle.std.specs.Prelude.{◌≡◌};
-ghost use Rattle.calls.specs.declared.record.Record.TheVariants.{Called};
-ghost use Rattle.calls.specs.Answered.{ccb_answer, removed_answer};
+ghost use Rattle.world_calls.specs.declared.record.Record.TheVariants.{Called};
+ghost use Rattle.world_calls.specs.Answered.{ccb_answer, removed_answer};
 ghost use Rattle.engine_core.specs.Replies.{ccb_reply, removed_reply, refused_as};
 ghost use Rattle.engine_core.specs.Unrecorded.{IsCalled, answer_told};
 
 use crate::reply::{Given, Reply};
-use calls::{Call, CallAnswer, CallRefusal, Record};
+use world_calls::{Call, CallAnswer, CallRefusal, Record};
 use ccb::CcbId;
 
 /// A call that is refused.

@@ -3,9 +3,9 @@
 // happen.
 
 ghost use Rattle.std.specs.Prelude.{◌≡◌, ◌<◌, ◌↔◌, ◌∷◌, [], ◌++◌, length, Some, None, IsSome, IfSome, IfNone, IfOk, OnErr, false};
-ghost use Rattle.calls.specs.declared.call.Call.{Call as TheCall};
-ghost use Rattle.calls.specs.declared.call.Call.TheVariants.{Complete, GuestFreeze, GuestRelease, Park};
-ghost use Rattle.calls.specs.declared.record.Record.TheVariants.{Called};
+ghost use Rattle.world_calls.specs.declared.call.Call.{Call as TheCall};
+ghost use Rattle.world_calls.specs.declared.call.Call.TheVariants.{Complete, GuestFreeze, GuestRelease, Park};
+ghost use Rattle.world_calls.specs.declared.record.Record.TheVariants.{Called};
 ghost use Rattle.freeze_ledger.specs.Freezes.{holders_of};
 ghost use Rattle.ccb.specs.Places.{index_of, places_of};
 ghost use Rattle.world.specs.Capacities.{most_controllers};
@@ -24,14 +24,14 @@ use crate::run_events::{advance, run_at};
 use crate::run_info::RunInfo;
 use crate::told::answer_in;
 use bpf_semantics::Stop;
-use calls::{Call, CallAnswer, CompletionRecord, Record, Totals};
+use world_calls::{Call, CallAnswer, CompletionRecord, Record, Totals};
 use ccb::{CcbId, Completion, Place, QueueId};
 use engine_config::Config;
 use freeze_ledger::Holders;
 use helpers::Request;
 use std::alloc::{AllocError, Global};
 use std::marker::Model;
-use transport::LiveCcb;
+use engine_transport::LiveCcb;
 use world::QueueInfo;
 
 /// Device queues with their CCBs, freezes and recovery runs, of which no history is kept. It is asked by plain calls, and has all

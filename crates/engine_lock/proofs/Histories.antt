@@ -1,7 +1,7 @@
 -- The shared history, one record longer.
 use Rattle.std.proofs.Common.{◌≡◌, ℕ, true, false, Option, List, [], ◌∷◌, ◌++◌, refl, ap, sym, subst, ◌∙◌}
 use Rattle.std.specs.Prelude.{MatchOption}
-use Rattle.calls.specs.declared.record.Record.{Record}
+use Rattle.world_calls.specs.declared.record.Record.{Record}
 use Rattle.monitor.specs.declared.knowledge.Pair.{Pair}
 use Rattle.monitor.specs.LegalHistory.{LegalHistory, StartsWith, pair, records, unshared}
 use Rattle.monitor.specs.Telling.{CallerState, Joins, KeeperState, Looks, new_caller, new_watch}

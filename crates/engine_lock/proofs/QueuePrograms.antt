@@ -4,7 +4,7 @@ use Rattle.std.specs.Arc.{arc_value}
 use Rattle.std.specs.Global.{Global}
 use Rattle.std.specs.declared.sync.Arc.{Arc}
 use Rattle.std.proofs.lemmas.List.{get_or-map, length-map}
-use Rattle.accepted.specs.declared.accepted.Accepted.{Accepted}
+use Rattle.bpf_accepted.specs.declared.accepted.Accepted.{Accepted}
 use Rattle.world.specs.World.{QueueSetup, Setup, no_queue, queue_setup}
 use Rattle.engine_config.specs.Configured.{AreProgramsOf}
 

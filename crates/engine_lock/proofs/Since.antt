@@ -1,7 +1,7 @@
 -- A recorded call is one record more.
 use Rattle.std.proofs.Common.{◌≡◌, ℕ, ◌+◌, List, [], ◌∷◌, ◌++◌, true, false, Option, Some, refl, ap, subst, ◌∙◌, arith, append_assoc, length-append}
 use Rattle.std.specs.Prelude.{MatchOption}
-use Rattle.calls.specs.declared.record.Record.{Record}
+use Rattle.world_calls.specs.declared.record.Record.{Record}
 use Rattle.world.specs.World.{Setup}
 use Rattle.engine_core.specs.EngineState.{EngineState, IsRun, Records}
 use Rattle.engine_core.specs.declared.event.Event.{Event}

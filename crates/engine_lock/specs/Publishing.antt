@@ -1,6 +1,6 @@
 -- The last record of a history.
 use Rattle.std.specs.Prelude.{List, [], ◌∷◌}
-use Rattle.calls.specs.declared.record.Record.{Record}
+use Rattle.world_calls.specs.declared.record.Record.{Record}
 use Rattle.monitor.specs.Nameless.{a_record}
 
 abbrev pub last_of : List Record → Record

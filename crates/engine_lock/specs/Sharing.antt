@@ -1,7 +1,7 @@
 -- What an engine that is shared keeps under its lock, and what a call of it says.
 use Rattle.std.specs.Prelude.{◌≡◌, ℕ, Bool, true, false, List, [], ◌++◌, length, All, MatchOption}
 use Rattle.std.specs.List.{sum_by}
-use Rattle.calls.specs.declared.record.Record.{Record}
+use Rattle.world_calls.specs.declared.record.Record.{Record}
 use Rattle.world.specs.World.{Setup}
 use Rattle.engine_core.specs.EngineState.{EngineState, IsRun}
 use Rattle.engine_core.specs.declared.event.Event.{Event}

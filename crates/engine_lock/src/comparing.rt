@@ -6,7 +6,7 @@ ghost use Rattle.world.specs.World.{Setup, queue_setup};
 ghost use Rattle.engine_config.specs.Configured.{AreProgramsOf};
 ghost use Rattle.engine_core.specs.Replies.{IsOfKnown};
 
-use accepted::Accepted;
+use bpf_accepted::Accepted;
 use ccb::QueueId;
 use engine_core::{Event, Stopped};
 use std::sync::Arc;

@@ -6,7 +6,7 @@ ghost use Rattle.engine_lock.specs.declared.object.TheConstants.{MAX_CALLERS};
 
 use crate::locked::Locked;
 use crate::shared::Shared;
-use accepted::Accepted;
+use bpf_accepted::Accepted;
 use engine_core::Engine;
 use monitor::Origin;
 use std::alloc::{AllocError, Global};

@@ -13,7 +13,7 @@ use crate::comparing::known_queue;
 use crate::fault::LockFault;
 use crate::locked::Locked;
 use crate::object::Object;
-use accepted::Accepted;
+use bpf_accepted::Accepted;
 use engine_core::{Event, Reply};
 use monitor::{Monitor, Watch};
 use std::sync::{Arc, Mutex, Wait};

@@ -1,5 +1,5 @@
 pub use Rattle.bpf_semantics.specs.Reached
-pub use Rattle.accepted.specs.Verdict
+pub use Rattle.bpf_accepted.specs.Verdict
 pub mod Segments
 pub mod Stretches
 pub mod Laws

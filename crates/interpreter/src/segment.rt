@@ -5,7 +5,7 @@ ghost use Rattle.std.specs.Prelude.{◌≡◌};
 ghost use Rattle.std.specs.Arc.{arc_value};
 ghost use Rattle.interpreter.specs.Segments.{IsSegment, IsWithinBudget};
 
-use accepted::Accepted;
+use bpf_accepted::Accepted;
 use bpf_machine::Machine;
 use bpf_semantics::Stop;
 use std::marker::Model;

@@ -8,7 +8,7 @@ use Rattle.toml.specs.Parse.{parse_document}
 use Rattle.helpers.specs.declared.limits.HelperLimits.{HelperLimits}
 use Rattle.helpers.specs.declared.limits.HelperSet.{HelperSet}
 use Rattle.engine_config.specs.Configured.{Given, IsConfigured, IsGivenUnder, queue_of as queue_given}
-use Rattle.accepted.specs.Verdict.{Verdict}
+use Rattle.bpf_accepted.specs.Verdict.{Verdict}
 use Rattle.world.specs.World.{QueueSetup}
 use Rattle.world.specs.Lawful.{AreUnder}
 use Rattle.manifest_form.specs.Document.{elements_at, integer_at, text_at, is_among}

@@ -3,7 +3,7 @@ use Rattle.std.proofs.Common.{arith, Result, Ok, Err, IfOk, IfErr, ◌≡◌, in
 use Rattle.std.specs.List.{AllZip, AllByRecursion}
 use Rattle.std.proofs.lemmas.List.{take_more, take_all, map-append}
 use Rattle.bpf_insn.specs.declared.program.Slot.{Slot}
-use Rattle.accepted.specs.Verdict.{Verdict}
+use Rattle.bpf_accepted.specs.Verdict.{Verdict}
 use Rattle.verifier.specs.Verdict.{IsVerdictOn}
 use Rattle.verifier.specs.declared.refusal.Refusal.{Refusal}
 use Rattle.base.specs.declared.or_memory.OrMemory.{OrMemory}

@@ -1,7 +1,7 @@
 -- How what a call gives meets what the definitions give.
 use Rattle.std.specs.Arc.{arc_value}
 use Rattle.bpf_insn.specs.declared.program.Slot.{Slot}
-use Rattle.accepted.specs.Verdict.{Verdict}
+use Rattle.bpf_accepted.specs.Verdict.{Verdict}
 use Rattle.helpers.specs.declared.limits.HelperLimits.{HelperLimits}
 use Rattle.verifier.specs.Verdict.{IsVerdictOn, ToldOfShape}
 use Rattle.verifier.specs.Plain.{IsPlain}

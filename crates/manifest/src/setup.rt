@@ -10,7 +10,7 @@ ghost use Rattle.manifest_form.specs.Seen.{queue_seen};
 ghost use Rattle.manifest.specs.Seen.{named_seen, AreNamed, IsGivenFor, IsItsVerdict, IsReady};
 
 use crate::programs::NamedProgram;
-use accepted::Accepted;
+use bpf_accepted::Accepted;
 use engine_config::Config;
 use helpers::HelperLimits;
 use manifest_form::QueueEntry;

@@ -4,7 +4,7 @@ use Rattle.std.proofs.lemmas.List.Elements.{All-nil, All-weaker}
 use mathlib.Core.Option.{some, some-injective, some-ne-none}
 use lib.ListN.{get_elem?}
 use Rattle.crossbeam_utils.specs.Register.{Forks}
-use Rattle.calls.specs.declared.record.Record.{Record}
+use Rattle.world_calls.specs.declared.record.Record.{Record}
 use Rattle.world.specs.World.{Setup, opening as opening_world}
 use Rattle.world.specs.TotalsOf.{TotalsOf, totals_in}
 use Rattle.monitor.specs.declared.knowledge.Pair.{Pair}

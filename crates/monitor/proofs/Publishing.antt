@@ -2,8 +2,8 @@
 use Rattle.std.proofs.Common.{◌≡◌, ℕ, ◌≤◌, true, false, true≢false, List, [], ◌∷◌, ◌++◌, length, set, refl, sym, ap, ◌∙◌, subst}
 use Rattle.std.proofs.lemmas.List.Elements.{All-push}
 use Rattle.crossbeam_utils.specs.Register.{Turns}
-use Rattle.calls.specs.declared.record.Record.{Record}
-use Rattle.calls.specs.declared.totals.Totals.{Totals}
+use Rattle.world_calls.specs.declared.record.Record.{Record}
+use Rattle.world_calls.specs.declared.totals.Totals.{Totals}
 use Rattle.world.specs.World.{Setup}
 use Rattle.world.specs.TotalsOf.{TotalsOf}
 use Rattle.monitor.specs.declared.knowledge.Pair.{Pair}

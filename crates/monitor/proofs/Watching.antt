@@ -3,7 +3,7 @@ use Rattle.std.specs.Prelude.{slice_index}
 use Rattle.std.proofs.Common.{◌≡◌, ℕ, ap, true, false, true≢false, List, [], ◌∷◌, ◌++◌, length, set, refl, sym, ◌∙◌, subst}
 use Rattle.std.proofs.lemmas.List.Elements.{All-cons, All-append}
 use Rattle.crossbeam_utils.specs.Register.{Turns, Forks, Merges}
-use Rattle.calls.specs.declared.totals.Totals.{Totals}
+use Rattle.world_calls.specs.declared.totals.Totals.{Totals}
 use Rattle.world.specs.World.{Setup}
 use Rattle.world.specs.TotalsOf.{TotalsOf}
 use Rattle.monitor.specs.declared.knowledge.View.{View}

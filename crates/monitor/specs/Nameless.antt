@@ -2,10 +2,10 @@
 use Rattle.std.specs.Prelude.{[]}
 use Rattle.helpers.specs.Table.{of_queues}
 use Rattle.atomic_table.specs.Seated.{TableId}
-use Rattle.calls.specs.declared.call.Call.TheVariants.{Clock}
-use Rattle.calls.specs.declared.call_answer.CallAnswer.TheVariants.{Removed}
-use Rattle.calls.specs.declared.record.Record.{Record}
-use Rattle.calls.specs.declared.record.Record.TheVariants.{Called}
+use Rattle.world_calls.specs.declared.call.Call.TheVariants.{Clock}
+use Rattle.world_calls.specs.declared.call_answer.CallAnswer.TheVariants.{Removed}
+use Rattle.world_calls.specs.declared.record.Record.{Record}
+use Rattle.world_calls.specs.declared.record.Record.TheVariants.{Called}
 use Rattle.world.specs.World.{Setup}
 
 abbrev pub no_setup : Setup

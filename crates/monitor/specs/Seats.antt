@@ -3,8 +3,8 @@
 use Rattle.std.specs.Prelude.{◌≡◌, ℕ, ◌+◌, ◌<◌, ◌≤◌, ◌^◌, true, false, List, [], ◌∷◌, ◌++◌, length, All, slice_index}
 use mathlib.Core.Option.{some}
 use lib.ListN.{get_elem?}
-use Rattle.calls.specs.declared.record.Record.{Record}
-use Rattle.calls.specs.declared.totals.Totals.{Totals}
+use Rattle.world_calls.specs.declared.record.Record.{Record}
+use Rattle.world_calls.specs.declared.totals.Totals.{Totals}
 use Rattle.world.specs.World.{Setup}
 use Rattle.world.specs.TotalsOf.{TotalsOf}
 use Rattle.monitor.specs.declared.knowledge.Pair.{Pair}

@@ -14,7 +14,7 @@ use crate::origin::Origin;
 use crate::rule::{GivesOut, LetsWatch, Seat, ShowsAgain, Told};
 use crate::steps::{look_as, publish_as};
 use crate::watch::Watch;
-use calls::Totals;
+use world_calls::Totals;
 use std::marker::{Model, PhantomData};
 use std::sync::Wait;
 

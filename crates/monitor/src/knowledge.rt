@@ -1,6 +1,6 @@
 // What a seat at the cell knows of the history. No value of these types is made: they stand in proofs alone, and take no memory.
-// It relies on `calls` for what a history is made of.
-use calls::Record;
+// It relies on `world_calls` for what a history is made of.
+use world_calls::Record;
 use std::collections::LinkedList;
 use std::marker::Model;
 

@@ -7,7 +7,7 @@ ghost use Rattle.monitor.specs.Telling.{Reads};
 use crate::origin::Origin;
 use crate::rule::{Cell, WatchReads};
 use crate::watch::Watch;
-use calls::Totals;
+use world_calls::Totals;
 use std::marker::PhantomData;
 use std::sync::Wait;
 

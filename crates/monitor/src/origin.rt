@@ -14,7 +14,7 @@ use std::marker::{Brand, Model};
 pub trait Origin {
     ghost use Rattle.std.specs.Prelude.{List};
     ghost use Rattle.atomic_table.specs.Seated.{TableId};
-    ghost use Rattle.calls.specs.declared.record.Record.{Record};
+    ghost use Rattle.world_calls.specs.declared.record.Record.{Record};
     ghost use Rattle.world.specs.World.{Setup};
 
     ghost setup: { Setup };

@@ -27,7 +27,7 @@ pub type Seat = Pass<[u64; 4], View>;
 /// The record that is published, for its proof. Whoever publishes passes `Brand` to a function over this, of whose arguments one
 /// tells the record, and picks it there.
 pub trait Told {
-    ghost use Rattle.calls.specs.declared.record.Record.{Record};
+    ghost use Rattle.world_calls.specs.declared.record.Record.{Record};
 
     ghost told: { Record };
 }

@@ -11,7 +11,7 @@ ghost use Rattle.monitor.specs.Telling.{Joins, Looks};
 use crate::monitor::words_of;
 use crate::origin::Origin;
 use crate::rule::{CallerLooks, Cell, HandsOver, Publishes, Seat, Told};
-use calls::Totals;
+use world_calls::Totals;
 use std::sync::Wait;
 
 // A caller's part goes from seat to seat.

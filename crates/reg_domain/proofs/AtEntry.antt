@@ -6,18 +6,18 @@ use Rattle.bpf_insn.specs.declared.reg.Reg.TheVariants.{R0, R1, R2, R3, R4, R5, 
 use Rattle.bpf_semantics.specs.MachineState.{MachineState, context_address, entry, frame_pointer, unwritten_frame}
 use Rattle.bpf_semantics.specs.Reached.{IsEntry}
 use Rattle.stack_domain.specs.Stack.{Covers as CoversFrames}
-use Rattle.description.specs.declared.description.Description.{Description}
-use Rattle.register_kinds.specs.declared.freeze_name.FreezeName.TheVariants as names
-use Rattle.register_kinds.specs.declared.held.HeldFreeze.{HeldFreeze}
-use Rattle.register_kinds.specs.declared.kind.Kind.{Kind}
-use Rattle.register_kinds.specs.declared.kind.Kind.TheVariants.{Unwritten, Address, Freeze}
-use Rattle.register_kinds.specs.declared.region.Region.TheVariants.{Context, Frame}
+use Rattle.check_description.specs.declared.description.Description.{Description}
+use Rattle.check_register_kinds.specs.declared.freeze_name.FreezeName.TheVariants as names
+use Rattle.check_register_kinds.specs.declared.held.HeldFreeze.{HeldFreeze}
+use Rattle.check_register_kinds.specs.declared.kind.Kind.{Kind}
+use Rattle.check_register_kinds.specs.declared.kind.Kind.TheVariants.{Unwritten, Address, Freeze}
+use Rattle.check_register_kinds.specs.declared.region.Region.TheVariants.{Context, Frame}
 use Rattle.reg_domain.specs.AllRegisters.{HoldAtEntry}
-use Rattle.description.specs.Description.{Describes}
-use Rattle.description.specs.Spills.{AreSpilled}
-use Rattle.register_kinds.specs.Freezes.{AreHeld, numbers_at_start, open_freeze}
-use Rattle.register_kinds.proofs.Freezes.{held_at_start}
-use Rattle.description.proofs.NoBytes.{no_byte}
+use Rattle.check_description.specs.Description.{Describes}
+use Rattle.check_description.specs.Spills.{AreSpilled}
+use Rattle.check_register_kinds.specs.Freezes.{AreHeld, numbers_at_start, open_freeze}
+use Rattle.check_register_kinds.proofs.Freezes.{held_at_start}
+use Rattle.check_description.proofs.NoBytes.{no_byte}
 
 abbrev entry_kinds : List Kind
 entry_kinds = Unwritten ∷ Address Context (record { least = 0; most = 0 }) ∷ Freeze names.Start ∷ Unwritten ∷ Unwritten ∷ Unwritten ∷ Unwritten ∷ Unwritten ∷ Unwritten ∷ Unwritten ∷ Address (Frame 0) (record { least = 512; most = 512 }) ∷ []

@@ -2,15 +2,15 @@
 use Rattle.std.proofs.Common.{◌≡◌, ℕ, ◌<◌, List, Option, sym, subst, ◌∙◌}
 use Rattle.bpf_insn.specs.Reg.{number_of}
 use Rattle.stack_domain.specs.Stack.{Covers as CoversFrames}
-use Rattle.register_kinds.specs.declared.held.HeldFreeze.{HeldFreeze}
-use Rattle.register_kinds.specs.Freezes.{AreHeld, FreezeNumbers}
-use Rattle.register_kinds.specs.Kinds.{HoldsKind}
-use Rattle.description.specs.declared.description.Description.{Description}
-use Rattle.description.specs.Changes.{at}
-use Rattle.description.specs.Description.{Covers}
-use Rattle.description.specs.Spills.{IsFewer}
-use Rattle.description.proofs.RegisterPlaces.{number_below}
-use Rattle.description.proofs.Spilled.{fewer_spilled}
+use Rattle.check_register_kinds.specs.declared.held.HeldFreeze.{HeldFreeze}
+use Rattle.check_register_kinds.specs.Freezes.{AreHeld, FreezeNumbers}
+use Rattle.check_register_kinds.specs.Kinds.{HoldsKind}
+use Rattle.check_description.specs.declared.description.Description.{Description}
+use Rattle.check_description.specs.Changes.{at}
+use Rattle.check_description.specs.Description.{Covers}
+use Rattle.check_description.specs.Spills.{IsFewer}
+use Rattle.check_description.proofs.RegisterPlaces.{number_below}
+use Rattle.check_description.proofs.Spilled.{fewer_spilled}
 
 pub wider : (d there : Description) → ((i : ℕ) → i < 11 → (numbers : FreezeNumbers) (o : Option ℕ) → HoldsKind numbers (at d.registers i) o → HoldsKind numbers (at there.registers i) o)
     → ((frames : List (List (Option ℕ))) → CoversFrames d.stack frames → CoversFrames there.stack frames) → IsFewer d.spills there.spills → there.held ≡ d.held → there.disposed ≡ d.disposed → Covers d there

@@ -1,9 +1,9 @@
 -- Which way an instruction leads that is no jump, and what an exit asks.
 use Rattle.std.proofs.Common.{◌≡◌, List, [], ◌∷◌, ◌++◌, refl, ℕ, ℤ, true, false, Bool, not, ◌||◌, Option, Result, Ok, Err, IfOk, ap, sym, subst, ◌∙◌, inl, inr}
 use Rattle.bpf_semantics.specs.MachineState.{OpenCall, MachineState, register}
-use Rattle.description.specs.declared.saved.SavedRegisters.{SavedRegisters}
-use Rattle.register_kinds.specs.Freezes.{FreezeNumbers, numbers_held}
-use Rattle.description.specs.OpenCalls.{AreOpen}
+use Rattle.check_description.specs.declared.saved.SavedRegisters.{SavedRegisters}
+use Rattle.check_register_kinds.specs.Freezes.{FreezeNumbers, numbers_held}
+use Rattle.check_description.specs.OpenCalls.{AreOpen}
 use Rattle.std.specs.Prelude.{IsOkAnd, is_none}
 use Rattle.bpf_insn.specs.declared.insn.Insn.{Insn}
 use Rattle.bpf_insn.specs.declared.insn.Callee.TheVariants.{Helper}
@@ -15,20 +15,20 @@ use Rattle.bpf_insn.specs.declared.reg.Reg.{Reg}
 use Rattle.bpf_insn.specs.declared.reg.Reg.TheVariants.{R0}
 use Rattle.helpers.specs.declared.limits.HelperLimits.{HelperLimits}
 use Rattle.bpf_semantics.specs.Stuck.{exit_is_stuck, holds_none}
-use Rattle.register_kinds.specs.declared.cause.Cause.{Cause}
-use Rattle.description.specs.declared.description.Description.{Description}
-use Rattle.private_insns.specs.declared.way.Way.{Way}
-use Rattle.private_insns.specs.declared.way.Way.TheVariants.{FallThrough, Taken}
-use Rattle.register_kinds.specs.declared.freeze_name.FreezeName.{FreezeName}
-use Rattle.register_kinds.specs.declared.kind.Kind.{Kind}
-use Rattle.register_kinds.specs.declared.kind.Kind.TheVariants.{Unwritten, Number, Address, Freeze}
-use Rattle.helper_calls.specs.Calls.{CallFollows, CallIsNeverStuck}
-use Rattle.description.specs.Description.{kind_at, NeverStuck}
-use Rattle.helper_calls.specs.Called.{CanCall, LeavesCalled}
+use Rattle.check_register_kinds.specs.declared.cause.Cause.{Cause}
+use Rattle.check_description.specs.declared.description.Description.{Description}
+use Rattle.check_private_insns.specs.declared.way.Way.{Way}
+use Rattle.check_private_insns.specs.declared.way.Way.TheVariants.{FallThrough, Taken}
+use Rattle.check_register_kinds.specs.declared.freeze_name.FreezeName.{FreezeName}
+use Rattle.check_register_kinds.specs.declared.kind.Kind.{Kind}
+use Rattle.check_register_kinds.specs.declared.kind.Kind.TheVariants.{Unwritten, Number, Address, Freeze}
+use Rattle.check_helper_calls.specs.Calls.{CallFollows, CallIsNeverStuck}
+use Rattle.check_description.specs.Description.{kind_at, NeverStuck}
+use Rattle.check_helper_calls.specs.Called.{CanCall, LeavesCalled}
 use Rattle.reg_domain.specs.Enough.{Enough, Leaves}
-use Rattle.private_insns.specs.Follows.{Follows, jumps}
-use Rattle.private_insns.specs.GoesOn.{GoesOn, is_taken}
-use Rattle.register_kinds.specs.Kinds.{HoldsKind, IsNumber}
+use Rattle.check_private_insns.specs.Follows.{Follows, jumps}
+use Rattle.check_private_insns.specs.GoesOn.{GoesOn, is_taken}
+use Rattle.check_register_kinds.specs.Kinds.{HoldsKind, IsNumber}
 
 -- no function waits
 pub none_open : (numbers : FreezeNumbers) (calls : List OpenCall) → AreOpen numbers [] calls → calls ≡ []

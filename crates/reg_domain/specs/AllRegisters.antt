@@ -3,10 +3,10 @@ use Rattle.std.specs.Prelude.{◌≡◌, ℕ, ◌<◌, List, Option}
 use Rattle.bpf_insn.specs.declared.reg.Reg.{Reg}
 use Rattle.bpf_insn.specs.Reg.{number_of}
 use Rattle.bpf_semantics.specs.MachineState.{entry, register}
-use Rattle.register_kinds.specs.declared.kind.Kind.{Kind}
-use Rattle.register_kinds.specs.Freezes.{FreezeNumbers, numbers_at_start}
-use Rattle.register_kinds.specs.Kinds.{HoldsKind, IsAtMost, IsNumber}
-use Rattle.description.specs.Changes.{at}
+use Rattle.check_register_kinds.specs.declared.kind.Kind.{Kind}
+use Rattle.check_register_kinds.specs.Freezes.{FreezeNumbers, numbers_at_start}
+use Rattle.check_register_kinds.specs.Kinds.{HoldsKind, IsAtMost, IsNumber}
+use Rattle.check_description.specs.Changes.{at}
 
 -- what one kind says or the other, and no more is lost than has to be
 pub record Joins (a b joined : Kind) : Type 0 where

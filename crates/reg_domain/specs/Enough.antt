@@ -9,18 +9,18 @@ use Rattle.bpf_insn.specs.declared.reg.Reg.{Reg}
 use Rattle.bpf_insn.specs.declared.reg.Reg.TheVariants.{R0, R1, R2, R10}
 use Rattle.bpf_semantics.specs.Memory.{load_width, store_width}
 use Rattle.stack_domain.specs.Stack.{Knows}
-use Rattle.description.specs.declared.description.Description.{Description}
-use Rattle.private_insns.specs.declared.way.Way.{Way}
-use Rattle.register_kinds.specs.declared.freeze_name.FreezeName.{FreezeName}
-use Rattle.register_kinds.specs.declared.freeze_name.FreezeName.TheVariants as names
-use Rattle.register_kinds.specs.declared.kind.Kind.TheVariants.{Freeze}
-use Rattle.register_kinds.specs.declared.region.Region.TheVariants.{Context, Frame}
-use Rattle.description.specs.Description.{kind_at}
-use Rattle.description.specs.Spills.{spill_at}
-use Rattle.register_kinds.specs.Freezes.{open_freeze}
-use Rattle.register_kinds.specs.Kinds.{IsAt, IsAtMost, IsNumber}
-use Rattle.private_insns.specs.Enough.{IsNumberOperand, LiesInContext, LiesInFrame, LiesWritten, TestsFreeze, ComparesNumbers, EnoughToCompute, LeavesComputed, LeavesNumber, LeavesStored, LeavesCompared}
-use Rattle.helper_calls.specs.Called.{EnoughToCall, LeavesCalled}
+use Rattle.check_description.specs.declared.description.Description.{Description}
+use Rattle.check_private_insns.specs.declared.way.Way.{Way}
+use Rattle.check_register_kinds.specs.declared.freeze_name.FreezeName.{FreezeName}
+use Rattle.check_register_kinds.specs.declared.freeze_name.FreezeName.TheVariants as names
+use Rattle.check_register_kinds.specs.declared.kind.Kind.TheVariants.{Freeze}
+use Rattle.check_register_kinds.specs.declared.region.Region.TheVariants.{Context, Frame}
+use Rattle.check_description.specs.Description.{kind_at}
+use Rattle.check_description.specs.Spills.{spill_at}
+use Rattle.check_register_kinds.specs.Freezes.{open_freeze}
+use Rattle.check_register_kinds.specs.Kinds.{IsAt, IsAtMost, IsNumber}
+use Rattle.check_private_insns.specs.Enough.{IsNumberOperand, LiesInContext, LiesInFrame, LiesWritten, TestsFreeze, ComparesNumbers, EnoughToCompute, LeavesComputed, LeavesNumber, LeavesStored, LeavesCompared}
+use Rattle.check_helper_calls.specs.Called.{EnoughToCall, LeavesCalled}
 
 -- the check passes
 abbrev pub Enough : Insn → Description → Type 0

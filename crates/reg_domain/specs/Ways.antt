@@ -3,9 +3,9 @@ use Rattle.std.specs.Prelude.{◌≡◌, List, [], Bool, true, false}
 use Rattle.bpf_insn.specs.declared.insn.Callee.TheVariants.{Helper, Local}
 use Rattle.bpf_insn.specs.declared.insn.Insn.{Insn}
 use Rattle.bpf_insn.specs.declared.insn.Insn.TheVariants.{Alu, InPlace, SignExtend, JumpIf, Jump, LoadImmediate, Load, Store, Call, Exit}
-use Rattle.description.specs.declared.saved.SavedRegisters.{SavedRegisters}
-use Rattle.private_insns.specs.declared.way.Way.{Way}
-use Rattle.private_insns.specs.declared.way.Way.TheVariants.{FallThrough, Taken}
+use Rattle.check_description.specs.declared.saved.SavedRegisters.{SavedRegisters}
+use Rattle.check_private_insns.specs.declared.way.Way.{Way}
+use Rattle.check_private_insns.specs.declared.way.Way.TheVariants.{FallThrough, Taken}
 
 -- the instruction stays in its function: it is no local call, and no exit where a function waits
 abbrev pub Stays : List SavedRegisters → Insn → Type 0

@@ -1,27 +1,27 @@
 // What becomes of the machines at a place by its instruction, and whether one of them may be stuck there. It relies on
-// `description` for what is known of them, on `private_insns` for arithmetic, memory and jumps, and on `helper_calls` for
+// `check_description` for what is known of them, on `check_private_insns` for arithmetic, memory and jumps, and on `check_helper_calls` for
 // calls of helpers.
 
 ghost use Rattle.std.specs.Prelude.{◌≡◌, ℤ, [], true, false, length, IfOk, IsOk, IsOkAnd, IsTrue};
 ghost use Rattle.bpf_insn.specs.declared.insn.Callee.TheVariants.{Helper as helper_call};
 ghost use Rattle.bpf_insn.specs.declared.insn.Insn.TheVariants.{Call, Exit};
 ghost use Rattle.bpf_insn.specs.declared.reg.Reg.TheVariants.{R0};
-ghost use Rattle.private_insns.specs.declared.way.Way.TheVariants.{FallThrough};
-ghost use Rattle.register_kinds.specs.declared.freeze_name.FreezeName.TheVariants as names;
-ghost use Rattle.description.specs.Description.{kind_at, NeverStuck};
-ghost use Rattle.helper_calls.specs.Called.{CanCall, LeavesCalled};
+ghost use Rattle.check_private_insns.specs.declared.way.Way.TheVariants.{FallThrough};
+ghost use Rattle.check_register_kinds.specs.declared.freeze_name.FreezeName.TheVariants as names;
+ghost use Rattle.check_description.specs.Description.{kind_at, NeverStuck};
+ghost use Rattle.check_helper_calls.specs.Called.{CanCall, LeavesCalled};
 ghost use Rattle.reg_domain.specs.Enough.{Enough, Leaves};
-ghost use Rattle.private_insns.specs.Follows.{Follows};
+ghost use Rattle.check_private_insns.specs.Follows.{Follows};
 ghost use Rattle.reg_domain.specs.Ways.{HasWay, IsStore, Stays};
-ghost use Rattle.register_kinds.specs.Kinds.{IsNumber};
+ghost use Rattle.check_register_kinds.specs.Kinds.{IsNumber};
 
 use base::OrMemory;
 use bpf_insn::{Callee, Insn, Reg};
-use description::{Description, SavedRegisters};
-use helper_calls::call;
+use check_description::{Description, SavedRegisters};
+use check_helper_calls::call;
 use helpers::HelperLimits;
-use private_insns::{Way, change, compute, extend, jump_if, load, load_immediate, store_operand};
-use register_kinds::Cause;
+use check_private_insns::{Way, change, compute, extend, jump_if, load, load_immediate, store_operand};
+use check_register_kinds::Cause;
 
 /// Checks an instruction where this is known, under these limits of helper calls and where these functions wait, the
 /// outermost first, and goes one way from there: then it is what is known there, and the answer is whether any machine

@@ -1,13 +1,13 @@
-// What is known where two paths meet. It relies on `register_kinds` for each register, on `stack_domain` for the stack, and on
-// `description` for what is spilled.
+// What is known where two paths meet. It relies on `check_register_kinds` for each register, on `stack_domain` for the stack, and on
+// `check_description` for what is spilled.
 
 ghost use Rattle.std.specs.Prelude.{◌≡◌, ◌↔◌, length, IsTrue};
-ghost use Rattle.description.specs.Description.{Covers};
+ghost use Rattle.check_description.specs.Description.{Covers};
 ghost use Rattle.reg_domain.specs.Enough.{Agree, JoinsTo};
 ghost use Rattle.reg_domain.specs.AllRegisters.{EachJoins};
 
-use description::Description;
-use register_kinds::Kind;
+use check_description::Description;
+use check_register_kinds::Kind;
 
 /// What is known becomes what holds of a machine of which one or the other holds, as where two paths meet. Where they disagree on
 /// the freezes, on the CCB's disposal, or on how many frames are live, the answer is false.

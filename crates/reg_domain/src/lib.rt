@@ -1,6 +1,6 @@
 // What each instruction makes of what is known of a machine, and what is known at a program's entry and where paths meet. It
-// relies on `description` for what is known of a machine, on `private_insns` for arithmetic, memory and jumps, on
-// `helper_calls` for calls of helpers, on `register_kinds` for what is known of one register and of freezes, and on
+// relies on `check_description` for what is known of a machine, on `check_private_insns` for arithmetic, memory and jumps, on
+// `check_helper_calls` for calls of helpers, on `check_register_kinds` for what is known of one register and of freezes, and on
 // `stack_domain` for stack bytes.
 #![tactic(auto)]
 

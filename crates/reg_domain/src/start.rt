@@ -1,16 +1,16 @@
-// What is known at the entry of a program. It relies on `register_kinds` for registers and the first freeze, and on
+// What is known at the entry of a program. It relies on `check_register_kinds` for registers and the first freeze, and on
 // `stack_domain` for the outermost frame.
 
-ghost use Rattle.description.specs.Description.{DescribesEntries};
+ghost use Rattle.check_description.specs.Description.{DescribesEntries};
 ghost use Rattle.reg_domain.specs.Enough.{IsEntryKnown};
 ghost use Rattle.std.specs.Prelude.{◌≡◌};
-ghost use Rattle.register_kinds.specs.declared.freeze_name.FreezeName.TheVariants as names;
+ghost use Rattle.check_register_kinds.specs.declared.freeze_name.FreezeName.TheVariants as names;
 ghost use Rattle.reg_domain.specs.AllRegisters.{HoldAtEntry};
-ghost use Rattle.description.specs.Changes.{at};
-ghost use Rattle.register_kinds.specs.Kinds.{IsAt};
+ghost use Rattle.check_description.specs.Changes.{at};
+ghost use Rattle.check_register_kinds.specs.Kinds.{IsAt};
 
-use description::{Description, Spills};
-use register_kinds::{FreezeName, Held, Kind, Offsets, Region};
+use check_description::{Description, Spills};
+use check_register_kinds::{FreezeName, Held, Kind, Offsets, Region};
 use stack_domain::Stack;
 use std::alloc::Global;
 

@@ -8,8 +8,8 @@ use Rattle.bpf_insn.specs.Program.{insn_at}
 use Rattle.helpers.specs.declared.request.Request.{Request}
 use Rattle.bpf_semantics.specs.MachineState.{MachineState, OpenCall}
 use Rattle.bpf_semantics.specs.Step.{does, returned, request_in, exit_in, exit_value, request_at, exit_at}
-use Rattle.calls.specs.declared.record.StoppedAt.{StoppedAt}
-use Rattle.calls.specs.declared.record.StoppedAt.TheVariants.{Helper, Trace, Finish, Exit}
+use Rattle.world_calls.specs.declared.record.StoppedAt.{StoppedAt}
+use Rattle.world_calls.specs.declared.record.StoppedAt.TheVariants.{Helper, Trace, Finish, Exit}
 use Rattle.world.specs.World.{Setup, LiveRun, World}
 use Rattle.world.specs.Lookups.{run_of}
 use Rattle.world.specs.Told.{Told, told_of}

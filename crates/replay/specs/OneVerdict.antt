@@ -1,6 +1,6 @@
 -- A replay has one verdict: what of that is a law.
 use Rattle.std.specs.Prelude.{◌≡◌}
-use Rattle.calls.specs.declared.trace.Trace.{Trace}
+use Rattle.world_calls.specs.declared.trace.Trace.{Trace}
 use Rattle.world.specs.World.{Setup}
 use Rattle.replay.specs.Replaying.{IsFaultyAt, IsTraceOf}
 use Rattle.replay.specs.declared.fault.ReplayFault.{ReplayFault}

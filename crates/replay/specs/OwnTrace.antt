@@ -1,6 +1,6 @@
 -- What an engine's trace is to a replay.
 use Rattle.std.specs.Prelude.{◌≡◌, ◌⊎◌, Result, Ok, Err}
-use Rattle.calls.specs.declared.trace.Trace.{Trace}
+use Rattle.world_calls.specs.declared.trace.Trace.{Trace}
 use Rattle.world.specs.World.{version_of}
 use Rattle.world.specs.TotalsOf.{TotalsOf}
 use Rattle.base.specs.declared.or_memory.OrMemory.{OrMemory}

@@ -1,9 +1,9 @@
 -- What a replay says of a trace: that it is of the setup's version, its records lead from the opening of the setup and its last line is
 -- their sums, or which line is the first that does not follow.
 use Rattle.std.specs.Prelude.{◌≡◌, ◌≢◌, ℕ, ◌+◌, ◌<◌, ◌⊎◌, Bool, true, false, List, length, take, ◌++◌, codes, decimal, Result, Ok, Err}
-use Rattle.calls.specs.declared.record.Record.{Record}
-use Rattle.calls.specs.declared.totals.Totals.{Totals}
-use Rattle.calls.specs.declared.trace.Trace.{Trace}
+use Rattle.world_calls.specs.declared.record.Record.{Record}
+use Rattle.world_calls.specs.declared.totals.Totals.{Totals}
+use Rattle.world_calls.specs.declared.trace.Trace.{Trace}
 use Rattle.base.specs.declared.or_memory.OrMemory.{OrMemory}
 use Rattle.base.specs.declared.or_memory.OrMemory.TheVariants.{OutOfMemory, Fault}
 use Rattle.world.specs.World.{Setup, version_of}

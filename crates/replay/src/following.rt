@@ -2,11 +2,11 @@
 // relies on `engine_core` for the engine, and on `likeness` for whether an advance is the same.
 
 ghost use Rattle.std.specs.Prelude.{◌≡◌, IfOk};
-ghost use Rattle.calls.specs.declared.record.Record.TheVariants.{Called, Advance};
+ghost use Rattle.world_calls.specs.declared.record.Record.TheVariants.{Called, Advance};
 ghost use Rattle.replay.specs.Replaying.{FollowsIf};
 
 use crate::likeness::{is_advance_of, is_same_answer};
-use calls::{Call, CallAnswer, Record, StoppedAt};
+use world_calls::{Call, CallAnswer, Record, StoppedAt};
 use engine_core::Unrecorded;
 use std::alloc::AllocError;
 

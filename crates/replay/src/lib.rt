@@ -1,5 +1,5 @@
 // Replays a trace: whether its records lead from the opening of a configuration, and its last line is their sums. It relies on
-// `engine_core` for an engine that keeps no history, and on `calls` for records.
+// `engine_core` for an engine that keeps no history, and on `world_calls` for records.
 #![tactic(auto)]
 
 mod fault;

@@ -1,10 +1,10 @@
-// Whether what an engine told is what a record tells, part by part. It relies on `calls` for records.
+// Whether what an engine told is what a record tells, part by part. It relies on `world_calls` for records.
 
 ghost use Rattle.std.specs.Prelude.{◌≡◌, ◌↔◌, IsTrue};
-ghost use Rattle.calls.specs.declared.record.Record.TheVariants.{Advance};
-ghost use Rattle.calls.specs.declared.record.StoppedAt.TheVariants as stopped;
+ghost use Rattle.world_calls.specs.declared.record.Record.TheVariants.{Advance};
+ghost use Rattle.world_calls.specs.declared.record.StoppedAt.TheVariants as stopped;
 
-use calls::{CallAnswer, Record, StoppedAt, Totals, Version};
+use world_calls::{CallAnswer, Record, StoppedAt, Totals, Version};
 use helpers::Helper;
 
 /// Whether both are the same version.

@@ -9,8 +9,8 @@ use crate::fault::{ReplayError, ReplayFault};
 use crate::following::follows;
 use crate::likeness::{is_same_totals, is_same_version};
 use base::OrMemory;
-use calls::{Notice, Notices, Record, Trace, Version};
-use chunked_list::ChunkedList;
+use world_calls::{Notice, Notices, Record, Trace, Version};
+use base_chunked_list::ChunkedList;
 use engine_core::{Config, Unrecorded};
 use std::alloc::{AllocError, Global};
 

@@ -7,22 +7,22 @@ use Rattle.std.proofs.lemmas.List.Elements.{All-from_get_or}
 use Rattle.ccb.specs.Completion.{Outcome, IsCompletion}
 use Rattle.ccb.specs.declared.cam_status.CamStatus.TheVariants.{RequestInProgress}
 use Rattle.ccb.specs.declared.place.Place.TheVariants.{Controller, Device}
-use Rattle.call_lines.specs.declared.kind.Kind.TheVariants as kinds
+use Rattle.trace_lines.specs.declared.kind.Kind.TheVariants as kinds
 use Rattle.ccb.specs.declared.cam_status.CamStatus.{CamStatus}
 use Rattle.ccb.specs.Status.{code_of}
-use Rattle.call_lines.specs.Calls.{completed, word_text}
-use Rattle.call_lines.specs.Lines.{line_text, fields_text}
-use Rattle.call_lines.specs.Rows.{row_of}
-use Rattle.call_lines.specs.Texts.{pair_text, status_text, field_text}
-use Rattle.call_lines.specs.Reading.{ReadsLine}
-use Rattle.call_lines.specs.Written.{Reads}
-use Rattle.call_lines.specs.declared.kind.Slots.{Slots}
-use Rattle.call_lines.specs.declared.value.Value.{Value}
-use Rattle.call_lines.specs.declared.value.Value.TheVariants as values
-use Rattle.call_lines.specs.declared.word.Word.{Word}
-use Rattle.call_lines.specs.declared.word.Word.TheVariants as words
-use Rattle.call_lines.proofs.Tests.{parts_of, passed, same_text}
-use Rattle.call_lines.proofs.Held.{slots_of, holds_nothing, holds_number, holds_long_number, holds_status, holds_byte, holds_bytes, as_one, as_two, as_three, as_four}
+use Rattle.trace_lines.specs.Calls.{completed, word_text}
+use Rattle.trace_lines.specs.Lines.{line_text, fields_text}
+use Rattle.trace_lines.specs.Rows.{row_of}
+use Rattle.trace_lines.specs.Texts.{pair_text, status_text, field_text}
+use Rattle.trace_lines.specs.Reading.{ReadsLine}
+use Rattle.trace_lines.specs.Written.{Reads}
+use Rattle.trace_lines.specs.declared.kind.Slots.{Slots}
+use Rattle.trace_lines.specs.declared.value.Value.{Value}
+use Rattle.trace_lines.specs.declared.value.Value.TheVariants as values
+use Rattle.trace_lines.specs.declared.word.Word.{Word}
+use Rattle.trace_lines.specs.declared.word.Word.TheVariants as words
+use Rattle.trace_lines.proofs.Tests.{parts_of, passed, same_text}
+use Rattle.trace_lines.proofs.Held.{slots_of, holds_nothing, holds_number, holds_long_number, holds_status, holds_byte, holds_bytes, as_one, as_two, as_three, as_four}
 use Rattle.scenario.specs.declared.steps.Command.{Command}
 use Rattle.scenario.specs.declared.steps.Command.TheVariants as commands
 use Rattle.scenario.specs.Commands.{line_of, spelled, command_text, command_made, reported}

@@ -4,14 +4,14 @@ use Rattle.ccb.specs.Status.{code_of}
 use Rattle.ccb.specs.declared.cam_status.CamStatus.{CamStatus}
 use Rattle.ccb.specs.declared.place.Place.{Place}
 use Rattle.ccb.specs.declared.place.Place.TheVariants.{Controller, Device}
-use Rattle.call_lines.specs.Calls.{one, two, three, completed}
-use Rattle.call_lines.specs.Lines.{line_text}
-use Rattle.call_lines.specs.Values.{byte_in, bytes_in, long_number_in, number_in, status_in}
-use Rattle.call_lines.specs.declared.kind.Slots.{Slots}
-use Rattle.call_lines.specs.declared.value.Value.{Value}
-use Rattle.call_lines.specs.declared.value.Value.TheVariants as values
-use Rattle.call_lines.specs.declared.word.Word.{Word}
-use Rattle.call_lines.specs.declared.word.Word.TheVariants as words
+use Rattle.trace_lines.specs.Calls.{one, two, three, completed}
+use Rattle.trace_lines.specs.Lines.{line_text}
+use Rattle.trace_lines.specs.Values.{byte_in, bytes_in, long_number_in, number_in, status_in}
+use Rattle.trace_lines.specs.declared.kind.Slots.{Slots}
+use Rattle.trace_lines.specs.declared.value.Value.{Value}
+use Rattle.trace_lines.specs.declared.value.Value.TheVariants as values
+use Rattle.trace_lines.specs.declared.word.Word.{Word}
+use Rattle.trace_lines.specs.declared.word.Word.TheVariants as words
 use Rattle.scenario.specs.declared.steps.Command.{Command}
 use Rattle.scenario.specs.declared.steps.Command.TheVariants as commands
 

@@ -1,4 +1,4 @@
-// The scenario: what happens to a transport, one command a line, and the reader of its text. It relies on `call_lines` for the lines
+// The scenario: what happens to a transport, one command a line, and the reader of its text. It relies on `trace_lines` for the lines
 // of calls and on `ccb` for what a completion may say.
 #![tactic(auto)]
 

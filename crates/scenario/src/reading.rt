@@ -1,14 +1,14 @@
-// Reads a scenario: a command a line, by the rows of the calls' lines, and `drain`. It relies on `call_lines` for these rows and on
+// Reads a scenario: a command a line, by the rows of the calls' lines, and `drain`. It relies on `trace_lines` for these rows and on
 // `ccb` for what a completion may say.
 
 ghost use Rattle.std.specs.Prelude.{◌≡◌, ◌≤◌, [], length, IfErr, IfOk};
-ghost use Rattle.call_lines.specs.Written.{Reads};
+ghost use Rattle.trace_lines.specs.Written.{Reads};
 ghost use Rattle.scenario.specs.Commands.{clock_read, command_made, command_text, completed_by, controller_named, dispatched, device_named, frozen, released, reported, submitted};
 ghost use Rattle.scenario.specs.Said.{IfFault, IsFaultyLine, Keeps, Say, is_skipped, lines_of};
 
 use crate::steps::{Command, KeptCommand, Step};
 use base::{OrMemory, ShortBytes};
-use call_lines::{
+use trace_lines::{
     Slots, Value, Word, byte_in, bytes_in, long_number_in, number_in, read_line, status_in,
 };
 use ccb::{CamStatus, CcbId, Completion, Place, QueueId};

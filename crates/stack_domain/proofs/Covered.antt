@@ -3,8 +3,8 @@ use Rattle.std.proofs.Common.{◌≡◌, ◌≢◌, ℕ, zero, suc, ◌+◌, ◌
 use Rattle.std.specs.Prelude.{slice_index_or, ◌&&◌}
 use Rattle.std.proofs.lemmas.Bool.{cases_lt, cases_eq}
 use Rattle.std.proofs.lemmas.List.{get_or_append_left, get_or_at, get_or_past, get_or-replicate, get_or-set_same, get_or-set_other, length-set, length-map, length-replicate}
-use Rattle.stack_frame.specs.ByteSet.{Has, with_all}
-use Rattle.stack_frame.proofs.Sets.{with_all_below, with_all_inside, with_all_above}
+use Rattle.bpf_stack_frame.specs.ByteSet.{Has, with_all}
+use Rattle.bpf_stack_frame.proofs.Sets.{with_all_below, with_all_inside, with_all_above}
 use Rattle.stack_domain.specs.Sets.{AreSets}
 use Rattle.stack_domain.specs.Stack.{Marked, IsWritten, Covers, AreWritten, Knows}
 

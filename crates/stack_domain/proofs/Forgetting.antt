@@ -2,7 +2,7 @@
 use Rattle.std.proofs.Common.{◌≡◌, ℕ, ◌<◌, Bool, true, false, List, [], Option, length, set, refl, ap, sym, ◌∙◌, arith, inl, inr, length-set, get_or-set_same, get_or-set_other}
 use Rattle.std.specs.Prelude.{slice_index_or, ◌&&◌}
 use Rattle.std.proofs.lemmas.Bool.{cases_eq}
-use Rattle.stack_frame.specs.ByteSet.{Has}
+use Rattle.bpf_stack_frame.specs.ByteSet.{Has}
 use Rattle.stack_domain.specs.Sets.{AreSets}
 use Rattle.stack_domain.specs.Stack.{Marked, Covers, Knows}
 use Rattle.stack_domain.proofs.Covered.{known_marked, has_inside, marked_live}

@@ -3,8 +3,8 @@ use Rattle.std.proofs.Common.{◌≡◌, ◌≢◌, ℕ, ◌+◌, ◌*◌, ◌<�
 use Rattle.std.specs.Prelude.{slice_index_or}
 use Rattle.std.proofs.lemmas.Bool.{cases_lt}
 use Rattle.std.proofs.lemmas.List.{get_or-replicate, get_or_past, length-replicate}
-use Rattle.stack_frame.specs.ByteSet.{Has, with_all}
-use Rattle.stack_frame.proofs.Sets.{length-with_all, with_all_below, with_all_inside, with_all_above}
+use Rattle.bpf_stack_frame.specs.ByteSet.{Has, with_all}
+use Rattle.bpf_stack_frame.proofs.Sets.{length-with_all, with_all_below, with_all_inside, with_all_above}
 
 -- the words below one are there, but for one
 pub record AreOthers (set : List Bool) (word upto : ℕ) : Type 0 where

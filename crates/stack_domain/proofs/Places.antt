@@ -3,8 +3,8 @@ use Rattle.std.proofs.Common.{◌≡◌, ℕ, ◌+◌, ◌<◌, ◌≤◌, Bool,
 use Rattle.std.specs.Prelude.{slice_index_or}
 use Rattle.std.proofs.lemmas.Bool.{cases_lt, cases_eq}
 use Rattle.std.proofs.lemmas.List.{get_or_append_left, get_or_at, get_or-take, get_or-replicate, get_or_past, length-take-le, length-replicate, take_all, take_more, length-set, get_or-set_same, get_or-set_other}
-use Rattle.stack_frame.specs.ByteSet.{no_bytes, with_all}
-use Rattle.stack_frame.proofs.Sets.{length-with_all}
+use Rattle.bpf_stack_frame.specs.ByteSet.{no_bytes, with_all}
+use Rattle.bpf_stack_frame.proofs.Sets.{length-with_all}
 use Rattle.stack_domain.specs.Sets.{AreSets}
 use Rattle.stack_domain.proofs.Covered.{with_marks}
 

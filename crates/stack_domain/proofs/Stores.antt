@@ -3,7 +3,7 @@ use Rattle.std.proofs.Common.{◌≡◌, ◌≢◌, ℕ, ◌+◌, ◌-◌, ◌<�
 use Rattle.std.specs.Prelude.{slice_index_or}
 use Rattle.std.proofs.lemmas.Bool.{cases_lt, cases_eq}
 use Rattle.std.proofs.lemmas.List.{get_or_append_left, get_or-append_right, get_or-take, get_or-drop, get_or-map, get_or-set_same, get_or-set_other, length-set, length-map, length-take-le}
-use Rattle.stack_frame.specs.Frame.{written_at}
+use Rattle.bpf_stack_frame.specs.Frame.{written_at}
 use Rattle.stack_domain.specs.Stores.{stored}
 use Rattle.stack_domain.specs.Stack.{Marked, Covers, AreWritten}
 

@@ -1,7 +1,7 @@
 -- What is known of a program's stack: a set of bytes for each live frame, the outermost first, and which stacks of a
 -- machine it covers.
 use Rattle.std.specs.Prelude.{◌≡◌, ℕ, ◌<◌, ◌≤◌, Bool, true, List, [], Option, None, is_some, length, slice_index_or}
-use Rattle.stack_frame.specs.ByteSet.{Has}
+use Rattle.bpf_stack_frame.specs.ByteSet.{Has}
 
 -- a byte of frame k is in its set
 abbrev pub Marked : List (List Bool) → ℕ → ℕ → Type 0

@@ -1,6 +1,6 @@
 -- What a store does to the stack of a machine, and the law that it keeps what is known.
 use Rattle.std.specs.Prelude.{ℕ, ◌+◌, ◌<◌, ◌≤◌, Bool, List, [], Option, length, slice_index_or, slice_set}
-use Rattle.stack_frame.specs.Frame.{written_at}
+use Rattle.bpf_stack_frame.specs.Frame.{written_at}
 use Rattle.stack_domain.specs.Stack.{Covers}
 
 -- the frames after a store of these bytes in frame k, from an offset on

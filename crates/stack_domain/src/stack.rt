@@ -1,15 +1,15 @@
 // What is known of a program's stack at a place: for each live frame a set of bytes that are written on every path to
-// it. Clauses speak of the frames that a description covers. It relies on `stack_frame` for sets of bytes, and on
+// it. Clauses speak of the frames that a description covers. It relies on `bpf_stack_frame` for sets of bytes, and on
 // `padded_list` for how they are kept.
 
 ghost use Rattle.std.specs.Prelude.{◌≡◌, ◌<◌, ◌≤◌, ◌+◌, ◌-◌, ◌*◌, ◌↔◌, ◌⊎◌, ◌&&◌, false, ℕ, List, [], ◌∷◌, ◌++◌, Option, IsTrue, length, slice_index_or};
-ghost use Rattle.stack_frame.specs.ByteSet.{Has};
-ghost use Rattle.stack_frame.specs.declared.byte_set.TheConstants.{MOST_BYTES};
+ghost use Rattle.bpf_stack_frame.specs.ByteSet.{Has};
+ghost use Rattle.bpf_stack_frame.specs.declared.byte_set.TheConstants.{MOST_BYTES};
 ghost use Rattle.stack_domain.specs.Stack.{Covers, Knows, AreWritten};
 ghost use Rattle.stack_domain.specs.Stores.{stored};
 
 use base::PaddedList;
-use stack_frame::{ByteSet, MAX_FRAMES};
+use bpf_stack_frame::{ByteSet, MAX_FRAMES};
 use std::marker::Model;
 
 /// Which bytes are known to be written in each live frame, from 1 to `MAX_FRAMES` of them, the outermost being 0.

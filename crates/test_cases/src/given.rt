@@ -1,4 +1,4 @@
-// What a command is given: its words and its input files. It relies on `calls` for those that are read off a trace.
+// What a command is given: its words and its input files. It relies on `world_calls` for those that are read off a trace.
 
 use crate::calls::calls_of;
 use crate::case::File;

@@ -1,28 +1,28 @@
 -- A record is made of what was asked and of how that was answered.
 use Rattle.std.proofs.Common.{◌≡◌, ◌≢◌, ℕ, Option, Some, None, List, refl, sym, ap, ◌∙◌}
-use Rattle.calls.specs.declared.call.Call.{Call}
-use Rattle.calls.specs.declared.call_answer.CallAnswer.{CallAnswer}
-use Rattle.calls.specs.declared.record.Record.{Record}
-use Rattle.calls.specs.declared.record.Record.TheVariants.{Called, Advance}
-use Rattle.calls.specs.declared.record.StoppedAt.{StoppedAt}
-use Rattle.calls.specs.declared.record.StoppedAt.TheVariants as stopped
-use Rattle.call_lines.specs.Answers.{answer_text}
-use Rattle.call_lines.specs.Calls.{call_of, three, values_of, word_of, word_text}
-use Rattle.call_lines.specs.Lines.{fields_text, line_text}
-use Rattle.call_lines.specs.Rows.{row_of}
-use Rattle.call_lines.specs.Texts.{long_number_text}
-use Rattle.call_lines.specs.Values.{number_at, stop_in}
-use Rattle.call_lines.specs.Written.{Reads}
-use Rattle.call_lines.specs.declared.kind.Slots.{Slots}
-use Rattle.call_lines.specs.declared.value.Stop.{Stop}
-use Rattle.call_lines.specs.declared.value.Stop.TheVariants as stops
-use Rattle.call_lines.specs.declared.value.Value.{Value}
-use Rattle.call_lines.specs.declared.value.Value.TheVariants as values
-use Rattle.call_lines.specs.declared.word.Word.{Word}
-use Rattle.call_lines.specs.declared.word.Word.TheVariants as words
-use Rattle.call_lines.proofs.Back.{calls_are_lines}
-use Rattle.call_lines.proofs.Held.{slots_of, holds_nothing, holds_number, holds_instructions, holds_stop, as_three}
-use Rattle.call_lines.proofs.Tests.{parts_of}
+use Rattle.world_calls.specs.declared.call.Call.{Call}
+use Rattle.world_calls.specs.declared.call_answer.CallAnswer.{CallAnswer}
+use Rattle.world_calls.specs.declared.record.Record.{Record}
+use Rattle.world_calls.specs.declared.record.Record.TheVariants.{Called, Advance}
+use Rattle.world_calls.specs.declared.record.StoppedAt.{StoppedAt}
+use Rattle.world_calls.specs.declared.record.StoppedAt.TheVariants as stopped
+use Rattle.trace_lines.specs.Answers.{answer_text}
+use Rattle.trace_lines.specs.Calls.{call_of, three, values_of, word_of, word_text}
+use Rattle.trace_lines.specs.Lines.{fields_text, line_text}
+use Rattle.trace_lines.specs.Rows.{row_of}
+use Rattle.trace_lines.specs.Texts.{long_number_text}
+use Rattle.trace_lines.specs.Values.{number_at, stop_in}
+use Rattle.trace_lines.specs.Written.{Reads}
+use Rattle.trace_lines.specs.declared.kind.Slots.{Slots}
+use Rattle.trace_lines.specs.declared.value.Stop.{Stop}
+use Rattle.trace_lines.specs.declared.value.Stop.TheVariants as stops
+use Rattle.trace_lines.specs.declared.value.Value.{Value}
+use Rattle.trace_lines.specs.declared.value.Value.TheVariants as values
+use Rattle.trace_lines.specs.declared.word.Word.{Word}
+use Rattle.trace_lines.specs.declared.word.Word.TheVariants as words
+use Rattle.trace_lines.proofs.Back.{calls_are_lines}
+use Rattle.trace_lines.proofs.Held.{slots_of, holds_nothing, holds_number, holds_instructions, holds_stop, as_three}
+use Rattle.trace_lines.proofs.Tests.{parts_of}
 use Rattle.trace.specs.Reading.{ReadsAnswered, stopped_at}
 use Rattle.trace.specs.TraceText.{asked_of, told_text, stop_of}
 

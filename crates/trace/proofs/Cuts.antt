@@ -4,8 +4,8 @@ use Rattle.std.specs.List.{list_all}
 use Rattle.std.proofs.lemmas.Bool.Decides.{nat_tests}
 use Rattle.std.proofs.lemmas.List.Folds.{list_all-append}
 use Rattle.std.proofs.lemmas.Str.Pattern.{IsSplitOnceResult, split_after, split_parts}
-use Rattle.call_lines.proofs.Plain.{is_plain, ArePlain}
-use Rattle.call_lines.proofs.Tests.{both}
+use Rattle.trace_lines.proofs.Plain.{is_plain, ArePlain}
+use Rattle.trace_lines.proofs.Tests.{both}
 
 -- ---- the first line feed
 

@@ -2,19 +2,19 @@
 use Rattle.std.proofs.Common.{◌≡◌, ◌≢◌, ℕ, Bool, true, false, Option, Some, None, IfSome, List, ◌++◌, refl, sym, ap, ◌∙◌, codes, cond, unwrap_or}
 use Rattle.std.specs.List.{list_all}
 use Rattle.std.specs.Fmt.{option_append}
-use Rattle.calls.specs.declared.record.Record.{Record}
-use Rattle.calls.specs.declared.record.Record.TheVariants.{Called, Advance}
-use Rattle.calls.specs.declared.trace.Version.{Version}
-use Rattle.call_lines.specs.Calls.{word_of}
-use Rattle.call_lines.specs.Lines.{line_text}
-use Rattle.call_lines.specs.Reading.{ReadsLine}
-use Rattle.call_lines.specs.Rows.{row_of}
-use Rattle.call_lines.specs.Written.{Reads}
-use Rattle.call_lines.specs.declared.kind.Slots.{Slots}
-use Rattle.call_lines.specs.declared.value.Value.{Value}
-use Rattle.call_lines.specs.declared.word.Word.{Word}
-use Rattle.call_lines.proofs.Plain.{IsPlain, plain_line, plain_answer, plain_long_number}
-use Rattle.call_lines.proofs.Tests.{parts_of, same_text, joined}
+use Rattle.world_calls.specs.declared.record.Record.{Record}
+use Rattle.world_calls.specs.declared.record.Record.TheVariants.{Called, Advance}
+use Rattle.world_calls.specs.declared.trace.Version.{Version}
+use Rattle.trace_lines.specs.Calls.{word_of}
+use Rattle.trace_lines.specs.Lines.{line_text}
+use Rattle.trace_lines.specs.Reading.{ReadsLine}
+use Rattle.trace_lines.specs.Rows.{row_of}
+use Rattle.trace_lines.specs.Written.{Reads}
+use Rattle.trace_lines.specs.declared.kind.Slots.{Slots}
+use Rattle.trace_lines.specs.declared.value.Value.{Value}
+use Rattle.trace_lines.specs.declared.word.Word.{Word}
+use Rattle.trace_lines.proofs.Plain.{IsPlain, plain_line, plain_answer, plain_long_number}
+use Rattle.trace_lines.proofs.Tests.{parts_of, same_text, joined}
 use Rattle.trace.specs.Reading.{ReadsAnswered}
 use Rattle.trace.specs.TraceText.{asked_of, told_text, line_of, entry_text}
 use Rattle.trace.specs.Versions.{is_of}

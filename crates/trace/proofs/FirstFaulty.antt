@@ -1,10 +1,10 @@
 -- Which line is the first that is not of the form is settled by the text.
 use Rattle.std.proofs.Common.{◌≡◌, ◌+◌, ℕ, Option, Some, None, List, [], ◌∷◌, refl, sym, ap, ◌∙◌, subst, arith}
 use Rattle.std.specs.Fmt.{option_append, with_newline}
-use Rattle.calls.specs.declared.record.Record.{Record}
-use Rattle.calls.specs.declared.totals.Totals.{Totals}
-use Rattle.calls.specs.declared.trace.Version.{Version}
-use Rattle.call_lines.proofs.Tests.{parts_of, same_text}
+use Rattle.world_calls.specs.declared.record.Record.{Record}
+use Rattle.world_calls.specs.declared.totals.Totals.{Totals}
+use Rattle.world_calls.specs.declared.trace.Version.{Version}
+use Rattle.trace_lines.proofs.Tests.{parts_of, same_text}
 use Rattle.trace.specs.OneFaultyLine.{OneFaultyLine}
 use Rattle.trace.specs.Reading.{HasNoLine, MayNotFollow, front_text, front_lines}
 use Rattle.trace.specs.TraceText.{entry_text, record_text, records_text, sums_text, totals_text, lines_text}

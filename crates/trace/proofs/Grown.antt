@@ -5,10 +5,10 @@ use Rattle.std.proofs.lemmas.List.{get_or-drop, length-drop, take-append-drop, t
 use Rattle.std.specs.Fmt.{option_append}
 use Rattle.std.specs.Io.KnownBytes.{Appends}
 use Rattle.std.proofs.KnownBytes.{Appends-trans, Appends-nil}
-use Rattle.call_lines.specs.Written.{IsPut}
-use Rattle.call_lines.proofs.Tests.{same_text, parts_of}
-use Rattle.calls.specs.declared.record.Record.{Record}
-use Rattle.calls.specs.declared.trace.Version.{Version}
+use Rattle.trace_lines.specs.Written.{IsPut}
+use Rattle.trace_lines.proofs.Tests.{same_text, parts_of}
+use Rattle.world_calls.specs.declared.record.Record.{Record}
+use Rattle.world_calls.specs.declared.trace.Version.{Version}
 use Rattle.trace.specs.declared.page.Page.{Page}
 use Rattle.trace.specs.Growing.{Goes, GoesOn, IsFront, StopsIn}
 use Rattle.trace.specs.Pages.{Passed, IsCut}

@@ -2,16 +2,16 @@
 use Rattle.std.proofs.Common.{◌≡◌, ◌==◌, ℕ, true, Some, None, List, ◌++◌, get_or, refl, sym, ap, ◌∙◌, codes}
 use Rattle.std.specs.List.{list_all}
 use Rattle.std.specs.Fmt.{option_append}
-use Rattle.calls.specs.declared.totals.Totals.{Totals}
-use Rattle.call_lines.specs.Lines.{fields_text}
-use Rattle.call_lines.specs.Reading.{ReadsFields}
-use Rattle.call_lines.specs.Written.{Reads}
-use Rattle.call_lines.specs.declared.kind.Slots.{Slots}
-use Rattle.call_lines.specs.declared.value.Value.{Value}
-use Rattle.call_lines.specs.declared.value.Value.TheVariants as values
-use Rattle.call_lines.proofs.Held.{slots_of, holds_number, holds_long_number, as_four}
-use Rattle.call_lines.proofs.Plain.{plain_fields}
-use Rattle.call_lines.proofs.Tests.{parts_of, same_text}
+use Rattle.world_calls.specs.declared.totals.Totals.{Totals}
+use Rattle.trace_lines.specs.Lines.{fields_text}
+use Rattle.trace_lines.specs.Reading.{ReadsFields}
+use Rattle.trace_lines.specs.Written.{Reads}
+use Rattle.trace_lines.specs.declared.kind.Slots.{Slots}
+use Rattle.trace_lines.specs.declared.value.Value.{Value}
+use Rattle.trace_lines.specs.declared.value.Value.TheVariants as values
+use Rattle.trace_lines.proofs.Held.{slots_of, holds_number, holds_long_number, as_four}
+use Rattle.trace_lines.proofs.Plain.{plain_fields}
+use Rattle.trace_lines.proofs.Tests.{parts_of, same_text}
 use Rattle.trace.specs.declared.sums.TheConstants.{SUMS}
 use Rattle.trace.specs.Reading.{sums_of}
 use Rattle.trace.specs.TraceText.{values_of_sums, sums_text}

@@ -5,11 +5,11 @@ use Rattle.std.specs.Fmt.{option_append}
 use Rattle.std.specs.Io.KnownBytes.{Appends}
 use Rattle.std.proofs.KnownBytes.{Appends-trans, Appends-nil}
 use Rattle.std.proofs.Math.Seq.{take-suc, take-add, take-append_seam}
-use Rattle.calls.specs.declared.record.Record.{Record}
-use Rattle.call_lines.specs.Written.{IsPut}
-use Rattle.call_lines.proofs.Tests.{same_text, parts_of}
-use Rattle.calls.specs.declared.trace.Trace.{Trace}
-use Rattle.calls.specs.declared.trace.Version.{Version}
+use Rattle.world_calls.specs.declared.record.Record.{Record}
+use Rattle.trace_lines.specs.Written.{IsPut}
+use Rattle.trace_lines.proofs.Tests.{same_text, parts_of}
+use Rattle.world_calls.specs.declared.trace.Trace.{Trace}
+use Rattle.world_calls.specs.declared.trace.Version.{Version}
 use Rattle.trace.specs.declared.fault.PrintFault.{PrintFault}
 use Rattle.trace.specs.declared.page.Page.{Page}
 use Rattle.trace.specs.Pages.{Passed, IsCut, Flushes}

@@ -1,17 +1,17 @@
 -- A text is read line by line: what was read so far, and what is said at its end.
 use Rattle.std.proofs.Common.{◌≡◌, ◌≢◌, ◌+◌, ◌==◌, ℕ, Bool, true, false, Option, Some, None, List, [], ◌∷◌, ◌++◌, length, get_or, refl, sym, ap, ◌∙◌, append_assoc, append-nil, codes, arith, rules}
 use Rattle.std.specs.Fmt.{option_append, with_newline}
-use Rattle.calls.specs.declared.record.Record.{Record}
-use Rattle.calls.specs.declared.totals.Totals.{Totals}
-use Rattle.calls.specs.declared.trace.Trace.{Trace}
-use Rattle.calls.specs.declared.trace.Version.{Version}
-use Rattle.calls.specs.declared.trace.Version.TheVariants.{One, Two}
-use Rattle.call_lines.specs.Calls.{word_text}
-use Rattle.call_lines.specs.Lines.{line_text, fields_text}
-use Rattle.call_lines.specs.Rows.{row_of}
-use Rattle.call_lines.specs.Written.{Reads}
-use Rattle.call_lines.specs.declared.word.Word.{Word}
-use Rattle.call_lines.proofs.Tests.{parts_of, same_text}
+use Rattle.world_calls.specs.declared.record.Record.{Record}
+use Rattle.world_calls.specs.declared.totals.Totals.{Totals}
+use Rattle.world_calls.specs.declared.trace.Trace.{Trace}
+use Rattle.world_calls.specs.declared.trace.Version.{Version}
+use Rattle.world_calls.specs.declared.trace.Version.TheVariants.{One, Two}
+use Rattle.trace_lines.specs.Calls.{word_text}
+use Rattle.trace_lines.specs.Lines.{line_text, fields_text}
+use Rattle.trace_lines.specs.Rows.{row_of}
+use Rattle.trace_lines.specs.Written.{Reads}
+use Rattle.trace_lines.specs.declared.word.Word.{Word}
+use Rattle.trace_lines.proofs.Tests.{parts_of, same_text}
 use Rattle.trace.specs.Reading.{HasNoLine, IsFaultyLine}
 use Rattle.trace.specs.TraceText.{asked_of, told_text, line_of, entry_text, header, record_text, records_text, sums_text, totals_text, lines_text, trace_text}
 use Rattle.trace.proofs.Cuts.{IsOneLine, IsFirstLine, HasNoFeed}

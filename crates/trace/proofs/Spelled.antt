@@ -3,11 +3,11 @@ use Rattle.std.proofs.Common.{◌≡◌, ◌<◌, ℕ, Bool, true, false, cond, 
 use Rattle.std.specs.Prelude.{IsSome}
 use Rattle.std.specs.Fmt.{option_append, with_newline}
 use Rattle.std.proofs.lemmas.List.Elements.{All-from_recursion, All-get_or}
-use Rattle.calls.specs.declared.record.Record.{Record}
-use Rattle.calls.specs.declared.trace.Trace.{Trace}
-use Rattle.calls.specs.declared.trace.Version.{Version}
-use Rattle.call_lines.specs.Written.{IsPut}
-use Rattle.call_lines.proofs.Tests.{parts_of}
+use Rattle.world_calls.specs.declared.record.Record.{Record}
+use Rattle.world_calls.specs.declared.trace.Trace.{Trace}
+use Rattle.world_calls.specs.declared.trace.Version.{Version}
+use Rattle.trace_lines.specs.Written.{IsPut}
+use Rattle.trace_lines.proofs.Tests.{parts_of}
 use Rattle.base.specs.declared.or_memory.OrMemory.{OrMemory}
 use Rattle.trace.specs.declared.fault.TraceFault.{TraceFault}
 use Rattle.trace.specs.HasText.{AllHaveText, Fits, HasText}

@@ -1,13 +1,13 @@
 -- How the lines of a trace are spelled that are no call's: of a run that went on, and of the sums.
 use Rattle.std.proofs.Common.{◌≡◌, ℕ, Option, Some, None, List, [], ◌++◌, codes}
 use Rattle.std.specs.Fmt.{option_append}
-use Rattle.calls.specs.declared.record.Record.TheVariants.{Advance}
-use Rattle.calls.specs.declared.record.StoppedAt.{StoppedAt}
-use Rattle.call_lines.specs.Lines.{fields_text}
-use Rattle.call_lines.specs.Rows.{row_of}
-use Rattle.call_lines.specs.Texts.{field_text, instructions_text, long_number_text, number_text, stop_text}
-use Rattle.call_lines.specs.Written.{IsPut}
-use Rattle.call_lines.proofs.Putting.{none_first, none_second, put_text, put_both}
+use Rattle.world_calls.specs.declared.record.Record.TheVariants.{Advance}
+use Rattle.world_calls.specs.declared.record.StoppedAt.{StoppedAt}
+use Rattle.trace_lines.specs.Lines.{fields_text}
+use Rattle.trace_lines.specs.Rows.{row_of}
+use Rattle.trace_lines.specs.Texts.{field_text, instructions_text, long_number_text, number_text, stop_text}
+use Rattle.trace_lines.specs.Written.{IsPut}
+use Rattle.trace_lines.proofs.Putting.{none_first, none_second, put_text, put_both}
 use Rattle.trace.specs.declared.sums.TheConstants.{SUMS}
 use Rattle.trace.specs.TraceText.{line_of, stop_of, values_of_sums}
 

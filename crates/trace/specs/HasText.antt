@@ -2,15 +2,15 @@
 use Rattle.std.specs.Prelude.{◌<◌, ◌^◌, All, IsSome, List}
 use Rattle.std.specs.List.{AllByRecursion}
 use Rattle.ccb.specs.declared.place.Place.TheVariants.{Controller, Device}
-use Rattle.calls.specs.declared.call.Call.{Call}
-use Rattle.calls.specs.declared.call.Call.TheVariants as calls
-use Rattle.calls.specs.declared.call_answer.CallAnswer.{CallAnswer}
-use Rattle.calls.specs.declared.call_answer.CallAnswer.TheVariants as answers
-use Rattle.calls.specs.declared.record.Record.{Record}
-use Rattle.calls.specs.declared.record.Record.TheVariants.{Called, Advance}
-use Rattle.calls.specs.declared.record.StoppedAt.{StoppedAt}
-use Rattle.calls.specs.declared.record.StoppedAt.TheVariants as stopped
-use Rattle.calls.specs.declared.trace.Version.{Version}
+use Rattle.world_calls.specs.declared.call.Call.{Call}
+use Rattle.world_calls.specs.declared.call.Call.TheVariants as calls
+use Rattle.world_calls.specs.declared.call_answer.CallAnswer.{CallAnswer}
+use Rattle.world_calls.specs.declared.call_answer.CallAnswer.TheVariants as answers
+use Rattle.world_calls.specs.declared.record.Record.{Record}
+use Rattle.world_calls.specs.declared.record.Record.TheVariants.{Called, Advance}
+use Rattle.world_calls.specs.declared.record.StoppedAt.{StoppedAt}
+use Rattle.world_calls.specs.declared.record.StoppedAt.TheVariants as stopped
+use Rattle.world_calls.specs.declared.trace.Version.{Version}
 use Rattle.trace.specs.TraceText.{record_text}
 
 -- the numbers of a call are below 2^32, and a clock reading below 2^64

@@ -1,8 +1,8 @@
 -- A text has one first faulty line at most: what of that is a law.
 use Rattle.std.specs.Prelude.{◌≡◌, ◌≢◌, ℕ, Some, List}
-use Rattle.calls.specs.declared.record.Record.{Record}
-use Rattle.calls.specs.declared.totals.Totals.{Totals}
-use Rattle.calls.specs.declared.trace.Version.{Version}
+use Rattle.world_calls.specs.declared.record.Record.{Record}
+use Rattle.world_calls.specs.declared.totals.Totals.{Totals}
+use Rattle.world_calls.specs.declared.trace.Version.{Version}
 use Rattle.trace.specs.Reading.{IsFaultyLine}
 use Rattle.trace.specs.TraceText.{lines_text}
 

@@ -1,9 +1,9 @@
 -- What printing says of a sink: the text of the trace is out; or a write failed, and a beginning of it is.
 use Rattle.std.specs.Prelude.{◌≡◌, ℕ, ◌≤◌, Option, Some, List, Result, Ok, Err, length, take}
 use Rattle.std.specs.Io.KnownBytes.{Appends}
-use Rattle.calls.specs.declared.record.Record.{Record}
-use Rattle.calls.specs.declared.trace.Trace.{Trace}
-use Rattle.calls.specs.declared.trace.Version.{Version}
+use Rattle.world_calls.specs.declared.record.Record.{Record}
+use Rattle.world_calls.specs.declared.trace.Trace.{Trace}
+use Rattle.world_calls.specs.declared.trace.Version.{Version}
 use Rattle.trace.specs.declared.fault.PrintFault.{PrintFault}
 use Rattle.trace.specs.declared.page.Page.{Page}
 use Rattle.trace.specs.Pages.{Passed, IsCut}

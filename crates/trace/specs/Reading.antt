@@ -1,18 +1,18 @@
 -- What reading says of a text: its trace, or which of its lines is the first that is not of the form.
 use Rattle.std.specs.Prelude.{◌≡◌, ◌≢◌, ◌+◌, ℕ, Option, Some, None, IfSome, Result, Ok, Err, List, [], ◌++◌, length}
 use Rattle.std.specs.Fmt.{option_append}
-use Rattle.calls.specs.declared.record.Record.{Record}
-use Rattle.calls.specs.declared.record.StoppedAt.{StoppedAt}
-use Rattle.calls.specs.declared.record.StoppedAt.TheVariants as stopped
-use Rattle.calls.specs.declared.totals.Totals.{Totals}
-use Rattle.calls.specs.declared.trace.Trace.{Trace}
-use Rattle.calls.specs.declared.trace.Version.{Version}
-use Rattle.call_lines.specs.Values.{long_number_at, number_at}
-use Rattle.call_lines.specs.declared.kind.Slots.{Slots}
-use Rattle.call_lines.specs.declared.value.Stop.{Stop}
-use Rattle.call_lines.specs.declared.value.Stop.TheVariants as stops
-use Rattle.call_lines.specs.declared.value.Value.{Value}
-use Rattle.call_lines.specs.declared.word.Word.{Word}
+use Rattle.world_calls.specs.declared.record.Record.{Record}
+use Rattle.world_calls.specs.declared.record.StoppedAt.{StoppedAt}
+use Rattle.world_calls.specs.declared.record.StoppedAt.TheVariants as stopped
+use Rattle.world_calls.specs.declared.totals.Totals.{Totals}
+use Rattle.world_calls.specs.declared.trace.Trace.{Trace}
+use Rattle.world_calls.specs.declared.trace.Version.{Version}
+use Rattle.trace_lines.specs.Values.{long_number_at, number_at}
+use Rattle.trace_lines.specs.declared.kind.Slots.{Slots}
+use Rattle.trace_lines.specs.declared.value.Stop.{Stop}
+use Rattle.trace_lines.specs.declared.value.Stop.TheVariants as stops
+use Rattle.trace_lines.specs.declared.value.Value.{Value}
+use Rattle.trace_lines.specs.declared.word.Word.{Word}
 use Rattle.base.specs.declared.or_memory.OrMemory.{OrMemory}
 use Rattle.base.specs.declared.or_memory.OrMemory.TheVariants.{OutOfMemory, Fault}
 use Rattle.trace.specs.declared.fault.TraceFault.{TraceFault}

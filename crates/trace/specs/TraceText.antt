@@ -1,26 +1,26 @@
 -- The text of a trace, if all of it has a spelling in the trace's version.
 use Rattle.std.specs.Prelude.{ℕ, Option, Some, None, List, [], ◌∷◌, codes, if◌then◌else◌}
 use Rattle.std.specs.Fmt.{option_append, with_newline}
-use Rattle.calls.specs.declared.record.Record.{Record}
-use Rattle.calls.specs.declared.record.Record.TheVariants.{Called, Advance}
-use Rattle.calls.specs.declared.record.StoppedAt.{StoppedAt}
-use Rattle.calls.specs.declared.record.StoppedAt.TheVariants as stopped
-use Rattle.calls.specs.declared.totals.Totals.{Totals}
-use Rattle.calls.specs.declared.trace.Trace.{Trace}
-use Rattle.calls.specs.declared.trace.Version.{Version}
-use Rattle.calls.specs.declared.trace.Version.TheVariants.{One, Two}
-use Rattle.call_lines.specs.Answers.{answer_text}
-use Rattle.call_lines.specs.Calls.{three, values_of, word_of}
-use Rattle.call_lines.specs.Lines.{fields_text, line_text}
-use Rattle.call_lines.specs.Rows.{row_of}
-use Rattle.call_lines.specs.Texts.{long_number_text}
-use Rattle.call_lines.specs.declared.kind.Slots.{Slots}
-use Rattle.call_lines.specs.declared.value.Stop.{Stop}
-use Rattle.call_lines.specs.declared.value.Stop.TheVariants as stops
-use Rattle.call_lines.specs.declared.value.Value.{Value}
-use Rattle.call_lines.specs.declared.value.Value.TheVariants as values
-use Rattle.call_lines.specs.declared.word.Word.{Word}
-use Rattle.call_lines.specs.declared.word.Word.TheVariants as words
+use Rattle.world_calls.specs.declared.record.Record.{Record}
+use Rattle.world_calls.specs.declared.record.Record.TheVariants.{Called, Advance}
+use Rattle.world_calls.specs.declared.record.StoppedAt.{StoppedAt}
+use Rattle.world_calls.specs.declared.record.StoppedAt.TheVariants as stopped
+use Rattle.world_calls.specs.declared.totals.Totals.{Totals}
+use Rattle.world_calls.specs.declared.trace.Trace.{Trace}
+use Rattle.world_calls.specs.declared.trace.Version.{Version}
+use Rattle.world_calls.specs.declared.trace.Version.TheVariants.{One, Two}
+use Rattle.trace_lines.specs.Answers.{answer_text}
+use Rattle.trace_lines.specs.Calls.{three, values_of, word_of}
+use Rattle.trace_lines.specs.Lines.{fields_text, line_text}
+use Rattle.trace_lines.specs.Rows.{row_of}
+use Rattle.trace_lines.specs.Texts.{long_number_text}
+use Rattle.trace_lines.specs.declared.kind.Slots.{Slots}
+use Rattle.trace_lines.specs.declared.value.Stop.{Stop}
+use Rattle.trace_lines.specs.declared.value.Stop.TheVariants as stops
+use Rattle.trace_lines.specs.declared.value.Value.{Value}
+use Rattle.trace_lines.specs.declared.value.Value.TheVariants as values
+use Rattle.trace_lines.specs.declared.word.Word.{Word}
+use Rattle.trace_lines.specs.declared.word.Word.TheVariants as words
 use Rattle.trace.specs.Versions.{is_of}
 use Rattle.trace.specs.declared.sums.TheConstants.{SUMS}
 

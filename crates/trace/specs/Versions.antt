@@ -3,17 +3,17 @@ use Rattle.std.specs.Prelude.{Bool, false, not, true}
 use Rattle.ccb.specs.declared.place.Place.TheVariants.{Controller}
 use Rattle.helpers.specs.Table.{is_there}
 use Rattle.helpers.specs.declared.limits.HelperSet.TheVariants.{Queues}
-use Rattle.calls.specs.declared.call.Call.{Call}
-use Rattle.calls.specs.declared.call.Call.TheVariants.{GuestFreeze}
-use Rattle.calls.specs.declared.call_answer.CallAnswer.{CallAnswer}
-use Rattle.calls.specs.declared.call_answer.CallAnswer.TheVariants.{Refused}
-use Rattle.calls.specs.declared.call_refusal.CallRefusal.TheVariants.{ControllerFrozen, Unknown}
-use Rattle.calls.specs.declared.record.Record.{Record}
-use Rattle.calls.specs.declared.record.Record.TheVariants.{Called, Advance}
-use Rattle.calls.specs.declared.record.StoppedAt.{StoppedAt}
-use Rattle.calls.specs.declared.record.StoppedAt.TheVariants as stopped
-use Rattle.calls.specs.declared.trace.Version.{Version}
-use Rattle.calls.specs.declared.trace.Version.TheVariants.{One, Two}
+use Rattle.world_calls.specs.declared.call.Call.{Call}
+use Rattle.world_calls.specs.declared.call.Call.TheVariants.{GuestFreeze}
+use Rattle.world_calls.specs.declared.call_answer.CallAnswer.{CallAnswer}
+use Rattle.world_calls.specs.declared.call_answer.CallAnswer.TheVariants.{Refused}
+use Rattle.world_calls.specs.declared.call_refusal.CallRefusal.TheVariants.{ControllerFrozen, Unknown}
+use Rattle.world_calls.specs.declared.record.Record.{Record}
+use Rattle.world_calls.specs.declared.record.Record.TheVariants.{Called, Advance}
+use Rattle.world_calls.specs.declared.record.StoppedAt.{StoppedAt}
+use Rattle.world_calls.specs.declared.record.StoppedAt.TheVariants as stopped
+use Rattle.world_calls.specs.declared.trace.Version.{Version}
+use Rattle.world_calls.specs.declared.trace.Version.TheVariants.{One, Two}
 
 -- it was refused, since what it names is not there
 abbrev pub is_unknown : CallAnswer → Bool

@@ -1,16 +1,16 @@
-// Reads a record of its line: what was asked by the row of its word, and behind ` = ` what was answered. It relies on `call_lines` for
-// lines and answers, and on `calls` for records.
+// Reads a record of its line: what was asked by the row of its word, and behind ` = ` what was answered. It relies on `trace_lines` for
+// lines and answers, and on `world_calls` for records.
 
 ghost use Rattle.std.specs.Prelude.{◌≡◌, ◌≢◌, IfOk, List, None, Some, ℕ, if◌then◌else◌};
-ghost use Rattle.call_lines.specs.Lines.{line_text};
-ghost use Rattle.call_lines.specs.Written.{Reads};
+ghost use Rattle.trace_lines.specs.Lines.{line_text};
+ghost use Rattle.trace_lines.specs.Written.{Reads};
 ghost use Rattle.trace.specs.Reading.{ReadsAnswered, stopped_at};
 ghost use Rattle.trace.specs.TraceText.{entry_text, line_of};
 ghost use Rattle.trace.specs.Versions.{is_of};
 
 use crate::version::is_of;
-use call_lines::{Slots, Stop, Value, Word, call_of, long_number, number_at, read_line, stop_in};
-use calls::{Record, StoppedAt, TracedBytes, Version};
+use trace_lines::{Slots, Stop, Value, Word, call_of, long_number, number_at, read_line, stop_in};
+use world_calls::{Record, StoppedAt, TracedBytes, Version};
 use std::alloc::{AllocError, Global};
 
 /// The record of a line, which stands without its line feed. None where it is that of no record which a text of the version may have. It

@@ -1,10 +1,10 @@
 // What the types of a record's parts say of its numbers and bytes, for contracts, which see numbers of any size. No function here does
-// anything. It relies on `calls` for records.
+// anything. It relies on `world_calls` for records.
 
 ghost use Rattle.std.specs.Prelude.{◌<◌, ◌^◌, All};
 ghost use Rattle.trace.specs.HasText.{AnswerFits, CallFits, Fits, StopFits};
 
-use calls::{Call, CallAnswer, Record, StoppedAt};
+use world_calls::{Call, CallAnswer, Record, StoppedAt};
 use ccb::Place;
 
 /// The numbers of a record are below 2^32, or 2^64, and its bytes are bytes.

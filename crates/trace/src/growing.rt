@@ -2,7 +2,7 @@
 // `page` for what goes out, and on `printer` and `sums` for lines.
 
 ghost use Rattle.std.specs.Prelude.{◌≡◌, ◌+◌, ◌-◌, ◌^◌, ◌<◌, ◌≤◌, ◌⊎◌, ℕ, [], Some, drop, take, length, OnErr, OnOk};
-ghost use Rattle.call_lines.specs.Written.{IsPut};
+ghost use Rattle.trace_lines.specs.Written.{IsPut};
 ghost use Rattle.trace.specs.HasText.{AllHaveText, HasText};
 ghost use Rattle.trace.specs.Growing.{FailsBySink, Goes, GoesOn, PrintsSome, StopsIn};
 ghost use Rattle.trace.specs.TraceText.{header, record_text, records_text, totals_text};
@@ -13,9 +13,9 @@ use crate::printer::print_record;
 use crate::sink::{Sink, WriteFailed};
 use crate::sums::print_totals;
 use crate::version::header;
-use call_lines::{ROOM, Text};
-use calls::{Record, Totals, Version};
-use chunked_list::ChunkedList;
+use trace_lines::{ROOM, Text};
+use world_calls::{Record, Totals, Version};
+use base_chunked_list::ChunkedList;
 use std::marker::Model;
 
 /// How far a trace of that version is printed. Of its text up to four kilobytes wait to be handed on. Contracts see the version, of

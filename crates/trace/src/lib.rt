@@ -1,4 +1,4 @@
-// The trace: an engine's whole history with its sums, as text, printed and read. It relies on `calls` for records, and on `call_lines`
+// The trace: an engine's whole history with its sums, as text, printed and read. It relies on `world_calls` for records, and on `trace_lines`
 // for the lines of calls.
 #![tactic(auto)]
 

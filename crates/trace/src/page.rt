@@ -1,4 +1,4 @@
-// What is printed and not yet handed on, up to four kilobytes at a time. It relies on `sink`, and on `call_lines` for the text.
+// What is printed and not yet handed on, up to four kilobytes at a time. It relies on `sink`, and on `trace_lines` for the text.
 
 ghost use Rattle.std.specs.Prelude.{◌≡◌, ◌+◌, ◌*◌, ◌^◌, ◌≤◌, [], Some, drop, length, OnOk};
 ghost use Rattle.trace.specs.Growing.{Goes};
@@ -6,7 +6,7 @@ ghost use Rattle.trace.specs.Pages.{Flushes};
 
 use crate::fault::PrintFault;
 use crate::sink::{Sink, hand_on};
-use call_lines::{ROOM, Text};
+use trace_lines::{ROOM, Text};
 
 /// How long a line may be.
 pub(crate) const RECORD: usize = 700;

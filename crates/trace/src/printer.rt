@@ -1,9 +1,9 @@
 // Prints a trace: the header of its version, a line a record by the row of its word, and the sums. It relies on `page` for what goes out,
-// on `call_lines` for lines, and on `calls` for records, which stand in a `chunked_list`.
+// on `trace_lines` for lines, and on `world_calls` for records, which stand in a `base_chunked_list`.
 
 ghost use Rattle.std.specs.Prelude.{◌≡◌, ◌+◌, ◌*◌, ◌^◌, ◌≤◌, length, IsSome, None, IfOk, OnErr};
-ghost use Rattle.call_lines.specs.Texts.{stop_text};
-ghost use Rattle.call_lines.specs.Written.{IsPut, KeepsFront, Puts};
+ghost use Rattle.trace_lines.specs.Texts.{stop_text};
+ghost use Rattle.trace_lines.specs.Written.{IsPut, KeepsFront, Puts};
 ghost use Rattle.std.specs.Fmt.{with_newline};
 ghost use Rattle.trace.specs.HasText.{AllHaveText};
 ghost use Rattle.trace.specs.Printed.{Prints, PrintsRecords};
@@ -16,10 +16,10 @@ use crate::sink::Sink;
 use crate::sums::print_totals;
 use crate::version::header;
 use base::ShortBytes;
-use call_lines::{
+use trace_lines::{
     NoText, ROOM, Slots, Stop, Text, Value, Word, print_line, print_long_number, values_of, word_of,
 };
-use calls::{Call, CallAnswer, Record, StoppedAt, Trace};
+use world_calls::{Call, CallAnswer, Record, StoppedAt, Trace};
 
 /// How long a line may be without its line feed.
 const ENTRY: usize = 696;

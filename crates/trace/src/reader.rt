@@ -1,5 +1,5 @@
 // Reads a trace: its first line, which says the version, a record a line, and the sums. It relies on `entry` and `sums` for lines, and on
-// `chunked_list` for the records.
+// `base_chunked_list` for the records.
 
 ghost use Rattle.std.specs.Prelude.{◌≡◌, ◌++◌, IfOk, MatchOption};
 ghost use Rattle.trace.specs.HasText.{AllHaveText};
@@ -11,8 +11,8 @@ use crate::fault::{TraceError, TraceFault};
 use crate::sums::read_totals;
 use crate::version::header;
 use base::OrMemory;
-use calls::{Trace, Version};
-use chunked_list::ChunkedList;
+use world_calls::{Trace, Version};
+use base_chunked_list::ChunkedList;
 use std::alloc::Global;
 
 /// Reads a whole trace. Besides the list's chunks it takes memory for sense bytes and traced bytes alone.

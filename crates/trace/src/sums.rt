@@ -1,17 +1,17 @@
-// The last line of a trace, the sums over its records, printed and read as a line's fields are. It relies on `call_lines` for fields.
+// The last line of a trace, the sums over its records, printed and read as a line's fields are. It relies on `trace_lines` for fields.
 
 ghost use Rattle.std.specs.Prelude.{◌≡◌, ◌+◌, ◌≤◌, ◌++◌, codes, length, MatchOption};
-ghost use Rattle.call_lines.specs.Lines.{fields_text};
-ghost use Rattle.call_lines.specs.Written.{IsPut, Reads};
+ghost use Rattle.trace_lines.specs.Lines.{fields_text};
+ghost use Rattle.trace_lines.specs.Written.{IsPut, Reads};
 ghost use Rattle.trace.specs.Reading.{sums_of};
 ghost use Rattle.trace.specs.TraceText.{sums_text, totals_text, values_of_sums};
 
 use crate::page::RECORD;
-use call_lines::{
+use trace_lines::{
     Kind, ROOM, Slots, Text, Value, long_number_at, number_at, print_long_number, print_number,
     read_fields,
 };
-use calls::Totals;
+use world_calls::Totals;
 
 // What stands behind `end`: how many records there are, how many freezes, active CCBs and live runs.
 const SUMS: Slots<Kind> = Slots {
@@ -42,7 +42,7 @@ pub fn print_totals(totals: Totals, text: &mut Text)
 }
 
 // What stands behind `end`.
-#[tactic(auto, unfolding(call_lines::specs::Lines::fields_text, call_lines::specs::Texts::field_text))]
+#[tactic(auto, unfolding(trace_lines::specs::Lines::fields_text, trace_lines::specs::Texts::field_text))]
 fn print_sums(history: u64, frozen: u32, active: u32, runs: u32, text: &mut Text)
     requires room { length text.old + SUMS_LENGTH ≤ ROOM }
     ensures text { IsPut (fields_text SUMS (values_of_sums (record { history = history; frozen = frozen; active = active; runs = runs }))) text.old text.new }

@@ -1,11 +1,11 @@
-// What a version's texts begin with, and which records they may have. It relies on `calls` for records, and on `helpers` for which
+// What a version's texts begin with, and which records they may have. It relies on `world_calls` for records, and on `helpers` for which
 // helpers there are.
 
 ghost use Rattle.std.specs.Prelude.{◌≡◌};
 ghost use Rattle.trace.specs.TraceText.{header};
 ghost use Rattle.trace.specs.Versions.{is_answer_of_one, is_held, is_of, is_stop_of_one, is_unknown};
 
-use calls::{Call, CallAnswer, CallRefusal, Record, StoppedAt, Version};
+use world_calls::{Call, CallAnswer, CallRefusal, Record, StoppedAt, Version};
 use ccb::Place;
 use helpers::HelperSet;
 

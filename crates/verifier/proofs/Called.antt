@@ -20,10 +20,10 @@ use Rattle.call_shape.proofs.Leading.{leads_inside, leads_through}
 use Rattle.call_shape.proofs.Places.{begins_there}
 use Rattle.call_shape.proofs.Ways.{further_behind}
 use Rattle.helpers.specs.declared.limits.HelperLimits.{HelperLimits}
-use Rattle.description.specs.declared.description.Description.{Description}
-use Rattle.description.specs.declared.saved.SavedRegisters.{SavedRegisters}
-use Rattle.description.specs.Description.{Describes, NeverStuck}
-use Rattle.private_insns.specs.Follows.{StepsBy}
+use Rattle.check_description.specs.declared.description.Description.{Description}
+use Rattle.check_description.specs.declared.saved.SavedRegisters.{SavedRegisters}
+use Rattle.check_description.specs.Description.{Describes, NeverStuck}
+use Rattle.check_private_insns.specs.Follows.{StepsBy}
 use Rattle.verifier.specs.Checks.{IsOnPath, returns_of}
 use Rattle.verifier.specs.Function.{AreDone, IsLawfulProgram, IsOwn, Stands}
 use Rattle.verifier.specs.Goes.{FunctionIsSound, IsBack, IsCallVisited, IsChecked, IsLeft, IsVisited, StaysWell}

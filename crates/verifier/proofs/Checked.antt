@@ -11,14 +11,14 @@ use Rattle.call_shape.specs.Calls.{callee_in}
 use Rattle.call_shape.specs.Shape.{behind, goes_on_behind, target_in}
 use Rattle.call_shape.proofs.Lawful.{jumps_lawfully}
 use Rattle.helpers.specs.declared.limits.HelperLimits.{HelperLimits}
-use Rattle.private_insns.specs.declared.way.Way.TheVariants.{FallThrough, Taken}
-use Rattle.description.specs.declared.description.Description.{Description}
-use Rattle.description.specs.declared.saved.SavedRegisters.{SavedRegisters}
-use Rattle.description.specs.Description.{Describes}
-use Rattle.private_insns.specs.Follows.{GoesBy, StepsBy}
+use Rattle.check_private_insns.specs.declared.way.Way.TheVariants.{FallThrough, Taken}
+use Rattle.check_description.specs.declared.description.Description.{Description}
+use Rattle.check_description.specs.declared.saved.SavedRegisters.{SavedRegisters}
+use Rattle.check_description.specs.Description.{Describes}
+use Rattle.check_private_insns.specs.Follows.{GoesBy, StepsBy}
 use Rattle.reg_domain.specs.Ways.{Stays, falls_through}
-use Rattle.register_kinds.specs.Freezes.{FreezeNumbers}
-use Rattle.description.specs.OpenCalls.{AreOpen}
+use Rattle.check_register_kinds.specs.Freezes.{FreezeNumbers}
+use Rattle.check_description.specs.OpenCalls.{AreOpen}
 use Rattle.verifier.specs.Function.{HasChecked, IsEnd, IsLawfulProgram, Stands}
 use Rattle.verifier.specs.Table.{Table, HasLed}
 use Rattle.verifier.proofs.Steps.{is_inside, leaves, onward}

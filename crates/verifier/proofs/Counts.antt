@@ -9,7 +9,7 @@ use Rattle.bpf_insn.specs.Program.{insn_at}
 use Rattle.call_shape.specs.Calls.{callee_in, function_of}
 use Rattle.call_shape.specs.WrittenOut.{count_at, total, written_out}
 use Rattle.call_shape.proofs.WrittenFew.{total_grows}
-use Rattle.description.specs.declared.saved.SavedRegisters.{SavedRegisters}
+use Rattle.check_description.specs.declared.saved.SavedRegisters.{SavedRegisters}
 use Rattle.verifier.specs.Function.{checks_at, deep_under}
 
 -- a place that is its function's

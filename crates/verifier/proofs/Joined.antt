@@ -3,12 +3,12 @@ use Rattle.std.proofs.Common.{◌≡◌, ℕ, zero, suc, ◌+◌, ◌-◌, ◌<�
 use Rattle.std.specs.Prelude.{slice_set, IfSome, IsSome}
 use Rattle.std.proofs.lemmas.Bool.{cases_eq, cases_lt}
 use Rattle.std.proofs.lemmas.List.{get_or_append_left, get_or-append_right, length-append}
-use Rattle.description.specs.declared.description.Description.{Description}
-use Rattle.description.specs.declared.saved.SavedRegisters.{SavedRegisters}
+use Rattle.check_description.specs.declared.description.Description.{Description}
+use Rattle.check_description.specs.declared.saved.SavedRegisters.{SavedRegisters}
 use Rattle.bpf_insn.specs.declared.insn.Insn.TheVariants.{Exit}
 use Rattle.bpf_semantics.specs.MachineState.{MachineState}
 use Rattle.bpf_semantics.specs.Step.{does}
-use Rattle.description.specs.Description.{Describes}
+use Rattle.check_description.specs.Description.{Describes}
 use Rattle.verifier.specs.Table.{Table, described, HasJoined, HasLeft, IsFirstTable, IsMerged}
 
 pub same_description : (x y : Description) → Some x ≡ Some y → x ≡ y

@@ -4,8 +4,8 @@ use Rattle.bpf_insn.specs.declared.insn.Insn.{Insn}
 use Rattle.bpf_insn.specs.declared.program.Slot.{Slot}
 use Rattle.bpf_insn.specs.Program.{insn_at}
 use Rattle.call_shape.specs.Calls.{callee_in}
-use Rattle.description.specs.declared.description.Description.{Description}
-use Rattle.description.specs.declared.saved.SavedRegisters.{SavedRegisters}
+use Rattle.check_description.specs.declared.description.Description.{Description}
+use Rattle.check_description.specs.declared.saved.SavedRegisters.{SavedRegisters}
 use Rattle.reg_domain.specs.Enough.{Enough, IsEntryKnown}
 use Rattle.verifier.specs.Arrives.{AllArrive, Arrives, IsNeverLacking, enters}
 use Rattle.verifier.specs.Table.{Table, described, IsFirstTable}

@@ -6,13 +6,13 @@ use Rattle.bpf_insn.specs.declared.program.Slot.{Slot}
 use Rattle.bpf_insn.specs.Program.{insn_at}
 use Rattle.bpf_semantics.specs.MachineState.{MachineState}
 use Rattle.helpers.specs.declared.limits.HelperLimits.{HelperLimits}
-use Rattle.description.specs.declared.description.Description.{Description}
-use Rattle.description.specs.declared.saved.SavedRegisters.{SavedRegisters}
-use Rattle.private_insns.specs.declared.way.Way.{Way}
-use Rattle.description.specs.Description.{Describes, NeverStuck}
+use Rattle.check_description.specs.declared.description.Description.{Description}
+use Rattle.check_description.specs.declared.saved.SavedRegisters.{SavedRegisters}
+use Rattle.check_private_insns.specs.declared.way.Way.{Way}
+use Rattle.check_description.specs.Description.{Describes, NeverStuck}
 use Rattle.reg_domain.specs.Enough.{Leaves}
 use Rattle.reg_domain.specs.Ways.{HasWay}
-use Rattle.private_insns.specs.Follows.{Follows}
+use Rattle.check_private_insns.specs.Follows.{Follows}
 use Rattle.verifier.specs.Arrives.{Arrives, NeverLacks, follows, goes_to}
 use Rattle.verifier.specs.Table.{Table, described, IsKnown, HasJoined, HasLed}
 use Rattle.verifier.proofs.Joined.{same_description}

@@ -12,11 +12,11 @@ use Rattle.call_shape.proofs.Ways.{IsFurther, further_behind}
 use Rattle.call_shape.specs.StaticPath.{Standing, outermost, PathLeads}
 use Rattle.call_shape.proofs.Contained.{jumps_forward, jumps_to_insn, jumps_within, target_there}
 use Rattle.helpers.specs.declared.limits.HelperLimits.{HelperLimits}
-use Rattle.description.specs.declared.description.Description.{Description}
-use Rattle.description.specs.declared.saved.SavedRegisters.{SavedRegisters}
-use Rattle.description.specs.Description.{Describes, NeverStuck}
+use Rattle.check_description.specs.declared.description.Description.{Description}
+use Rattle.check_description.specs.declared.saved.SavedRegisters.{SavedRegisters}
+use Rattle.check_description.specs.Description.{Describes, NeverStuck}
 use Rattle.reg_domain.specs.Ways.{Stays}
-use Rattle.private_insns.specs.Follows.{StepsBy}
+use Rattle.check_private_insns.specs.Follows.{StepsBy}
 use Rattle.verifier.specs.Function.{AreDone, HasChecked, IsLawfulProgram, IsOwn}
 use Rattle.verifier.specs.Goes.{IsLeft}
 use Rattle.verifier.specs.OnTheWay.{IsChain}

@@ -16,7 +16,7 @@ use Rattle.call_shape.proofs.OnTheWay.{begins_on_the_way, further, room_to_call,
 use Rattle.call_shape.proofs.Paths.{joined, one_frame_at_least}
 use Rattle.call_shape.proofs.SlotFunctions.{callee_starts, own_function}
 use Rattle.call_shape.proofs.WaysOut.{ways_out_lem}
-use Rattle.description.specs.declared.saved.SavedRegisters.{SavedRegisters}
+use Rattle.check_description.specs.declared.saved.SavedRegisters.{SavedRegisters}
 use Rattle.reg_domain.specs.Ways.{Stays}
 use Rattle.verifier.specs.Function.{IsLawfulProgram}
 use Rattle.verifier.specs.OnTheWay.{IsChain}

@@ -11,8 +11,8 @@ use Rattle.bpf_insn.specs.Program.{insn_at}
 use Rattle.bpf_semantics.specs.MachineState.{MachineState}
 use Rattle.call_shape.specs.StaticPath.{Standing, outermost}
 use Rattle.call_shape.proofs.Places.{begins_there}
-use Rattle.description.specs.declared.description.Description.{Description}
-use Rattle.description.specs.declared.saved.SavedRegisters.{SavedRegisters}
+use Rattle.check_description.specs.declared.description.Description.{Description}
+use Rattle.check_description.specs.declared.saved.SavedRegisters.{SavedRegisters}
 use Rattle.helpers.specs.declared.limits.HelperLimits.{HelperLimits}
 use Rattle.verifier.specs.Checks.{AreOnce, IsOnPath}
 use Rattle.verifier.specs.Function.{ArePassed, IsEnd, IsOwn}

@@ -12,9 +12,9 @@ use Rattle.bpf_insn.specs.Program.{insn_at}
 use Rattle.call_shape.specs.Calls.{callee_in}
 use Rattle.call_shape.specs.StaticPath.{outermost}
 use Rattle.helpers.specs.declared.limits.HelperLimits.{HelperLimits}
-use Rattle.description.specs.declared.description.Description.{Description}
-use Rattle.description.specs.declared.saved.SavedRegisters.{SavedRegisters}
-use Rattle.description.specs.Description.{NeverStuck}
+use Rattle.check_description.specs.declared.description.Description.{Description}
+use Rattle.check_description.specs.declared.saved.SavedRegisters.{SavedRegisters}
+use Rattle.check_description.specs.Description.{NeverStuck}
 use Rattle.reg_domain.specs.Ways.{Stays}
 use Rattle.verifier.specs.Arrives.{AllArrive}
 use Rattle.verifier.specs.Function.{ArePassed, HasChecked, IsLawfulProgram, IsOwn}

@@ -14,10 +14,10 @@ use Rattle.bpf_semantics.specs.Stuck.{is_stuck, is_stuck_at}
 use Rattle.call_shape.specs.StaticPath.{Standing, outermost}
 use Rattle.call_shape.proofs.Places.{begins_there}
 use Rattle.helpers.specs.declared.limits.HelperLimits.{HelperLimits}
-use Rattle.description.specs.declared.description.Description.{Description}
-use Rattle.description.specs.declared.saved.SavedRegisters.{SavedRegisters}
-use Rattle.description.specs.Description.{Describes, DescribesEntries}
-use Rattle.private_insns.specs.Follows.{StepsBy}
+use Rattle.check_description.specs.declared.description.Description.{Description}
+use Rattle.check_description.specs.declared.saved.SavedRegisters.{SavedRegisters}
+use Rattle.check_description.specs.Description.{Describes, DescribesEntries}
+use Rattle.check_private_insns.specs.Follows.{StepsBy}
 use Rattle.verifier.specs.Checks.{returns_of, standing_of}
 use Rattle.verifier.specs.Function.{AreDone, Lands, Stands}
 use Rattle.verifier.specs.Goes.{FunctionIsSound, IsChecked, IsLeft, StaysWell}

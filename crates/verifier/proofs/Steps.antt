@@ -25,8 +25,8 @@ use Rattle.bpf_semantics.specs.Step.{Allowed, after_call, calls as local_call, c
 use Rattle.bpf_words.specs.Words.{holds_of, in_place, sign_extended}
 use Rattle.call_shape.specs.Shape.{behind, goes_on_behind, target_in}
 use Rattle.call_shape.specs.StaticPath.{Standing, moved, LeadsTo, ReturnsTo}
-use Rattle.private_insns.specs.declared.way.Way.TheVariants.{FallThrough, Taken}
-use Rattle.private_insns.specs.Follows.{GoesBy, StepsBy, jumps_if}
+use Rattle.check_private_insns.specs.declared.way.Way.TheVariants.{FallThrough, Taken}
+use Rattle.check_private_insns.specs.Follows.{GoesBy, StepsBy, jumps_if}
 
 -- one of the two ways, the first only where something may go on behind the instruction
 abbrev pub GoesOn : MachineState → Insn → MachineState → Type 0

@@ -12,9 +12,9 @@ use Rattle.bpf_semantics.specs.MachineState.{MachineState, OpenCall}
 use Rattle.call_shape.specs.StaticPath.{Standing, outermost}
 use Rattle.call_shape.proofs.Places.{begins_there}
 use Rattle.helpers.specs.declared.limits.HelperLimits.{HelperLimits}
-use Rattle.description.specs.declared.description.Description.{Description}
-use Rattle.description.specs.declared.saved.SavedRegisters.{SavedRegisters}
-use Rattle.description.specs.Description.{Covers, Describes}
+use Rattle.check_description.specs.declared.description.Description.{Description}
+use Rattle.check_description.specs.declared.saved.SavedRegisters.{SavedRegisters}
+use Rattle.check_description.specs.Description.{Covers, Describes}
 use Rattle.verifier.specs.Checks.{AreOnce, IsBefore, IsOnPath, returns_of}
 use Rattle.verifier.specs.Function.{AreDone, AreVisited, IsDone, IsEnd, IsOwn, Lands, Stands}
 use Rattle.verifier.specs.Goes.{IsChecked, IsLeft}

@@ -15,7 +15,7 @@ use Rattle.call_shape.proofs.Lawful.{goes_on_lawfully}
 use Rattle.call_shape.proofs.OnTheWay.{way_out}
 use Rattle.call_shape.proofs.Places.{there_begins}
 use Rattle.helpers.specs.declared.limits.HelperLimits.{HelperLimits}
-use Rattle.private_insns.specs.Follows.{StepsBy}
+use Rattle.check_private_insns.specs.Follows.{StepsBy}
 use Rattle.verifier.proofs.Sound.{step_by}
 use Rattle.verifier.proofs.Steps.{enters, leads_on, leaves, onward, returns_of, standing_of}
 

@@ -11,10 +11,10 @@ use Rattle.call_shape.specs.Shape.{IsLawful, behind, goes_on_behind, target_in}
 use Rattle.call_shape.specs.StaticPath.{Standing, outermost, PathLeads}
 use Rattle.call_shape.specs.WrittenOut.{count_at, written_out}
 use Rattle.helpers.specs.declared.limits.HelperLimits.{HelperLimits}
-use Rattle.description.specs.declared.description.Description.{Description}
-use Rattle.description.specs.declared.saved.SavedRegisters.{SavedRegisters}
-use Rattle.description.specs.Description.{Describes, NeverStuck}
-use Rattle.private_insns.specs.Follows.{StepsBy}
+use Rattle.check_description.specs.declared.description.Description.{Description}
+use Rattle.check_description.specs.declared.saved.SavedRegisters.{SavedRegisters}
+use Rattle.check_description.specs.Description.{Describes, NeverStuck}
+use Rattle.check_private_insns.specs.Follows.{StepsBy}
 use Rattle.verifier.specs.Checks.{AreOnce, IsBefore, IsOnPath}
 use Rattle.verifier.specs.Goes.{IsChecked, IsLeft, StaysWell}
 use Rattle.verifier.specs.OnTheWay.{IsChain}

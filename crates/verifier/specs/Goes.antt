@@ -12,10 +12,10 @@ use Rattle.bpf_semantics.specs.Reached.{Steps}
 use Rattle.bpf_semantics.specs.Stuck.{is_stuck}
 use Rattle.call_shape.specs.StaticPath.{Standing, outermost}
 use Rattle.helpers.specs.declared.limits.HelperLimits.{HelperLimits}
-use Rattle.description.specs.declared.description.Description.{Description}
-use Rattle.description.specs.declared.saved.SavedRegisters.{SavedRegisters}
-use Rattle.description.specs.Description.{Describes}
-use Rattle.private_insns.specs.Follows.{StepsBy}
+use Rattle.check_description.specs.declared.description.Description.{Description}
+use Rattle.check_description.specs.declared.saved.SavedRegisters.{SavedRegisters}
+use Rattle.check_description.specs.Description.{Describes}
+use Rattle.check_private_insns.specs.Follows.{StepsBy}
 use Rattle.verifier.specs.Checks.{AreOnce, IsOnPath, returns_of}
 
 -- all is well with each machine on the way for so many instructions, or until it has come to where that ends

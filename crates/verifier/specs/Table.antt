@@ -6,12 +6,12 @@ use Rattle.bpf_insn.specs.declared.insn.Insn.TheVariants.{Exit}
 use Rattle.bpf_semantics.specs.MachineState.{MachineState}
 use Rattle.bpf_semantics.specs.Step.{does}
 use Rattle.helpers.specs.declared.limits.HelperLimits.{HelperLimits}
-use Rattle.description.specs.declared.description.Description.{Description}
-use Rattle.private_insns.specs.declared.way.Way.{Way}
-use Rattle.description.specs.declared.saved.SavedRegisters.{SavedRegisters}
-use Rattle.description.specs.Description.{Covers, Describes, NeverStuck}
+use Rattle.check_description.specs.declared.description.Description.{Description}
+use Rattle.check_private_insns.specs.declared.way.Way.{Way}
+use Rattle.check_description.specs.declared.saved.SavedRegisters.{SavedRegisters}
+use Rattle.check_description.specs.Description.{Covers, Describes, NeverStuck}
 use Rattle.reg_domain.specs.Ways.{HasWay}
-use Rattle.private_insns.specs.Follows.{GoesBy, StepsBy}
+use Rattle.check_private_insns.specs.Follows.{GoesBy, StepsBy}
 
 -- the descriptions of all slots of a function, `None` where nothing has led yet
 abbrev pub Table : Type 0

@@ -2,7 +2,7 @@
 use Rattle.std.specs.Prelude.{◌≡◌, ℕ, ◌≤◌, List}
 use Rattle.bpf_insn.specs.declared.program.Slot.{Slot}
 use Rattle.helpers.specs.declared.limits.HelperLimits.{HelperLimits}
-use Rattle.accepted.specs.Verdict.{Verdict, IsAccepted}
+use Rattle.bpf_accepted.specs.Verdict.{Verdict, IsAccepted}
 use Rattle.call_shape.specs.Shape.{IsLawful, FaultIs}
 use Rattle.call_shape.specs.StaticPath.{outermost, Standing, StaticPath, IsFrames}
 use Rattle.call_shape.specs.WrittenOut.{IsWrittenOut}

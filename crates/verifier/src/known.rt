@@ -1,9 +1,9 @@
 // What is known at one place, in memory of its own: to lead it on is to move eight bytes, and the memory is used again for a
-// place to come. It relies on `description` for what is known.
+// place to come. It relies on `check_description` for what is known.
 
 ghost use Rattle.std.specs.Prelude.{◌≡◌, ◌≤◌, [], IfOk, vec_capacity};
 
-use description::Description;
+use check_description::Description;
 use std::alloc::{AllocError, Global};
 use std::marker::Model;
 
@@ -21,7 +21,7 @@ pub struct Known {
 }
 
 impl Model for Known {
-    ghost use Rattle.description.specs.declared.description.Description.{Description};
+    ghost use Rattle.check_description.specs.declared.description.Description.{Description};
 
     ghost Value = { Description };
 

@@ -1,9 +1,9 @@
 // The verifier: a program is accepted where no run of it can be stuck, and then its budget is known. It
 // describes what holds at each place before it is executed, in one pass from a function's first slot to its last, since
 // every jump leads forward, and once for each chain of local calls by which control comes there. It relies on `call_shape`
-// for that, on `description` for what is known of a machine, on `reg_domain` for what an instruction makes of it, and on
-// `local_calls` for what a call of a function does, on `budget_path` for the budget, on `bpf_semantics` for what it proves,
-// and on `accepted` for the answer.
+// for that, on `check_description` for what is known of a machine, on `reg_domain` for what an instruction makes of it, and on
+// `check_local_calls` for what a call of a function does, on `budget_path` for the budget, on `bpf_semantics` for what it proves,
+// and on `bpf_accepted` for the answer.
 #![tactic(auto)]
 
 mod known;
@@ -15,6 +15,6 @@ mod ways;
 mod witness;
 
 pub use refusal::{Refusal, VerifyError};
-pub use register_kinds::Cause;
+pub use check_register_kinds::Cause;
 pub use verification::{verify, verify_before};
 pub use witness::{Nobody, Witness};

@@ -5,7 +5,7 @@ ghost use Rattle.verifier.specs.Arrives.{FailsUnless};
 
 use base::OrMemory;
 use call_shape::ShapeFault;
-use register_kinds::Cause;
+use check_register_kinds::Cause;
 use std::fmt;
 
 /// Why a program is refused. The text is the fault's code and its slot.

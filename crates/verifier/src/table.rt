@@ -1,5 +1,5 @@
 // A table of what is known at each slot of a function that is not visited yet, and what a check of an instruction does to it. It
-// relies on `known` for places, on `reg_domain` for what an instruction makes of what is known, and on `local_calls` for a return.
+// relies on `known` for places, on `reg_domain` for what an instruction makes of what is known, and on `check_local_calls` for a return.
 
 ghost use Rattle.std.specs.Prelude.{◌≡◌, ◌<◌, ◌≤◌, ◌+◌, ◌++◌, ◌∷◌, [], List, ℕ, length, Some, IfOk, IfErr, IfSome, IsOkAnd, IsSome};
 ghost use Rattle.bpf_insn.specs.declared.insn.Insn.TheVariants.{Exit};
@@ -7,9 +7,9 @@ ghost use Rattle.bpf_insn.specs.declared.program.Slot.{Slot};
 ghost use Rattle.bpf_insn.specs.Program.{insn_at};
 ghost use Rattle.call_shape.specs.declared.lawful_shape.TheConstants.{MAX_WRITTEN_OUT};
 ghost use Rattle.helpers.specs.declared.limits.HelperLimits.{HelperLimits};
-ghost use Rattle.description.specs.declared.description.Description.{Description};
-ghost use Rattle.description.specs.declared.saved.SavedRegisters.{SavedRegisters};
-ghost use Rattle.description.specs.Description.{NeverStuck};
+ghost use Rattle.check_description.specs.declared.description.Description.{Description};
+ghost use Rattle.check_description.specs.declared.saved.SavedRegisters.{SavedRegisters};
+ghost use Rattle.check_description.specs.Description.{NeverStuck};
 ghost use Rattle.reg_domain.specs.Ways.{Stays};
 ghost use Rattle.verifier.specs.Arrives.{AllArrive, Arrives, FailsUnless, NeverLacks, goes_to};
 ghost use Rattle.verifier.specs.Table.{HasJoined, HasLed, HasLeft, IsFirstTable, IsMerged};
@@ -19,11 +19,11 @@ use crate::refusal::{Refusal, VerifyError, refused};
 use crate::witness::{Along, Witness};
 use base::OrMemory;
 use bpf_insn::Insn;
-use description::SavedRegisters;
+use check_description::SavedRegisters;
 use helpers::HelperLimits;
-use private_insns::Way;
+use check_private_insns::Way;
 use reg_domain::{follow, join};
-use register_kinds::Cause;
+use check_register_kinds::Cause;
 use std::alloc::AllocError;
 
 /// One check of an instruction.
@@ -168,6 +168,6 @@ pub fn leave(
     ensures left { IfOk result (λ _. HasLeft saved.now known left.old left.new) }
     ensures fails { IfErr result (FailsUnless ⊥) }
 {
-    local_calls::leave(&mut known.description, saved);
+    check_local_calls::leave(&mut known.description, saved);
     merge(left, known, spare, place)
 }

@@ -10,7 +10,7 @@ use crate::known::Spare;
 use crate::pass::pass;
 use crate::refusal::{Refusal, VerifyError};
 use crate::witness::{Along, Nobody, Witness};
-use accepted::Accepted;
+use bpf_accepted::Accepted;
 use base::OrMemory;
 use bpf_insn::Program;
 use budget_path::budget;
@@ -38,7 +38,7 @@ pub fn verify(
 }
 
 /// Answers as `verify`, which is this with `Nobody`, and shows each check and each way on to a witness, which comes back. No
-/// clause says what it is shown, nor that the answer is the same with any witness: `hostile_tests` compares.
+/// clause says what it is shown, nor that the answer is the same with any witness: `test_hostile` compares.
 pub fn verify_before<W: Witness + Drop>(
     alloc: Global,
     program: &Program,

@@ -7,11 +7,11 @@ ghost use Rattle.bpf_insn.specs.declared.program.TheConstants.{MAX_SLOTS};
 ghost use Rattle.bpf_insn.specs.Program.{insn_at};
 ghost use Rattle.call_shape.specs.Calls.{begins, callee_in};
 ghost use Rattle.call_shape.specs.Shape.{behind, goes_on_behind, target_in};
-ghost use Rattle.description.specs.declared.saved.SavedRegisters.{SavedRegisters};
+ghost use Rattle.check_description.specs.declared.saved.SavedRegisters.{SavedRegisters};
 ghost use Rattle.verifier.specs.Function.{IsEnd, IsLawfulProgram, LeadsBelow};
 
 use bpf_insn::{Callee, Insn, Program, jump_target};
-use description::SavedRegisters;
+use check_description::SavedRegisters;
 
 /// Where the instruction at a place jumps to, if it is a jump.
 pub fn target_of(place: usize, insn: Insn) -> Option<usize>

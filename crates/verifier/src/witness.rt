@@ -1,7 +1,7 @@
-// Who is shown how a program is checked, while that is done. It relies on `description` for what is known.
+// Who is shown how a program is checked, while that is done. It relies on `check_description` for what is known.
 
 use crate::known::Spare;
-use description::Description;
+use check_description::Description;
 
 /// Is shown each check of a pass and each way on. Nothing of the pass hangs on it.
 pub trait Witness {

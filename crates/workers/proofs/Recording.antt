@@ -2,7 +2,7 @@
 use Rattle.std.proofs.Common.{◌≡◌, List, [], ◌∷◌, ◌++◌, map, length, All, refl, ap, sym, subst, ◌∙◌, arith, append_assoc, append-nil}
 use Rattle.std.specs.List.{AllZip}
 use Rattle.std.proofs.lemmas.List.Elements.{All-head, All-tail}
-use Rattle.calls.specs.declared.record.Record.{Record}
+use Rattle.world_calls.specs.declared.record.Record.{Record}
 use Rattle.ccb.specs.Completion.{Outcome}
 use Rattle.world.specs.World.{Setup}
 use Rattle.engine_core.specs.declared.event.Event.{Event}

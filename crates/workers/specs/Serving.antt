@@ -5,7 +5,7 @@ use Rattle.std.specs.List.{AllZip}
 use Rattle.ccb.specs.Completion.{Outcome}
 use Rattle.inbox.specs.InboxLists.{Held}
 use Rattle.inbox.specs.Views.{InboxView, PassView, IsOf}
-use Rattle.calls.specs.declared.call_refusal.CallRefusal.TheVariants.{Unknown, NotActive}
+use Rattle.world_calls.specs.declared.call_refusal.CallRefusal.TheVariants.{Unknown, NotActive}
 use Rattle.world.specs.World.{Setup}
 use Rattle.engine_core.specs.RunState.{RunState}
 use Rattle.engine_core.specs.declared.event.Event.{Event}

@@ -2,7 +2,7 @@
 use Rattle.std.specs.Prelude.{ℕ, ◌^◌}
 use Rattle.bpf_semantics.specs.declared.bounds.TheConstants.{MAX_HELD}
 use Rattle.freeze_ledger.specs.declared.ledger.TheConstants.{MAX_FREEZES, MAX_FREEZE_NUMBER, MAX_PLACE_FREEZES}
-use Rattle.stack_frame.specs.declared.frames.TheConstants.{MAX_FRAMES}
+use Rattle.bpf_stack_frame.specs.declared.frames.TheConstants.{MAX_FRAMES}
 
 abbrev pub most_queues : ℕ
 most_queues = 64

@@ -14,7 +14,7 @@ use Rattle.freeze_ledger.specs.declared.freeze.Holder.TheVariants.{Run}
 use Rattle.ccb.specs.declared.place.Place.TheVariants.{Device}
 use Rattle.freeze_ledger.specs.Freezes.{meets_limit}
 use Rattle.bpf_semantics.specs.MachineState.{entry}
-use Rattle.calls.specs.declared.call_answer.CallAnswer.TheVariants as answers
+use Rattle.world_calls.specs.declared.call_answer.CallAnswer.TheVariants as answers
 use Rattle.world.specs.declared.ccb_state.CcbState.TheVariants.{Waiting, Active, InRecovery}
 use Rattle.world.specs.Capacities.{most_ccbs, most_ccbs_of_queue, most_runs, last_number}
 use Rattle.world.specs.World.{Setup, queue_setup, LiveCcb, World}

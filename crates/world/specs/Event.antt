@@ -1,9 +1,9 @@
 -- What may happen in the world, and what is answered. A call is one event, and so is one instruction of one run.
 use Rattle.std.specs.Prelude.{ℕ, ◌==◌, Option, Some, None, if◌then◌else◌}
-use Rattle.calls.specs.declared.call.Call.{Call}
-use Rattle.calls.specs.declared.call_answer.CallAnswer.{CallAnswer}
-use Rattle.calls.specs.declared.call_answer.CallAnswer.TheVariants as answers
-use Rattle.calls.specs.declared.call_refusal.CallRefusal.{CallRefusal}
+use Rattle.world_calls.specs.declared.call.Call.{Call}
+use Rattle.world_calls.specs.declared.call_answer.CallAnswer.{CallAnswer}
+use Rattle.world_calls.specs.declared.call_answer.CallAnswer.TheVariants as answers
+use Rattle.world_calls.specs.declared.call_refusal.CallRefusal.{CallRefusal}
 use Rattle.world.specs.Told.{Told}
 
 -- what one instruction of a run is: private to the run, a call of a helper with what is told of it, or the outermost exit

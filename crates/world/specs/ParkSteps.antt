@@ -1,6 +1,6 @@
 -- A run that is parked takes no step, and keeps all that it has until it is resumed.
 use Rattle.std.specs.Prelude.{Bool, true, false, if◌then◌else◌, Option, Some, None}
-use Rattle.calls.specs.declared.call_answer.CallAnswer.TheVariants as answers
+use Rattle.world_calls.specs.declared.call_answer.CallAnswer.TheVariants as answers
 use Rattle.world.specs.World.{LiveRun, World}
 use Rattle.world.specs.Lookups.{with_run}
 use Rattle.world.specs.Event.{Reply, replies}

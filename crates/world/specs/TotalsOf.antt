@@ -1,8 +1,8 @@
 -- The sums over a history: the number of its records, and in the world after them the freezes, the active CCBs and
 -- the live runs.
 use Rattle.std.specs.Prelude.{◌≡◌, List, length, count_by}
-use Rattle.calls.specs.declared.record.Record.{Record}
-use Rattle.calls.specs.declared.totals.Totals.{Totals}
+use Rattle.world_calls.specs.declared.record.Record.{Record}
+use Rattle.world_calls.specs.declared.totals.Totals.{Totals}
 use Rattle.world.specs.World.{Setup, World}
 use Rattle.world.specs.Lookups.{is_active}
 use Rattle.world.specs.WorldRun.{WorldRun}

@@ -8,8 +8,8 @@ use Rattle.helpers.specs.declared.limits.HelperLimits.{HelperLimits}
 use Rattle.bpf_insn.specs.declared.program.Slot.{Slot}
 use Rattle.bpf_semantics.specs.MachineState.{MachineState}
 use Rattle.table_store.specs.Tables.{zero_table}
-use Rattle.calls.specs.declared.trace.Version.{Version}
-use Rattle.calls.specs.Versions.{version_in}
+use Rattle.world_calls.specs.declared.trace.Version.{Version}
+use Rattle.world_calls.specs.Versions.{version_in}
 use Rattle.world.specs.declared.ccb_state.CcbState.{CcbState}
 
 -- What an engine is opened with for one device queue: its openings, the controller that it is under, which is 0 where there

@@ -1,6 +1,6 @@
 -- An advance by no instruction stands for no event.
 use Rattle.std.proofs.Common.{◌≡◌, ℕ, ap}
-use Rattle.calls.specs.declared.record.StoppedAt.TheVariants.{Helper, Trace, Finish, Exit}
+use Rattle.world_calls.specs.declared.record.StoppedAt.TheVariants.{Helper, Trace, Finish, Exit}
 use Rattle.world.specs.World.{Setup, World}
 use Rattle.world.specs.Told.{Told, plain, traces, finishes}
 use Rattle.world.specs.Event.{call, executes, went_on, result, Reply}

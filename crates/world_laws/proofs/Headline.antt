@@ -7,8 +7,8 @@ use Rattle.bpf_semantics.specs.Reached.{Reached}
 use Rattle.world.specs.World.{Setup, queue_setup, LiveRun, World}
 use Rattle.world.specs.Lawful.{IsLawful}
 use Rattle.world.specs.Lookups.{run_of}
-use Rattle.calls.specs.declared.call.Call.TheVariants.{Complete}
-use Rattle.calls.specs.declared.call_answer.CallAnswer.TheVariants as answers
+use Rattle.world_calls.specs.declared.call.Call.TheVariants.{Complete}
+use Rattle.world_calls.specs.declared.call_answer.CallAnswer.TheVariants as answers
 use Rattle.world.specs.Event.{Event, called, Reply, replies}
 use Rattle.world.specs.WorldRun.{Leads}
 use Rattle.world.specs.Laws.Headline.{is_own_of, steps_of, disposals_of, exits_of, StartedRun, KeepsWithin, WithinBudget, InRecoveryBy, DisposedOnce, OthersLeaveIt, GoneRunStaysGone, times_in, ExactFreezes}

@@ -25,10 +25,10 @@ use Rattle.bpf_semantics.specs.MachineState.{MachineState, entry}
 use Rattle.bpf_semantics.specs.Calls.{meets, meets_need, meets_rule}
 use Rattle.bpf_semantics.specs.Step.{request_at}
 use Rattle.table_store.specs.Tables.{zero_table}
-use Rattle.calls.specs.declared.call.Call.{Call}
-use Rattle.calls.specs.declared.call.Call.TheVariants as calls
-use Rattle.calls.specs.declared.call_answer.CallAnswer.TheVariants as answers
-use Rattle.calls.specs.declared.call_refusal.CallRefusal.TheVariants.{Unknown, Limit, Frozen, NoOpening, NothingWaits, ControllerFrozen}
+use Rattle.world_calls.specs.declared.call.Call.{Call}
+use Rattle.world_calls.specs.declared.call.Call.TheVariants as calls
+use Rattle.world_calls.specs.declared.call_answer.CallAnswer.TheVariants as answers
+use Rattle.world_calls.specs.declared.call_refusal.CallRefusal.TheVariants.{Unknown, Limit, Frozen, NoOpening, NothingWaits, ControllerFrozen}
 use Rattle.world.specs.declared.ccb_state.CcbState.TheVariants.{InRecovery}
 use Rattle.world.specs.World.{QueueSetup, Setup, no_queue, queue_count, queue_setup, LiveCcb, LiveRun, World, opening}
 use Rattle.world.specs.Lookups.{active_count, ccb_of, next_waiting, run_of, with_ccb}

@@ -23,21 +23,21 @@ use Rattle.helpers.specs.declared.table.Helper.TheVariants as helpers
 use Rattle.helpers.specs.declared.limits.HelperSet.{HelperSet}
 use Rattle.helpers.specs.declared.limits.HelperSet.TheVariants.{Controllers, Queues}
 use Rattle.helpers.specs.Table.{is_there, row_of}
-use Rattle.description.specs.declared.description.Description.{Description}
-use Rattle.private_insns.specs.declared.way.Way.{Way}
-use Rattle.private_insns.specs.declared.way.Way.TheVariants.{FallThrough, Taken}
-use Rattle.register_kinds.specs.declared.freeze_name.FreezeName.{FreezeName}
-use Rattle.register_kinds.specs.declared.freeze_name.FreezeName.TheVariants.{Start}
-use Rattle.register_kinds.specs.declared.held.HeldFreeze.{HeldFreeze}
-use Rattle.register_kinds.specs.declared.kind.Kind.{Kind}
-use Rattle.register_kinds.specs.declared.kind.Kind.TheVariants.{Unwritten, Number, Address, Freeze}
-use Rattle.register_kinds.specs.declared.region.Region.TheVariants.{Context}
-use Rattle.description.specs.Description.{kind_at}
-use Rattle.register_kinds.specs.Freezes.{certainty_of, with_sure, without}
-use Rattle.register_kinds.specs.Kinds.{IsAtMost, IsBetween, IsKnown, IsAt}
+use Rattle.check_description.specs.declared.description.Description.{Description}
+use Rattle.check_private_insns.specs.declared.way.Way.{Way}
+use Rattle.check_private_insns.specs.declared.way.Way.TheVariants.{FallThrough, Taken}
+use Rattle.check_register_kinds.specs.declared.freeze_name.FreezeName.{FreezeName}
+use Rattle.check_register_kinds.specs.declared.freeze_name.FreezeName.TheVariants.{Start}
+use Rattle.check_register_kinds.specs.declared.held.HeldFreeze.{HeldFreeze}
+use Rattle.check_register_kinds.specs.declared.kind.Kind.{Kind}
+use Rattle.check_register_kinds.specs.declared.kind.Kind.TheVariants.{Unwritten, Number, Address, Freeze}
+use Rattle.check_register_kinds.specs.declared.region.Region.TheVariants.{Context}
+use Rattle.check_description.specs.Description.{kind_at}
+use Rattle.check_register_kinds.specs.Freezes.{certainty_of, with_sure, without}
+use Rattle.check_register_kinds.specs.Kinds.{IsAtMost, IsBetween, IsKnown, IsAt}
 use Rattle.reg_domain.specs.Enough.{Enough, Leaves, IsEntryKnown}
-use Rattle.helper_calls.specs.Called.{EnoughToCall, LeavesOver}
-use Rattle.private_insns.specs.Enough.{TestsFreeze}
+use Rattle.check_helper_calls.specs.Called.{EnoughToCall, LeavesOver}
+use Rattle.check_private_insns.specs.Enough.{TestsFreeze}
 use Rattle.verifier.specs.Arrives.{Arrives, enters, follows, joins, NeverLacks, goes_to}
 use Rattle.verifier.specs.Plain.{IsContextLoad, IsListed, IsPlain, is_free, is_kept, writes_register}
 use Rattle.verifier.proofs.Plain.Insns.{length_plain, test, copy, release, Stands, loads_there, tests, copies, gives_back, lists, sets_retries, requeues_there, sets_answer, exits, stands}

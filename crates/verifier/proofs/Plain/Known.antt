@@ -12,20 +12,20 @@ use Rattle.bpf_insn.specs.declared.program.Slot.{Slot}
 use Rattle.bpf_insn.specs.Program.{insn_at}
 use Rattle.bpf_insn.specs.Reg.{number_of}
 use Rattle.call_shape.specs.StaticPath.{outermost, LeadsTo}
-use Rattle.description.specs.declared.description.Description.{Description}
-use Rattle.register_kinds.specs.declared.freeze_name.FreezeName.{FreezeName}
-use Rattle.register_kinds.specs.declared.kind.Kind.{Kind}
-use Rattle.register_kinds.specs.declared.kind.Kind.TheVariants.{Unwritten, Number, Address, Freeze}
-use Rattle.register_kinds.specs.declared.region.Region.{Region}
-use Rattle.register_kinds.specs.declared.region.Region.TheVariants.{Frame}
-use Rattle.description.specs.Description.{kind_at}
-use Rattle.register_kinds.specs.Kinds.{IsNumber, IsAt}
-use Rattle.description.specs.Memory.{AreKnown}
-use Rattle.private_insns.specs.Enough.{StaysKnown, ChangesOnly, LeavesKnown, LeavesStored, LeavesSure}
-use Rattle.description.specs.Changes.{IsFreeze, LeavesGivenUp}
-use Rattle.helper_calls.specs.Called.{LeavesCalled}
-use Rattle.description.specs.declared.spill.Spill.{Spill}
-use Rattle.description.specs.Spills.{spill_at}
+use Rattle.check_description.specs.declared.description.Description.{Description}
+use Rattle.check_register_kinds.specs.declared.freeze_name.FreezeName.{FreezeName}
+use Rattle.check_register_kinds.specs.declared.kind.Kind.{Kind}
+use Rattle.check_register_kinds.specs.declared.kind.Kind.TheVariants.{Unwritten, Number, Address, Freeze}
+use Rattle.check_register_kinds.specs.declared.region.Region.{Region}
+use Rattle.check_register_kinds.specs.declared.region.Region.TheVariants.{Frame}
+use Rattle.check_description.specs.Description.{kind_at}
+use Rattle.check_register_kinds.specs.Kinds.{IsNumber, IsAt}
+use Rattle.check_description.specs.Memory.{AreKnown}
+use Rattle.check_private_insns.specs.Enough.{StaysKnown, ChangesOnly, LeavesKnown, LeavesStored, LeavesSure}
+use Rattle.check_description.specs.Changes.{IsFreeze, LeavesGivenUp}
+use Rattle.check_helper_calls.specs.Called.{LeavesCalled}
+use Rattle.check_description.specs.declared.spill.Spill.{Spill}
+use Rattle.check_description.specs.Spills.{spill_at}
 use Rattle.reg_domain.specs.Enough.{JoinsTo}
 use Rattle.verifier.specs.Plain.{ComesUnwritten, is_free, byte_of, writes_register, writes_byte}
 

@@ -12,16 +12,16 @@ use Rattle.bpf_insn.specs.declared.program.Slot.{Slot}
 use Rattle.bpf_insn.specs.Target.{target}
 use Rattle.bpf_semantics.specs.Memory.{load_width, store_width}
 use Rattle.call_shape.specs.StaticPath.{outermost, LeadsTo}
-use Rattle.description.specs.declared.description.Description.{Description}
-use Rattle.private_insns.specs.declared.way.Way.{Way}
-use Rattle.private_insns.specs.declared.way.Way.TheVariants.{FallThrough, Taken}
-use Rattle.register_kinds.specs.declared.region.Region.TheVariants.{Frame}
-use Rattle.description.specs.Description.{kind_at}
-use Rattle.register_kinds.specs.Kinds.{IsNumber, IsAt}
+use Rattle.check_description.specs.declared.description.Description.{Description}
+use Rattle.check_private_insns.specs.declared.way.Way.{Way}
+use Rattle.check_private_insns.specs.declared.way.Way.TheVariants.{FallThrough, Taken}
+use Rattle.check_register_kinds.specs.declared.region.Region.TheVariants.{Frame}
+use Rattle.check_description.specs.Description.{kind_at}
+use Rattle.check_register_kinds.specs.Kinds.{IsNumber, IsAt}
 use Rattle.reg_domain.specs.Enough.{Enough, Leaves}
-use Rattle.description.specs.declared.spill.Spill.{Spill}
-use Rattle.description.specs.Spills.{spill_at}
-use Rattle.private_insns.specs.Enough.{IsNumberOperand, ComparesNumbers, LiesInFrame, LeavesStored}
+use Rattle.check_description.specs.declared.spill.Spill.{Spill}
+use Rattle.check_description.specs.Spills.{spill_at}
+use Rattle.check_private_insns.specs.Enough.{IsNumberOperand, ComparesNumbers, LiesInFrame, LeavesStored}
 use Rattle.verifier.specs.Arrives.{goes_to}
 use Rattle.verifier.specs.Plain.{IsListed, IsFreeOperand, ReadsRegister, ReadsByte, ComesUnwritten, is_free, byte_of, writes_register, writes_byte}
 use Rattle.verifier.proofs.Plain.Known.{IsCommon, IsStep, compared_keeps, number_on, known_on, stored_on}

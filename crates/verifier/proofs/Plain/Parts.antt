@@ -5,15 +5,15 @@ use Rattle.bpf_insn.specs.declared.reg.Reg.{Reg}
 use Rattle.bpf_insn.specs.declared.reg.Reg.TheVariants.{R0, R1, R2}
 use Rattle.bpf_insn.specs.declared.program.Slot.{Slot}
 use Rattle.bpf_insn.specs.Reg.{number_of}
-use Rattle.description.specs.declared.description.Description.{Description}
-use Rattle.register_kinds.specs.declared.freeze_name.FreezeName.TheVariants.{Start}
-use Rattle.register_kinds.specs.declared.held.Certainty.TheVariants.{Sure}
-use Rattle.register_kinds.specs.declared.held.HeldFreeze.{HeldFreeze}
-use Rattle.register_kinds.specs.declared.kind.Kind.TheVariants.{Freeze}
-use Rattle.register_kinds.specs.declared.region.Region.TheVariants.{Context}
-use Rattle.description.specs.Description.{kind_at}
-use Rattle.register_kinds.specs.Freezes.{open_freeze}
-use Rattle.register_kinds.specs.Kinds.{IsNumber, IsAtMost, IsAt}
+use Rattle.check_description.specs.declared.description.Description.{Description}
+use Rattle.check_register_kinds.specs.declared.freeze_name.FreezeName.TheVariants.{Start}
+use Rattle.check_register_kinds.specs.declared.held.Certainty.TheVariants.{Sure}
+use Rattle.check_register_kinds.specs.declared.held.HeldFreeze.{HeldFreeze}
+use Rattle.check_register_kinds.specs.declared.kind.Kind.TheVariants.{Freeze}
+use Rattle.check_register_kinds.specs.declared.region.Region.TheVariants.{Context}
+use Rattle.check_description.specs.Description.{kind_at}
+use Rattle.check_register_kinds.specs.Freezes.{open_freeze}
+use Rattle.check_register_kinds.specs.Kinds.{IsNumber, IsAtMost, IsAt}
 use Rattle.reg_domain.specs.Enough.{Agree, JoinsTo}
 use Rattle.verifier.specs.Plain.{is_free, writes_register}
 use Rattle.verifier.proofs.Plain.Known.{Comes, IsCommon, common_joined}

@@ -2,8 +2,8 @@
 -- more start than there are openings.
 use Rattle.std.specs.Prelude.{◌≡◌, ℕ, ◌<◌, ◌≤◌, ◌==◌, List, [], ◌∷◌, ◌++◌, Option, Some, None, ◌⊎◌, count_by, slice_index}
 use Rattle.ccb.specs.Status.{code_of}
-use Rattle.calls.specs.declared.call.Call.TheVariants.{Complete}
-use Rattle.calls.specs.declared.call_answer.CallAnswer.TheVariants as answers
+use Rattle.world_calls.specs.declared.call.Call.TheVariants.{Complete}
+use Rattle.world_calls.specs.declared.call_answer.CallAnswer.TheVariants as answers
 use Rattle.world.specs.World.{Setup, LiveCcb, EndedCcb, LiveRun, World, opening}
 use Rattle.world.specs.Lookups.{active_count, ccb_of, run_of}
 use Rattle.world.specs.Told.{finishes}

@@ -11,8 +11,8 @@ use Rattle.helpers.specs.Table.{row_of}
 use Rattle.bpf_semantics.specs.Stuck.{is_stuck}
 use Rattle.bpf_semantics.specs.Reached.{Reached}
 use Rattle.world.specs.declared.ccb_state.CcbState.TheVariants.{Waiting, InRecovery}
-use Rattle.calls.specs.declared.call.Call.TheVariants.{Complete, Park, Resume}
-use Rattle.calls.specs.declared.call_answer.CallAnswer.TheVariants as answers
+use Rattle.world_calls.specs.declared.call.Call.TheVariants.{Complete, Park, Resume}
+use Rattle.world_calls.specs.declared.call_answer.CallAnswer.TheVariants as answers
 use Rattle.world.specs.World.{Setup, queue_setup, LiveCcb, LiveRun, World}
 use Rattle.world.specs.Lawful.{IsLawful}
 use Rattle.world.specs.Lookups.{ccb_of, run_of}

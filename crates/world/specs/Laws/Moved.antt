@@ -1,7 +1,7 @@
 -- The law that private instructions move: where a run executes them, among the events of others, nobody can tell.
 use Rattle.std.specs.Prelude.{◌≡◌, ℕ, ◌==◌, ◌||◌, Bool, true, false, not, List, ◌∷◌, ◌++◌}
 use Rattle.std.specs.List.{list_all}
-use Rattle.calls.specs.declared.call_answer.CallAnswer.TheVariants as answers
+use Rattle.world_calls.specs.declared.call_answer.CallAnswer.TheVariants as answers
 use Rattle.world.specs.World.{Setup, World}
 use Rattle.world.specs.Event.{private, Event, executes, Reply, replies}
 use Rattle.world.specs.WorldRun.{Leads}

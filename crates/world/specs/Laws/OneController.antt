@@ -4,8 +4,8 @@ use Rattle.std.specs.Prelude.{◌≡◌, Bool, true, false, not, List, map}
 use Rattle.std.specs.List.{list_all}
 use Rattle.ccb.specs.declared.place.Place.TheVariants.{Controller, Device}
 use Rattle.helpers.specs.declared.limits.HelperSet.TheVariants.{Controllers, Queues}
-use Rattle.calls.specs.declared.call.Call.{Call}
-use Rattle.calls.specs.declared.call.Call.TheVariants.{GuestFreeze}
+use Rattle.world_calls.specs.declared.call.Call.{Call}
+use Rattle.world_calls.specs.declared.call.Call.TheVariants.{GuestFreeze}
 use Rattle.world.specs.World.{QueueSetup, Setup, World}
 use Rattle.world.specs.Lawful.{IsLawful}
 use Rattle.world.specs.Event.{Event, called, executes, Reply}

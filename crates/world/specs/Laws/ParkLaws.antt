@@ -1,7 +1,7 @@
 -- The law of parked runs: what holds in every run of the world.
 use Rattle.std.specs.Prelude.{◌≡◌, ℕ, ◌==◌, Bool, false, List, Some, count_by}
-use Rattle.calls.specs.declared.call.Call.TheVariants.{Park, Resume}
-use Rattle.calls.specs.declared.call_answer.CallAnswer.TheVariants as answers
+use Rattle.world_calls.specs.declared.call.Call.TheVariants.{Park, Resume}
+use Rattle.world_calls.specs.declared.call_answer.CallAnswer.TheVariants as answers
 use Rattle.world.specs.World.{Setup, LiveRun, World}
 use Rattle.world.specs.Lawful.{IsLawful}
 use Rattle.world.specs.Lookups.{ccb_of, run_of}

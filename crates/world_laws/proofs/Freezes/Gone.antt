@@ -15,7 +15,7 @@ use Rattle.bpf_semantics.specs.Step.{request_at}
 use Rattle.world.specs.World.{Setup, LiveRun, World, opening}
 use Rattle.world.specs.Lookups.{run_of}
 use Rattle.world.specs.Told.{Told, told_of}
-use Rattle.calls.specs.declared.call.Call.TheVariants.{GuestRelease}
+use Rattle.world_calls.specs.declared.call.Call.TheVariants.{GuestRelease}
 use Rattle.world.specs.Event.{call, Event, called, executes, Reply}
 use Rattle.world.specs.FreezeSteps.{is_timer}
 use Rattle.world.specs.Step.{WorldStep}

@@ -11,8 +11,8 @@ use Rattle.freeze_ledger.specs.declared.freeze.Freeze.{Freeze}
 use Rattle.helpers.specs.declared.table.Helper.TheVariants as helpers
 use Rattle.helpers.specs.Table.{of_queues, row_of}
 use Rattle.helpers.specs.declared.limits.HelperLimits.{HelperLimits}
-use Rattle.calls.specs.declared.record.StoppedAt.TheVariants.{Helper as AtHelper, Finish}
-use Rattle.calls.specs.declared.record.Record.TheVariants.{Advance}
+use Rattle.world_calls.specs.declared.record.StoppedAt.TheVariants.{Helper as AtHelper, Finish}
+use Rattle.world_calls.specs.declared.record.Record.TheVariants.{Advance}
 use Rattle.world.specs.declared.ccb_state.CcbState.TheVariants.{InRecovery}
 use Rattle.ccb.specs.Places.{device}
 use Rattle.world.specs.World.{Setup, LiveRun, World}

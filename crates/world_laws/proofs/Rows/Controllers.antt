@@ -9,8 +9,8 @@ use Rattle.freeze_ledger.specs.Freezes.{frozen}
 use Rattle.helpers.specs.declared.limits.HelperSet.TheVariants.{Controllers}
 use Rattle.helpers.specs.declared.table.Helper.TheVariants as helpers
 use Rattle.helpers.specs.Table.{of_queues, row_of}
-use Rattle.calls.specs.declared.call.Call.TheVariants.{Dispatch, GuestFreeze}
-use Rattle.calls.specs.declared.call_refusal.CallRefusal.TheVariants.{Unknown, Limit, Frozen, NothingWaits, ControllerFrozen}
+use Rattle.world_calls.specs.declared.call.Call.TheVariants.{Dispatch, GuestFreeze}
+use Rattle.world_calls.specs.declared.call_refusal.CallRefusal.TheVariants.{Unknown, Limit, Frozen, NothingWaits, ControllerFrozen}
 use Rattle.world.specs.declared.ccb_state.CcbState.TheVariants.{Waiting, InRecovery}
 use Rattle.world.specs.World.{Setup, LiveCcb, LiveRun, World}
 use Rattle.world.specs.Told.{plain}

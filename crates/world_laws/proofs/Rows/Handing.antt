@@ -14,11 +14,11 @@ use Rattle.bpf_insn.specs.Program.{layout}
 use Rattle.freeze_ledger.specs.declared.freeze.Holder.TheVariants.{Timer}
 use Rattle.helpers.specs.declared.table.Helper.TheVariants as helpers
 use Rattle.helpers.specs.Table.{of_queues, row_of}
-use Rattle.calls.specs.declared.record.StoppedAt.TheVariants.{Helper as AtHelper, Finish, Exit as AtExit}
-use Rattle.calls.specs.declared.record.Record.{Record}
-use Rattle.calls.specs.declared.call.Call.TheVariants.{Submit, Dispatch, Complete, Clock}
-use Rattle.calls.specs.declared.call_answer.CallAnswer.TheVariants as answers
-use Rattle.calls.specs.declared.record.Record.TheVariants.{Called, Advance}
+use Rattle.world_calls.specs.declared.record.StoppedAt.TheVariants.{Helper as AtHelper, Finish, Exit as AtExit}
+use Rattle.world_calls.specs.declared.record.Record.{Record}
+use Rattle.world_calls.specs.declared.call.Call.TheVariants.{Submit, Dispatch, Complete, Clock}
+use Rattle.world_calls.specs.declared.call_answer.CallAnswer.TheVariants as answers
+use Rattle.world_calls.specs.declared.record.Record.TheVariants.{Called, Advance}
 use Rattle.ccb.specs.Places.{device}
 use Rattle.world.specs.World.{QueueSetup, Setup, World, opening}
 use Rattle.world.specs.Told.{plain, finishes}

@@ -3,10 +3,10 @@ use Rattle.std.proofs.Common.{◌≡◌, true, false, [], ◌∷◌, Some, None,
 use Rattle.ccb.specs.Completion.{Outcome}
 use Rattle.ccb.specs.declared.cam_status.CamStatus.TheVariants.{CommandTimeout}
 use Rattle.helpers.specs.declared.limits.HelperLimits.{HelperLimits}
-use Rattle.calls.specs.declared.call_refusal.CallRefusal.TheVariants.{Unknown}
-use Rattle.calls.specs.declared.call.Call.TheVariants.{Park, Resume}
-use Rattle.calls.specs.declared.call_answer.CallAnswer.TheVariants as answers
-use Rattle.calls.specs.declared.record.Record.TheVariants.{Called}
+use Rattle.world_calls.specs.declared.call_refusal.CallRefusal.TheVariants.{Unknown}
+use Rattle.world_calls.specs.declared.call.Call.TheVariants.{Park, Resume}
+use Rattle.world_calls.specs.declared.call_answer.CallAnswer.TheVariants as answers
+use Rattle.world_calls.specs.declared.record.Record.TheVariants.{Called}
 use Rattle.world.specs.World.{World, opening}
 use Rattle.world.specs.Event.{private, exit, executes, result, refused, went_on}
 use Rattle.world_laws.proofs.Rows.Words.{submit, dispatch, complete, parks, resumes, run_started, ok}

@@ -7,12 +7,12 @@ use Rattle.helpers.specs.Table.{row_of}
 use Rattle.freeze_ledger.specs.declared.freeze.Holder.TheVariants.{Run}
 use Rattle.helpers.specs.declared.limits.HelperLimits.{HelperLimits}
 use Rattle.table_store.specs.Tables.{zero_table}
-use Rattle.calls.specs.declared.record.StoppedAt.TheVariants.{Helper, Exit}
-use Rattle.calls.specs.declared.record.Record.{Record}
-use Rattle.calls.specs.declared.call.Call.TheVariants.{Submit, Dispatch, Complete}
-use Rattle.calls.specs.declared.call_answer.CallAnswer.TheVariants as answers
-use Rattle.calls.specs.declared.record.Record.TheVariants.{Called, Advance}
-use Rattle.calls.specs.declared.call_refusal.CallRefusal.TheVariants.{NotActive, Frozen}
+use Rattle.world_calls.specs.declared.record.StoppedAt.TheVariants.{Helper, Exit}
+use Rattle.world_calls.specs.declared.record.Record.{Record}
+use Rattle.world_calls.specs.declared.call.Call.TheVariants.{Submit, Dispatch, Complete}
+use Rattle.world_calls.specs.declared.call_answer.CallAnswer.TheVariants as answers
+use Rattle.world_calls.specs.declared.record.Record.TheVariants.{Called, Advance}
+use Rattle.world_calls.specs.declared.call_refusal.CallRefusal.TheVariants.{NotActive, Frozen}
 use Rattle.world.specs.declared.ccb_state.CcbState.TheVariants.{Waiting}
 use Rattle.ccb.specs.Places.{device}
 use Rattle.world.specs.World.{LiveRun, World, opening}

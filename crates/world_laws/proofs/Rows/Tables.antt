@@ -7,7 +7,7 @@ use Rattle.bpf_semantics.specs.MachineState.{unwritten_frame}
 use Rattle.helpers.specs.declared.table.Helper.{Helper as HelperName}
 use Rattle.helpers.specs.declared.table.Helper.TheVariants as helpers
 use Rattle.helpers.specs.Table.{of_queues, row_of}
-use Rattle.calls.specs.declared.call_refusal.CallRefusal.TheVariants.{NoOpening, NothingWaits}
+use Rattle.world_calls.specs.declared.call_refusal.CallRefusal.TheVariants.{NoOpening, NothingWaits}
 use Rattle.world.specs.declared.ccb_state.CcbState.TheVariants.{Waiting, Active, InRecovery}
 use Rattle.world.specs.World.{Setup, LiveRun, World, opening}
 use Rattle.world.specs.Told.{plain}

@@ -39,7 +39,7 @@ use Rattle.bpf_semantics.specs.Reached.{Reached, Safe}
 use Rattle.bpf_semantics.specs.Step.{after_call, answered, calls, changed_by, compute, does, entered, first_operand, frames_after, has_frame_left, held_with, held_without, jump_if, operand, request_at, returned, store}
 use Rattle.bpf_semantics.proofs.Progress.{progress_lem}
 use Rattle.bpf_semantics.proofs.WrittenBytes.{some_same}
-use Rattle.stack_frame.specs.Frame.{written_at}
+use Rattle.bpf_stack_frame.specs.Frame.{written_at}
 use Rattle.world.specs.World.{Setup, queue_count, queue_setup, LiveRun, World}
 use Rattle.world.specs.Lawful.{IsLawful}
 use Rattle.world.specs.Limits.{RunsKeepLimits}

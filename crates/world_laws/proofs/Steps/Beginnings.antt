@@ -14,8 +14,8 @@ use Rattle.ccb.specs.Context.{context_of}
 use Rattle.ccb.proofs.Contexts.{is_context}
 use Rattle.ccb.specs.declared.place.Place.TheVariants.{Device}
 use Rattle.bpf_semantics.specs.Reached.{IsEntry}
-use Rattle.calls.specs.declared.call.Call.TheVariants.{Complete}
-use Rattle.calls.specs.declared.call_answer.CallAnswer.TheVariants as answers
+use Rattle.world_calls.specs.declared.call.Call.TheVariants.{Complete}
+use Rattle.world_calls.specs.declared.call_answer.CallAnswer.TheVariants as answers
 use Rattle.world.specs.World.{Setup, LiveRun, World}
 use Rattle.world.specs.Lookups.{run_of, with_run}
 use Rattle.world.specs.Event.{Event, called, Reply, replies}

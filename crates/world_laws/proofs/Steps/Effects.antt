@@ -16,7 +16,7 @@ use Rattle.helpers.specs.declared.columns.Gives.TheVariants.{Number, NewFreeze}
 use Rattle.helpers.specs.Table.{row_of}
 use Rattle.helpers.specs.declared.request.Answer.{Answer}
 use Rattle.bpf_semantics.specs.Step.{answered}
-use Rattle.calls.specs.declared.call.Call.TheVariants.{Complete}
+use Rattle.world_calls.specs.declared.call.Call.TheVariants.{Complete}
 use Rattle.world.specs.declared.ccb_state.CcbState.{CcbState}
 use Rattle.world.specs.declared.ccb_state.CcbState.TheVariants.{Waiting, Active, InRecovery}
 use Rattle.world.specs.World.{Setup, queue_count, queue_setup, LiveCcb, EndedCcb, LiveRun, World}

@@ -1,5 +1,5 @@
 use Rattle.std.proofs.Common.{◌<◌, ◌≤◌, arith}
-use Rattle.stack_frame.specs.declared.frames.TheConstants.{MAX_FRAMES}
+use Rattle.bpf_stack_frame.specs.declared.frames.TheConstants.{MAX_FRAMES}
 use Rattle.call_shape.proofs.CallingOrder.{ordered}
 use Rattle.call_shape.proofs.Measures.{too_deep, shallow, too_long, lawful_parts}
 use Rattle.call_shape.proofs.checks.measured.Goals as goal

@@ -5,7 +5,7 @@ use Rattle.helpers.specs.declared.table.Deed.TheVariants as deeds
 use Rattle.helpers.specs.declared.request.Request.{Request}
 use Rattle.helpers.specs.Table.{row_of, answer_number}
 use Rattle.interpreter.specs.Segments.{SegmentState}
-use Rattle.runs.specs.RunsState.{RunsState}
+use Rattle.engine_runs.specs.RunsState.{RunsState}
 use Rattle.table_store.specs.Tables.{with_word, word_at}
 use Rattle.world.specs.World.{Transport, LiveRun, World}
 use Rattle.world.specs.Lookups.{with_run}

@@ -6,7 +6,7 @@ use Rattle.helpers.specs.declared.table.Deed.TheVariants as deeds
 use Rattle.helpers.specs.declared.request.Request.{Request}
 use Rattle.helpers.specs.Table.{row_of, answer_number}
 use Rattle.interpreter.specs.Segments.{SegmentState}
-use Rattle.runs.specs.RunsState.{RunsState, tokens_at, tokens_of}
+use Rattle.engine_runs.specs.RunsState.{RunsState, tokens_at, tokens_of}
 use Rattle.world.specs.World.{Transport, LiveRun, World}
 use Rattle.world.specs.Lookups.{with_run}
 use Rattle.world.specs.FreezeSteps.{frozen_with, thawed}
@@ -20,7 +20,7 @@ use Rattle.engine_core.proofs.Calls.{is_ruled, is_answer, deed_step, between, ru
 use Rattle.std.specs.Prelude.{slice_set}
 use Rattle.std.specs.List.{Contains}
 use Rattle.freeze_ledger.specs.Freezes.{frozen}
-use Rattle.runs.specs.Tokens.{AreTokensWith}
+use Rattle.engine_runs.specs.Tokens.{AreTokensWith}
 use Rattle.world.specs.Laws.FreezeLaws.{entries_of}
 use Rattle.world.specs.Lookups.{with_run}
 use Rattle.engine_core.proofs.Holding.{entry_is_there, gave_one_up}

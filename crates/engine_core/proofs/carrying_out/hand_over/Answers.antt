@@ -5,7 +5,7 @@ use Rattle.helpers.specs.declared.table.Deed.TheVariants as deeds
 use Rattle.helpers.specs.declared.request.Request.{Request}
 use Rattle.helpers.specs.Table.{row_of, answer_number}
 use Rattle.interpreter.specs.Segments.{SegmentState}
-use Rattle.runs.specs.RunsState.{RunsState, tokens_at, tokens_of}
+use Rattle.engine_runs.specs.RunsState.{RunsState, tokens_at, tokens_of}
 use Rattle.world.specs.Capacities.{last_reading}
 use Rattle.world.specs.World.{Transport, LiveRun, World}
 use Rattle.world.specs.Lookups.{with_run}
@@ -18,7 +18,7 @@ use Rattle.std.specs.Prelude.{slice_set}
 use Rattle.std.specs.List.{Contains}
 use Rattle.freeze_ledger.specs.declared.freeze.Freeze.{Freeze}
 use Rattle.freeze_ledger.specs.Freezes.{without}
-use Rattle.runs.specs.Tokens.{AreTokensWith}
+use Rattle.engine_runs.specs.Tokens.{AreTokensWith}
 use Rattle.world.specs.Laws.FreezeLaws.{entries_of}
 use Rattle.world.specs.Lookups.{with_run}
 use Rattle.engine_core.proofs.Holding.{entry_is_there, gave_one_up, handed_entries}

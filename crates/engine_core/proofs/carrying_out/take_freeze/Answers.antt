@@ -10,8 +10,8 @@ use Rattle.helpers.specs.Table.{row_of, answer_number}
 use Rattle.bpf_semantics.specs.Calls.{is_held}
 use Rattle.bpf_semantics.specs.Step.{IsNewFreeze}
 use Rattle.interpreter.specs.Segments.{SegmentState}
-use Rattle.runs.specs.RunsState.{RunsState, tokens_at}
-use Rattle.runs.specs.RunPlaces.{HasRunAt}
+use Rattle.engine_runs.specs.RunsState.{RunsState, tokens_at}
+use Rattle.engine_runs.specs.RunPlaces.{HasRunAt}
 use Rattle.world.specs.World.{Transport, LiveRun, World}
 use Rattle.world.specs.Lookups.{with_run}
 use Rattle.world.specs.FreezeSteps.{froze}
@@ -24,7 +24,7 @@ use Rattle.engine_core.specs.TakingOver.{IsCalled, FreezesPlace, at_stop, Does}
 use Rattle.engine_core.proofs.Freezing.{freezing, by_row, freezing_step}
 use Rattle.engine_core.proofs.Calls.{is_answer, between, held_are}
 use Rattle.engine_core.proofs.Holding.{holds_one_more, same_freezes}
-use Rattle.transport.specs.Freezing.{IsTaken, took}
+use Rattle.engine_transport.specs.Freezing.{IsTaken, took}
 use Rattle.engine_core.proofs.carrying_out.take_freeze.Goals as goal
 
 module _ (transport : Transport) (old : RunsState) (place : ℕ) (segment : SegmentState) (request : Request) (frozen : Place) (it : IsCalled transport old place segment request) (asks : FreezesPlace place old request frozen) where

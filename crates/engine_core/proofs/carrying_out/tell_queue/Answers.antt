@@ -4,8 +4,8 @@ use Rattle.helpers.specs.declared.request.Request.{Request}
 use Rattle.helpers.specs.Table.{row_of}
 use Rattle.bpf_semantics.specs.Step.{Wrote}
 use Rattle.interpreter.specs.Segments.{SegmentState}
-use Rattle.runs.specs.RunsState.{RunsState}
-use Rattle.runs.specs.RunPlaces.{HasRunAt}
+use Rattle.engine_runs.specs.RunsState.{RunsState}
+use Rattle.engine_runs.specs.RunPlaces.{HasRunAt}
 use Rattle.world.specs.declared.queue_info.QueueInfo.{QueueInfo as Info}
 use Rattle.world.specs.World.{Transport, LiveRun, World}
 use Rattle.world.specs.QueueInfo.{queue_info, info_bytes}

@@ -1,12 +1,12 @@
 use Rattle.std.proofs.Common.{◌≡◌, ◌⊎◌, true, false, Some, inl, inr, ap, sym, subst, ◌∙◌, rules}
 use Rattle.ccb.specs.declared.CcbId.{CcbId}
 use Rattle.ccb.specs.declared.ccb.Ccb.{Ccb}
-use Rattle.transport.specs.Listed.{IsPlaceOf}
+use Rattle.engine_transport.specs.Listed.{IsPlaceOf}
 use Rattle.world.specs.declared.ccb_state.CcbState.TheVariants.{Active}
 use Rattle.world.specs.World.{LiveCcb}
 use Rattle.world.specs.Lookups.{ccb_of}
-use Rattle.calls.specs.declared.call.Call.TheVariants.{Complete}
-use Rattle.calls.specs.declared.call_answer.CallAnswer.TheVariants as answers
+use Rattle.world_calls.specs.declared.call.Call.TheVariants.{Complete}
+use Rattle.world_calls.specs.declared.call_answer.CallAnswer.TheVariants as answers
 use Rattle.world.specs.Event.{replies}
 use Rattle.world.specs.CcbSteps.{is_success, run_meets_limit, finishes, recovers}
 use Rattle.world.specs.Step.{step_call}

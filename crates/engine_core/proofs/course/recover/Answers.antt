@@ -13,14 +13,14 @@ use Rattle.ccb.specs.declared.place.Place.TheVariants.{Device}
 use Rattle.freeze_ledger.specs.Freezes.{meets_limit}
 use Rattle.bpf_insn.specs.declared.program.Slot.{Slot}
 use Rattle.bpf_semantics.specs.MachineState.{MachineState, entry}
-use Rattle.runs.specs.RunsState.{RunsState, told, tokens_of, run_for}
-use Rattle.accepted.specs.Verdict.{Verdict}
-use Rattle.transport.specs.Freezing.{IsTaken, took}
-use Rattle.transport.specs.Listed.{IsPlaceOf}
+use Rattle.engine_runs.specs.RunsState.{RunsState, told, tokens_of, run_for}
+use Rattle.bpf_accepted.specs.Verdict.{Verdict}
+use Rattle.engine_transport.specs.Freezing.{IsTaken, took}
+use Rattle.engine_transport.specs.Listed.{IsPlaceOf}
 use Rattle.world.specs.declared.ccb_state.CcbState.TheVariants.{Active, InRecovery}
 use Rattle.world.specs.World.{LiveRun, Runs, Setup, Transport, World, opening, queue_setup}
 use Rattle.world.specs.Lookups.{with_ccb}
-use Rattle.calls.specs.declared.call_answer.CallAnswer.TheVariants as answers
+use Rattle.world_calls.specs.declared.call_answer.CallAnswer.TheVariants as answers
 use Rattle.world.specs.Event.{Reply, replies}
 use Rattle.world.specs.CcbSteps.{recovers, run_meets_limit}
 use Rattle.world.proofs.Lists.Found.{found_key}

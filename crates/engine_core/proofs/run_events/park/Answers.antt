@@ -1,6 +1,6 @@
 use Rattle.std.proofs.Common.{◌≡◌, true, false, ap, sym, subst, ◌∙◌}
-use Rattle.runs.specs.RunsState.{RunsState}
-use Rattle.runs.specs.RunPlaces.{HasRunAt}
+use Rattle.engine_runs.specs.RunsState.{RunsState}
+use Rattle.engine_runs.specs.RunPlaces.{HasRunAt}
 use Rattle.world.specs.World.{LiveRun}
 use Rattle.engine_core.proofs.Parking.{is_same_run, with_out_run}
 use Rattle.engine_core.proofs.Performing.{parks_it}

@@ -1,6 +1,6 @@
 use Rattle.std.proofs.Common.{◌≡◌, ℕ, true, refl, ap, sym, subst, ◌∙◌, rules}
-use Rattle.runs.specs.RunsState.{RunsState}
-use Rattle.runs.specs.RunPlaces.{HasRunAt}
+use Rattle.engine_runs.specs.RunsState.{RunsState}
+use Rattle.engine_runs.specs.RunPlaces.{HasRunAt}
 use Rattle.world.specs.Lookups.{run_of}
 use Rattle.world.proofs.Lists.Found.{found_key}
 use Rattle.world.proofs.Steps.Moves.{run_key}

@@ -1,10 +1,10 @@
 use Rattle.std.proofs.Common.{◌≡◌, List, refl, ap, sym, subst, ◌∙◌, arith}
 use Rattle.std.specs.Arc.{arc_value}
-use Rattle.accepted.specs.Verdict.{Verdict}
+use Rattle.bpf_accepted.specs.Verdict.{Verdict}
 use Rattle.bpf_insn.specs.declared.program.Slot.{Slot}
 use Rattle.bpf_semantics.specs.Reached.{Reached}
-use Rattle.runs.specs.RunsState.{RunsState}
-use Rattle.runs.specs.RunPlaces.{HasRunAt}
+use Rattle.engine_runs.specs.RunsState.{RunsState}
+use Rattle.engine_runs.specs.RunPlaces.{HasRunAt}
 use Rattle.engine_core.proofs.Parking.{known_run}
 use Rattle.engine_core.proofs.Unrecording.{stands_once}
 use Rattle.engine_core.proofs.run_events.run_at.Goals as goal

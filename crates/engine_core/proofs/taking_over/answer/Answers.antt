@@ -3,7 +3,7 @@ use Rattle.helpers.specs.declared.request.Request.{Request}
 use Rattle.helpers.specs.declared.request.Answer.{Answer}
 use Rattle.bpf_semantics.specs.declared.stop.Stop.TheVariants.{Helper}
 use Rattle.interpreter.specs.Segments.{SegmentState, IsSegment}
-use Rattle.runs.specs.RunsState.{RunsState}
+use Rattle.engine_runs.specs.RunsState.{RunsState}
 use Rattle.world.specs.World.{Transport}
 use Rattle.engine_core.specs.TakingOver.{IsAdmitted, IsCalled, AnswersOf, Does}
 use Rattle.engine_core.proofs.StopEnds.{stands_of, room_of, call_ends, call_holds, still_there, goes_as}

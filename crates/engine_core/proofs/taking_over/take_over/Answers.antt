@@ -1,7 +1,7 @@
 use Rattle.std.proofs.Common.{◌≡◌, rules, sym, subst, ◌∙◌}
 use Rattle.bpf_semantics.specs.declared.stop.Stop.{Stop}
 use Rattle.bpf_semantics.specs.declared.stop.Stop.TheVariants.{Exit}
-use Rattle.runs.specs.RunsState.{RunsState}
+use Rattle.engine_runs.specs.RunsState.{RunsState}
 use Rattle.engine_core.specs.Invariant.{HoldEntries}
 use Rattle.engine_core.specs.TakingOver.{LeadsBy}
 use Rattle.engine_core.specs.Answers.{stopped_at}

@@ -1,5 +1,5 @@
 use Rattle.std.proofs.Common.{ap, arith, ◌∙◌}
-use Rattle.accepted.specs.Verdict.{Verdict}
+use Rattle.bpf_accepted.specs.Verdict.{Verdict}
 use Rattle.engine_lock.proofs.QueuePrograms.{program_there}
 use Rattle.engine_lock.proofs.comparing.queue_of.Goals as goal
 

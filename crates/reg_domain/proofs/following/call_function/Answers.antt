@@ -1,7 +1,7 @@
 use Rattle.std.proofs.Common.{rules}
 use Rattle.std.specs.Int.{w32}
 use Rattle.std.proofs.lemmas.Int.{to_z-of_z}
-use Rattle.register_kinds.specs.declared.freeze_name.FreezeName.TheVariants as names
+use Rattle.check_register_kinds.specs.declared.freeze_name.FreezeName.TheVariants as names
 use Rattle.reg_domain.proofs.Ways.{call_follows, call_leaves, call_never_stuck}
 use Rattle.reg_domain.proofs.following.call_function.Goals as goal
 

@@ -1,7 +1,7 @@
 use Rattle.std.proofs.Common.{◌≡◌, true, [], rules}
 use Rattle.bpf_insn.specs.declared.reg.Reg.TheVariants.{R0}
-use Rattle.description.specs.Description.{kind_at}
-use Rattle.register_kinds.specs.Kinds.{IsNumber}
+use Rattle.check_description.specs.Description.{kind_at}
+use Rattle.check_register_kinds.specs.Kinds.{IsNumber}
 use Rattle.reg_domain.proofs.Ways.{exit_unstuck}
 use Rattle.reg_domain.proofs.following.exit.Goals as goal
 

@@ -3,9 +3,9 @@ use Rattle.std.specs.Int.{w16}
 use Rattle.std.proofs.lemmas.Int.{to_z-of_z}
 use Rattle.bpf_insn.specs.declared.insn.Callee.TheVariants.{Helper as helper_call}
 use Rattle.bpf_insn.specs.declared.insn.Insn.TheVariants.{Call}
-use Rattle.register_kinds.specs.declared.freeze_name.FreezeName.TheVariants as names
-use Rattle.description.specs.declared.description.Description.{Description}
-use Rattle.helper_calls.specs.Called.{LeavesCalled}
+use Rattle.check_register_kinds.specs.declared.freeze_name.FreezeName.TheVariants as names
+use Rattle.check_description.specs.declared.description.Description.{Description}
+use Rattle.check_helper_calls.specs.Called.{LeavesCalled}
 use Rattle.reg_domain.specs.Ways.{Stays}
 use Rattle.reg_domain.proofs.Ways.{exit_never_stuck, follows_way, goes_way, jump_goes, jump_never_stuck}
 use Rattle.reg_domain.proofs.following.follow_other.Goals as goal

@@ -1,5 +1,5 @@
 use Rattle.std.proofs.Common.{refl, ◌∙◌}
-use Rattle.description.proofs.RegisterPlaces.{number_below}
+use Rattle.check_description.proofs.RegisterPlaces.{number_below}
 use Rattle.reg_domain.proofs.Meeting.{wider}
 use Rattle.reg_domain.proofs.joining.join_agreed.Goals as goal
 

@@ -1,8 +1,8 @@
 use Rattle.std.proofs.Common.{◌≢◌, ◌<◌, ◌∙◌, length, arith, below_more, subst, get_or-set_same, get_or-set_other}
 use Rattle.std.proofs.Math.ListN.{length-set}
-use Rattle.register_kinds.specs.declared.kind.Kind.{Kind}
+use Rattle.check_register_kinds.specs.declared.kind.Kind.{Kind}
 use Rattle.reg_domain.specs.AllRegisters.{Joins}
-use Rattle.description.specs.Changes.{at}
+use Rattle.check_description.specs.Changes.{at}
 use Rattle.reg_domain.proofs.joining.join_registers.Goals as goal
 
 pub loop-reg-preserved : goal.loop-reg-preserved

@@ -1,6 +1,6 @@
 use Rattle.std.proofs.Common.{ℕ, ◌≡◌, ◌<◌, ◌≤◌, length}
 use Rattle.reg_domain.specs.AllRegisters.{Joins}
-use Rattle.description.specs.Changes.{at}
+use Rattle.check_description.specs.Changes.{at}
 use Rattle.reg_domain.proofs.joining.join_registers.Given as goal
 
 -- those before this one are joined, and the others not yet

@@ -1,5 +1,5 @@
 use Rattle.std.proofs.Common.{Option, subst}
-use Rattle.calls.specs.declared.call_answer.CallAnswer.{CallAnswer}
+use Rattle.world_calls.specs.declared.call_answer.CallAnswer.{CallAnswer}
 use Rattle.engine_core.specs.Unrecorded.{Answers}
 use Rattle.replay.proofs.Followed.{answered_so}
 use Rattle.replay.proofs.following.follows_call.Goals as goal

@@ -1,5 +1,5 @@
 use Rattle.std.proofs.Common.{List, Ok, Err, inl, inr, refl, subst, sym}
-use Rattle.calls.specs.declared.record.Record.{Record}
+use Rattle.world_calls.specs.declared.record.Record.{Record}
 use Rattle.world.specs.TotalsOf.{TotalsOf}
 use Rattle.base.specs.declared.or_memory.OrMemory.TheVariants.{OutOfMemory, Fault}
 use Rattle.replay.specs.OwnTrace.{OwnTraceIsAccepted}

@@ -1,5 +1,5 @@
 use Rattle.std.proofs.Common.{rules, ◌≡◌, List, ◌∷◌, ◌++◌, Bool, map, ap, sym, subst, ◌∙◌}
-use Rattle.calls.specs.declared.record.Record.{Record}
+use Rattle.world_calls.specs.declared.record.Record.{Record}
 use Rattle.replay.specs.Replaying.{FollowsIf}
 use Rattle.replay.proofs.Replayed.{all_lead, stops_here}
 use Rattle.replay.proofs.replaying.followed.Goals as goal

@@ -1,7 +1,7 @@
 use Rattle.std.proofs.Common.{Some, None, codes}
 use Rattle.std.proofs.lemmas.Result.{IfOk-weaker}
 use Rattle.std.proofs.lemmas.Str.Pattern.{split_text_parts}
-use Rattle.call_lines.specs.Written.{Reads}
+use Rattle.trace_lines.specs.Written.{Reads}
 use Rattle.trace.specs.Reading.{ReadsAnswered}
 use Rattle.trace.specs.TraceText.{line_of}
 use Rattle.trace.proofs.Entries.{unanswered, unasked, answered}

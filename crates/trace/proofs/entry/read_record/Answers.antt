@@ -1,5 +1,5 @@
 use Rattle.std.proofs.Common.{subst, sym}
-use Rattle.call_lines.specs.Written.{Reads}
+use Rattle.trace_lines.specs.Written.{Reads}
 use Rattle.trace.specs.TraceText.{entry_text, line_of}
 use Rattle.trace.proofs.Entries.{unread, read_of}
 use Rattle.trace.proofs.entry.read_record.Goals as goal

@@ -1,4 +1,4 @@
-use Rattle.call_lines.proofs.Putting.{front_behind, front_put}
+use Rattle.trace_lines.proofs.Putting.{front_behind, front_put}
 use Rattle.trace.proofs.printer.print_called.Goals as goal
 
 pub returns-clause-front : goal.returns-clause-front

@@ -1,6 +1,6 @@
 use Rattle.trace.proofs.SoFar.{neither, no_header}
 use Rattle.trace.proofs.Spelled.{read_have}
-use Rattle.calls.specs.declared.trace.Version.TheVariants.{One, Two}
+use Rattle.world_calls.specs.declared.trace.Version.TheVariants.{One, Two}
 use Rattle.trace.proofs.reader.read.Goals as goal
 
 pub returns-in-Some-clause-spelled : goal.returns-in-Some-clause-spelled

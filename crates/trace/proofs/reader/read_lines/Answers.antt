@@ -1,5 +1,5 @@
 use Rattle.std.proofs.Common.{◌≡◌, List, [], ◌∷◌, ◌++◌, length, refl, sym, ap, ◌∙◌, subst, arith, rules, length-append}
-use Rattle.calls.specs.declared.record.Record.{Record}
+use Rattle.world_calls.specs.declared.record.Record.{Record}
 use Rattle.trace.proofs.Cuts.{first_line, no_first_line}
 use Rattle.trace.proofs.SoFar.{IsReadSoFar, begin, one_more, goes_on, no_trace_on, only_trace, not_a_line, not_ended, faulty_line, no_trace, not_empty}
 use Rattle.trace.proofs.reader.read_lines.Goals as goal

@@ -9,9 +9,9 @@ use Rattle.bpf_insn.specs.Program.{insn_at}
 use Rattle.call_shape.specs.Calls.{callee_in}
 use Rattle.call_shape.specs.declared.lawful_shape.TheConstants.{MAX_WRITTEN_OUT}
 use Rattle.call_shape.proofs.Contained.{callee_there}
-use Rattle.description.specs.declared.description.Description.{Description}
-use Rattle.description.specs.declared.saved.SavedRegisters.{SavedRegisters}
-use Rattle.description.specs.Description.{NeverStuck}
+use Rattle.check_description.specs.declared.description.Description.{Description}
+use Rattle.check_description.specs.declared.saved.SavedRegisters.{SavedRegisters}
+use Rattle.check_description.specs.Description.{NeverStuck}
 use Rattle.reg_domain.specs.Enough.{IsEntryKnown}
 use Rattle.reg_domain.specs.Ways.{Stays}
 use Rattle.std.specs.Prelude.{IfOk, slice_set}

@@ -2,8 +2,8 @@ use Rattle.std.proofs.Common.{◌≡◌, ℕ, ◌+◌, ◌-◌, ◌≤◌, Some,
 use Rattle.std.specs.Prelude.{IsOkAnd}
 use Rattle.bpf_insn.specs.Program.{insn_at, slots_of}
 use Rattle.call_shape.specs.Shape.{target_in}
-use Rattle.description.specs.declared.description.Description.{Description}
-use Rattle.private_insns.specs.declared.way.Way.TheVariants.{FallThrough, Taken}
+use Rattle.check_description.specs.declared.description.Description.{Description}
+use Rattle.check_private_insns.specs.declared.way.Way.TheVariants.{FallThrough, Taken}
 use Rattle.verifier.specs.Arrives.{AllArrive, Arrives, NeverLacks, goes_to}
 use Rattle.verifier.specs.Table.{HasLed}
 use Rattle.verifier.proofs.Checked.{checked_jump, checked_straight}

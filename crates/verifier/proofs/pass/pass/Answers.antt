@@ -8,9 +8,9 @@ use Rattle.call_shape.specs.WrittenOut.{written_out}
 use Rattle.call_shape.proofs.Places.{begins_first}
 use Rattle.call_shape.proofs.WrittenFew.{within_count}
 use Rattle.helpers.specs.declared.limits.HelperLimits.{HelperLimits}
-use Rattle.description.specs.declared.description.Description.{Description}
-use Rattle.description.specs.Description.{DescribesEntries}
-use Rattle.description.specs.declared.saved.SavedRegisters.{SavedRegisters}
+use Rattle.check_description.specs.declared.description.Description.{Description}
+use Rattle.check_description.specs.Description.{DescribesEntries}
+use Rattle.check_description.specs.declared.saved.SavedRegisters.{SavedRegisters}
 use Rattle.verifier.specs.Checks.{AreChecks}
 use Rattle.verifier.specs.Function.{IsOwn}
 use Rattle.verifier.specs.Goes.{IsVisited}

@@ -1,8 +1,8 @@
 use Rattle.std.proofs.Common.{◌≡◌, ◌≤◌, ◌⊎◌, length, true, false, Bool, sym, subst, ◌∙◌, arith, inl, inr}
 use Rattle.std.specs.Prelude.{IfOk}
-use Rattle.description.specs.declared.description.Description.{Description}
+use Rattle.check_description.specs.declared.description.Description.{Description}
 use Rattle.reg_domain.specs.Enough.{Enough, Leaves}
-use Rattle.private_insns.specs.Follows.{Follows}
+use Rattle.check_private_insns.specs.Follows.{Follows}
 use Rattle.verifier.specs.Table.{HasLed}
 use Rattle.verifier.proofs.Led.{if_ok, led_on, led_nowhere, arrives_on}
 use Rattle.verifier.proofs.table.lead.Goals.{else-is_open-via-then-is_open+else-to-table, else-is_open-via-else-is_open}

@@ -1,6 +1,6 @@
 use Rattle.std.proofs.Common.{subst, ◌∙◌}
 use Rattle.std.specs.Prelude.{IfOk}
-use Rattle.description.specs.declared.description.Description.{Description}
+use Rattle.check_description.specs.declared.description.Description.{Description}
 use Rattle.verifier.specs.Table.{HasLeft}
 use Rattle.verifier.proofs.Joined.{left_so}
 use Rattle.verifier.proofs.Led.{if_both_ok}

@@ -1,6 +1,6 @@
 use Rattle.std.proofs.Common.{◌≡◌, refl, sym, subst, ap, ◌∙◌, length}
-use Rattle.description.specs.declared.description.Description.{Description}
-use Rattle.description.specs.Description.{Covers}
+use Rattle.check_description.specs.declared.description.Description.{Description}
+use Rattle.check_description.specs.Description.{Covers}
 use Rattle.reg_domain.specs.Enough.{Agree}
 use Rattle.verifier.specs.Arrives.{Arrives, joins}
 use Rattle.verifier.proofs.Joined.{same_description}

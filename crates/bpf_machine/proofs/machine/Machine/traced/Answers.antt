@@ -1,6 +1,6 @@
 use Rattle.std.proofs.Common.{◌≡◌, ◌≤◌, ℕ, List, Option, Some, None, true, false, is_some, length, map, take, drop, arith, ap, sym, ◌∙◌}
 use Rattle.std.proofs.lemmas.List.{length-map, length-take}
-use Rattle.stack_frame.specs.Frame.{all_written, byte_of}
+use Rattle.bpf_stack_frame.specs.Frame.{all_written, byte_of}
 use Rattle.bpf_semantics.specs.Calls.{traced}
 use Rattle.bpf_machine.specs.Unchecked.{frame_at}
 use Rattle.bpf_machine.specs.Inside.{view_of}

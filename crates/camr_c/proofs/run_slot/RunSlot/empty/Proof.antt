@@ -30,8 +30,8 @@ use Rattle.std.proofs.raw_atomic.Walks.{proved_at, leaves}
 use Rattle.std.specs.contracts.alloc.Global as heap
 use Rattle.std.proofs.alloc.Global.TheLaws as heap_laws
 use Rattle.std.specs.contracts.impls.GlobalAllocator.TheImpl.{ghosts}
-use Rattle.embedding.specs.declared.run_handle.RunHandle.{RunHandle as Held}
-use Rattle.embedding.specs.contracts.run_handle.RunHandle.{the_row as T}
+use Rattle.host_embedding.specs.declared.run_handle.RunHandle.{RunHandle as Held}
+use Rattle.host_embedding.specs.contracts.run_handle.RunHandle.{the_row as T}
 use Rattle.camr_c.specs.Holding.{holds, chunk}
 use Rattle.camr_c.specs.declared.run_slot.RunSlot.{RunSlot as Handle}
 use Rattle.camr_c.specs.contracts.run_slot.RunSlot.{the_row as R}

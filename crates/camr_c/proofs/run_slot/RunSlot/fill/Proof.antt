@@ -28,7 +28,7 @@ use Rattle.std.proofs.raw_atomic.Walks.{proved_at}
 use Rattle.std.specs.contracts.alloc.Global as heap
 use Rattle.std.proofs.alloc.Global.TheLaws as heap_laws
 use Rattle.std.specs.contracts.impls.GlobalAllocator.TheImpl.{ghosts}
-use Rattle.embedding.specs.contracts.run_handle.RunHandle.{the_row as T}
+use Rattle.host_embedding.specs.contracts.run_handle.RunHandle.{the_row as T}
 use Rattle.camr_c.specs.declared.run_slot.RunSlot.{RunSlot as Handle}
 use Rattle.camr_c.specs.contracts.run_slot.RunSlot.{the_row as R, the_type}
 use Rattle.camr_c.proofs.run_slot.RunSlot.TheLaws.{lowers}

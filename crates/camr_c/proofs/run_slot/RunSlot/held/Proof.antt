@@ -29,8 +29,8 @@ use denote.Triple.Walked.{says, Stays, stay_dropped, walk_of, ends_at, Goes-spen
 use Rattle.std_alloc.specs.Box.Ownership.{box_owns}
 use Rattle.std.proofs.VecSteps.Shapes.{after}
 use Rattle.std.proofs.raw_atomic.Walks.{proved}
-use Rattle.embedding.specs.declared.run_handle.RunHandle.{RunHandle as Held}
-use Rattle.embedding.specs.contracts.run_handle.RunHandle.{the_row as T}
+use Rattle.host_embedding.specs.declared.run_handle.RunHandle.{RunHandle as Held}
+use Rattle.host_embedding.specs.contracts.run_handle.RunHandle.{the_row as T}
 use Rattle.camr_c.specs.Holding.{holds, chunk}
 use Rattle.camr_c.specs.Lending.{with_run as with_held}
 use Rattle.camr_c.specs.declared.run_slot.RunSlot.{RunSlot as Handle}

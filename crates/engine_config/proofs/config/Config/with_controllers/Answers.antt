@@ -3,7 +3,7 @@ use Rattle.std.specs.Global.{Global}
 use Rattle.std.specs.declared.sync.Arc.{Arc}
 use Rattle.helpers.specs.declared.limits.HelperSet.{HelperSet}
 use Rattle.helpers.specs.declared.limits.HelperSet.TheVariants.{Controllers}
-use Rattle.accepted.specs.declared.accepted.Accepted.{Accepted}
+use Rattle.bpf_accepted.specs.declared.accepted.Accepted.{Accepted}
 use Rattle.world.specs.Lawful.{AreUnder}
 use Rattle.engine_config.specs.Configured.{queue_of, under_of}
 use Rattle.engine_config.proofs.Setups.{under, under_there}

@@ -1,4 +1,4 @@
-use Rattle.calls.specs.declared.record.Record.{Record}
+use Rattle.world_calls.specs.declared.record.Record.{Record}
 use Rattle.world.specs.World.{Transport}
 use Rattle.engine_core.specs.declared.event.Event.TheVariants.{Resume}
 use Rattle.engine_core.specs.declared.reply.Reply.{Reply}

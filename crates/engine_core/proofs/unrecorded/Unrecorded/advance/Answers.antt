@@ -1,5 +1,5 @@
 use Rattle.std.proofs.Common.{refl, subst}
-use Rattle.runs.specs.RunsState.{RunsState}
+use Rattle.engine_runs.specs.RunsState.{RunsState}
 use Rattle.engine_core.specs.declared.event.Event.TheVariants.{Advance}
 use Rattle.engine_core.specs.Performing.{Performs}
 use Rattle.engine_core.proofs.Unrecording.{advance_of_others, advance_told, follows, keeps_tokens, moved, no_advance, number_again, stands_out, state_of}

@@ -1,5 +1,5 @@
 use Rattle.std.proofs.Common.{subst}
-use Rattle.calls.specs.declared.record.Record.{Record}
+use Rattle.world_calls.specs.declared.record.Record.{Record}
 use Rattle.engine_core.specs.Unrecorded.{Follows}
 use Rattle.engine_core.proofs.Unrecording.{call_is_others, call_is_told, call_told, follows, keeps_tokens, moved, state_of}
 use Rattle.engine_core.proofs.unrecorded.Unrecorded.ask.Goals as goal

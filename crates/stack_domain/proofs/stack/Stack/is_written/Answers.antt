@@ -1,7 +1,7 @@
 use Rattle.std.proofs.Common.{◌≡◌, ◌+◌, Bool, List, [], get_or, ap, subst, sym, ◌∙◌, arith}
 use Rattle.std.specs.Prelude.{slice_index_or}
 use Rattle.std.proofs.lemmas.List.{get_or_default}
-use Rattle.stack_frame.specs.ByteSet.{Has}
+use Rattle.bpf_stack_frame.specs.ByteSet.{Has}
 use Rattle.stack_domain.specs.Sets.{AreSets}
 use Rattle.stack_domain.proofs.Covered.{all_known, all_marked}
 use Rattle.stack_domain.proofs.stack.Stack.is_written.Goals as goal

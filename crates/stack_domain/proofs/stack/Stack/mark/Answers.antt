@@ -1,7 +1,7 @@
 use Rattle.std.proofs.Common.{◌≡◌, ◌<◌, ◌≤◌, ◌+◌, ℕ, Bool, List, [], length, set, get_or, subst, sym, ap, ◌∙◌, arith}
 use Rattle.std.specs.Prelude.{slice_index_or}
 use Rattle.std.proofs.lemmas.List.{get_or_default}
-use Rattle.stack_frame.specs.ByteSet.{with_all}
+use Rattle.bpf_stack_frame.specs.ByteSet.{with_all}
 use Rattle.stack_domain.specs.Sets.{AreSets}
 use Rattle.stack_domain.specs.Stack.{Covers, AreWritten}
 use Rattle.stack_domain.specs.Stores.{stored}

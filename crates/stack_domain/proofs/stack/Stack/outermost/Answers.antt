@@ -1,5 +1,5 @@
 use Rattle.std.proofs.Common.{◌≡◌, true, false, List, Bool, [], ◌∷◌, ◌++◌, subst, sym, ap, ◌∙◌}
-use Rattle.stack_frame.specs.ByteSet.{no_bytes}
+use Rattle.bpf_stack_frame.specs.ByteSet.{no_bytes}
 use Rattle.stack_domain.specs.Sets.{AreSets}
 use Rattle.stack_domain.specs.Stack.{Covers}
 use Rattle.stack_domain.proofs.Places.{kept_one, nothing_marked}

@@ -1,7 +1,7 @@
 use Rattle.std.proofs.Common.{◌≡◌, ◌∙◌, ◌+◌, ◌<◌, ℕ, drop, length, refl, rules, sym, subst, arith}
 use Rattle.std.proofs.lemmas.List.{length-drop}
 use Rattle.std.proofs.lemmas.Result.{err_from_is_err_and}
-use Rattle.calls.specs.declared.trace.Version.{Version}
+use Rattle.world_calls.specs.declared.trace.Version.{Version}
 use Rattle.trace.specs.Growing.{Goes}
 use Rattle.trace.specs.HasText.{HasText}
 use Rattle.trace.specs.Sinks.{HasFailed}

@@ -1,7 +1,7 @@
 use Rattle.std.proofs.Common.{[], subst}
 use Rattle.std.proofs.lemmas.Result.{err_from_is_err_and}
-use Rattle.call_lines.specs.Written.{IsPut}
-use Rattle.calls.specs.declared.trace.Version.{Version}
+use Rattle.trace_lines.specs.Written.{IsPut}
+use Rattle.world_calls.specs.declared.trace.Version.{Version}
 use Rattle.trace.specs.TraceText.{record_text}
 use Rattle.trace.proofs.Grown.{fronts_no_room, goes_behind_room, stops_at}
 use Rattle.trace.proofs.growing.Growing.print_next.Goals as goal

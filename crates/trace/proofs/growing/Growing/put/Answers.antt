@@ -1,5 +1,5 @@
 use Rattle.std.proofs.Common.{◌≡◌, List, ℕ, rules, subst}
-use Rattle.call_lines.specs.Written.{IsPut}
+use Rattle.trace_lines.specs.Written.{IsPut}
 use Rattle.trace.specs.TraceText.{record_text}
 use Rattle.trace.proofs.Spelled.{has_line, put_so}
 use Rattle.trace.proofs.growing.Growing.put.Goals as goal

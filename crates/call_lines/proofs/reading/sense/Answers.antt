@@ -1,6 +1,0 @@
-use Rattle.std.proofs.Common.{sym, ◌∙◌}
-use Rattle.call_lines.proofs.Stops.{some_sense}
-use Rattle.call_lines.proofs.reading.sense.Goals as goal
-
-pub returns : goal.returns
-returns c = some_sense c.args.word.now c.bytes.result (sym c.eq.ensures ∙ c.if-eq.false) c.bytes.ensures

@@ -1,9 +1,0 @@
--- What the record of a completion says.
-use Rattle.std.specs.Prelude.{[]}
-use Rattle.ccb.specs.Completion.{Outcome}
-use Rattle.calls.specs.declared.completion_record.Kept.{Kept}
-use Rattle.calls.specs.declared.completion_record.Kept.TheVariants.{WithoutSense, Whole}
-
-abbrev pub outcome_kept : Kept → Outcome
-outcome_kept (WithoutSense ccb status scsi) = record { ccb = ccb; status = status; scsi = scsi; sense = [] }
-outcome_kept (Whole completion) = completion.value

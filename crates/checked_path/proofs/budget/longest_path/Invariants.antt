@@ -1,6 +1,0 @@
-use Rattle.checked_path.specs.Passes.{standing}
-use Rattle.checked_path.proofs.Remaining.{IsWalked}
-use Rattle.checked_path.proofs.budget.longest_path.Given as goal
-
-abbrev pub invariant-loop-slot : goal.invariant-loop-slot
-invariant-loop-slot l = IsWalked l.program l.lengths.items l.slots.items (standing l.at l.returns.items) l._slot

@@ -1,0 +1,183 @@
+-- What the status of a plan tells of the files that it reads.
+use Rattle.std.specs.Prelude.{◌≡◌, ◌⊎◌, ◌++◌, ◌∷◌, [], ℕ, List, Option, Some, Err, codes}
+use Rattle.std.specs.Io.KnownBytes.{Appends, Keeps}
+use Rattle.bpf_insn.specs.declared.program.Slot.{Slot}
+use Rattle.bpf_decode.specs.Spells.{Spells}
+use Rattle.bpf_decode.specs.FirstFault.{HasFault as HasDecodeFault}
+use Rattle.bpf_decode.specs.declared.fault.DecodeFault.{DecodeFault}
+use Rattle.bpf_asm.specs.Assembly.{Says, HasFault as HasAsmFault}
+use Rattle.bpf_asm.specs.Canon.{canon}
+use Rattle.bpf_asm.specs.declared.fault.AsmFault.{AsmFault}
+use Rattle.host_live.specs.Telling.{IsBegun}
+use Rattle.manifest.specs.declared.ManifestFault.{ManifestFault}
+use Rattle.manifest.specs.Meaning.{Means, HasFault}
+use Rattle.manifest.specs.Migration.{HasMigrationFault, IsMigrated}
+use Rattle.world_calls.specs.declared.trace.Trace.{Trace}
+use Rattle.base.specs.declared.or_memory.OrMemory.TheVariants as part
+use Rattle.replay.specs.Replaying.{IsFaultyAt}
+use Rattle.replay.specs.declared.fault.ReplayFault.{ReplayFault}
+use Rattle.scenario.specs.Said.{IsFaultyLine, Say, lines_of}
+use Rattle.scenario.specs.declared.steps.Step.{Step}
+use Rattle.host_scenario.specs.Faults.{IsUnheldThen}
+use Rattle.host_scenario.specs.Traces.{IsOfScenario}
+use Rattle.trace.specs.Reading.{Says as SaysTrace}
+use Rattle.trace.specs.TraceText.{trace_text}
+use Rattle.trace.specs.declared.fault.TraceFault.{TraceFault}
+use Rattle.world.specs.World.{Setup, version_of}
+use Rattle.world.specs.TotalsOf.{TotalsOf}
+use Rattle.cli_line.specs.declared.plans.Plan.{Plan}
+use Rattle.cli_line.specs.declared.plans.Plan.TheVariants.{Asm, Dis, Check, Migrate, Run, Live, Replay}
+
+-- the bytes are the text of a program, spell one, or are a manifest
+abbrev pub IsText : List ℕ → Type 0
+IsText bytes = (program : _) × Says bytes program
+
+abbrev pub IsProgram : List ℕ → Type 0
+IsProgram bytes = (program : _) × Spells bytes program
+
+abbrev pub IsManifest : List ℕ → Type 0
+IsManifest bytes = (setup : _) × (programs : _) × Means bytes setup programs
+
+-- they are a manifest that can be written anew with one controller
+abbrev pub IsMigratable : List ℕ → Type 0
+IsMigratable bytes = (migrated : List ℕ) × IsMigrated bytes migrated
+
+-- they have a fault of such a one
+abbrev pub IsFaultyText : List ℕ → Type 0
+IsFaultyText bytes = (fault : AsmFault) × HasAsmFault bytes fault
+
+abbrev pub IsFaultyProgram : List ℕ → Type 0
+IsFaultyProgram bytes = (fault : DecodeFault) × HasDecodeFault bytes fault
+
+abbrev pub IsFaultyManifest : List ℕ → Type 0
+IsFaultyManifest bytes = (fault : ManifestFault) × HasFault bytes fault
+
+abbrev pub IsFaultyMigration : List ℕ → Type 0
+IsFaultyMigration bytes = (fault : ManifestFault) × HasMigrationFault bytes fault
+
+-- a plan's first file is what the plan asks for
+abbrev pub IsAsAsked : Plan → List ℕ → Type 0
+IsAsAsked (Asm text program) bytes = IsText bytes
+IsAsAsked (Dis program) bytes = IsProgram bytes
+IsAsAsked (Check manifest) bytes = IsManifest bytes
+IsAsAsked (Migrate manifest migrated) bytes = IsMigratable bytes
+IsAsAsked (Run workers watch manifest scenario) bytes = IsManifest bytes
+IsAsAsked (Live manner manifest) bytes = IsManifest bytes
+IsAsAsked (Replay manifest trace) bytes = IsManifest bytes
+
+-- it has a fault; where a scenario or a trace is read too, the fault may be there
+abbrev pub IsFaulty : Plan → List ℕ → Type 0
+IsFaulty (Asm text program) bytes = IsFaultyText bytes
+IsFaulty (Dis program) bytes = IsFaultyProgram bytes
+IsFaulty (Check manifest) bytes = IsFaultyManifest bytes
+IsFaulty (Migrate manifest migrated) bytes = IsFaultyMigration bytes
+IsFaulty (Run workers watch manifest scenario) bytes = Unit {0}
+IsFaulty (Live manner manifest) bytes = IsFaultyManifest bytes
+IsFaulty (Replay manifest trace) bytes = Unit {0}
+
+-- The one text is a manifest, and the other the trace of a history of an engine of its setup, of that engine's version, whose last line
+-- has its sums.
+abbrev pub IsAcceptedTrace : List ℕ → List ℕ → Type 0
+IsAcceptedTrace manifest text =
+    (setup : _) × (programs : _) × (trace : Trace) × Means manifest setup programs × (trace_text trace ≡ Some text)
+    × (trace.version ≡ version_of setup) × TotalsOf setup trace.records.items trace.totals
+
+-- The text is a manifest, and the trace is that of a history of an engine of its setup, of that engine's version, with its sums.
+abbrev pub IsOfManifest : List ℕ → Trace → Type 0
+IsOfManifest manifest trace =
+    (setup : _) × (programs : _) × Means manifest setup programs × (trace.version ≡ version_of setup) × TotalsOf setup trace.records.items trace.totals
+
+-- The trace's text went out.
+abbrev pub IsPrinted : Trace → Option (List ℕ) → Option (List ℕ) → Type 0
+IsPrinted trace old new = (text : List ℕ) × (trace_text trace ≡ Some text) × Appends old new text
+
+-- The text is a manifest of this setup.
+abbrev pub IsServing : List ℕ → Setup → Type 0
+IsServing manifest setup = (programs : _) × Means manifest setup programs
+
+-- What went out is the trace of a history of an engine of that manifest, with its sums.
+abbrev pub IsServed : List ℕ → Option (List ℕ) → Option (List ℕ) → Type 0
+IsServed manifest old new = (text : List ℕ) × Appends old new text × IsAcceptedTrace manifest text
+
+-- What went out of an engine of that manifest that stopped: nothing before it was opened, or a front of its trace.
+abbrev pub IsStopped : List ℕ → Option (List ℕ) → Option (List ℕ) → Type 0
+IsStopped manifest old new = Keeps old new ⊎ ((setup : Setup) × IsServing manifest setup × IsBegun setup old new)
+
+-- The text is a scenario.
+abbrev pub IsScenario : List ℕ → Type 0
+IsScenario text = (steps : List Step) × Say (lines_of text) steps
+
+-- what a plan's second file is, beside the first, where the plan was carried out
+abbrev pub IsAccepted : Plan → List ℕ → List ℕ → Type 0
+IsAccepted (Run workers watch manifest scenario) first second = IsScenario second
+IsAccepted (Replay manifest trace) first second = IsAcceptedTrace first second
+IsAccepted plan first second = Unit {0}
+
+-- The text is a scenario, of which the trace is: its host's calls and what workers make.
+abbrev pub IsOfScenarioText : List ℕ → Trace → Type 0
+IsOfScenarioText text trace = (steps : List Step) × Say (lines_of text) steps × IsOfScenario steps trace.records.items
+
+-- The one text says a program, and the bytes spell it; the bytes spell one, and the text is that of it.
+abbrev pub IsAssembled : List ℕ → List ℕ → Type 0
+IsAssembled text bytes = (program : List Slot) × Says text program × Spells bytes program
+
+abbrev pub IsDisassembled : List ℕ → List ℕ → Type 0
+IsDisassembled bytes text = (program : List Slot) × Spells bytes program × (text ≡ canon program)
+
+-- The text is a manifest, and the trace that of a history of an engine of its setup.
+abbrev pub IsTraceUnder : List ℕ → List ℕ → Type 0
+IsTraceUnder manifest text = (trace : Trace) × IsOfManifest manifest trace × (trace_text trace ≡ Some text)
+
+-- the same of an engine of which nothing was asked
+abbrev pub IsIdleUnder : List ℕ → List ℕ → Type 0
+IsIdleUnder manifest text = (trace : Trace) × IsOfManifest manifest trace × (trace_text trace ≡ Some text) × (trace.records.items ≡ [])
+
+-- a text of this kind went out
+abbrev pub PutsOut : (List ℕ → Type 0) → Option (List ℕ) → Option (List ℕ) → Type 0
+PutsOut Is old new = (text : List ℕ) × Appends old new text × Is text
+
+-- what went out of a plan that is carried out, by its first file; of the verdicts nothing is said
+abbrev pub IsOutput : Plan → List ℕ → Option (List ℕ) → Option (List ℕ) → Type 0
+IsOutput (Asm text program) input old new = PutsOut (IsAssembled input) old new
+IsOutput (Dis program) input old new = PutsOut (IsDisassembled input) old new
+IsOutput (Check manifest) input old new = Unit {0}
+IsOutput (Migrate manifest migrated) input old new = PutsOut (IsMigrated input) old new
+IsOutput (Run workers watch manifest scenario) input old new = PutsOut (IsTraceUnder input) old new
+IsOutput (Live manner manifest) input old new = PutsOut (IsIdleUnder input) old new
+IsOutput (Replay manifest trace) input old new = PutsOut (λ output. output ≡ codes "accepted" ++ 10 ∷ []) old new
+
+-- of a run: the trace of its scenario on an engine of its manifest
+abbrev pub IsPutOut : Plan → List ℕ → List ℕ → Option (List ℕ) → Option (List ℕ) → Type 0
+IsPutOut (Run workers watch manifest scenario) first second old new =
+    (trace : Trace) × IsOfManifest first trace × IsOfScenarioText second trace × IsPrinted trace old new
+IsPutOut plan first second old new = Unit {0}
+
+-- The text has this fault of a trace, or this faulty line of a scenario.
+abbrev pub IsFaultyTrace : List ℕ → Type 0
+IsFaultyTrace text = (fault : TraceFault) × SaysTrace text (Err (part.Fault fault))
+
+abbrev pub IsFaultyScenario : List ℕ → Type 0
+IsFaultyScenario text = (number : ℕ) × IsFaultyLine text number
+
+-- The one text is a manifest, and the other a trace, this line of which is the first that does not follow over it.
+abbrev pub IsFaultyReplay : List ℕ → List ℕ → Type 0
+IsFaultyReplay manifest text =
+    (setup : _) × (programs : _) × (trace : Trace) × (fault : ReplayFault) × Means manifest setup programs × (trace_text trace ≡ Some text) × IsFaultyAt setup trace fault
+
+-- The one text is a manifest, and the other a scenario, on a line of which stands a release of a freeze that is not held then.
+abbrev pub IsUnheldRelease : List ℕ → List ℕ → Type 0
+IsUnheldRelease manifest text =
+    (setup : _) × (programs : _) × (steps : List Step) × (line : ℕ) × Means manifest setup programs × Say (lines_of text) steps × IsUnheldThen setup steps line
+
+-- why a trace is not accepted over a manifest, and why a scenario is not carried out
+abbrev pub IsRejectedTrace : List ℕ → List ℕ → Type 0
+IsRejectedTrace manifest text = IsFaultyManifest manifest ⊎ (IsFaultyTrace text ⊎ IsFaultyReplay manifest text)
+
+abbrev pub IsRejectedScenario : List ℕ → List ℕ → Type 0
+IsRejectedScenario manifest text = IsFaultyManifest manifest ⊎ (IsFaultyScenario text ⊎ IsUnheldRelease manifest text)
+
+-- what is wrong with a plan's first file, or with its second beside the first, where the plan was refused
+abbrev pub IsRejected : Plan → List ℕ → List ℕ → Type 0
+IsRejected (Run workers watch manifest scenario) first second = IsRejectedScenario first second
+IsRejected (Replay manifest trace) first second = IsRejectedTrace first second
+IsRejected plan first second = Unit {0}

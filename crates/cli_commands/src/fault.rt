@@ -1,0 +1,158 @@
+// Why a plan was not carried out, as a line for the user and as a status. It relies on the faults of the parts, and on `cli_text_page` for
+// how a path is shown.
+
+ghost use Rattle.std.specs.Prelude.{◌≡◌, ◌≤◌, ◌⊎◌};
+ghost use Rattle.cli_commands.specs.Faults.{fault_of_manifest, fault_of_program, fault_of_replay, fault_of_run, fault_of_scenario, fault_of_text, fault_of_trace, status_of};
+
+use base::OrMemory;
+use bpf_asm::{AsmError, AsmFault};
+use bpf_decode::{DecodeError, DecodeFault};
+use manifest::{ManifestError, ManifestFault};
+use replay::{ReplayError, ReplayFault};
+use scenario::{FaultyLine, ScenarioError};
+use host_scenario::RunFault;
+use std::io::Write;
+use cli_text_page::ForeignText;
+use thiserror::Error;
+use trace::{TraceError, TraceFault};
+
+/// Why a plan was not carried out.
+#[derive(Debug, Drop, Error)]
+pub enum Fault<'a> {
+    #[error("out of memory")]
+    OutOfMemory,
+    /// The file of that path cannot be read or written, or is to be text and is not UTF-8.
+    #[error("file {}", ForeignText(*.0))]
+    File(&'a str),
+    /// The text says no program.
+    #[error("{0}")]
+    Text(AsmFault),
+    /// The bytes are no program.
+    #[error("{0}")]
+    Program(DecodeFault),
+    #[error("{0}")]
+    Manifest(ManifestFault),
+    /// That line of the scenario is not of the form.
+    #[error("N1 at {0}")]
+    Line(usize),
+    /// That line of the scenario gives back a freeze whose token is not held.
+    #[error("N2 at {0}")]
+    NotHeld(usize),
+    /// The text is no trace.
+    #[error("{0}")]
+    Trace(TraceFault),
+    /// The trace is no history of an engine of the manifest.
+    #[error("{0}")]
+    Replay(ReplayFault),
+    /// A scenario was not carried out to its end, which cannot be.
+    #[error("unsettled")]
+    Unsettled,
+}
+
+impl Fault<'_> {
+    // 1 for what is refused, and 2 for files, for memory and for what cannot be.
+    fn status(&self) -> u8
+        ensures { result ≡ status_of self.now }
+    {
+        match self {
+            Fault::OutOfMemory | Fault::File(_) | Fault::Unsettled => 2,
+            Fault::Text(_)
+            | Fault::Program(_)
+            | Fault::Manifest(_)
+            | Fault::Line(_)
+            | Fault::NotHeld(_)
+            | Fault::Trace(_)
+            | Fault::Replay(_) => 1,
+        }
+    }
+
+    /// Writes the fault's one line and answers the status: 1 or 2, and 2 also where the line cannot be written.
+    pub fn report<E: Write>(&self, err: &mut E) -> u8
+        ensures reported { (result ≡ status_of self.now) ⊎ (result ≡ 2) }
+        ensures status { (1 ≤ result) × (result ≤ 2) }
+        ensures refused { result ≡ 1 → status_of self.now ≡ 1 }
+    {
+        match writeln!(err, "camr: {self}") {
+            Ok(()) => self.status(),
+            Err(_) => 2,
+        }
+    }
+}
+
+impl<'a> From<AsmError> for Fault<'a> {
+    ghost from_gives = { λ error fault. fault ≡ fault_of_text error };
+
+    fn from(error: AsmError) -> Self {
+        match error {
+            OrMemory::OutOfMemory => Fault::OutOfMemory,
+            OrMemory::Fault(fault) => Fault::Text(fault),
+        }
+    }
+}
+
+impl<'a> From<DecodeError> for Fault<'a> {
+    ghost from_gives = { λ error fault. fault ≡ fault_of_program error };
+
+    fn from(error: DecodeError) -> Self {
+        match error {
+            OrMemory::OutOfMemory => Fault::OutOfMemory,
+            OrMemory::Fault(fault) => Fault::Program(fault),
+        }
+    }
+}
+
+impl<'a> From<ManifestError> for Fault<'a> {
+    ghost from_gives = { λ error fault. fault ≡ fault_of_manifest error };
+
+    fn from(error: ManifestError) -> Self {
+        match error {
+            OrMemory::OutOfMemory => Fault::OutOfMemory,
+            OrMemory::Fault(fault) => Fault::Manifest(fault),
+        }
+    }
+}
+
+impl<'a> From<ScenarioError> for Fault<'a> {
+    ghost from_gives = { λ error fault. fault ≡ fault_of_scenario error };
+
+    fn from(error: ScenarioError) -> Self {
+        match error {
+            OrMemory::OutOfMemory => Fault::OutOfMemory,
+            OrMemory::Fault(FaultyLine(line)) => Fault::Line(line),
+        }
+    }
+}
+
+impl<'a> From<RunFault> for Fault<'a> {
+    ghost from_gives = { λ error fault. fault ≡ fault_of_run error };
+
+    fn from(fault: RunFault) -> Self {
+        match fault {
+            RunFault::OutOfMemory => Fault::OutOfMemory,
+            RunFault::NotHeld(line) => Fault::NotHeld(line),
+            RunFault::Unsettled => Fault::Unsettled,
+        }
+    }
+}
+
+impl<'a> From<TraceError> for Fault<'a> {
+    ghost from_gives = { λ error fault. fault ≡ fault_of_trace error };
+
+    fn from(error: TraceError) -> Self {
+        match error {
+            OrMemory::OutOfMemory => Fault::OutOfMemory,
+            OrMemory::Fault(fault) => Fault::Trace(fault),
+        }
+    }
+}
+
+impl<'a> From<ReplayError> for Fault<'a> {
+    ghost from_gives = { λ error fault. fault ≡ fault_of_replay error };
+
+    fn from(error: ReplayError) -> Self {
+        match error {
+            OrMemory::OutOfMemory => Fault::OutOfMemory,
+            OrMemory::Fault(fault) => Fault::Replay(fault),
+        }
+    }
+}

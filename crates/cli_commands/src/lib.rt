@@ -1,0 +1,21 @@
+// What the program `camr` does with a plan: it verifies a manifest's programs, runs a scenario and prints its trace, or replays a trace,
+// over the bytes of the files and two writers. It relies on the readers, on `host_scenario` and on `trace`.
+#![tactic(auto)]
+
+mod carrying;
+mod fault;
+mod files;
+mod handing;
+mod replaying;
+mod serving;
+mod usage;
+mod verdicts;
+
+pub use carrying::carry;
+pub use fault::Fault;
+pub use files::{status, text, unwritten};
+pub use handing::Handing;
+pub use replaying::replayed;
+pub use serving::serve;
+pub use usage::report_usage;
+pub use verdicts::print as print_verdicts;

@@ -1,0 +1,20 @@
+-- The files that a plan reads, and the one that it writes.
+use Rattle.std.specs.Prelude.{ℕ, Bool, true, false, List, [], ◌∷◌, Option, Some, None, string_bytes}
+use Rattle.cli_inspect_line.specs.declared.plans.Plan.{Plan}
+use Rattle.cli_inspect_line.specs.declared.plans.Plan.TheVariants.{ExplainCode, Explain, Show, Summarise, Draw}
+
+-- the paths of those that are read, in the order of the line
+abbrev pub input_paths : Plan → List (List ℕ)
+input_paths (ExplainCode code) = []
+input_paths (Explain manifest) = string_bytes manifest ∷ []
+input_paths (Show filter manifest trace) = string_bytes manifest ∷ string_bytes trace ∷ []
+input_paths (Summarise manifest trace) = string_bytes manifest ∷ string_bytes trace ∷ []
+input_paths (Draw manifest trace picture) = string_bytes manifest ∷ string_bytes trace ∷ []
+
+-- the path of the one that is written, if there is one
+abbrev pub output_path : Plan → Option (List ℕ)
+output_path (ExplainCode code) = None
+output_path (Explain manifest) = None
+output_path (Show filter manifest trace) = None
+output_path (Summarise manifest trace) = None
+output_path (Draw manifest trace picture) = Some (string_bytes picture)

@@ -1,0 +1,102 @@
+-- The plan of what `clap` found.
+use Rattle.std.specs.Prelude.{◌≡◌, ◌≤◌, ◌⊎◌, ℕ, IfSome, List, [], ◌∷◌, MatchBool, Option, Some, None, codes, string_bytes}
+use Rattle.std.specs.Str.{bytes_eq}
+use Rattle.clap.specs.Words.{HasKind, Row, Text, fault_of, first_of, subcommand_of}
+use Rattle.clap.specs.declared.error.Error.{Error}
+use Rattle.cli_line.specs.FoundPlan.{AreFound}
+use Rattle.cli_line.specs.RunCommand.{camr_command}
+use Rattle.cli_line.specs.RunLine.{Spells}
+use Rattle.cli_inspect_line.specs.InspectLines.{everything}
+use Rattle.cli_inspect_line.specs.declared.plans.Plan.{Plan}
+use Rattle.cli_inspect_line.specs.declared.plans.Plan.TheVariants.{ExplainCode, Explain, Show, Summarise, Draw}
+use Rattle.cli_inspect_line.specs.declared.showing.TheConstants.{LAST_NUMBER, LAST_QUEUE, LAST_READING}
+use Rattle.explain_codes.specs.Names.{code_named}
+use Rattle.show_events.specs.declared.filter.Filter.{Filter}
+
+-- the number that `clap` found under that name, in decimal digits alone
+abbrev pub FindsNumber : Text → List Row → Option ℕ → Type 0
+FindsNumber name rows None = first_of name rows ≡ None
+FindsNumber name rows (Some n) = (word : Text) × (first_of name rows ≡ Some word) × Spells word n
+
+-- the filter has the numbers that `clap` found
+pub record HasFilter (rows : List Row) (filter : Filter) : Type 0 where
+  pub ccb : FindsNumber (codes "ccb") rows filter.ccb
+  pub queue : FindsNumber (codes "queue") rows filter.queue
+  pub run : FindsNumber (codes "run") rows filter.run
+  pub freeze : FindsNumber (codes "freeze") rows filter.freeze
+  pub from : FindsNumber (codes "from") rows filter.from
+  pub to : FindsNumber (codes "to") rows filter.to
+
+-- a number, if there is one, is at most that
+abbrev pub IsUpTo : ℕ → Option ℕ → Type 0
+IsUpTo greatest number = IfSome number (λ n. n ≤ greatest)
+
+-- each of its numbers is one that there can be
+pub record IsWithin (filter : Filter) : Type 0 where
+  pub ccb : IsUpTo LAST_NUMBER filter.ccb
+  pub queue : IsUpTo LAST_QUEUE filter.queue
+  pub run : IsUpTo LAST_NUMBER filter.run
+  pub freeze : IsUpTo LAST_NUMBER filter.freeze
+  pub from : IsUpTo LAST_READING filter.from
+  pub to : IsUpTo LAST_READING filter.to
+
+-- `clap` found a manifest and a trace
+abbrev pub HasBoth : List Row → Text → Text → Type 0
+HasBoth rows manifest trace = (first_of (codes "MANIFEST") rows ≡ Some manifest) × (first_of (codes "TRACE") rows ≡ Some trace)
+
+-- it found what stands in place of the account: a flag is found as the word `true`
+abbrev pub AsksSummary : List Row → Type 0
+AsksSummary rows = first_of (codes "summary") rows ≡ Some (codes "true")
+
+abbrev pub AsksPicture : List Row → Text → Type 0
+AsksPicture rows picture = first_of (codes "svg") rows ≡ Some picture
+
+-- the plan is what was asked for by that word, with what `clap` found behind it
+abbrev pub HasFoundBehind : Text → List Row → Plan → Type 0
+HasFoundBehind name rows (ExplainCode code) =
+    (name ≡ codes "explain") × ((word : Text) × (first_of (codes "WORD") rows ≡ Some word) × (code_named word ≡ Some code))
+HasFoundBehind name rows (Explain path) =
+    (name ≡ codes "explain") × (first_of (codes "WORD") rows ≡ Some (string_bytes path)) × (code_named (string_bytes path) ≡ None)
+HasFoundBehind name rows (Show filter manifest trace) =
+    (name ≡ codes "show") × HasBoth rows (string_bytes manifest) (string_bytes trace) × HasFilter rows filter
+    × (AsksSummary rows → ⊥) × (first_of (codes "svg") rows ≡ None)
+HasFoundBehind name rows (Summarise manifest trace) =
+    (name ≡ codes "show") × HasBoth rows (string_bytes manifest) (string_bytes trace) × HasFilter rows everything × AsksSummary rows
+    × (first_of (codes "svg") rows ≡ None)
+HasFoundBehind name rows (Draw manifest trace picture) =
+    (name ≡ codes "show") × HasBoth rows (string_bytes manifest) (string_bytes trace) × HasFilter rows everything
+    × (AsksSummary rows → ⊥) × AsksPicture rows (string_bytes picture)
+
+-- the words asked for something, and the plan is that
+abbrev pub HasFound : Option (Text × List Row) → Plan → Type 0
+HasFound None plan = ⊥
+HasFound (Some p) plan = HasFoundBehind p.0 p.1 plan
+
+-- which of the three is asked for: the account of some events, or of all events the counts or the picture
+abbrev pub AsksOne : List Row → Filter → Type 0
+AsksOne rows filter = ((AsksSummary rows → ⊥) × (first_of (codes "svg") rows ≡ None))
+    ⊎ ((filter ≡ everything) × (AsksSummary rows → first_of (codes "svg") rows ≡ None))
+
+-- behind `show` both paths are found, numbers that there can be, and one thing that is asked for
+abbrev pub MakesAccount : List Row → Type 0
+MakesAccount rows = AreFound (codes "MANIFEST" ∷ codes "TRACE" ∷ []) rows
+    × ((filter : Filter) × IsWithin filter × HasFilter rows filter × AsksOne rows filter)
+
+-- those rows are enough for a plan behind that word
+abbrev pub Suffices : Text → List Row → Type 0
+Suffices name rows = MatchBool (bytes_eq name (codes "show")) (MakesAccount rows)
+    (MatchBool (bytes_eq name (codes "explain")) (AreFound (codes "WORD" ∷ []) rows) ⊥)
+
+-- what those rows ask for behind that word, and none only where they are not enough for a plan
+abbrev pub PlansBehind : Text → List Row → Option Plan → Type 0
+PlansBehind name rows (Some plan) = HasFoundBehind name rows plan
+PlansBehind name rows None = Suffices name rows → ⊥
+
+-- the same of the subcommand that `clap` found
+abbrev pub PlansFound : Option (Text × List Row) → Option Plan → Type 0
+PlansFound found (Some plan) = HasFound found plan
+PlansFound found None = (name : Text) (rows : List Row) → found ≡ Some (name, rows) → Suffices name rows → ⊥
+
+-- why words are refused: `clap` refuses them so, or memory was refused; or what `clap` found in them is no plan
+abbrev pub IsRefused : List Text → Error → Type 0
+IsRefused words e = HasKind (fault_of camr_command words) e ⊎ PlansFound (subcommand_of camr_command words) None

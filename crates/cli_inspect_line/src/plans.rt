@@ -1,0 +1,65 @@
+// What the program `camr_inspect` can be asked to do. It relies on `explain_codes` and on `show_events` for what may be asked of
+// codes and of traces.
+
+ghost use Rattle.std.specs.Prelude.{◌≡◌, ◌<◌, [], Some, None, MatchOption, length, slice_index_or};
+ghost use Rattle.cli_inspect_line.specs.Files.{input_paths, output_path};
+
+use explain_codes::Code;
+use show_events::Filter;
+
+/// What is to be done, with the paths of the files in the order of the line.
+#[derive(Debug, Drop)]
+pub enum Plan {
+    /// Says what a code means.
+    ExplainCode(Code),
+    /// Says why a manifest is refused, or what is known of its programs.
+    Explain(String),
+    /// Says in words what happened in a trace: of which events, the manifest, the trace.
+    Show(Filter, String, String),
+    /// Counts what happened in a trace: the manifest, the trace.
+    Summarise(String, String),
+    /// Draws what happened in a trace: the manifest, the trace, and the file that gets the picture.
+    Draw(String, String, String),
+}
+
+impl Plan {
+    /// How many files are read.
+    pub fn input_count(&self) -> usize
+        ensures { result ≡ length (input_paths self.now) }
+    {
+        match self {
+            Plan::ExplainCode(_) => 0,
+            Plan::Explain(_) => 1,
+            Plan::Show(..) | Plan::Summarise(..) | Plan::Draw(..) => 2,
+        }
+    }
+
+    /// The path of a file that is read, by its place in the order of the line.
+    pub fn input(&self, place: usize) -> &str
+        requires { place < length (input_paths self.now) }
+        ensures { result.now ≡ slice_index_or (input_paths self.now) place [] }
+    {
+        match (self, place) {
+            (
+                Plan::Explain(first)
+                | Plan::Show(_, first, _)
+                | Plan::Summarise(first, _)
+                | Plan::Draw(first, _, _),
+                0,
+            ) => { first.as_str() }
+            (Plan::Show(_, _, second) | Plan::Summarise(_, second) | Plan::Draw(_, second, _), 1) =>
+                { second.as_str() }
+            _ => "",
+        }
+    }
+
+    /// The path of the file that is written, if one is.
+    pub fn output(&self) -> Option<&str>
+        ensures { MatchOption result (output_path self.now ≡ None) (λ path. output_path self.now ≡ Some path.now) }
+    {
+        match self {
+            Plan::Draw(_, _, output) => Some(output.as_str()),
+            Plan::ExplainCode(_) | Plan::Explain(_) | Plan::Show(..) | Plan::Summarise(..) => None,
+        }
+    }
+}

@@ -1,0 +1,177 @@
+// The words after `show`, read as a plan. It relies on `cli_line` for what `clap` is given of them, and on `cli_text_page` for how a word is
+// shown.
+
+ghost use Rattle.std.specs.Prelude.{◌≡◌, ◌≤◌, ◌↔◌, ℕ, IsTrue, Option, MatchBool, MatchOption, None, IfOk, IfSome, codes};
+ghost use Rattle.clap.specs.Words.{first_of, found_of, kind_of, rows_of};
+ghost use Rattle.cli_line.specs.RunLine.{Spells};
+ghost use Rattle.cli_inspect_line.specs.FoundPlan.{AsksSummary, FindsNumber, HasFilter, IsUpTo, IsWithin, PlansBehind};
+ghost use Rattle.cli_inspect_line.specs.InspectLines.{everything};
+
+use crate::plans::Plan;
+use clap::error::ErrorKind;
+use clap::{ArgMatches, Error};
+use cli_line::{is_true, show_command};
+use std::alloc::{AllocError, Global};
+use cli_text_page::ForeignText;
+use show_events::Filter;
+
+/// The greatest number of a queue.
+const LAST_QUEUE: u64 = 63;
+
+/// The greatest number of a CCB, a run or a freeze.
+const LAST_NUMBER: u64 = 4_294_967_295;
+
+/// The greatest clock reading, in milliseconds.
+const LAST_READING: u64 = 18_446_744_073_709_551_615;
+
+/// The plan of what clap found behind `show`, and none where a number is none, or two things are asked that exclude each other.
+pub(crate) fn show_plan(alloc: Global, show: &ArgMatches) -> Result<Option<Plan>, AllocError>
+    ensures { IfOk result (PlansBehind (codes "show") (rows_of (found_of show.now))) }
+{
+    let Some(manifest) = show.get_str("MANIFEST") else {
+        return Ok(None);
+    };
+    let Some(trace) = show.get_str("TRACE") else {
+        return Ok(None);
+    };
+    let Some(filter) = filter_given(show) else {
+        return Ok(None);
+    };
+    let manifest = String::from_str(alloc, manifest)?;
+    let trace = String::from_str(alloc, trace)?;
+    match (
+        show.get_str("svg"),
+        asks_summary(show),
+        is_everything(&filter),
+    ) {
+        (None, false, _) => Ok(Some(Plan::Show(filter, manifest, trace))),
+        (None, true, true) => Ok(Some(Plan::Summarise(manifest, trace))),
+        (Some(picture), false, true) => {
+            let picture = String::from_str(alloc, picture)?;
+            Ok(Some(Plan::Draw(manifest, trace, picture)))
+        }
+        _ => Ok(None),
+    }
+}
+
+fn asks_summary(show: &ArgMatches) -> bool
+    ensures { MatchBool result (AsksSummary (rows_of (found_of show.now))) (AsksSummary (rows_of (found_of show.now)) → ⊥) }
+{
+    match show.get_str("summary") {
+        Some(word) => is_true(word),
+        None => false,
+    }
+}
+
+fn is_everything(filter: &Filter) -> bool
+    ensures { IsTrue result ↔ (filter.now ≡ everything) }
+{
+    filter.ccb.is_none()
+        && filter.queue.is_none()
+        && filter.run.is_none()
+        && filter.freeze.is_none()
+        && filter.from.is_none()
+        && filter.to.is_none()
+}
+
+// Which events are asked for, and none where a number is none.
+fn filter_given(show: &ArgMatches) -> Option<Filter>
+    ensures { MatchOption result ((filter : Filter) → IsWithin filter → HasFilter (rows_of (found_of show.now)) filter → ⊥)
+        (HasFilter (rows_of (found_of show.now))) }
+{
+    let ccb = given(show, "ccb", LAST_NUMBER)?;
+    let queue = given(show, "queue", LAST_QUEUE)?;
+    let run = given(show, "run", LAST_NUMBER)?;
+    let freeze = given(show, "freeze", LAST_NUMBER)?;
+    let from = given(show, "from", LAST_READING)?;
+    let to = given(show, "to", LAST_READING)?;
+    Some(Filter {
+        ccb: in_word(ccb),
+        queue: in_byte(queue),
+        run: in_word(run),
+        freeze: in_word(freeze),
+        from,
+        to,
+    })
+}
+
+// The number under that name, if there is one; none where a word there spells none up to the greatest.
+fn given(show: &ArgMatches, name: &str, greatest: u64) -> Option<Option<u64>>
+    ensures found { MatchOption result ((number : Option ℕ) → IsUpTo greatest number → FindsNumber name.now (rows_of (found_of show.now)) number → ⊥)
+        (FindsNumber name.now (rows_of (found_of show.now))) }
+    ensures bounded { IfSome result (IsUpTo greatest) }
+{
+    match show.get_str(name) {
+        None => Some(None),
+        Some(word) => match number_in(word, greatest) {
+            Some(number) => Some(Some(number)),
+            None => None,
+        },
+    }
+}
+
+// The number that a word spells in decimal digits alone, if it is not above the greatest.
+fn number_in(word: &str, greatest: u64) -> Option<u64>
+    ensures { MatchOption result ((n : ℕ) → Spells word.now n → n ≤ greatest → ⊥) (λ n. Spells word.now n × (n ≤ greatest)) }
+{
+    if word.starts_with('+') {
+        return None;
+    }
+    match word.parse::<u64>() {
+        Ok(number) if number <= greatest => Some(number),
+        _ => None,
+    }
+}
+
+fn in_word(number: Option<u64>) -> Option<u32>
+    requires { IfSome number (λ n. n ≤ LAST_NUMBER) }
+    ensures { result ≡ number }
+{
+    match number {
+        Some(number) => Some(number as u32),
+        None => None,
+    }
+}
+
+fn in_byte(number: Option<u64>) -> Option<u8>
+    requires { IfSome number (λ n. n ≤ LAST_QUEUE) }
+    ensures { result ≡ number }
+{
+    match number {
+        Some(number) => Some(number as u8),
+        None => None,
+    }
+}
+
+/// What is wrong behind `show`.
+pub(crate) fn show_fault(alloc: Global, show: &ArgMatches) -> Result<Error, AllocError>
+    ensures { IfOk result (λ e. kind_of e ≡ ErrorKind.ValueValidation) }
+{
+    for name in ["ccb", "queue", "run", "freeze", "from", "to"] {
+        let greatest = match name {
+            "queue" => LAST_QUEUE,
+            "from" | "to" => LAST_READING,
+            _ => LAST_NUMBER,
+        };
+        let word = show.get_str(name).unwrap_or("0");
+        if number_in(word, greatest).is_none() {
+            let text = format!(in alloc;
+                "invalid value '{}' for '--{name}': it is 0 to {greatest}, in decimal digits",
+                ForeignText(word)
+            )?;
+            return fault(alloc, text.as_str());
+        }
+    }
+    fault(
+        alloc,
+        "--summary, --svg and the options that say which events are told exclude each other",
+    )
+}
+
+fn fault(alloc: Global, text: &str) -> Result<Error, AllocError>
+    ensures { IfOk result (λ e. kind_of e ≡ ErrorKind.ValueValidation) }
+{
+    show_command(alloc)?
+        .bin_name("camr show")?
+        .error(ErrorKind::ValueValidation, text)
+}

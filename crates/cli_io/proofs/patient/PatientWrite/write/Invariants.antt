@@ -1,0 +1,6 @@
+-- no try wrote anything
+use Rattle.std.specs.Io.KnownBytes.{Keeps}
+use Rattle.cli_io.proofs.patient.PatientWrite.write.Given as goal
+
+abbrev pub invariant-loop : goal.invariant-loop
+invariant-loop g l = Keeps (g.S.Write.contents l.fn.self.stream) (g.S.Write.contents l.self.stream)

@@ -1,0 +1,67 @@
+-- What the rows behind a word ask for, and that the plan which was found behind it is that.
+use Rattle.std.proofs.Common.{◌≡◌, Bool, true, false, List, [], Option, None, Some, codes, refl, sym, subst, ap}
+use Rattle.std.specs.Prelude.{MatchBool, if◌then◌else◌, string_bytes, unwrap_or}
+use Rattle.std.specs.Str.{bytes_eq}
+use Rattle.std.proofs.lemmas.Slice.Eq.{bytes_eq-Decides}
+use Rattle.clap.specs.Words.{Row, Text, first_of}
+use Rattle.cli_line.specs.FileLines.{Asked, IsAsked}
+use Rattle.cli_line.specs.FileLines.Asked.{Asm, Dis, Check, Migrate, Live, Replay}
+use Rattle.cli_line.specs.FoundPlan.{HasFoundBehind}
+use Rattle.cli_line.specs.declared.plans.Plan.{Plan}
+use Rattle.cli_line.specs.declared.plans.Plan.TheVariants as plans
+
+-- the word that was found, and whether it is that of a flag which is given
+abbrev pub word_at : Text → List Row → Text
+word_at id rows = unwrap_or (first_of id rows) []
+
+abbrev pub is_told : Option Text → Bool
+is_told None = false
+is_told (Some word) = bytes_eq word (codes "true")
+
+-- what is asked for
+abbrev pub asked_in : Text → List Row → Option Asked
+asked_in name rows =
+    if bytes_eq name (codes "asm") then Some (Asm (word_at (codes "IN") rows) (word_at (codes "OUT") rows))
+    else (if bytes_eq name (codes "dis") then Some (Dis (word_at (codes "FILE") rows))
+    else (if bytes_eq name (codes "check") then Some (Check (word_at (codes "MANIFEST") rows))
+    else (if bytes_eq name (codes "migrate") then Some (Migrate (word_at (codes "IN") rows) (word_at (codes "OUT") rows))
+    else (if bytes_eq name (codes "live")
+    then Some (Live (is_told (first_of (codes "clock") rows)) (is_told (first_of (codes "step") rows)) (word_at (codes "MANIFEST") rows))
+    else (if bytes_eq name (codes "replay") then Some (Replay (word_at (codes "MANIFEST") rows) (word_at (codes "TRACE") rows))
+    else None)))))
+
+-- the plan is that, if anything is asked for
+abbrev pub MeetsAsked : Option Asked → Plan → Type 0
+MeetsAsked None plan = Unit {0}
+MeetsAsked (Some asked) plan = IsAsked asked plan
+
+pub found_word : (id : Text) (rows : List Row) (word : Text) → first_of id rows ≡ Some word → word ≡ word_at id rows
+found_word id rows word is = ap (λ (o : Option Text). unwrap_or o []) (sym is)
+
+pub told_as : (o : Option Text) (b : Bool) → MatchBool b (o ≡ Some (codes "true")) (o ≡ Some (codes "true") → ⊥) → b ≡ is_told o
+told_as o true is = ap is_told (sym is)
+told_as None false differs = refl
+told_as (Some word) false differs = go (bytes_eq word (codes "true")) refl
+  where
+    go : (b : Bool) → bytes_eq word (codes "true") ≡ b → false ≡ bytes_eq word (codes "true")
+    go false is = sym is
+    go true is = absurd (differs (ap Some ((bytes_eq-Decides word (codes "true")).0 is)))
+
+module _ (name : Text) (rows : List Row) where
+  -- the plan is behind that word
+  by_word : (other : Text) (plan : Plan) → name ≡ other → MeetsAsked (asked_in other rows) plan → MeetsAsked (asked_in name rows) plan
+  by_word other plan is h = subst (λ (n : Text). MeetsAsked (asked_in n rows) plan) (sym is) h
+
+  -- what was found is what is asked for
+  pub found_asked : (plan : Plan) → HasFoundBehind name rows plan → MeetsAsked (asked_in name rows) plan
+  found_asked (plans.Run workers watch a b) found = by_word (codes "run") (plans.Run workers watch a b) found.0 tt
+  found_asked (plans.Asm a b) found = by_word (codes "asm") (plans.Asm a b) found.0 (found_word (codes "IN") rows _ found.1, found_word (codes "OUT") rows _ found.2)
+  found_asked (plans.Migrate a b) found = by_word (codes "migrate") (plans.Migrate a b) found.0 (found_word (codes "IN") rows _ found.1, found_word (codes "OUT") rows _ found.2)
+  found_asked (plans.Dis a) found = by_word (codes "dis") (plans.Dis a) found.0 (found_word (codes "FILE") rows _ found.1)
+  found_asked (plans.Check a) found = by_word (codes "check") (plans.Check a) found.0 (found_word (codes "MANIFEST") rows _ found.1)
+  found_asked (plans.Live manner a) found = by_word (codes "live") (plans.Live manner a) found.0 (
+    told_as (first_of (codes "clock") rows) manner.is_clocked found.2,
+    told_as (first_of (codes "step") rows) manner.is_stepped found.3,
+    found_word (codes "MANIFEST") rows _ found.1,
+  )
+  found_asked (plans.Replay a b) found = by_word (codes "replay") (plans.Replay a b) found.0 (found_word (codes "MANIFEST") rows _ found.1, found_word (codes "TRACE") rows _ found.2)

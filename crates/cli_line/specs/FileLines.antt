@@ -1,0 +1,47 @@
+-- The lines that ask for something other than a run: a word, flags, and the paths of the files; and what each of them asks for.
+use Rattle.std.specs.Prelude.{◌≡◌, Bool, List, [], ◌∷◌, codes, if◌then◌else◌, string_bytes}
+use Rattle.clap.specs.Words.{Text}
+use Rattle.cli_line.specs.RunLine.{IsPlain}
+use Rattle.cli_line.specs.declared.plans.Plan.{Plan}
+use Rattle.cli_line.specs.declared.plans.Plan.TheVariants as plans
+
+-- what such a line asks for, in its own words: the paths as they stand there
+pub data Asked : Type 0 where
+  Asm : (text program : Text) → Asked
+  Dis : (program : Text) → Asked
+  Check : (manifest : Text) → Asked
+  Migrate : (manifest migrated : Text) → Asked
+  Live : (is_clocked is_stepped : Bool) (manifest : Text) → Asked
+  Replay : (manifest trace : Text) → Asked
+
+-- the flag, where it is given, and the words behind it
+abbrev pub flagged : Bool → Text → List Text → List Text
+flagged is_given flag words = if is_given then flag ∷ words else words
+
+abbrev pub line_of : Asked → List Text
+line_of (Asm text program) = codes "asm" ∷ text ∷ program ∷ []
+line_of (Dis program) = codes "dis" ∷ program ∷ []
+line_of (Check manifest) = codes "check" ∷ manifest ∷ []
+line_of (Migrate manifest migrated) = codes "migrate" ∷ manifest ∷ migrated ∷ []
+line_of (Live is_clocked is_stepped manifest) = codes "live" ∷ flagged is_clocked (codes "--clock") (flagged is_stepped (codes "--step") (manifest ∷ []))
+line_of (Replay manifest trace) = codes "replay" ∷ manifest ∷ trace ∷ []
+
+-- none of its paths begins with a hyphen
+abbrev pub ArePlain : Asked → Type 0
+ArePlain (Asm text program) = IsPlain text × IsPlain program
+ArePlain (Dis program) = IsPlain program
+ArePlain (Check manifest) = IsPlain manifest
+ArePlain (Migrate manifest migrated) = IsPlain manifest × IsPlain migrated
+ArePlain (Live is_clocked is_stepped manifest) = IsPlain manifest
+ArePlain (Replay manifest trace) = IsPlain manifest × IsPlain trace
+
+-- the plan is that, of the files at these paths
+abbrev pub IsAsked : Asked → Plan → Type 0
+IsAsked (Asm text program) (plans.Asm a b) = (string_bytes a ≡ text) × (string_bytes b ≡ program)
+IsAsked (Dis program) (plans.Dis a) = string_bytes a ≡ program
+IsAsked (Check manifest) (plans.Check a) = string_bytes a ≡ manifest
+IsAsked (Migrate manifest migrated) (plans.Migrate a b) = (string_bytes a ≡ manifest) × (string_bytes b ≡ migrated)
+IsAsked (Live is_clocked is_stepped manifest) (plans.Live manner a) =
+    (manner.is_clocked ≡ is_clocked) × (manner.is_stepped ≡ is_stepped) × (string_bytes a ≡ manifest)
+IsAsked (Replay manifest trace) (plans.Replay a b) = (string_bytes a ≡ manifest) × (string_bytes b ≡ trace)
+IsAsked asked plan = ⊥

@@ -1,0 +1,113 @@
+-- The plan of what `clap` found.
+use Rattle.std.specs.Prelude.{◌≡◌, ◌⊎◌, ℕ, List, [], ◌∷◌, MatchBool, Option, Some, None, codes, if◌then◌else◌, string_bytes}
+use Rattle.std.specs.Str.{bytes_eq}
+use Rattle.clap.specs.Words.{HasKind, Row, Text, fault_of, first_of, subcommand_of}
+use Rattle.clap.specs.declared.error.Error.{Error}
+use Rattle.cli_line.specs.RunCommand.{camr_command}
+use Rattle.cli_line.specs.RunLine.{HasLawfulNumber, IsLawfulNumber, IsRun, Spells, watch_word}
+use Rattle.cli_line.specs.RunLine.{SpellsNoLawfulNumber}
+use Rattle.cli_line.specs.declared.plans.Plan.{Plan}
+use Rattle.cli_line.specs.declared.plans.Watch.{Watch}
+use Rattle.cli_line.specs.declared.plans.Plan.TheVariants.{Asm, Migrate, Dis, Check, Run, Live, Replay}
+
+-- the plan has what `clap` found behind `run` under the arguments' names
+pub record HasFoundIn (rows : List Row) (plan : Plan) : Type 0 where
+  pub number : Text
+  pub when : Text
+  pub manifest : Text
+  pub scenario : Text
+  pub workers_found : first_of (codes "workers") rows ≡ Some number
+  pub watch_found : first_of (codes "watch") rows ≡ Some when
+  pub manifest_found : first_of (codes "MANIFEST") rows ≡ Some manifest
+  pub scenario_found : first_of (codes "SCENARIO") rows ≡ Some scenario
+  pub same : IsRun number when manifest scenario plan
+
+-- a flag is given
+abbrev pub IsGiven : Text → List Row → Type 0
+IsGiven name rows = first_of name rows ≡ Some (codes "true")
+
+-- the plan is what was asked for by that word, with what `clap` found behind it
+abbrev pub HasFoundBehind : Text → List Row → Plan → Type 0
+HasFoundBehind name rows (Run workers watch a b) = (name ≡ codes "run") × HasFoundIn rows (Run workers watch a b)
+HasFoundBehind name rows (Asm text program) =
+    (name ≡ codes "asm") × (first_of (codes "IN") rows ≡ Some (string_bytes text)) × (first_of (codes "OUT") rows ≡ Some (string_bytes program))
+HasFoundBehind name rows (Migrate manifest migrated) =
+    (name ≡ codes "migrate") × (first_of (codes "IN") rows ≡ Some (string_bytes manifest)) × (first_of (codes "OUT") rows ≡ Some (string_bytes migrated))
+HasFoundBehind name rows (Dis program) =
+    (name ≡ codes "dis") × (first_of (codes "FILE") rows ≡ Some (string_bytes program))
+HasFoundBehind name rows (Check path) =
+    (name ≡ codes "check") × (first_of (codes "MANIFEST") rows ≡ Some (string_bytes path))
+HasFoundBehind name rows (Live manner manifest) =
+    (name ≡ codes "live") × (first_of (codes "MANIFEST") rows ≡ Some (string_bytes manifest))
+    × MatchBool manner.is_clocked (IsGiven (codes "clock") rows) (IsGiven (codes "clock") rows → ⊥)
+    × MatchBool manner.is_stepped (IsGiven (codes "step") rows) (IsGiven (codes "step") rows → ⊥)
+HasFoundBehind name rows (Replay manifest trace) =
+    (name ≡ codes "replay") × (first_of (codes "MANIFEST") rows ≡ Some (string_bytes manifest)) × (first_of (codes "TRACE") rows ≡ Some (string_bytes trace))
+
+-- the words asked for something, and the plan is that
+abbrev pub HasFound : Option (Text × List Row) → Plan → Type 0
+HasFound None plan = ⊥
+HasFound (Some p) plan = HasFoundBehind p.0 p.1 plan
+
+-- the number of workers that those rows give, and none only where they give no lawful one
+abbrev pub ReadsWorkers : List Row → Option ℕ → Type 0
+ReadsWorkers rows (Some n) = IsLawfulNumber n
+    × ((word : Text) × (first_of (codes "workers") rows ≡ Some word) × Spells word n)
+ReadsWorkers rows None = (word : Text) → first_of (codes "workers") rows ≡ Some word
+    → SpellsNoLawfulNumber word
+
+-- when those rows say that sums are told, and none only where they say it by no such word
+abbrev pub ReadsWatch : List Row → Option Watch → Type 0
+ReadsWatch rows (Some watch) = first_of (codes "watch") rows ≡ Some (watch_word watch)
+ReadsWatch rows None = (watch : Watch) → first_of (codes "watch") rows ≡ Some (watch_word watch) → ⊥
+
+-- a part of the run is missing from those rows
+abbrev pub MakesNoRun : List Row → Type 0
+MakesNoRun rows = (number manifest scenario : Text) (watch : Watch)
+    → first_of (codes "workers") rows ≡ Some number
+    → first_of (codes "watch") rows ≡ Some (watch_word watch)
+    → first_of (codes "MANIFEST") rows ≡ Some manifest
+    → first_of (codes "SCENARIO") rows ≡ Some scenario
+    → SpellsNoLawfulNumber number
+
+abbrev pub AreFound : List Text → List Row → Type 0
+AreFound [] rows = Unit {0}
+AreFound (id ∷ ids) rows = ((word : Text) × (first_of id rows ≡ Some word)) × AreFound ids rows
+
+-- what has to be found behind a word, where nothing else is tested
+abbrev pub paths_of : Text → Option (List Text)
+paths_of name =
+    if bytes_eq name (codes "asm") then Some (codes "IN" ∷ codes "OUT" ∷ [])
+    else (if bytes_eq name (codes "migrate") then Some (codes "IN" ∷ codes "OUT" ∷ [])
+    else (if bytes_eq name (codes "dis") then Some (codes "FILE" ∷ [])
+    else (if bytes_eq name (codes "check") then Some (codes "MANIFEST" ∷ [])
+    else (if bytes_eq name (codes "live") then Some (codes "MANIFEST" ∷ [])
+    else (if bytes_eq name (codes "replay") then Some (codes "MANIFEST" ∷ codes "TRACE" ∷ [])
+    else None)))))
+
+-- these are found, where it is known which have to be
+abbrev pub AllFound : Option (List Text) → List Row → Type 0
+AllFound None rows = ⊥
+AllFound (Some ids) rows = AreFound ids rows
+
+-- those rows are enough for a plan behind that word
+abbrev pub Suffices : Text → List Row → Type 0
+Suffices name rows = AllFound (paths_of name) rows
+
+-- they are none behind it
+abbrev pub MakesNone : Text → List Row → Type 0
+MakesNone name rows = MatchBool (bytes_eq name (codes "run")) (MakesNoRun rows) (Suffices name rows → ⊥)
+
+-- what those rows ask for behind that word, and none only where they are no plan
+abbrev pub PlansBehind : Text → List Row → Option Plan → Type 0
+PlansBehind name rows (Some plan) = HasFoundBehind name rows plan × HasLawfulNumber plan
+PlansBehind name rows None = MakesNone name rows
+
+-- the same of the subcommand that `clap` found
+abbrev pub PlansFound : Option (Text × List Row) → Option Plan → Type 0
+PlansFound found (Some plan) = HasFound found plan × HasLawfulNumber plan
+PlansFound found None = (name : Text) (rows : List Row) → found ≡ Some (name, rows) → MakesNone name rows
+
+-- why words are refused: `clap` refuses them so, or memory was refused; or what `clap` found in them is no plan
+abbrev pub IsRefused : List Text → Error → Type 0
+IsRefused words e = HasKind (fault_of camr_command words) e ⊎ PlansFound (subcommand_of camr_command words) None

@@ -1,0 +1,135 @@
+-- The command line as `clap` sees it.
+use Rattle.std.specs.Prelude.{◌≡◌, [], ◌∷◌, Some, true, false, codes, pos}
+use Rattle.clap.specs.Words.{App, Rule, Text, app_of, new_app, new_rule, rule_of, with_rule}
+use Rattle.clap.specs.Words.{with_subcommand}
+use Rattle.clap.specs.declared.builder.arg.Arg.{Arg}
+use Rattle.clap.specs.declared.builder.command.Command.{Command}
+use Rattle.clap.specs.declared.builder.command.Command.TheViews.{out-Command}
+use Rattle.clap.specs.declared.builder.action.ArgAction.TheVariants as action
+use Rattle.clap.specs.declared.builder.value_parser.ValueParser.TheVariants as value_parser
+
+-- the option `--workers N`, a number from 1 to 16, which is 1 where it is not given
+abbrev pub workers_rule : Rule
+workers_rule = record (new_rule (codes "workers")) {
+  long = Some (codes "workers");
+  value_names = 1;
+  defaults = codes "1" ∷ [];
+  parser = Some (value_parser.Signed (pos 1) (pos 16));
+}
+
+-- the option `--watch=WHEN`, any text, which is `never` where it is not given
+abbrev pub watch_rule : Rule
+watch_rule = record (new_rule (codes "watch")) {
+  long = Some (codes "watch");
+  value_names = 1;
+  defaults = codes "never" ∷ [];
+}
+
+-- a path that has to be there
+abbrev pub path_rule : Text → Rule
+path_rule name = record (new_rule name) { required = true }
+
+-- `run`, with its options and its two paths in their order
+abbrev pub run_command : App
+run_command = with_rule (with_rule (with_rule (with_rule (new_app (codes "run")) workers_rule) watch_rule)
+    (path_rule (codes "MANIFEST"))) (path_rule (codes "SCENARIO"))
+
+-- `asm` with the text that it reads and the program that it writes
+abbrev pub asm_command : App
+asm_command = with_rule (with_rule (new_app (codes "asm")) (path_rule (codes "IN"))) (path_rule (codes "OUT"))
+
+-- `dis` with its program
+abbrev pub dis_command : App
+dis_command = with_rule (new_app (codes "dis")) (path_rule (codes "FILE"))
+
+-- `check` with its manifest
+abbrev pub check_command : App
+check_command = with_rule (new_app (codes "check")) (path_rule (codes "MANIFEST"))
+
+-- `migrate` with the manifest that it reads and the one that it writes
+abbrev pub migrate_command : App
+migrate_command = with_rule (with_rule (new_app (codes "migrate")) (path_rule (codes "IN"))) (path_rule (codes "OUT"))
+
+-- `replay` with its two paths in their order
+abbrev pub replay_command : App
+replay_command = with_rule (with_rule (new_app (codes "replay")) (path_rule (codes "MANIFEST"))) (path_rule (codes "TRACE"))
+
+-- `explain` with its code or its manifest
+abbrev pub explain_command : App
+explain_command = with_rule (new_app (codes "explain")) (path_rule (codes "WORD"))
+
+-- an option of one word, which may be left out
+abbrev pub option_rule : Text → Rule
+option_rule name = record (new_rule name) {
+  long = Some name;
+  value_names = 1;
+}
+
+-- an option without a word
+abbrev pub flag_rule : Text → Rule
+flag_rule name = record (new_rule name) {
+  long = Some name;
+  action = Some action.SetTrue;
+}
+
+-- `show` with the options that are about something with a number
+abbrev pub numbered_command : App
+numbered_command = with_rule (with_rule (with_rule (with_rule (new_app (codes "show"))
+    (option_rule (codes "ccb"))) (option_rule (codes "queue"))) (option_rule (codes "run"))) (option_rule (codes "freeze"))
+
+-- with those that are about times
+abbrev pub timed_command : App
+timed_command = with_rule (with_rule numbered_command (option_rule (codes "from"))) (option_rule (codes "to"))
+
+-- with the two that stand in place of the account
+abbrev pub optional_command : App
+optional_command = with_rule (with_rule timed_command (flag_rule (codes "summary"))) (option_rule (codes "svg"))
+
+-- with its two paths in their order
+abbrev pub show_command : App
+show_command = with_rule (with_rule optional_command (path_rule (codes "MANIFEST"))) (path_rule (codes "TRACE"))
+
+-- `host_live` with its two flags and its manifest
+abbrev pub live_command : App
+live_command = with_rule (with_rule (with_rule (new_app (codes "live")) (flag_rule (codes "clock"))) (flag_rule (codes "step"))) (path_rule (codes "MANIFEST"))
+
+-- the program, whose words begin behind its own name; where there are none it shows its help
+abbrev pub bare_command : App
+bare_command = let a = new_app (codes "camr") in record a {
+  top = record a.top {
+    no_binary_name = true;
+    arg_required_else_help = true;
+    subcommand_required = true;
+    has_version = true;
+  };
+}
+
+-- with `asm` and `dis` alone
+abbrev pub texts_command : App
+texts_command = with_subcommand (with_subcommand bare_command asm_command.top) dis_command.top
+
+-- with `check` too
+abbrev pub programs_command : App
+programs_command = with_subcommand texts_command check_command.top
+
+-- with `explain` and `migrate` too
+abbrev pub manifests_command : App
+manifests_command = with_subcommand (with_subcommand programs_command explain_command.top) migrate_command.top
+
+-- with `run` and `host_live` too
+abbrev pub runs_command : App
+runs_command = with_subcommand (with_subcommand manifests_command run_command.top) live_command.top
+
+-- the whole command line
+abbrev pub camr_command : App
+camr_command = with_subcommand (with_subcommand runs_command replay_command.top) show_command.top
+
+-- ---- what is made for `clap`
+
+-- the argument has that rule, and is for its own command alone
+abbrev pub IsArgument : Rule → Arg → Type 0
+IsArgument rule a = (rule_of a ≡ rule) × (a.global ≡ false)
+
+-- the command is that one, and has no argument for other commands
+abbrev pub IsCommand : App → Command → Type 0
+IsCommand app c = (app_of c ≡ app) × ((out-Command c).has_globals ≡ false)

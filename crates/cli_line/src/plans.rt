@@ -1,0 +1,107 @@
+// What the program `camr` can be asked to do. It relies on nothing.
+
+ghost use Rattle.std.specs.Prelude.{◌≡◌, ◌<◌, [], Some, None, MatchOption, length, slice_index_or};
+ghost use Rattle.cli_line.specs.Files.{input_paths, output_path};
+ghost use Rattle.cli_line.specs.Watching.{watch_of};
+
+/// The least number of workers that serve completions, and the greatest.
+pub const MIN_WORKERS: u8 = 1;
+
+pub const MAX_WORKERS: u8 = 16;
+
+/// When a run tells its sums on standard error.
+#[derive(Clone, Copy, Debug, PartialEq, Eq)]
+pub enum Watch {
+    Never,
+    /// Where standard error is a terminal.
+    Terminal,
+    /// Always, a line each time.
+    Lines,
+}
+
+/// How a live engine is asked.
+#[derive(Clone, Copy, Debug, PartialEq, Eq)]
+pub struct Manner {
+    /// Its clock is the machine's.
+    pub is_clocked: bool,
+    /// A run goes to its next stop only where a line asks for that.
+    pub is_stepped: bool,
+}
+
+/// What is to be done, with the paths of the files in the order of the line.
+#[derive(Debug, Drop)]
+pub enum Plan {
+    /// Assembles a text: the text's file, and the file that gets the bytes of its program.
+    Asm(String, String),
+    /// Writes a manifest of version 1 anew, of version 2 with one controller: the manifest, and the file that gets it.
+    Migrate(String, String),
+    /// Prints the text of a program's bytes.
+    Dis(String),
+    /// Verifies the programs of a manifest.
+    Check(String),
+    /// Runs a scenario over a manifest's queues: the number of workers, 1 to 16, when sums are told, the manifest, the scenario.
+    Run(u8, Watch, String, String),
+    /// Carries out what standard input asks of a manifest's queues, line by line: how, and the manifest.
+    Live(Manner, String),
+    /// Replays a trace over a manifest's queues: the manifest, the trace.
+    Replay(String, String),
+}
+
+impl Plan {
+    /// How many files are read.
+    pub fn input_count(&self) -> usize
+        ensures { result ≡ length (input_paths self.now) }
+    {
+        match self {
+            Plan::Asm(..) | Plan::Migrate(..) | Plan::Dis(_) | Plan::Check(_) | Plan::Live(..) => 1,
+            Plan::Run(..) | Plan::Replay(..) => 2,
+        }
+    }
+
+    /// The path of a file that is read, by its place in the order of the line.
+    pub fn input(&self, place: usize) -> &str
+        requires { place < length (input_paths self.now) }
+        ensures { result.now ≡ slice_index_or (input_paths self.now) place [] }
+    {
+        match (self, place) {
+            (
+                Plan::Asm(first, _)
+                | Plan::Migrate(first, _)
+                | Plan::Dis(first)
+                | Plan::Check(first)
+                | Plan::Run(_, _, first, _)
+                | Plan::Live(_, first)
+                | Plan::Replay(first, _),
+                0,
+            ) => { first.as_str() }
+            (Plan::Run(_, _, _, second) | Plan::Replay(_, second), 1) => { second.as_str() }
+            _ => "",
+        }
+    }
+
+    /// The path of the file that is written, if one is.
+    pub fn output(&self) -> Option<&str>
+        ensures { MatchOption result (output_path self.now ≡ None) (λ path. output_path self.now ≡ Some path.now) }
+    {
+        match self {
+            Plan::Asm(_, output) | Plan::Migrate(_, output) => Some(output.as_str()),
+            Plan::Dis(_) | Plan::Check(_) | Plan::Run(..) | Plan::Live(..) | Plan::Replay(..) =>
+                None,
+        }
+    }
+
+    /// When sums are told.
+    pub fn watch(&self) -> Watch
+        ensures { result ≡ watch_of self.now }
+    {
+        match self {
+            Plan::Run(_, watch, _, _) => *watch,
+            Plan::Asm(..)
+            | Plan::Migrate(..)
+            | Plan::Dis(_)
+            | Plan::Check(_)
+            | Plan::Live(..)
+            | Plan::Replay(..) => Watch::Never,
+        }
+    }
+}

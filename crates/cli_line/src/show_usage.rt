@@ -1,0 +1,86 @@
+// The subcommand `show` as `clap` is given it. It relies on `usage` for paths.
+
+ghost use Rattle.std.specs.Prelude.{◌≡◌, IfOk};
+ghost use Rattle.cli_line.specs.RunCommand.{IsArgument, IsCommand, flag_rule, numbered_command, option_rule, optional_command, show_command, timed_command};
+
+use crate::usage::{manifest, trace};
+use clap::{Arg, ArgAction, Command};
+use std::alloc::{AllocError, Global};
+
+/// What help of it has at its end.
+const TOGETHER: &str = "\
+Of the account an event is told that fits all that is asked. --summary, --svg and these options
+exclude each other.";
+
+/// The subcommand `show` by itself.
+pub fn show_command<'a>(alloc: Global) -> Result<Command<'a>, AllocError>
+    ensures { IfOk result (IsCommand show_command) }
+{
+    optional_command(alloc)?
+        .after_help(TOGETHER)
+        .arg(manifest(alloc))?
+        .arg(trace(alloc))
+}
+
+// The subcommand without its paths.
+fn optional_command<'a>(alloc: Global) -> Result<Command<'a>, AllocError>
+    ensures { IfOk result (IsCommand optional_command) }
+{
+    let summary = flag(alloc, "summary", "Counts, in place of the account");
+    let picture = option(
+        alloc,
+        "svg",
+        "OUT",
+        "Draws into that file, in place of the account",
+    );
+    timed_command(alloc)?.arg(summary)?.arg(picture)
+}
+
+// The subcommand with the options that say which events are told.
+fn timed_command<'a>(alloc: Global) -> Result<Command<'a>, AllocError>
+    ensures { IfOk result (IsCommand timed_command) }
+{
+    let from = option(
+        alloc,
+        "from",
+        "T",
+        "Events at that clock reading in milliseconds or later",
+    );
+    let to = option(alloc, "to", "T", "Events at that clock reading or earlier");
+    numbered_command(alloc)?.arg(from)?.arg(to)
+}
+
+// The subcommand with those that are about something with a number.
+fn numbered_command<'a>(alloc: Global) -> Result<Command<'a>, AllocError>
+    ensures { IfOk result (IsCommand numbered_command) }
+{
+    let ccb = option(alloc, "ccb", "N", "Events of the CCB of that number");
+    let queue = option(alloc, "queue", "N", "Events of that queue, 0 to 63");
+    let run = option(alloc, "run", "N", "Events of the run of that number");
+    let freeze = option(alloc, "freeze", "N", "Events of the freeze of that number");
+    Command::new(alloc, "show")
+        .about("Tells in words what happened in a trace")
+        .arg(ccb)?
+        .arg(queue)?
+        .arg(run)?
+        .arg(freeze)
+}
+
+fn option<'a>(alloc: Global, name: &'a str, value: &'a str, help: &'a str) -> Arg<'a>
+    ensures { IsArgument (option_rule name.entry.now) result }
+{
+    Arg::new(alloc, name)
+        .long(name)
+        .value_name(value)
+        .help(help)
+}
+
+/// A flag, which may be left out.
+pub(crate) fn flag<'a>(alloc: Global, name: &'a str, help: &'a str) -> Arg<'a>
+    ensures { IsArgument (flag_rule name.entry.now) result }
+{
+    Arg::new(alloc, name)
+        .long(name)
+        .action(ArgAction::SetTrue)
+        .help(help)
+}

@@ -1,0 +1,207 @@
+// The command line as `clap` is given it: its subcommands with their options and paths, and what help says of
+// them. It relies on `show_usage` for those of `show`.
+
+ghost use Rattle.std.specs.Prelude.{◌≡◌, IfOk, codes};
+ghost use Rattle.cli_line.specs.RunCommand.{IsArgument, IsCommand, camr_command};
+ghost use Rattle.cli_line.specs.RunCommand.{asm_command, bare_command, check_command, dis_command, explain_command, manifests_command, migrate_command};
+ghost use Rattle.cli_line.specs.RunCommand.{path_rule, programs_command, replay_command, run_command, runs_command, show_command, texts_command};
+ghost use Rattle.cli_line.specs.RunCommand.{watch_rule, workers_rule};
+
+use crate::living::live_command;
+use crate::show_usage::show_command;
+use clap::{Arg, Command, value_parser};
+use std::alloc::{AllocError, Global};
+
+/// What `--version` prints behind the program's name: its version, and the profile of its policies.
+const VERSION: &str = "0.1.0, policy profile 2";
+
+/// What help has at its end.
+const EXAMPLE: &str = "\
+Example:
+  camr run examples/first/manifest.toml examples/first/scenario.txt";
+
+/// The whole command line.
+pub fn camr_command<'a>(alloc: Global) -> Result<Command<'a>, AllocError>
+    ensures { IfOk result (IsCommand camr_command) }
+{
+    let replay = replay_command(alloc)?;
+    let show = show_command(alloc)?;
+    runs_command(alloc)?.subcommand(replay)?.subcommand(show)
+}
+
+// The command without those that read a trace.
+fn runs_command<'a>(alloc: Global) -> Result<Command<'a>, AllocError>
+    ensures { IfOk result (IsCommand runs_command) }
+{
+    let run = run_command(alloc)?;
+    let live = live_command(alloc)?;
+    manifests_command(alloc)?.subcommand(run)?.subcommand(live)
+}
+
+// The command with all that is for programs and manifests alone.
+fn manifests_command<'a>(alloc: Global) -> Result<Command<'a>, AllocError>
+    ensures { IfOk result (IsCommand manifests_command) }
+{
+    let explain = explain_command(alloc)?;
+    let migrate = migrate_command(alloc)?;
+    programs_command(alloc)?
+        .subcommand(explain)?
+        .subcommand(migrate)
+}
+
+// The command with all that is for programs alone.
+fn programs_command<'a>(alloc: Global) -> Result<Command<'a>, AllocError>
+    ensures { IfOk result (IsCommand programs_command) }
+{
+    let asm = asm_command(alloc)?;
+    let dis = dis_command(alloc)?;
+    let check = check_command(alloc)?;
+    texts_command(alloc, asm, dis)?.subcommand(check)
+}
+
+// The command with `asm` and `dis` alone.
+fn texts_command<'a>(
+    alloc: Global,
+    asm: Command<'a>,
+    dis: Command<'a>,
+) -> Result<Command<'a>, AllocError>
+    requires asm { IsCommand asm_command asm }
+    requires dis { IsCommand dis_command dis }
+    ensures { IfOk result (IsCommand texts_command) }
+{
+    bare_command(alloc)?.subcommand(asm)?.subcommand(dis)
+}
+
+// The command without subcommands.
+fn bare_command<'a>(alloc: Global) -> Result<Command<'a>, AllocError>
+    ensures { IfOk result (IsCommand bare_command) }
+{
+    Command::new(alloc, "camr")
+        .about("A CAM transport whose error recovery is written as BPF programs")
+        .version(VERSION)
+        .after_help(EXAMPLE)
+        .no_binary_name(true)
+        .subcommand_required(true)
+        .arg_required_else_help(true)
+        .bin_name("camr")
+}
+
+fn asm_command<'a>(alloc: Global) -> Result<Command<'a>, AllocError>
+    ensures { IfOk result (IsCommand asm_command) }
+{
+    let text = path(alloc, "IN", "A program as text, an instruction a line");
+    let program = path(alloc, "OUT", "The file that gets the program's bytes");
+    Command::new(alloc, "asm")
+        .about("Assembles the text of a program")
+        .arg(text)?
+        .arg(program)
+}
+
+fn dis_command<'a>(alloc: Global) -> Result<Command<'a>, AllocError>
+    ensures { IfOk result (IsCommand dis_command) }
+{
+    let program = path(alloc, "FILE", "The bytes of a program");
+    Command::new(alloc, "dis")
+        .about("Prints the text of a program")
+        .arg(program)
+}
+
+fn check_command<'a>(alloc: Global) -> Result<Command<'a>, AllocError>
+    ensures { IfOk result (IsCommand check_command) }
+{
+    Command::new(alloc, "check")
+        .about("Verifies the programs of a manifest and prints their budgets")
+        .arg(manifest(alloc))
+}
+
+fn explain_command<'a>(alloc: Global) -> Result<Command<'a>, AllocError>
+    ensures { IfOk result (IsCommand explain_command) }
+{
+    let word = path(
+        alloc,
+        "WORD",
+        "A code, as `V8`, or a manifest; `./V8` is a file of that name",
+    );
+    Command::new(alloc, "explain")
+        .about("Tells what a code means, or why a manifest is refused")
+        .arg(word)
+}
+
+fn migrate_command<'a>(alloc: Global) -> Result<Command<'a>, AllocError>
+    ensures { IfOk result (IsCommand migrate_command) }
+{
+    let old = path(alloc, "IN", "A manifest of version 1");
+    let migrated = path(alloc, "OUT", "The file that gets it as one of version 2");
+    Command::new(alloc, "migrate")
+        .about("Writes a manifest with one controller over its queues")
+        .arg(old)?
+        .arg(migrated)
+}
+
+/// The subcommand `run` by itself.
+pub fn run_command<'a>(alloc: Global) -> Result<Command<'a>, AllocError>
+    ensures { IfOk result (IsCommand run_command) }
+{
+    let scenario = path(alloc, "SCENARIO", "What happens, a command a line");
+    Command::new(alloc, "run")
+        .about("Runs a scenario and prints its trace")
+        .arg(workers(alloc))?
+        .arg(watch(alloc))?
+        .arg(manifest(alloc))?
+        .arg(scenario)
+}
+
+fn replay_command<'a>(alloc: Global) -> Result<Command<'a>, AllocError>
+    ensures { IfOk result (IsCommand replay_command) }
+{
+    Command::new(alloc, "replay")
+        .about("Replays a trace and says whether it is lawful")
+        .arg(manifest(alloc))?
+        .arg(trace(alloc))
+}
+
+fn workers<'a>(alloc: Global) -> Arg<'a>
+    ensures { IsArgument workers_rule result }
+{
+    Arg::new(alloc, "workers")
+        .long("workers")
+        .value_name("N")
+        .value_parser(value_parser!(u8).range(1..=16))
+        .default_value("1")
+        .help("How many workers serve completions, 1 to 16")
+}
+
+fn watch<'a>(alloc: Global) -> Arg<'a>
+    ensures { IsArgument watch_rule result }
+{
+    Arg::new(alloc, "watch")
+        .long("watch")
+        .value_name("WHEN")
+        .default_value("never")
+        .help("Tells sums on standard error: `terminal`, where that is one, or `lines`, always")
+}
+
+/// The manifest that is read.
+pub(crate) fn manifest<'a>(alloc: Global) -> Arg<'a>
+    ensures { IsArgument (path_rule (codes "MANIFEST")) result }
+{
+    path(
+        alloc,
+        "MANIFEST",
+        "The queues, their programs and their tables",
+    )
+}
+
+/// The trace that is read.
+pub(crate) fn trace<'a>(alloc: Global) -> Arg<'a>
+    ensures { IsArgument (path_rule (codes "TRACE")) result }
+{
+    path(alloc, "TRACE", "What was recorded, a line a record")
+}
+
+// A path that has to be there.
+fn path<'a>(alloc: Global, name: &'a str, help: &'a str) -> Arg<'a>
+    ensures { IsArgument (path_rule name.entry.now) result }
+{
+    Arg::new(alloc, name).required(true).help(help)
+}

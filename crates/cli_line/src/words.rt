@@ -1,0 +1,387 @@
+// The words after the program's name, read as a plan. It relies on `usage` for what `clap` is given of them, on `clap` for the rest but
+// the form of a number, and on `cli_text_page` for how words are shown.
+
+ghost use Rattle.std.specs.Prelude.{◌≡◌, ◌⊎◌, IfErr, IfOk, MatchOption, codes, map, string_bytes};
+ghost use Rattle.clap.specs.Words.{FailsBy, Text, fault_of, found_of, kind_of, rows_of};
+ghost use Rattle.clap.specs.Words.{subcommand_of, subcommand_rows_of};
+ghost use Rattle.cli_line.specs.FoundPlan.{HasFound, IsRefused, PlansBehind, PlansFound, ReadsWatch, ReadsWorkers};
+ghost use Rattle.cli_line.specs.FileLines.{ArePlain, Asked, IsAsked, line_of};
+ghost use Rattle.cli_line.specs.RunCommand.{camr_command};
+ghost use Rattle.cli_line.specs.RunLine.{GivesRun, HasLawfulNumber, IsLawfulNumber, IsPlain};
+ghost use Rattle.cli_line.specs.RunLine.{RunLine, Spells, SpellsNoLawfulNumber, spelled_out, watch_word};
+ghost use Rattle.cli_line.specs.UsageFault.{Gives, IsValueFault};
+
+use crate::living::live_plan;
+use crate::plans::{MAX_WORKERS, MIN_WORKERS, Plan, Watch};
+use crate::usage::{camr_command, run_command};
+use clap::error::ErrorKind;
+use clap::{ArgMatches, Error};
+use std::alloc::{AllocError, Global};
+use cli_text_page::{ForeignText, escaped};
+
+/// Why the words are no plan: a mistake in them, or a request for help. Its text is for the user, and
+/// `exit_code` is the status to end with.
+pub type UsageFault = Error;
+
+/// Reads the words after the program's name. A line that asks for a run gives that run, or an error where its number is none from
+/// 1 to 16 in decimal digits alone or memory is refused; one that asks for anything else gives that, or an error where memory is
+/// refused. `--watch` by itself stands for `--watch=terminal`. Whatever the words are, a run has 1 to 16 workers, reports its sums when
+/// the word that `clap` found says, and has the paths that it found in their places. A line is refused only if `clap` refuses it,
+/// if a number or a word that it found is none, or if another program carries it out; and for want of memory.
+pub fn plan(alloc: Global, words: &[String]) -> Result<Plan, UsageFault>
+    ensures found { IfOk result (HasFound (subcommand_of camr_command (map spelled_out (map string_bytes words.now)))) }
+    ensures bounded { IfOk result HasLawfulNumber }
+    ensures lines { (number manifest scenario : Text)
+        → RunLine (map string_bytes words.now) number manifest scenario
+        → IsPlain number → IsPlain manifest → IsPlain scenario
+        → GivesRun number manifest scenario result }
+    ensures gives { (asked : Asked)
+        → map string_bytes words.now ≡ line_of asked → ArePlain asked
+        → Gives (IsAsked asked) result }
+    ensures refuses { IfErr result (IsRefused (map spelled_out (map string_bytes words.now))) }
+{
+    let spelled = spelled_out(alloc, words)?;
+    let matches = matches(alloc, &spelled)?;
+    match planned(alloc, &matches)? {
+        Some(plan) => Ok(plan),
+        None => Err(no_plan(alloc, &matches)),
+    }
+}
+
+/// The words, with `--watch` by itself spelled out.
+pub fn spelled_out<'a>(alloc: Global, words: &'a [String]) -> Result<Vec<&'a str>, AllocError>
+    ensures { IfOk result (λ spelled. map (λ word. word.now) spelled.items ≡ map spelled_out (map string_bytes words.entry.now)) }
+{
+    let mut spelled = Vec::with_capacity(alloc, words.len())?;
+    for word in words {
+        spelled.push(spelled_word(word.as_str()))?;
+    }
+    Ok(spelled)
+}
+
+fn spelled_word(word: &str) -> &str
+    ensures { result.now ≡ spelled_out word.entry.now }
+{
+    if word == "--watch" {
+        "--watch=terminal"
+    } else {
+        word
+    }
+}
+
+/// The fault of a line with a word that is not UTF-8, or want of memory.
+pub fn not_utf8(alloc: Global) -> UsageFault
+    ensures { IsValueFault result }
+{
+    match utf8_fault(alloc) {
+        Ok(fault) => fault,
+        Err(error) => Error::from(error),
+    }
+}
+
+fn utf8_fault(alloc: Global) -> Result<Error, AllocError>
+    ensures { IfOk result (λ e. kind_of e ≡ ErrorKind.ValueValidation) }
+{
+    camr_command(alloc)?.error(
+        ErrorKind::ValueValidation,
+        "a word of the command line is not UTF-8",
+    )
+}
+
+/// What clap makes of the words. If it refuses them, what it says of them is said of the words as they are shown.
+pub fn matches<'a>(alloc: Global, words: &'a [&'a str]) -> Result<ArgMatches<'a>, Error>
+    ensures rows { IfOk result (λ m.
+        subcommand_rows_of m ≡ subcommand_of camr_command (map (λ word. word.now) words.entry.now)) }
+    ensures faults { FailsBy (fault_of camr_command (map (λ word. word.now) words.entry.now)) result }
+{
+    match parsed(alloc, words) {
+        Ok(matches) => Ok(matches),
+        Err(fault) => Err(retold(alloc, words, fault.kind())),
+    }
+}
+
+fn parsed<'a>(alloc: Global, words: &'a [&'a str]) -> Result<ArgMatches<'a>, Error>
+    ensures rows { IfOk result (λ m.
+        subcommand_rows_of m ≡ subcommand_of camr_command (map (λ word. word.now) words.entry.now)) }
+    ensures faults { FailsBy (fault_of camr_command (map (λ word. word.now) words.entry.now)) result }
+{
+    camr_command(alloc)?.try_get_matches_from(words)
+}
+
+// The fault of that kind which the words have, told of them as they are shown.
+fn retold(alloc: Global, words: &[&str], kind: ErrorKind) -> Error
+    ensures { (kind_of result ≡ kind) ⊎ (kind_of result ≡ ErrorKind.OutOfMemory) }
+{
+    match fault_of_shown(alloc, words, kind) {
+        Ok(fault) => fault,
+        Err(error) => Error::from(error),
+    }
+}
+
+// What `clap` says of the words as they are shown. An escape is of no form that a word alone has, so they are refused as the words are;
+// if they were not, what is told names none of them.
+fn fault_of_shown(alloc: Global, words: &[&str], kind: ErrorKind) -> Result<Error, AllocError>
+    ensures { IfOk result (λ e. kind_of e ≡ kind) }
+{
+    let shown = shown_words(alloc, words)?;
+    match fault_in(alloc, shown.as_slice())? {
+        Some(fault) => of_kind(alloc, fault, kind),
+        None => nameless_fault(alloc, kind),
+    }
+}
+
+fn shown_words(alloc: Global, words: &[&str]) -> Result<Vec<String>, AllocError> {
+    let mut shown = Vec::with_capacity(alloc, words.len())?;
+    for word in words {
+        shown.push(escaped(alloc, word)?)?;
+    }
+    Ok(shown)
+}
+
+// What `clap` finds wrong with the words.
+fn fault_in(alloc: Global, words: &[String]) -> Result<Option<Error>, AllocError> {
+    match camr_command(alloc)?.try_get_matches_from(words) {
+        Ok(_matches) => Ok(None),
+        Err(fault) => Ok(Some(fault)),
+    }
+}
+
+fn of_kind(alloc: Global, fault: Error, kind: ErrorKind) -> Result<Error, AllocError>
+    ensures { IfOk result (λ e. kind_of e ≡ kind) }
+{
+    if fault.kind() == kind {
+        Ok(fault)
+    } else if fault.kind() == ErrorKind::OutOfMemory {
+        Err(AllocError)
+    } else {
+        nameless_fault(alloc, kind)
+    }
+}
+
+fn nameless_fault(alloc: Global, kind: ErrorKind) -> Result<Error, AllocError>
+    ensures { IfOk result (λ e. kind_of e ≡ kind) }
+{
+    camr_command(alloc)?.error(kind, "the words are no command line")
+}
+
+// The plan of what clap found, and none where a number of workers is no plain one.
+fn planned(alloc: Global, matches: &ArgMatches) -> Result<Option<Plan>, AllocError>
+    ensures { IfOk result (PlansFound (subcommand_rows_of matches.now)) }
+{
+    match matches.subcommand() {
+        Some((name, found)) => plan_behind(alloc, name, found),
+        None => Ok(None),
+    }
+}
+
+// The plan of what clap found behind a word.
+fn plan_behind(alloc: Global, name: &str, found: &ArgMatches) -> Result<Option<Plan>, AllocError>
+    ensures { IfOk result (PlansBehind name.now (rows_of (found_of found.now))) }
+{
+    match name {
+        "asm" => asm_plan(alloc, found),
+        "dis" => dis_plan(alloc, found),
+        "check" => check_plan(alloc, found),
+        "migrate" => migrate_plan(alloc, found),
+        "replay" => replay_plan(alloc, found),
+        "run" => run_plan(alloc, found),
+        "live" => live_plan(alloc, found),
+        _ => Ok(None),
+    }
+}
+
+// The plan of what clap found behind `asm`.
+fn asm_plan(alloc: Global, asm: &ArgMatches) -> Result<Option<Plan>, AllocError>
+    ensures { IfOk result (PlansBehind (codes "asm") (rows_of (found_of asm.now))) }
+{
+    let Some(text) = asm.get_str("IN") else {
+        return Ok(None);
+    };
+    let Some(program) = asm.get_str("OUT") else {
+        return Ok(None);
+    };
+    let text = String::from_str(alloc, text)?;
+    let program = String::from_str(alloc, program)?;
+    Ok(Some(Plan::Asm(text, program)))
+}
+
+// The plan of what clap found behind `dis`.
+fn dis_plan(alloc: Global, dis: &ArgMatches) -> Result<Option<Plan>, AllocError>
+    ensures { IfOk result (PlansBehind (codes "dis") (rows_of (found_of dis.now))) }
+{
+    let Some(program) = dis.get_str("FILE") else {
+        return Ok(None);
+    };
+    Ok(Some(Plan::Dis(String::from_str(alloc, program)?)))
+}
+
+// The plan of what clap found behind `check`.
+fn check_plan(alloc: Global, check: &ArgMatches) -> Result<Option<Plan>, AllocError>
+    ensures { IfOk result (PlansBehind (codes "check") (rows_of (found_of check.now))) }
+{
+    let Some(manifest) = check.get_str("MANIFEST") else {
+        return Ok(None);
+    };
+    Ok(Some(Plan::Check(String::from_str(alloc, manifest)?)))
+}
+
+// The plan of what clap found behind `migrate`.
+fn migrate_plan(alloc: Global, migrate: &ArgMatches) -> Result<Option<Plan>, AllocError>
+    ensures { IfOk result (PlansBehind (codes "migrate") (rows_of (found_of migrate.now))) }
+{
+    let Some(manifest) = migrate.get_str("IN") else {
+        return Ok(None);
+    };
+    let Some(migrated) = migrate.get_str("OUT") else {
+        return Ok(None);
+    };
+    let manifest = String::from_str(alloc, manifest)?;
+    let migrated = String::from_str(alloc, migrated)?;
+    Ok(Some(Plan::Migrate(manifest, migrated)))
+}
+
+// The plan of what clap found behind `replay`.
+fn replay_plan(alloc: Global, replay: &ArgMatches) -> Result<Option<Plan>, AllocError>
+    ensures { IfOk result (PlansBehind (codes "replay") (rows_of (found_of replay.now))) }
+{
+    let Some(manifest) = replay.get_str("MANIFEST") else {
+        return Ok(None);
+    };
+    let Some(trace) = replay.get_str("TRACE") else {
+        return Ok(None);
+    };
+    let manifest = String::from_str(alloc, manifest)?;
+    let trace = String::from_str(alloc, trace)?;
+    Ok(Some(Plan::Replay(manifest, trace)))
+}
+
+// The plan of what clap found behind `run`.
+fn run_plan(alloc: Global, run: &ArgMatches) -> Result<Option<Plan>, AllocError>
+    ensures { IfOk result (PlansBehind (codes "run") (rows_of (found_of run.now))) }
+{
+    let Some(workers) = workers_given(run) else {
+        return Ok(None);
+    };
+    let Some(watch) = watch_given(run) else {
+        return Ok(None);
+    };
+    let Some(manifest) = run.get_str("MANIFEST") else {
+        return Ok(None);
+    };
+    let Some(scenario) = run.get_str("SCENARIO") else {
+        return Ok(None);
+    };
+    let manifest = String::from_str(alloc, manifest)?;
+    let scenario = String::from_str(alloc, scenario)?;
+    Ok(Some(Plan::Run(workers, watch, manifest, scenario)))
+}
+
+fn workers_given(run: &ArgMatches) -> Option<u8>
+    ensures { ReadsWorkers (rows_of (found_of run.now)) result }
+{
+    let Some(word) = run.get_str("workers") else {
+        return None;
+    };
+    workers_in(word)
+}
+
+// The number of workers that a word spells. Clap tests the range too, for the text that it shows, but takes a
+// plus sign before the digits.
+fn workers_in(word: &str) -> Option<u8>
+    ensures { MatchOption result (SpellsNoLawfulNumber word.now)
+        (λ n. Spells word.now n × IsLawfulNumber n) }
+{
+    if word.starts_with('+') {
+        return None;
+    }
+    match word.parse::<u8>() {
+        Ok(workers) if MIN_WORKERS <= workers && workers <= MAX_WORKERS => Some(workers),
+        _ => None,
+    }
+}
+
+fn watch_given(run: &ArgMatches) -> Option<Watch>
+    ensures { ReadsWatch (rows_of (found_of run.now)) result }
+{
+    let Some(word) = run.get_str("watch") else {
+        return None;
+    };
+    watch_in(word)
+}
+
+// When sums are told, by the option's word.
+fn watch_in(word: &str) -> Option<Watch>
+    ensures { MatchOption result ((watch : Watch) → word.now ≡ watch_word watch → ⊥) (λ watch. word.now ≡ watch_word watch) }
+{
+    match word {
+        "never" => Some(Watch::Never),
+        "terminal" => Some(Watch::Terminal),
+        "lines" => Some(Watch::Lines),
+        _ => None,
+    }
+}
+
+// What is wrong with the words that clap let through.
+fn no_plan(alloc: Global, matches: &ArgMatches) -> Error
+    ensures { IsValueFault result }
+{
+    let fault = match matches.subcommand() {
+        Some((name @ ("explain" | "show"), _)) => other_program(alloc, name),
+        Some((_, run)) => option_fault(
+            alloc,
+            run.get_str("workers").unwrap_or(""),
+            run.get_str("watch").unwrap_or(""),
+        ),
+        None => option_fault(alloc, "", ""),
+    };
+    match fault {
+        Ok(fault) => fault,
+        Err(error) => Error::from(error),
+    }
+}
+
+// A command that the other program carries out.
+fn other_program(alloc: Global, name: &str) -> Result<Error, AllocError>
+    ensures { IfOk result (λ e. kind_of e ≡ ErrorKind.ValueValidation) }
+{
+    let text = format!(in alloc; "the program camr_inspect carries out '{name}'")?;
+    camr_command(alloc)?.error(ErrorKind::ValueValidation, text.as_str())
+}
+
+// What is wrong with the word of an option of `run`: clap has refused each other that is no number from 1 to 16.
+fn option_fault(alloc: Global, workers: &str, watch: &str) -> Result<Error, AllocError>
+    ensures { IfOk result (λ e. kind_of e ≡ ErrorKind.ValueValidation) }
+{
+    match workers_in(workers) {
+        None => number_fault(alloc, workers),
+        Some(_) => watch_fault(alloc, watch),
+    }
+}
+
+fn number_fault(alloc: Global, word: &str) -> Result<Error, AllocError>
+    ensures { IfOk result (λ e. kind_of e ≡ ErrorKind.ValueValidation) }
+{
+    let text = format!(in alloc;
+        "invalid value '{}' for '--workers <N>': invalid digit found in string",
+        ForeignText(word)
+    )?;
+    run_fault(alloc, text.as_str())
+}
+
+fn watch_fault(alloc: Global, word: &str) -> Result<Error, AllocError>
+    ensures { IfOk result (λ e. kind_of e ≡ ErrorKind.ValueValidation) }
+{
+    let text = format!(in alloc;
+        "invalid value '{}' for '--watch <WHEN>': it is `terminal` or `lines`",
+        ForeignText(word)
+    )?;
+    run_fault(alloc, text.as_str())
+}
+
+fn run_fault(alloc: Global, text: &str) -> Result<Error, AllocError>
+    ensures { IfOk result (λ e. kind_of e ≡ ErrorKind.ValueValidation) }
+{
+    run_command(alloc)?
+        .bin_name("camr run")?
+        .error(ErrorKind::ValueValidation, text)
+}

@@ -1,0 +1,34 @@
+// What a fault's code means, in the lines of a report. It relies on `explain_codes` for the table, and on `mending` for what to do.
+
+use crate::mending::mend;
+use explain_codes::Code;
+use cli_text_page::Page;
+
+/// The code with which a fault's text begins.
+pub fn code_in(text: &str) -> Option<Code> {
+    Code::of(text.split(' ').next()?)
+}
+
+/// Puts the rule that a code stands for.
+pub fn put_rule(page: &mut Page, code: Code) {
+    page.text("  = rule ");
+    page.shown(&code);
+    page.text(": ");
+    page.text(code.explanation().meaning);
+    page.text("\n");
+}
+
+/// Puts its commonest cause, and how it is usually mended.
+pub fn put_mending(page: &mut Page, code: Code) {
+    page.text("  = most often: ");
+    page.text(code.explanation().cause);
+    page.text("\n  = to mend it: ");
+    page.text(mend(code));
+    page.text("\n");
+}
+
+/// Puts all three.
+pub fn print(page: &mut Page, code: Code) {
+    put_rule(page, code);
+    put_mending(page, code);
+}

@@ -1,0 +1,191 @@
+// What is known of a register, of freezes and of stack bytes, in words. It relies on `check_register_kinds` and `check_description` for what
+// is known, and on `explain_path` for where a freeze was taken.
+
+use bpf_insn::Reg;
+use explain_path::{Log, Registers};
+use check_description::Description;
+use check_register_kinds::{Certainty, FreezeName, HeldFreeze, Kind, Offsets, Region};
+use scalar_domain::Scalar;
+use cli_text_page::Page;
+
+/// What distinguishes the signed order of words from the unsigned one.
+const SIGN: u64 = 1 << 63;
+
+/// How many bytes a frame has: R10 points behind them.
+const FRAME_BYTES: u16 = 512;
+
+/// Puts what is known of a register.
+pub fn put_kind(page: &mut Page, log: &Log, known: &Description, kind: Kind) {
+    match kind {
+        Kind::Unwritten => page.text("unwritten, or of several kinds"),
+        Kind::Number(scalar) => put_number(page, scalar),
+        Kind::Address(region, offsets) => put_address(page, known, region, offsets),
+        Kind::Freeze(name) => put_copy(page, log, known, name),
+    }
+}
+
+// Puts which numbers these are.
+fn put_number(page: &mut Page, scalar: Scalar) {
+    let (least, most) = (scalar.least(), scalar.most());
+    if least == most {
+        put_word(page, least);
+        return;
+    }
+    if least == 0 && most == u64::MAX {
+        put_signed(page, scalar);
+    } else {
+        put_word(page, least);
+        page.text(" to ");
+        put_word(page, most);
+    }
+    put_bits(page, scalar);
+}
+
+// Puts a word; one whose sign bit is set as a negative number too.
+fn put_word(page: &mut Page, word: u64) {
+    page.number(word);
+    if word >= SIGN {
+        page.text(" (signed ");
+        page.signed(word.cast_signed());
+        page.text(")");
+    }
+}
+
+// Puts the signed range, where that says anything.
+fn put_signed(page: &mut Page, scalar: Scalar) {
+    let (least, most) = (scalar.signed.least, scalar.signed.most);
+    if least == 0 && most == u64::MAX {
+        page.text("any number");
+        return;
+    }
+    let least = least.wrapping_sub(SIGN).cast_signed();
+    let most = most.wrapping_sub(SIGN).cast_signed();
+    page.signed(least);
+    page.text(" to ");
+    page.signed(most);
+    page.text(", signed");
+}
+
+// Puts what the bits are that are known, by a mask, where the range does not say so: those that are alike in all numbers of it are
+// left out.
+fn put_bits(page: &mut Page, scalar: Scalar) {
+    let fixed = !(scalar.bits.must ^ scalar.bits.may);
+    let differing = scalar.least() ^ scalar.most();
+    let below = match differing.leading_zeros() {
+        0 => u64::MAX,
+        zeros => 1u64
+            .wrapping_shl(64u32.saturating_sub(zeros))
+            .wrapping_sub(1),
+    };
+    let told = fixed & below;
+    if told != 0 {
+        let set = scalar.bits.must & told;
+        page.text(", bits ");
+        page.word(told);
+        page.text(" are ");
+        page.word(set);
+    }
+}
+
+// Puts where an address lies.
+fn put_address(page: &mut Page, known: &Description, region: Region, offsets: Offsets) {
+    match region {
+        Region::Context => {
+            page.fill("address context+{}", &[u64::from(offsets.least)]);
+            if offsets.least != offsets.most {
+                page.fill(" to context+{}", &[u64::from(offsets.most)]);
+            }
+        }
+        Region::Frame(frame) => put_stack_address(page, known, frame, offsets),
+    }
+}
+
+fn put_stack_address(page: &mut Page, known: &Description, frame: u8, offsets: Offsets) {
+    page.text("address ");
+    put_place(page, offsets.least);
+    if offsets.least != offsets.most {
+        page.text(" to ");
+        put_place(page, offsets.most);
+    }
+    if usize::from(frame) + 1 < known.stack.depth() {
+        page.fill(" of frame {}, a caller's", &[u64::from(frame)]);
+    }
+}
+
+/// Puts an offset in a frame, as a policy has it: from R10.
+pub fn put_place(page: &mut Page, offset: u16) {
+    page.text("r10");
+    if offset != FRAME_BYTES {
+        page.fill("-{}", &[u64::from(FRAME_BYTES.saturating_sub(offset))]);
+    }
+}
+
+// Puts which freeze it is a copy of.
+fn put_copy(page: &mut Page, log: &Log, known: &Description, name: FreezeName) {
+    put_name(page, log, name);
+    match known.held.certainty(name) {
+        Some(Certainty::Sure) => page.text(", sure"),
+        Some(Certainty::Open) => page.text(", or 0"),
+        None => page.text(", held no more"),
+    }
+}
+
+// Puts the name of a freeze: where it was taken.
+fn put_name(page: &mut Page, log: &Log, name: FreezeName) {
+    match name {
+        FreezeName::Start => page.text("the freeze of the start"),
+        FreezeName::Call(number) => match log.sightings().get(number as usize) {
+            Some(sighting) => page.fill("the freeze taken at slot {}", &[sighting.slot as u64]),
+            None => page.text("a freeze"),
+        },
+    }
+}
+
+/// Puts which freezes are held: open ones may be none, sure ones are some.
+pub fn put_held(page: &mut Page, log: &Log, known: &Description) {
+    let held = known.held.as_slice();
+    if held.is_empty() {
+        page.text("holds no freeze");
+        return;
+    }
+    page.text("holds ");
+    for (place, freeze) in held.iter().enumerate() {
+        if place > 0 {
+            page.text(", ");
+        }
+        put_freeze(page, log, *freeze);
+    }
+}
+
+fn put_freeze(page: &mut Page, log: &Log, freeze: HeldFreeze) {
+    match freeze.name {
+        FreezeName::Start => page.text("that of the start"),
+        FreezeName::Call(number) => match log.sightings().get(number as usize) {
+            Some(sighting) => page.fill("that of slot {}", &[sighting.slot as u64]),
+            None => page.text("one"),
+        },
+    }
+    page.text(match freeze.certainty {
+        Certainty::Sure => " (sure)",
+        Certainty::Open => " (open)",
+    });
+}
+
+/// Puts what is known of these registers, in their order.
+pub fn put_registers(page: &mut Page, log: &Log, known: &Description, registers: Registers) {
+    let mut first = true;
+    for number in 0u8..11 {
+        let Some(reg) = Reg::from_number(number) else {
+            continue;
+        };
+        if !registers.has(reg) {
+            continue;
+        }
+        if !first {
+            page.text("; ");
+        }
+        first = false;
+        page.fill("r{} = ", &[u64::from(number)]);
+        put_kind(page, log, known, known.kind(reg));
+    }
+}

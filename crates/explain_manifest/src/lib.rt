@@ -1,0 +1,23 @@
+// What there is to say of a manifest beside the verdict: where in its text a fault is, which rule is broken and by what values, and by
+// which path the place is reached; or what is known of its programs where they are accepted. It relies on `manifest` for the
+// verdict, on `explain_path` for what the verifier tracks, on `explain_layout` for places in the text, and on `explain_codes` for
+// what the codes mean.
+#![tactic(auto)]
+
+mod accepting;
+mod arguments;
+mod causes;
+mod codes;
+mod excerpt;
+mod explaining;
+mod form;
+mod keys;
+mod kinds;
+mod listing;
+mod mending;
+mod places;
+mod program;
+mod refusing;
+mod steps;
+
+pub use explaining::{Explanation, explain};

@@ -1,0 +1,185 @@
+// Why a program is refused: where, which rule, by which values and by which path. It relies on `verifier` for the pass, which is made
+// once more before the eyes of a `explain_path::Log`, and on `listing` for how the program is written.
+
+use crate::causes::{put_side, put_values};
+use crate::codes::code_in;
+use crate::listing::Listing;
+use crate::{codes, excerpt, steps};
+use base::OrMemory;
+use bpf_insn::{Insn, Program};
+use call_shape::{Onward, ShapeFault};
+use explain_path::{Log, path_to};
+use helpers::HelperLimits;
+use explain_layout::Span;
+use check_register_kinds::Cause;
+use std::alloc::{AllocError, Global};
+use cli_text_page::Page;
+use verifier::{Refusal, verify_before};
+
+/// A program that is told of, with what is needed for that.
+#[derive(Drop)]
+pub struct Told<'a> {
+    /// The manifest's path, as it is shown, and its text.
+    pub path: &'a str,
+    pub text: &'a str,
+    /// Where the program's text or bytes stand in it.
+    pub value: Span,
+    pub program: &'a Program,
+    pub listing: &'a Listing,
+    pub log: &'a Log,
+    pub limits: &'a HelperLimits,
+}
+
+/// What the verifier's pass shows of a program.
+pub fn log_of(alloc: Global, program: &Program, limits: &HelperLimits) -> Result<Log, AllocError> {
+    let (log, judged) = verify_before(alloc, program, limits, Log::new(alloc));
+    match judged {
+        Err(OrMemory::OutOfMemory) => Err(AllocError),
+        _ if log.lacks_memory() => Err(AllocError),
+        _ => Ok(log),
+    }
+}
+
+/// Puts why the program is refused.
+pub fn print(
+    alloc: Global,
+    page: &mut Page,
+    told: &Told<'_>,
+    refusal: Refusal,
+) -> Result<(), AllocError> {
+    let slot = slot_of(refusal);
+    put_place(page, told, slot);
+    let text = format!(in alloc; "{refusal}")?;
+    let code = code_in(text.as_str());
+    if let Some(code) = code {
+        codes::put_rule(page, code);
+    }
+    match refusal {
+        Refusal::Shape(_) => put_target(page, told, slot),
+        Refusal::Check(Cause::PathsDisagree, _) => put_sides(alloc, page, told, slot)?,
+        Refusal::Check(cause, _) => put_check(alloc, page, told, cause)?,
+    }
+    if let Some(code) = code {
+        codes::put_mending(page, code);
+    }
+    Ok(())
+}
+
+// The slot that a refusal names.
+fn slot_of(refusal: Refusal) -> usize {
+    match refusal {
+        Refusal::Shape(fault) => shape_slot(fault),
+        Refusal::Check(_, slot) => slot,
+    }
+}
+
+// The slot that a fault of the shape names.
+fn shape_slot(fault: ShapeFault) -> usize {
+    match fault {
+        ShapeFault::OpenEnd(slot)
+        | ShapeFault::TargetOutside(slot)
+        | ShapeFault::TargetSecondSlot(slot)
+        | ShapeFault::TargetBackward(slot)
+        | ShapeFault::NoSuchFunction(slot)
+        | ShapeFault::LeavesFunction(slot)
+        | ShapeFault::CallCycle(slot) => slot,
+        ShapeFault::TooManyFrames | ShapeFault::TooLong => 0,
+    }
+}
+
+// Puts where the instruction of a slot stands, and what it is.
+fn put_place(page: &mut Page, told: &Told<'_>, slot: usize) {
+    let (part, text) = match told.listing.at(slot) {
+        Some(written) => (written.standing.part, written.text.as_str()),
+        None => (told.value, ""),
+    };
+    excerpt::print(page, told.path, told.text, part);
+    page.fill("  = slot {}", &[slot as u64]);
+    if !text.is_empty() {
+        page.text(": ");
+        page.foreign(text);
+    }
+    page.text("\n");
+}
+
+// Puts where an instruction leads.
+fn put_target(page: &mut Page, told: &Told<'_>, slot: usize) {
+    if slot >= bpf_insn::MAX_SLOTS {
+        return;
+    }
+    let Some(insn) = told.program.fetch(slot) else {
+        return;
+    };
+    let to = match Onward::of(slot, insn) {
+        Onward::Branches(_, to) | Onward::Enters(to, _) => to,
+        Onward::Continues(to) if matches!(insn, Insn::Jump(_)) => to,
+        Onward::Continues(_) | Onward::Leaves => return,
+    };
+    let last = told.program.len().saturating_sub(1);
+    page.fill(
+        "  = here: it leads to slot {}; the program has slots 0 to {}\n",
+        &[to as u64, last as u64],
+    );
+}
+
+// Puts what is known where the last check failed, and by which path control comes there.
+fn put_check(
+    alloc: Global,
+    page: &mut Page,
+    told: &Told<'_>,
+    cause: Cause,
+) -> Result<(), AllocError> {
+    let number = told.log.sightings().len().saturating_sub(1);
+    let Some(sighting) = told.log.sightings().get(number) else {
+        return Ok(());
+    };
+    let Some(insn) = told.program.fetch(sighting.slot) else {
+        return Ok(());
+    };
+    page.text("  = here: ");
+    put_values(page, told, cause, insn, &sighting.known);
+    page.text("\n");
+    put_path(alloc, page, told, number, insn, None)
+}
+
+// Puts a path to a check, and on to a slot behind it.
+fn put_path(
+    alloc: Global,
+    page: &mut Page,
+    told: &Told<'_>,
+    number: usize,
+    insn: Insn,
+    behind: Option<usize>,
+) -> Result<(), AllocError> {
+    let matter = steps::mattering(insn);
+    if let Some(path) = path_to(alloc, told.program, told.log, number, matter)? {
+        page.text("  = path:\n");
+        steps::print(page, told, &path, behind);
+    }
+    Ok(())
+}
+
+// Puts what both ways say that disagree where they join, and by which paths they come there.
+fn put_sides(
+    alloc: Global,
+    page: &mut Page,
+    told: &Told<'_>,
+    slot: usize,
+) -> Result<(), AllocError> {
+    let depth = match told.log.open().last() {
+        Some(last) => last.depth,
+        None => 0,
+    };
+    let ways = told.log.open();
+    for open in ways {
+        if open.slot == slot && open.depth == depth {
+            put_side(page, told, open);
+        }
+    }
+    for open in ways {
+        if open.slot == slot && open.depth == depth {
+            put_path(alloc, page, told, open.from, Insn::Exit, Some(slot))?;
+        }
+    }
+    Ok(())
+}

@@ -1,0 +1,171 @@
+// An engine with the tokens of all its guests' freezes, which are found by their freezes' numbers. It relies on `engine_core` for
+// each call and for tokens.
+
+ghost use Rattle.std.specs.Prelude.{◌≡◌, ◌≢◌, ◌↔◌, [], false, IfSome, IsNone, IfOk, IfErr};
+ghost use Rattle.freeze_ledger.specs.declared.freeze.Holder.TheVariants.{Guest};
+ghost use Rattle.freeze_ledger.specs.Deadlines.{some_timer};
+ghost use Rattle.engine_transport.specs.Freezing.{IsNextDue};
+ghost use Rattle.world_calls.specs.declared.call.Call.TheVariants.{Submit, Dispatch, GuestFreeze, Clock};
+ghost use Rattle.world_calls.specs.declared.record.Record.TheVariants.{Called};
+ghost use Rattle.world_calls.specs.declared.call_answer.CallAnswer.TheVariants as answers;
+ghost use Rattle.world.specs.TotalsOf.{totals_in};
+ghost use Rattle.engine_core.specs.EngineState.{IsRun, Records};
+ghost use Rattle.engine_core.specs.Faults.{FaultIs};
+ghost use Rattle.engine_core.specs.Unrecorded.{guests_of};
+ghost use Rattle.host_embedding.specs.Calls.{IsCalled, IsFrozen, IsReleased};
+
+use crate::call_result::CallResult;
+use ccb::{CcbId, Place, QueueId};
+use engine_core::{CallFault, Engine, GuestToken, Totals, put_token, take_token};
+use freeze_ledger::FreezeToken;
+use std::alloc::Global;
+use std::marker::Model;
+
+/// An engine with the tokens of all its guests' freezes: a number stands for one of them exactly where a guest holds a freeze of
+/// it. Contracts see the engine. Where it is dropped what is still frozen is forfeited.
+#[derive(Drop)]
+pub struct EngineHandle {
+    pub(crate) engine: Engine,
+    tokens: Vec<GuestToken>,
+}
+
+impl Model for EngineHandle {
+    ghost use Rattle.engine_core.specs.EngineState.{EngineState};
+
+    ghost Value = { EngineState };
+
+    ghost view = { λ handle. handle.engine };
+
+    ghost use Rattle.host_embedding.specs.Guests.{HasGuests};
+
+    ghost invariant = { λ handle. HasGuests handle.engine handle.tokens.items };
+}
+
+// A guest's freeze of a place of either kind.
+fn freeze_place(engine: &mut Engine, place: Place, guest: u32) -> Result<FreezeToken, CallFault>
+    ensures taken { IfOk result (λ token. Records engine.old engine.new (Called (answers.Freeze token.number) (GuestFreeze place guest))) }
+    ensures token { IfOk result (λ token. (token.place ≡ place) × (token.holder ≡ Guest guest)) }
+    ensures fault { IfErr result (λ fault. FaultIs fault (engine.new ≡ engine.old) (λ refusal. Records engine.old engine.new (Called (answers.Refused refusal) (GuestFreeze place guest)))) }
+    ensures run { IsRun engine.new }
+{
+    match place {
+        Place::Device(queue) => engine.guest_freeze(queue, guest),
+        Place::Controller(controller) => engine.guest_freeze_controller(controller, guest),
+    }
+}
+
+impl EngineHandle {
+    /// The engine, of which no guest holds a freeze.
+    #[tactic(auto, using(crate::proofs::Guests::begins))]
+    pub fn new(alloc: Global, engine: Engine) -> Self
+        requires { guests_of engine.world.transport.freezes ≡ [] }
+        ensures { result ≡ engine }
+    {
+        let _records = engine.records();
+        EngineHandle {
+            engine,
+            tokens: Vec::new(alloc),
+        }
+    }
+
+    /// Submits a CCB to a queue: its number. The lowest priority number starts first; it may be tried again so many times.
+    #[tactic(auto, using(crate::proofs::Guests::stay, crate::proofs::Guests::stay_faulted))]
+    pub fn submit(&mut self, queue: u32, priority: u32, retries: u32, ccb: &mut u32) -> CallResult
+        ensures recorded { IsCalled result self.old self.new (answers.Ccb (record { 0 = ccb.new })) (Submit (record { 0 = queue }) priority retries) }
+        ensures kept { result ≢ CallResult.Done → ccb.new ≡ ccb.old }
+    {
+        match self.engine.submit(QueueId(queue), priority, retries) {
+            Ok(CcbId(number)) => {
+                *ccb = number;
+                CallResult::Done
+            }
+            Err(fault) => CallResult::of(fault),
+        }
+    }
+
+    /// Starts the waiting CCB of a queue that goes first: its number.
+    #[tactic(auto, using(crate::proofs::Guests::stay, crate::proofs::Guests::stay_faulted))]
+    pub fn dispatch(&mut self, queue: u32, ccb: &mut u32) -> CallResult
+        ensures recorded { IsCalled result self.old self.new (answers.Ccb (record { 0 = ccb.new })) (Dispatch (record { 0 = queue })) }
+        ensures kept { result ≢ CallResult.Done → ccb.new ≡ ccb.old }
+    {
+        match self.engine.dispatch(QueueId(queue)) {
+            Ok(CcbId(number)) => {
+                *ccb = number;
+                CallResult::Done
+            }
+            Err(fault) => CallResult::of(fault),
+        }
+    }
+
+    /// Reads the clock, in milliseconds: how many freezes went since their timers were due.
+    #[tactic(auto, using(crate::proofs::Guests::stay, crate::proofs::Guests::stay_faulted))]
+    pub fn clock(&mut self, reading: u64, removed: &mut u32) -> CallResult
+        ensures recorded { IsCalled result self.old self.new (answers.Removed removed.new) (Clock reading) }
+        ensures kept { result ≢ CallResult.Done → removed.new ≡ removed.old }
+    {
+        match self.engine.clock(reading) {
+            Ok(count) => {
+                *removed = count;
+                CallResult::Done
+            }
+            Err(fault) => CallResult::of(fault),
+        }
+    }
+
+    /// Freezes a place for a guest: the freeze's number, for which its token is kept here. No freeze has had it before.
+    #[tactic(auto, using(crate::proofs::Guests::same, crate::proofs::Guests::frozen, crate::proofs::Guests::is_fresh, crate::proofs::Guests::stay_unfrozen))]
+    pub fn guest_freeze(&mut self, place: Place, guest: u32, freeze: &mut u32) -> CallResult
+        ensures recorded { IsFrozen result self.old self.new freeze.new place guest }
+        ensures kept { result ≢ CallResult.Done → freeze.new ≡ freeze.old }
+    {
+        if self.tokens.reserve(1).is_err() {
+            return CallResult::OutOfMemory;
+        }
+        match freeze_place(&mut self.engine, place, guest) {
+            Ok(token) => {
+                *freeze = token.number();
+                self.tokens.push_reserved(GuestToken::new(token));
+                CallResult::Done
+            }
+            Err(fault) => CallResult::of(fault),
+        }
+    }
+
+    /// Gives the freeze of that number back: how many freezes its place has then. There is no token of the number exactly where no
+    /// guest holds a freeze of it. Where memory is refused its token is still here.
+    #[tactic(auto, using(crate::proofs::Guests::rise, crate::proofs::Guests::same, crate::proofs::Guests::released, crate::proofs::Guests::put_back))]
+    pub fn guest_release(&mut self, freeze: u32, left: &mut u32) -> CallResult
+        ensures recorded { IsReleased result self.old self.new left.new freeze }
+        ensures kept { result ≢ CallResult.Done → left.new ≡ left.old }
+    {
+        let Some((place, token)) = take_token(&mut self.tokens, freeze) else {
+            return CallResult::NoToken;
+        };
+        match self.engine.guest_release(token) {
+            Ok(count) => {
+                *left = count;
+                CallResult::Done
+            }
+            Err((fault, token)) => {
+                put_token(&mut self.tokens, place, token);
+                CallResult::released(fault)
+            }
+        }
+    }
+
+    /// The sums so far.
+    pub fn totals(&self) -> Totals
+        ensures { result ≡ totals_in self.now.history self.now.world }
+    {
+        self.engine.totals()
+    }
+
+    /// When the timer is due that goes first, in milliseconds of the clock; `None` exactly where no timer holds a freeze.
+    pub fn next_due(&self) -> Option<u64>
+        ensures first { IfSome result (IsNextDue self.now.world.transport.freezes) }
+        ensures none { IsNone result ↔ (some_timer self.now.world.transport.freezes ≡ false) }
+    {
+        self.engine.next_due()
+    }
+}

@@ -1,0 +1,144 @@
+// The trace of an engine as text, in whole lines, from a record on. It relies on `trace` for lines.
+
+ghost use Rattle.std.specs.Prelude.{◌≡◌, ◌≢◌, ◌+◌, ◌++◌, ◌≤◌, ◌<◌, None, Some, IfSome, IfNone, true, false, drop, length, take};
+ghost use Rattle.std.specs.Fmt.{with_newline};
+ghost use Rattle.trace.specs.TraceText.{line_of};
+ghost use Rattle.world.specs.World.{version_of};
+ghost use Rattle.world.specs.TotalsOf.{totals_in};
+ghost use Rattle.host_embedding.specs.Lines.{AddsLines, FindsNoRoom, HasNoLine, IsWithin, PutsLines, PutsSums};
+
+use crate::call_result::CallResult;
+use crate::engine_handle::EngineHandle;
+use trace_lines::{NoText, Text};
+use world_calls::Record;
+use base_chunked_list::ChunkedList;
+use trace::{header, print_entry, print_totals};
+
+/// What of a trace was put into a place.
+#[derive(Clone, Copy, Debug, PartialEq, Eq)]
+pub struct PutLines {
+    /// How many bytes.
+    pub written: usize,
+    /// The record from which to go on.
+    pub next: u64,
+}
+
+// Puts a text behind so many bytes of a place, where it finds room: how many bytes stand there then.
+fn put_behind(text: &[u8], place: &mut [u8], written: usize) -> Option<usize>
+    requires { written ≤ length place.old }
+    ensures put { IfSome result (λ count. (count ≡ written + length text.now) × (count ≤ length place.new) × (take count place.new ≡ take written place.old ++ text.now)) }
+    ensures behind { IfSome result (λ count. drop count place.new ≡ drop count place.old) }
+    ensures same { IfNone result (place.new ≡ place.old) }
+    ensures none { IfNone result (length place.old < written + length text.now) }
+    ensures size { length place.new ≡ length place.old }
+{
+    if place.len() - written < text.len() {
+        return None;
+    }
+    let count = written + text.len();
+    place[written..count].copy_from_slice(text);
+    Some(count)
+}
+
+// The line of a record, with its line feed.
+fn line(entry: &Record) -> Option<Text>
+    ensures text { IfSome result (λ text. Some text ≡ with_newline (line_of entry.now)) }
+    ensures none { IfNone result (line_of entry.now ≡ None) }
+{
+    let mut text = Text::none();
+    match print_entry(entry, &mut text) {
+        Ok(()) => {
+            text.push(b'\n');
+            Some(text)
+        }
+        Err(NoText) => None,
+    }
+}
+
+// Whether the line of record 0 finds room in a place after so many bytes, if there is such a record.
+#[tactic(auto, using(crate::proofs::Lines::finds_some, crate::proofs::Lines::finds_none))]
+fn finds_room(records: &ChunkedList<Record>, place: &[u8], written: usize) -> bool
+    ensures room { result ≡ true → 0 < length records.now.items → FindsNoRoom records.now.items 0 place.now written → ⊥ }
+    ensures none { result ≡ false → (0 < length records.now.items) × FindsNoRoom records.now.items 0 place.now written }
+{
+    if records.len() == 0 {
+        return true;
+    }
+    match line(&records[0]) {
+        Some(line) => written <= place.len() && line.len() <= place.len() - written,
+        None => true,
+    }
+}
+
+impl EngineHandle {
+    /// Puts whole lines of the trace into a place, as many as find room: those of the records from this number on, and before
+    /// that of record 0 the first line of a trace. If the line of the first of these records finds no room, nothing is put, and the
+    /// place is as it was. What stands after the lines that were put stays as it was.
+    pub fn put_lines(&self, from: u64, place: &mut [u8], put: &mut PutLines) -> CallResult
+        ensures room { put.new.written ≤ length place.new }
+        ensures lines { PutsLines result (version_of self.now.setup) self.now.history from place.old place.new put.new.written put.new.next }
+    {
+        let records = self.engine.records();
+        put.written = 0;
+        put.next = from;
+        if from == 0 {
+            let first = header(self.engine.version()).as_bytes();
+            if !finds_room(records, place, first.len()) {
+                return CallResult::NoRoom;
+            }
+            match put_behind(first, place, 0) {
+                Some(count) => put.written = count,
+                None => return CallResult::NoRoom,
+            }
+        }
+        put_records(records, place, put)
+    }
+
+    /// Puts the last line of a trace into a place: the sums so far. What stands after it stays as it was.
+    #[tactic(auto, using(crate::proofs::Lines::put_alone))]
+    pub fn put_end(&self, place: &mut [u8], put: &mut PutLines) -> CallResult
+        ensures room { put.new.written ≤ length place.new }
+        ensures line { PutsSums result (totals_in self.now.history self.now.world) place.old place.new put.new.written }
+    {
+        put.written = 0;
+        let mut line = Text::none();
+        print_totals(self.engine.totals(), &mut line);
+        match put_behind(line.as_slice(), place, 0) {
+            Some(count) => {
+                put.written = count;
+                CallResult::Done
+            }
+            None => CallResult::NoRoom,
+        }
+    }
+}
+
+// Puts the lines of the records from the next on, as many as find room. If the first of them does not, nothing is put.
+#[tactic(auto, using(crate::proofs::Lines::adds_none, crate::proofs::Lines::adds_one))]
+fn put_records(records: &ChunkedList<Record>, place: &mut [u8], put: &mut PutLines) -> CallResult
+    requires { put.old.written ≤ length place.old }
+    ensures room { put.new.written ≤ length place.new }
+    ensures lines { result ≢ CallResult.NoRoom → AddsLines records.now.items (take put.old.written place.old) put.old.next (take put.new.written place.new) put.new.next }
+    ensures within { IsWithin records.now.items put.old.next put.new.next }
+    ensures behind { (put.old.written ≤ put.new.written) × (drop put.new.written place.new ≡ drop put.new.written place.old) }
+    ensures same { result ≡ CallResult.NoRoom → place.new ≡ place.old }
+    ensures none { result ≡ CallResult.NoRoom → (put.new.written ≡ put.old.written) × (put.new.next ≡ put.old.next) × (put.old.next < length records.now.items) × FindsNoRoom records.now.items put.old.next place.new put.old.written }
+    ensures full { result ≡ CallResult.Done → FindsNoRoom records.now.items put.new.next place.new put.new.written }
+    ensures some { result ≡ CallResult.Done → put.old.next < length records.now.items → put.old.next < put.new.next }
+    ensures others { result ≢ CallResult.NoRoom → result ≢ CallResult.Done → (result ≡ CallResult.NoText) × HasNoLine records.now.items put.new.next }
+{
+    let all = records.len() as u64;
+    let from = put.next;
+    for number in from..all {
+        let Some(line) = line(&records[number as usize]) else {
+            return CallResult::NoText;
+        };
+        match put_behind(line.as_slice(), place, put.written) {
+            Some(count) => put.written = count,
+            None if number == from => return CallResult::NoRoom,
+            None => return CallResult::Done,
+        }
+        put.next = number + 1;
+    }
+    CallResult::Done
+}

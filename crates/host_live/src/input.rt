@@ -1,0 +1,35 @@
+// Where bytes come from, and what a clock reads meanwhile. It relies on nothing.
+
+ghost use Rattle.std.specs.Prelude.{◌≡◌, ◌≢◌, Bool, IsTrue};
+ghost use Rattle.host_live.specs.declared.input.Came.TheVariants.{Failed};
+
+/// What came.
+#[derive(Clone, Copy, Debug, PartialEq, Eq)]
+pub enum Came {
+    /// Bytes.
+    Bytes,
+    /// Nothing, until the clock read that, in milliseconds.
+    Due(u64),
+    /// The end: no bytes come any more.
+    End,
+    /// The input cannot be read.
+    Failed,
+}
+
+/// Bytes that come piece by piece, and a clock, if there is one. Contracts see whether it could not be read.
+pub trait Input {
+    ghost has_failed: { Self → Bool };
+
+    /// Waits for bytes, which then stand in place of those that came before, and not longer than until the clock reads `until`, in
+    /// milliseconds, if there is a clock and that is given.
+    fn wait(&mut self, until: Option<u64>) -> Came
+        ensures failed { result ≡ Failed → IsTrue (has_failed self.new) }
+        // A read that fails is told by nothing else.
+        ensures still { result ≢ Failed → has_failed self.new ≡ has_failed self.old };
+
+    /// The bytes that came last.
+    fn bytes(&self) -> &[u8];
+
+    /// What the clock reads, in milliseconds since the beginning; `None` where there is no clock.
+    fn now(&self) -> Option<u64>;
+}

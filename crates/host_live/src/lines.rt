@@ -1,0 +1,122 @@
+// The lines of an input, one by one. It relies on `draft` for the line that comes, and on `input` for bytes.
+
+ghost use Rattle.std.specs.Prelude.{◌≡◌, ◌≢◌, IsTrue};
+ghost use Rattle.host_live.specs.declared.lines.Next.TheVariants.{Failed};
+
+use crate::draft::Draft;
+use crate::input::{Came, Input};
+
+/// What comes next.
+#[derive(Clone, Copy, Debug, PartialEq, Eq)]
+pub(crate) enum Next {
+    /// A line, with its line feed; or at the end of the input one without, which is cut off.
+    Line,
+    /// Nothing, until the clock read that, in milliseconds.
+    Due(u64),
+    End,
+    Failed,
+}
+
+/// The lines of an input.
+#[derive(Drop)]
+pub(crate) struct Lines {
+    // how many of the input's bytes were taken
+    taken: usize,
+    draft: Draft,
+    // of the line that was told last
+    number: usize,
+    // the line that was told last, of which nothing more comes
+    is_whole: bool,
+    is_ended: bool,
+}
+
+impl Lines {
+    /// The lines of an input of which no bytes came yet.
+    pub(crate) fn of<I: Input>(input: &I) -> Self {
+        Lines {
+            taken: input.bytes().len(),
+            draft: Draft::none(),
+            number: 0,
+            is_whole: false,
+            is_ended: false,
+        }
+    }
+
+    /// Whether the next line is there, so that `next` does not wait.
+    pub(crate) fn is_there<I: Input>(&self, input: &I) -> bool {
+        let taken = self.taken;
+        match input.bytes().get(taken..) {
+            Some(rest) => rest.contains(&b'\n'),
+            None => false,
+        }
+    }
+
+    /// The line that came, if it is of the form of a line: of 1,024 bytes at most, in UTF-8, without NUL, and with its line feed.
+    pub(crate) fn line(&self) -> Option<&str> {
+        if self.is_whole {
+            self.draft.text()
+        } else {
+            None
+        }
+    }
+
+    /// The number of the line that came, the first being 1.
+    pub(crate) fn number(&self) -> usize {
+        self.number
+    }
+
+    /// Waits for the next line, and not longer than until the clock reads `until`, if there is one.
+    pub(crate) fn next<I: Input>(&mut self, input: &mut I, until: Option<u64>) -> Next
+        ensures failed { result ≡ Failed → IsTrue (I.has_failed input.new) }
+        ensures still { result ≢ Failed → I.has_failed input.new ≡ I.has_failed input.old }
+    {
+        if self.is_whole {
+            self.draft.clear();
+            self.is_whole = false;
+        }
+        for _ in 0..u64::MAX {
+            if self.take(input) {
+                self.number = self.number.saturating_add(1);
+                return Next::Line;
+            }
+            if self.is_ended {
+                return Next::End;
+            }
+            match input.wait(until) {
+                Came::Bytes => self.taken = 0,
+                Came::Due(reading) => return Next::Due(reading),
+                Came::Failed => return Next::Failed,
+                Came::End => {
+                    self.is_ended = true;
+                    if !self.draft.is_empty() {
+                        self.number = self.number.saturating_add(1);
+                        return Next::Line;
+                    }
+                }
+            }
+        }
+        Next::End
+    }
+
+    // Takes what came up to a line feed, and whether there was one.
+    fn take<I: Input>(&mut self, input: &I) -> bool {
+        let taken = self.taken;
+        let rest = match input.bytes().get(taken..) {
+            Some(rest) => rest,
+            None => return false,
+        };
+        match rest.iter().position(|byte| *byte == b'\n') {
+            Some(place) => {
+                self.draft.add(&rest[..place]);
+                self.taken = taken + place + 1;
+                self.is_whole = true;
+                true
+            }
+            None => {
+                self.draft.add(rest);
+                self.taken = taken + rest.len();
+                false
+            }
+        }
+    }
+}

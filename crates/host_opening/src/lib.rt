@@ -1,0 +1,7 @@
+// An engine of a manifest's text, as a host holds it that is written in another language. It relies on `manifest` for the text, and on
+// `host_embedding` for what is held.
+#![tactic(auto)]
+
+mod opening;
+
+pub use host_opening::{OpenFault, open, put_fault};

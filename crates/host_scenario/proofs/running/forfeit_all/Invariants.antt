@@ -1,0 +1,5 @@
+use Rattle.std.proofs.Common.{vec_len}
+use Rattle.host_scenario.proofs.running.forfeit_all.Given as goal
+
+abbrev pub decreases-loop-caller : goal.decreases-loop-caller
+decreases-loop-caller g l = vec_len l.callers

@@ -1,6 +1,0 @@
--- the history grew
-use Rattle.live.specs.Growth.{Grows}
-use Rattle.live.proofs.host.Host.drive_all.Given as goal
-
-abbrev pub invariant-loop : goal.invariant-loop
-invariant-loop l = Grows l.fn.self.engine l.self.engine

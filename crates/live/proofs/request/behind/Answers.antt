@@ -1,5 +1,0 @@
-use Rattle.call_lines.proofs.Stops.{behind_text}
-use Rattle.live.proofs.request.behind.Goals as goal
-
-pub returns : goal.returns
-returns c = behind_text c.args.word.now c.args.line.now c.strip_prefix.result c.strip_prefix.ensures.cases

@@ -1,8 +1,0 @@
-use Rattle.live.proofs.Spelled.{no_drive, drive_behind}
-use Rattle.live.proofs.request.drive_request.Goals as goal
-
-pub returns-in-Some : goal.returns-in-Some
-returns-in-Some c = drive_behind c.args.line.now c.in-Some.rest.now c.number.result c.in-Some.ensures c.number.ensures
-
-pub returns-in-None : goal.returns-in-None
-returns-in-None c = no_drive c.args.line.now c.in-None.ensures

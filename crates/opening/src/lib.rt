@@ -1,7 +1,0 @@
-// An engine of a manifest's text, as a host holds it that is written in another language. It relies on `manifest` for the text, and on
-// `embedding` for what is held.
-#![tactic(auto)]
-
-mod opening;
-
-pub use opening::{OpenFault, open, put_fault};

@@ -1,7 +1,0 @@
-use Rattle.std.proofs.Common.{◌≡◌, take, length}
-use Rattle.register_kinds.specs.Freezes.{with_sure}
-use Rattle.register_kinds.proofs.held.Held.with_sure.Given as goal
-
--- those so far
-abbrev pub invariant-loop-freeze : goal.invariant-loop-freeze
-invariant-loop-freeze l = (l.held ≡ with_sure (take l.freeze-index l.freeze-items) l.name) × (length l.held ≡ l.freeze-index)

@@ -1,8 +1,0 @@
--- Where an access begins, where that is known.
-use Rattle.std.specs.Prelude.{◌≡◌, ℕ}
-use Rattle.register_kinds.specs.declared.access.Access.{Access}
-use Rattle.register_kinds.specs.declared.region.Region.{Region}
-
--- at that byte of the region
-abbrev pub BeginsAt : Region → ℕ → Access → Type 0
-BeginsAt region from access = access ≡ record { region = region; offsets = record { least = from; most = from } }

@@ -1,7 +1,0 @@
-use Rattle.std.proofs.Common.{◌≡◌, ℕ, ◌<◌, None, get_or}
-use Rattle.runs.specs.RunsState.{told}
-use Rattle.runs.proofs.held_tokens.place_of_token.Given as goal
-
--- none of the tokens so far is of the freeze
-abbrev pub invariant-loop-place : goal.invariant-loop-place
-invariant-loop-place l = (k : ℕ) → k < l.place → told (get_or l.tokens k None) ≡ l.freeze → ⊥

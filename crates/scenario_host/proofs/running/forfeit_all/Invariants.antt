@@ -1,5 +1,0 @@
-use Rattle.std.proofs.Common.{vec_len}
-use Rattle.scenario_host.proofs.running.forfeit_all.Given as goal
-
-abbrev pub decreases-loop-caller : goal.decreases-loop-caller
-decreases-loop-caller g l = vec_len l.callers

@@ -1,0 +1,12 @@
+// The account of a trace: what its records tell in words and times, a line an event. It relies on `show_events` for the events and for
+// which of them are wanted, and on `cli_text_page` for the page that the lines are put on.
+#![tactic(auto)]
+
+mod filling;
+mod fitting;
+mod line;
+mod names;
+mod writing;
+
+pub use names::{failure_of, helper_name, name_of_code, refusal_words, status_name};
+pub use writing::account;

@@ -1,0 +1,175 @@
+// The line of an event: when, where, and what. It relies on `filling` for the text, and on `names` for names.
+
+use crate::filling::Filling;
+use crate::names::{failure_of, name_of_code, refusal_words, status_name};
+use ccb::{CamStatus, Place};
+use cli_text_page::Page;
+use show_events::{Cause, Event, Programs, Subject};
+
+/// How many digits a time has at least, and the bytes after it.
+const TIME: usize = 6;
+
+/// Puts the line of an event after what is there; the place of each is padded to that many bytes.
+pub(crate) fn put_line(event: &Event, programs: &Programs<'_>, width: usize, page: &mut Page) {
+    put_time(event.clock, page);
+    put_place(&event.subject, width, page);
+    put_text(event, programs, page);
+}
+
+// A time, with blanks before it.
+fn put_time(clock: u64, page: &mut Page) {
+    let mut least = 10u64;
+    for _ in 1..TIME {
+        page.text(if clock < least { " " } else { "" });
+        least = least.saturating_mul(10);
+    }
+    page.fill("{} ms  ", &[clock]);
+}
+
+// Where it was, with blanks after it: `clock`, if it is about nothing else, and `-`, if the place is not known.
+fn put_place(subject: &Subject, width: usize, page: &mut Page) {
+    let before = page.len();
+    match subject.place {
+        Some(Place::Device(queue)) => page.fill("queue {}", &[u64::from(queue.0)]),
+        Some(Place::Controller(controller)) => page.fill("controller {}", &[u64::from(controller)]),
+        None => page.text(if subject.ccb.is_none() && subject.run.is_none() {
+            "clock"
+        } else {
+            "-"
+        }),
+    }
+    let wide = page.len().saturating_sub(before);
+    page.blanks(width.saturating_sub(wide));
+    page.text("  ");
+}
+
+// The text of the event, with its values.
+fn put_text(event: &Event, programs: &Programs<'_>, page: &mut Page) {
+    let filling = Filling::of(&event.happening);
+    for (place, part) in filling.words.split('%').enumerate() {
+        if place == 0 {
+            page.text(part);
+        } else {
+            put_value(part, event, &filling, programs, page);
+        }
+    }
+    page.text("\n");
+}
+
+// The value that stands for the first letter of a part, and the words after it.
+fn put_value(
+    part: &str,
+    event: &Event,
+    filling: &Filling,
+    programs: &Programs<'_>,
+    page: &mut Page,
+) {
+    let subject = &event.subject;
+    match part.as_bytes().first() {
+        Some(b'c') => page.fill("ccb {}", &[u64::from(subject.ccb.unwrap_or(0))]),
+        Some(b'r') => page.fill("run {}", &[u64::from(subject.run.unwrap_or(0))]),
+        Some(b'f') => page.fill("freeze {}", &[u64::from(subject.freeze.unwrap_or(0))]),
+        Some(b'n') => {
+            let program = programs.of(event.queue().unwrap_or(u32::MAX));
+            page.foreign(programs.name(program));
+        }
+        Some(letter) => put_filled(*letter, filling, page),
+        None => {}
+    }
+    page.text(part.get(1..).unwrap_or(""));
+}
+
+// The value of the filling that stands for that letter.
+fn put_filled(letter: u8, filling: &Filling, page: &mut Page) {
+    match letter {
+        b'1' => page.number(filling.numbers[0]),
+        b'2' => page.number(filling.numbers[1]),
+        b'3' => page.number(filling.numbers[2]),
+        b'4' => page.number(filling.numbers[3]),
+        b't' => put_times(filling.frozen, page),
+        b'z' => put_state(filling.frozen, page),
+        b'g' => page.number(u64::from(filling.guest)),
+        b's' => page.text(status_name(filling.status)),
+        b'v' => put_failure(filling, page),
+        b'k' => put_code(filling.code, page),
+        b'x' => page.text(refusal_words(filling.refusal)),
+        b'w' => put_cause(filling.cause, page),
+        b'b' => put_traced(filling.bytes.as_slice(), page),
+        _ => {}
+    }
+}
+
+// So many times.
+fn put_times(count: u32, page: &mut Page) {
+    let words = if count == 1 { "{} time" } else { "{} times" };
+    page.fill(words, &[u64::from(count)]);
+}
+
+// Whether a place is frozen still, after a freeze went.
+fn put_state(frozen: u32, page: &mut Page) {
+    if frozen == 0 {
+        page.text("thawed");
+    } else {
+        page.text("still frozen ");
+        put_times(frozen, page);
+    }
+}
+
+// What became of a CCB that failed: with the SCSI status and the sense bytes that came, if any did.
+fn put_failure(filling: &Filling, page: &mut Page) {
+    page.text(failure_of(filling.status));
+    if filling.status == CamStatus::ScsiStatusError || filling.scsi != 0 {
+        page.text(" (");
+        page.byte(filling.scsi);
+        page.text(")");
+    }
+    if !filling.bytes.is_empty() {
+        page.text(" with sense ");
+        put_bytes(filling.bytes.as_slice(), page);
+    }
+}
+
+// A final code: the name of the status that it is, and its two digits.
+fn put_code(code: u8, page: &mut Page) {
+    let name = name_of_code(code);
+    let (before, after) = if name.is_empty() {
+        ("code ", "")
+    } else {
+        (" (", ")")
+    };
+    page.text(name);
+    page.text(before);
+    page.byte(code);
+    page.text(after);
+}
+
+// What there was before a freeze: a failure, or a guest that took it.
+fn put_cause(cause: Cause, page: &mut Page) {
+    match cause {
+        Cause::Failure {
+            ccb,
+            status,
+            run: _,
+        } => {
+            page.fill("ccb {} ", &[u64::from(ccb)]);
+            page.text(failure_of(status));
+        }
+        Cause::Guest(guest) => page.fill("guest {} took it", &[u64::from(guest)]),
+    }
+}
+
+fn put_bytes(bytes: &[u8], page: &mut Page) {
+    for byte in bytes {
+        page.byte(*byte);
+    }
+}
+
+// Bytes as digits, and as text, in which what is no printable ASCII is a dot.
+fn put_traced(bytes: &[u8], page: &mut Page) {
+    put_bytes(bytes, page);
+    page.text(" \"");
+    for byte in bytes {
+        page.ascii(*byte);
+    }
+    page.text("\"");
+}

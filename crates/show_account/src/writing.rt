@@ -1,0 +1,95 @@
+// The account of a whole trace, or of what of it is wanted. It relies on `show_events` for the events, and on `line` for their lines.
+
+use crate::fitting::fits;
+use crate::line::put_line;
+use world_calls::{Record, Trace};
+use engine_config::Config;
+use std::alloc::{AllocError, Global};
+use std::io;
+use std::io::Write;
+use cli_text_page::Page;
+use show_events::{Event, Filter, NamedAccepted, Programs, Walk};
+
+/// Writes a line for each event of a trace of this configuration that fits the filter: the clock in milliseconds, the queue or the
+/// controller, and what happened. If none fits it says so. The programs are the manifest's, with their names. The trace is one that a
+/// replay accepts. Of its lines it keeps nothing: what it takes is for what is live. It fails if memory is refused, as such an
+/// error, or if the writer does; some may be out then.
+pub fn account<'a, W: Write>(
+    alloc: Global,
+    config: &'a Config,
+    named: &'a [NamedAccepted<'a>],
+    trace: &Trace,
+    filter: &Filter,
+    out: &mut W,
+) -> io::Result<()> {
+    let mut telling = Telling::open(alloc, config, named)?;
+    telling.write(trace, filter, out)
+}
+
+/// A walk along a trace, with the lines of the record that it came to.
+#[derive(Drop)]
+struct Telling<'a> {
+    config: &'a Config,
+    programs: Programs<'a>,
+    walk: Walk<'a>,
+    events: Vec<Event>,
+    page: Page,
+}
+
+impl<'a> Telling<'a> {
+    // Before the first record.
+    fn open(
+        alloc: Global,
+        config: &'a Config,
+        named: &'a [NamedAccepted<'a>],
+    ) -> Result<Self, AllocError> {
+        Ok(Telling {
+            config,
+            programs: Programs::new(alloc, config, named)?,
+            walk: Walk::open(alloc, config)?,
+            events: Vec::new(alloc),
+            page: Page::new(alloc),
+        })
+    }
+
+    // Writes the lines of all events that fit.
+    fn write<W: Write>(&mut self, trace: &Trace, filter: &Filter, out: &mut W) -> io::Result<()> {
+        let mut has_any = false;
+        for record in trace.records.iter() {
+            if self.goes_on(record, filter)? {
+                has_any = true;
+                self.page.write_to(out)?;
+            }
+        }
+        if !has_any {
+            self.page.text("no event fits\n");
+        }
+        self.page.write_to(out)
+    }
+
+    // Goes one record on, and puts the lines of its events that fit: whether any does.
+    fn goes_on(&mut self, record: &Record, filter: &Filter) -> Result<bool, AllocError> {
+        let width = width_of(self.config);
+        let mut has_any = false;
+        self.events.clear();
+        self.walk.step(record, &mut self.events)?;
+        for event in &self.events {
+            if fits(filter, event, self.config) {
+                put_line(event, &self.programs, width, &mut self.page);
+                has_any = true;
+            }
+        }
+        Ok(has_any)
+    }
+}
+
+// How many bytes the longest name of a place has.
+fn width_of(config: &Config) -> usize {
+    if config.controllers() > 0 {
+        "controller 0".len()
+    } else if config.queues() > 10 {
+        "queue 10".len()
+    } else {
+        "queue 0".len()
+    }
+}

@@ -1,0 +1,277 @@
+// What the record of a call tells. It relies on `walk` for the world, and on `timers` for a clock reading.
+
+use crate::event::{Cause, Event, Happening, Subject};
+use crate::times::RunTimes;
+use crate::walk::Walk;
+use world_calls::{Call, CallAnswer, CallRefusal, CompletionRecord};
+use ccb::{CcbId, Place, QueueId};
+use std::alloc::AllocError;
+
+impl Walk<'_> {
+    /// Goes behind the record of a call, and tells it.
+    pub(crate) fn called(
+        &mut self,
+        answer: CallAnswer,
+        call: &Call,
+        events: &mut Vec<Event>,
+    ) -> Result<(), AllocError> {
+        match call {
+            Call::Submit {
+                queue,
+                priority,
+                retries,
+            } => {
+                let _ = self.engine.call(call)?;
+                self.submitted(answer, *queue, *priority, *retries, events)
+            }
+            Call::Dispatch { queue } => {
+                let _ = self.engine.call(call)?;
+                self.dispatched(answer, *queue, events)
+            }
+            Call::Complete { completion } => {
+                let queue = self.queue_of(completion.ccb());
+                let _ = self.engine.call(call)?;
+                self.completed(answer, completion, queue, events)
+            }
+            Call::GuestFreeze { place, guest } => {
+                let _ = self.engine.call(call)?;
+                self.frozen_by_guest(answer, *place, *guest, events)
+            }
+            Call::GuestRelease { freeze } => {
+                let _ = self.engine.call(call)?;
+                self.given_back_by_guest(*freeze, events)
+            }
+            Call::Clock { reading: _ } => {
+                let _ = self.engine.call(call)?;
+                self.clock_read(answer, events)
+            }
+            Call::Park { run } => {
+                let _ = self.engine.call(call)?;
+                self.tell(self.run_subject(*run), Happening::Parked, events)
+            }
+            Call::Resume { run } => {
+                let _ = self.engine.call(call)?;
+                self.resumed(answer, *run, events)
+            }
+        }
+    }
+
+    // The queue of a live CCB.
+    fn queue_of(&self, ccb: CcbId) -> Option<QueueId> {
+        Some(self.engine.ccb(ccb)?.ccb().queue)
+    }
+
+    /// A run, with its CCB and queue.
+    pub(crate) fn run_subject(&self, run: u32) -> Subject {
+        let it = self.engine.run(run);
+        Subject {
+            ccb: it.map(|it| it.ccb.0),
+            place: it.map(|it| Place::Device(it.queue)),
+            run: Some(run),
+            freeze: None,
+        }
+    }
+
+    fn submitted(
+        &mut self,
+        answer: CallAnswer,
+        queue: QueueId,
+        priority: u32,
+        retries: u32,
+        events: &mut Vec<Event>,
+    ) -> Result<(), AllocError> {
+        let mut subject = Subject {
+            place: Some(Place::Device(queue)),
+            ..Subject::default()
+        };
+        match answer {
+            CallAnswer::Ccb(ccb) => {
+                let _ = self.times.move_ccb(ccb.0, self.engine.clock())?;
+                subject.ccb = Some(ccb.0);
+                self.tell(subject, Happening::Submitted { priority, retries }, events)
+            }
+            CallAnswer::Refused(refusal) => {
+                self.tell(subject, Happening::NotSubmitted(refusal), events)
+            }
+            _ => Ok(()),
+        }
+    }
+
+    fn dispatched(
+        &mut self,
+        answer: CallAnswer,
+        queue: QueueId,
+        events: &mut Vec<Event>,
+    ) -> Result<(), AllocError> {
+        let place = Place::Device(queue);
+        let mut subject = Subject {
+            place: Some(place),
+            ..Subject::default()
+        };
+        match answer {
+            CallAnswer::Ccb(ccb) => {
+                let waited = self.times.move_ccb(ccb.0, self.engine.clock())?;
+                let attempt = self.engine.ccb(ccb).map_or(0, |it| it.ccb().attempts);
+                subject.ccb = Some(ccb.0);
+                self.tell(subject, Happening::Started { waited, attempt }, events)
+            }
+            CallAnswer::Refused(refusal) => {
+                let frozen = self.frozen(self.what_stops(place, refusal));
+                self.tell(subject, Happening::NotStarted { refusal, frozen }, events)
+            }
+            _ => Ok(()),
+        }
+    }
+
+    // What is frozen where a start is refused: the queue, or the controller that it is under.
+    fn what_stops(&self, queue: Place, refusal: CallRefusal) -> Place {
+        match (queue, refusal) {
+            (Place::Device(it), CallRefusal::ControllerFrozen) => {
+                Place::Controller(self.config.controller(it))
+            }
+            _ => queue,
+        }
+    }
+
+    fn completed(
+        &mut self,
+        answer: CallAnswer,
+        completion: &CompletionRecord,
+        queue: Option<QueueId>,
+        events: &mut Vec<Event>,
+    ) -> Result<(), AllocError> {
+        let ccb = completion.ccb().0;
+        let status = completion.status();
+        let mut subject = Subject {
+            ccb: Some(ccb),
+            place: queue.map(Place::Device),
+            ..Subject::default()
+        };
+        match answer {
+            CallAnswer::Done => {
+                let active = self.times.drop_ccb(ccb, self.engine.clock());
+                self.tell(subject, Happening::Completed { active }, events)
+            }
+            CallAnswer::Started { run, freeze } => {
+                subject.run = Some(run);
+                subject.freeze = some_freeze(freeze);
+                self.failed(completion, subject, run, freeze, events)
+            }
+            CallAnswer::Refused(refusal) => {
+                self.tell(subject, Happening::NotCompleted { status, refusal }, events)
+            }
+            _ => Ok(()),
+        }
+    }
+
+    // A CCB failed, and a run began, with a freeze or with none, as number 0.
+    fn failed(
+        &mut self,
+        completion: &CompletionRecord,
+        subject: Subject,
+        run: u32,
+        freeze: u32,
+        events: &mut Vec<Event>,
+    ) -> Result<(), AllocError> {
+        let clock = self.engine.clock();
+        let ccb = completion.ccb().0;
+        let status = completion.status();
+        let active = self.times.move_ccb(ccb, clock)?;
+        let times = RunTimes {
+            ccb,
+            status,
+            since: clock,
+            instructions: 0,
+        };
+        let _ = self.times.runs.insert(run, times)?;
+        let mut frozen = 0;
+        if let Some(place) = subject.place {
+            let cause = Cause::Failure { ccb, status, run };
+            self.times.take(freeze, place, cause, clock)?;
+            frozen = self.frozen(place);
+        }
+        let happening = Happening::Failed {
+            status,
+            scsi: completion.scsi(),
+            sense: completion.sense(),
+            active,
+            frozen,
+            has_freeze: freeze != 0,
+        };
+        self.tell(subject, happening, events)
+    }
+
+    fn frozen_by_guest(
+        &mut self,
+        answer: CallAnswer,
+        place: Place,
+        guest: u32,
+        events: &mut Vec<Event>,
+    ) -> Result<(), AllocError> {
+        let mut subject = Subject {
+            place: Some(place),
+            ..Subject::default()
+        };
+        match answer {
+            CallAnswer::Freeze(freeze) => {
+                self.times
+                    .take(freeze, place, Cause::Guest(guest), self.engine.clock())?;
+                subject.freeze = Some(freeze);
+                let frozen = self.frozen(place);
+                self.tell(subject, Happening::FrozenByGuest { guest, frozen }, events)
+            }
+            CallAnswer::Refused(refusal) => {
+                self.tell(
+                    subject,
+                    Happening::NotFrozenByGuest { guest, refusal },
+                    events,
+                )
+            }
+            _ => Ok(()),
+        }
+    }
+
+    fn given_back_by_guest(
+        &mut self,
+        freeze: u32,
+        events: &mut Vec<Event>,
+    ) -> Result<(), AllocError> {
+        let Some(times) = self.times.freezes.remove(&freeze) else {
+            return Ok(());
+        };
+        let Cause::Guest(guest) = times.cause else {
+            return Ok(());
+        };
+        let subject = Subject {
+            place: Some(times.place),
+            freeze: Some(freeze),
+            ..Subject::default()
+        };
+        let frozen = self.frozen(times.place);
+        let held = self.engine.clock().saturating_sub(times.since);
+        let happening = Happening::GivenBackByGuest {
+            guest,
+            frozen,
+            held,
+        };
+        self.tell(subject, happening, events)
+    }
+
+    fn resumed(
+        &mut self,
+        answer: CallAnswer,
+        run: u32,
+        events: &mut Vec<Event>,
+    ) -> Result<(), AllocError> {
+        let happening = match answer {
+            CallAnswer::Refused(refusal) => Happening::NotResumed(refusal),
+            _ => Happening::Resumed,
+        };
+        self.tell(self.run_subject(run), happening, events)
+    }
+}
+
+/// The freeze of a number, of which 0 is none.
+pub(crate) fn some_freeze(number: u32) -> Option<u32> {
+    if number == 0 { None } else { Some(number) }
+}

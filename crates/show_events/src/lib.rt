@@ -1,0 +1,18 @@
+// What the records of a trace tell, over the world through which they lead: who reads a trace in words, as sums or as a picture
+// goes by the same events. It relies on `engine_core` for the world, and on `world_calls` for records.
+#![tactic(auto)]
+
+mod advanced;
+mod called;
+mod event;
+mod filter;
+mod programs;
+mod timers;
+mod times;
+mod walk;
+
+pub use event::{Cause, Event, Happening, Subject};
+pub use filter::Filter;
+pub use programs::{NamedAccepted, Programs};
+pub use times::{FreezeTimes, RunTimes};
+pub use walk::Walk;

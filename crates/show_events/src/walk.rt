@@ -1,0 +1,110 @@
+// The walk along a trace: an engine is led through its records, and each record is told as events. It relies on `engine_core` for the
+// world, and on `called`, `advanced` and `timers` for what a record tells.
+
+use crate::event::{Event, Happening, Subject};
+use crate::times::{FreezeTimes, RunTimes, Times};
+use world_calls::Record;
+use ccb::Place;
+use engine_config::Config;
+use engine_core::Unrecorded;
+use freeze_ledger::Holder;
+use std::alloc::{AllocError, Global};
+use std::collections::BTreeMap;
+
+/// The world behind some records of a trace, with what only time tells.
+#[derive(Drop)]
+pub struct Walk<'a> {
+    pub(crate) config: &'a Config,
+    pub(crate) engine: Unrecorded<'a>,
+    pub(crate) times: Times,
+    // those freezes whose timers came with the last clock reading
+    pub(crate) came: Vec<u32>,
+}
+
+impl<'a> Walk<'a> {
+    /// The world before the first record of a trace of this configuration.
+    pub fn open(alloc: Global, config: &'a Config) -> Result<Self, AllocError> {
+        Ok(Walk {
+            config,
+            engine: Unrecorded::open(alloc, config)?,
+            times: Times::new(alloc),
+            came: Vec::new(alloc),
+        })
+    }
+
+    /// Goes behind one record more, which has to follow as a replay says, and puts what it tells behind the events: one event a
+    /// record, but for a clock reading, which tells one for each timer that came. A record that does not follow tells what it says
+    /// of itself.
+    pub fn step(&mut self, record: &Record, events: &mut Vec<Event>) -> Result<(), AllocError> {
+        match record {
+            Record::Called { answer, call } => self.called(*answer, call, events),
+            Record::Advance {
+                run,
+                instructions,
+                stop,
+                r0,
+            } => self.advanced(*run, *instructions, stop, *r0, events),
+        }
+    }
+
+    /// The engine behind the records.
+    pub fn engine(&self) -> &Unrecorded<'a> {
+        &self.engine
+    }
+
+    /// What the clock read last, in milliseconds.
+    pub fn clock(&self) -> u64 {
+        self.engine.clock()
+    }
+
+    /// How often a place is frozen.
+    pub fn frozen(&self, place: Place) -> u32 {
+        let mut count = 0u32;
+        if let Some(holders) = self.engine.holders(place) {
+            for _ in holders {
+                count = count.saturating_add(1);
+            }
+        }
+        count
+    }
+
+    /// Who holds a freeze of a place, if it is there.
+    pub fn holder(&self, place: Place, freeze: u32) -> Option<Holder> {
+        for (number, holder) in self.engine.holders(place)? {
+            if number == freeze {
+                return Some(holder);
+            }
+        }
+        None
+    }
+
+    /// The live CCBs, by their numbers, and since when each is where it is.
+    pub fn ccbs(&self) -> &BTreeMap<u32, u64> {
+        &self.times.ccbs
+    }
+
+    /// The freezes that are there, by their numbers.
+    pub fn freezes(&self) -> &BTreeMap<u32, FreezeTimes> {
+        &self.times.freezes
+    }
+
+    /// The live runs, by their numbers.
+    pub fn runs(&self) -> &BTreeMap<u32, RunTimes> {
+        &self.times.runs
+    }
+
+    // One event more, at what the clock reads.
+    pub(crate) fn tell(
+        &self,
+        subject: Subject,
+        happening: Happening,
+        events: &mut Vec<Event>,
+    ) -> Result<(), AllocError> {
+        events.push(Event {
+            clock: self.engine.clock(),
+            subject,
+            happening,
+        })?;
+        Ok(())
+    }
+}

@@ -1,0 +1,100 @@
+// The picture of a whole trace. It relies on `tracking` for the stretches, and on `drawing` and `frame` for how they are drawn.
+
+use crate::drawing::Drawing;
+use crate::frame::{begin, end};
+use crate::lanes::Lanes;
+use crate::scale::Scale;
+use crate::tracking::Tracking;
+use world_calls::{Record, Trace};
+use engine_config::Config;
+use std::alloc::{AllocError, Global};
+use std::io;
+use std::io::Write;
+use cli_text_page::Page;
+use show_events::{Event, NamedAccepted, Programs, Walk};
+
+/// Writes the picture of a trace of this configuration as SVG: a lane for each queue and each controller, over the clock in milliseconds,
+/// or over the records if the clock never moved. In a lane stand the stretches for which a CCB was active, one waited, and
+/// the place was frozen by a run, a timer or a guest, each with its numbers as a hover text. Stretches too thin to see are drawn together,
+/// and the picture says so. The programs are the manifest's, with their names. The trace is one that a replay accepts. It fails if memory
+/// is refused, as such an error, or if the writer does; some may be out then.
+pub fn draw<'a, W: Write>(
+    alloc: Global,
+    config: &'a Config,
+    named: &'a [NamedAccepted<'a>],
+    trace: &Trace,
+    out: &mut W,
+) -> io::Result<()> {
+    let mut picture = Picture::open(alloc, config, named, trace)?;
+    picture.write(trace, out)
+}
+
+/// A picture of a trace, on which the stretches are drawn that ended up to some record.
+#[derive(Drop)]
+struct Picture<'a> {
+    scale: Scale,
+    lanes: Lanes,
+    programs: Programs<'a>,
+    walk: Walk<'a>,
+    events: Vec<Event>,
+    tracking: Tracking,
+    drawing: Drawing,
+    page: Page,
+}
+
+impl<'a> Picture<'a> {
+    // Before the first record.
+    fn open(
+        alloc: Global,
+        config: &'a Config,
+        named: &'a [NamedAccepted<'a>],
+        trace: &Trace,
+    ) -> Result<Self, AllocError> {
+        let scale = Scale::of(trace);
+        let lanes = Lanes::of(config);
+        Ok(Picture {
+            scale,
+            lanes,
+            programs: Programs::new(alloc, config, named)?,
+            walk: Walk::open(alloc, config)?,
+            events: Vec::new(alloc),
+            tracking: Tracking::new(alloc),
+            drawing: Drawing::new(alloc, scale, lanes)?,
+            page: Page::new(alloc),
+        })
+    }
+
+    // Goes along the trace to its end.
+    fn go(&mut self, trace: &Trace) -> Result<(), AllocError> {
+        let mut number = 0usize;
+        for record in trace.records.iter() {
+            number = number.saturating_add(1);
+            self.step(record, number)?;
+        }
+        self.tracking.end(self.scale.last, &mut self.drawing)?;
+        self.drawing.trim()
+    }
+
+    // Goes behind the record of that number, from 1.
+    fn step(&mut self, record: &Record, number: usize) -> Result<(), AllocError> {
+        self.events.clear();
+        self.walk.step(record, &mut self.events)?;
+        for event in &self.events {
+            let at = self.scale.place(event.clock, number);
+            if let Some(stretch) = self.tracking.see(event, at)? {
+                self.drawing.add(&stretch)?;
+            }
+        }
+        Ok(())
+    }
+
+    // Writes the picture of the whole trace.
+    fn write<W: Write>(&mut self, trace: &Trace, out: &mut W) -> io::Result<()> {
+        self.go(trace)?;
+        let (columns, thinner) = self.drawing.limit();
+        begin(&self.lanes, &self.scale, &self.programs, &mut self.page);
+        self.drawing.write(&mut self.page, out)?;
+        end(&self.lanes, &self.scale, columns, thinner, &mut self.page);
+        self.page.write_to(out)
+    }
+}

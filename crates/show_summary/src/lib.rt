@@ -1,0 +1,14 @@
+// The summary of a trace: by queue, by controller and by program how often what happened, and what is left at its end. How often is
+// counted over the records alone, by `show_counts`; how long, over the events, which `show_events` tells.
+#![tactic(auto)]
+
+mod frozen;
+mod left;
+mod openings;
+mod places;
+mod programs;
+mod queues;
+mod summary;
+mod sums;
+
+pub use summary::summarise;

@@ -1,0 +1,88 @@
+// How many openings queues had over time. It relies on `show_events` for when they change.
+
+use engine_config::Config;
+use cli_text_page::Page;
+use show_events::{Event, Happening};
+
+/// How many changes of a queue are told one by one.
+const TOLD: usize = 8;
+
+/// How many queues there are at most.
+const QUEUES: usize = 64;
+
+/// A change: when, and to how many.
+#[derive(Clone, Copy, Default)]
+struct Change {
+    clock: u64,
+    openings: u64,
+}
+
+/// The openings of a queue.
+#[derive(Clone, Copy, Default)]
+struct Openings {
+    first: u64,
+    changes: [Change; TOLD],
+    // how many changes there were, and how many openings there were after the last
+    count: u64,
+    last: u64,
+}
+
+/// The openings of all queues, in the order of their numbers.
+#[derive(Clone, Copy)]
+pub(crate) struct AllOpenings {
+    queues: [Openings; QUEUES],
+}
+
+impl AllOpenings {
+    /// Those at the opening of a configuration.
+    pub(crate) fn new(config: &Config) -> Self {
+        let mut queues = [Openings::default(); QUEUES];
+        for queue in 0..config.queues() {
+            if let Some(openings) = queues.get_mut(queue as usize) {
+                openings.first = u64::from(config.openings(queue));
+            }
+        }
+        AllOpenings { queues }
+    }
+
+    /// Takes what an event says.
+    pub(crate) fn see(&mut self, event: &Event) {
+        let Happening::OpeningsSet { old, new } = event.happening else {
+            return;
+        };
+        let queue = event.queue().unwrap_or(u32::MAX);
+        if old != new {
+            if let Some(openings) = self.queues.get_mut(queue as usize) {
+                openings.set(event.clock, new);
+            }
+        }
+    }
+
+    /// Puts how many openings the queue had, one after the other.
+    pub(crate) fn print(&self, queue: u32, page: &mut Page) {
+        if let Some(openings) = self.queues.get(queue as usize) {
+            openings.print(page);
+        }
+    }
+}
+
+impl Openings {
+    fn set(&mut self, clock: u64, openings: u64) {
+        if let Some(change) = self.changes.get_mut(self.count as usize) {
+            *change = Change { clock, openings };
+        }
+        self.count = self.count.saturating_add(1);
+        self.last = openings;
+    }
+
+    fn print(&self, page: &mut Page) {
+        page.number(self.first);
+        for change in self.changes.iter().take(self.count as usize) {
+            page.fill(", {} at {} ms", &[change.openings, change.clock]);
+        }
+        let more = self.count.saturating_sub(TOLD as u64);
+        if more > 0 {
+            page.fill(", and behind {} further changes {}", &[more, self.last]);
+        }
+    }
+}

@@ -1,0 +1,92 @@
+// What a summary says of a queue. It relies on `sums`, and on `show_account` for the names of statuses and codes.
+
+use crate::places::print_frozen;
+use crate::sums::Sums;
+use ccb::{Place, QueueId};
+use helpers::Helper;
+use cli_text_page::Page;
+use show_account::name_of_code;
+use show_counts::{CODES, Counts, HELPERS};
+
+/// Puts the table of a queue.
+pub(crate) fn print_queue(sums: &Sums<'_>, queue: u32, page: &mut Page) {
+    page.fill("queue {}, program ", &[u64::from(queue)]);
+    page.foreign(sums.programs.name(sums.programs.of(queue)));
+    print_counts(&sums.counts, queue as usize, page);
+    print_frozen(sums, Place::Device(QueueId(queue)), page);
+    page.text("  openings      ");
+    sums.openings.print(queue, page);
+    print_left(sums, queue, page);
+}
+
+// What was counted of the queue.
+fn print_counts(counts: &Counts, queue: usize, page: &mut Page) {
+    let submissions = Counts::at(&counts.submissions, queue);
+    let starts = Counts::at(&counts.starts, queue);
+    page.fill(
+        "\n  submissions   {}\n  starts        {}\n  completions   ",
+        &[submissions, starts],
+    );
+    print_codes(&counts.completions, queue, page);
+    let recoveries = Counts::at(&counts.recoveries, queue);
+    let requeues = cell(queue, HELPERS, u32::from(Helper::Requeue.number()));
+    let requeues = Counts::at(&counts.calls, requeues);
+    page.fill(
+        "\n  recoveries    {}\n  requeues      {}\n  finishes      ",
+        &[recoveries, requeues],
+    );
+    print_codes(&counts.finishes, queue, page);
+    page.text("\n");
+}
+
+// How many CCBs of the queue wait and are active at the end.
+fn print_left(sums: &Sums<'_>, queue: u32, page: &mut Page) {
+    page.text("\n");
+    if let Some(info) = sums.walk.engine().queue_info(QueueId(queue)) {
+        page.fill(
+            "  at the end    waiting {}, active {}, freezes {}\n",
+            &[
+                u64::from(info.waiting),
+                u64::from(info.active),
+                u64::from(info.frozen),
+            ],
+        );
+    }
+}
+
+/// The place of a column in the row of a queue.
+pub(crate) fn cell(queue: usize, columns: u32, column: u32) -> usize {
+    queue
+        .saturating_mul(columns as usize)
+        .saturating_add(column as usize)
+}
+
+// The codes that there were, each with its name and how often it was.
+fn print_codes(counts: &[u64], queue: usize, page: &mut Page) {
+    let mut has_any = false;
+    for code in 0..CODES {
+        let count = Counts::at(counts, cell(queue, CODES, code));
+        if count > 0 {
+            page.text(if has_any { ", " } else { "" });
+            print_code(code, count, page);
+            has_any = true;
+        }
+    }
+    if !has_any {
+        page.text("0");
+    }
+}
+
+fn print_code(code: u32, count: u64, page: &mut Page) {
+    let code = u8::try_from(code).unwrap_or(u8::MAX);
+    let name = name_of_code(code);
+    let (before, behind) = if name.is_empty() {
+        ("code ", " {}")
+    } else {
+        (" (", ") {}")
+    };
+    page.text(name);
+    page.text(before);
+    page.byte(code);
+    page.fill(behind, &[count]);
+}

@@ -1,0 +1,64 @@
+// All that a summary has: the counts of the records, and what the events say. It relies on `show_counts`, and on `frozen`, `openings` and
+// `programs` for what only events say.
+
+use crate::frozen::FrozenPlaces;
+use crate::openings::AllOpenings;
+use crate::programs::AllInstructions;
+use world_calls::Trace;
+use engine_config::Config;
+use std::alloc::{AllocError, Global};
+use show_counts::{Counts, count_records};
+use show_events::{Event, NamedAccepted, Programs, Walk};
+
+/// The sums of a trace, and the world at its end.
+#[derive(Drop)]
+pub(crate) struct Sums<'a> {
+    pub(crate) config: &'a Config,
+    pub(crate) programs: Programs<'a>,
+    pub(crate) counts: Counts,
+    pub(crate) frozen: FrozenPlaces,
+    pub(crate) openings: AllOpenings,
+    pub(crate) instructions: AllInstructions,
+    pub(crate) walk: Walk<'a>,
+}
+
+impl<'a> Sums<'a> {
+    /// Those of a trace of this configuration.
+    pub(crate) fn of(
+        alloc: Global,
+        config: &'a Config,
+        named: &'a [NamedAccepted<'a>],
+        trace: &Trace,
+    ) -> Result<Self, AllocError> {
+        let mut sums = Sums {
+            config,
+            programs: Programs::new(alloc, config, named)?,
+            counts: count_records(alloc, config.queues(), &trace.records)?,
+            frozen: FrozenPlaces::new(),
+            openings: AllOpenings::new(config),
+            instructions: AllInstructions::new(),
+            walk: Walk::open(alloc, config)?,
+        };
+        sums.see_all(alloc, trace)?;
+        Ok(sums)
+    }
+
+    // Takes what the events of all records say.
+    fn see_all(&mut self, alloc: Global, trace: &Trace) -> Result<(), AllocError> {
+        let mut events = Vec::new(alloc);
+        for record in trace.records.iter() {
+            events.clear();
+            self.walk.step(record, &mut events)?;
+            for event in &events {
+                self.see(event);
+            }
+        }
+        Ok(())
+    }
+
+    fn see(&mut self, event: &Event) {
+        self.frozen.see(event);
+        self.openings.see(event);
+        self.instructions.see(event, &self.programs);
+    }
+}

@@ -1,6 +1,0 @@
-use Rattle.std.proofs.Common.{arith}
-use Rattle.stack_frame.proofs.Bits.{ones_is}
-use Rattle.stack_frame.proofs.byte_set.ones.Goals as goal
-
-pub returns-else-count-eq0 : goal.returns-else-count-eq0
-returns-else-count-eq0 c = ones_is c.args.first c.args.count c.requires (omega arith)

@@ -1,6 +1,0 @@
-use Rattle.std.proofs.Common.{◌≡◌, take}
-use Rattle.stack_frame.proofs.frames.Frames.is_same.Given as goal
-
--- the frames before k are the same
-abbrev pub invariant-loop-k : goal.invariant-loop-k
-invariant-loop-k l = take l.k l.self-inside.frames ≡ take l.k l.other-inside.frames

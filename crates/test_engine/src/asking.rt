@@ -1,0 +1,219 @@
+// How an engine is asked: by its events, or by its methods. It relies on `engine_core` for both, and on `interpreter` for what a run
+// does apart.
+
+use ccb::{CcbId, Place};
+use engine_core::{
+    AdvanceAnswer, AdvanceFault, Back, CallFault, CompleteAnswer, Engine, Event, Given,
+    ReleaseFault, Reply, Run, Stopped,
+};
+use freeze_ledger::FreezeToken;
+use host_handles::Answers;
+use interpreter::{Segment, to_stop};
+use std::alloc::AllocError;
+use std::mem;
+use std::sync::Arc;
+
+/// How an engine is asked.
+#[derive(Clone, Copy, Debug, PartialEq, Eq)]
+pub enum Manner {
+    /// An event is a value, and so is the reply.
+    Events,
+    /// Each event by a method of its own.
+    Methods,
+    /// The same, but a run and what it did stand apart.
+    Segments,
+}
+
+/// An engine that is asked in this manner.
+#[derive(Drop)]
+pub struct Asked {
+    pub engine: Engine,
+    pub manner: Manner,
+}
+
+impl Answers for Asked {
+    ghost answers = { λ _ _ _ _. Unit };
+
+    fn answer(&mut self, event: Event<'_>) -> Reply {
+        match self.manner {
+            Manner::Events => self.engine.answer(event),
+            Manner::Methods => by_method(&mut self.engine, event),
+            Manner::Segments => match event {
+                Event::Advance { run } => by_segment(&mut self.engine, run.back()),
+                other => by_method(&mut self.engine, other),
+            },
+        }
+    }
+}
+
+// Each method's clauses stay in a function of its own.
+
+fn by_method(engine: &mut Engine, event: Event<'_>) -> Reply {
+    match event {
+        Event::Submit {
+            queue,
+            priority,
+            retries,
+        } => ccb_replied(engine.submit(queue, priority, retries)),
+        Event::Dispatch { queue } => ccb_replied(engine.dispatch(queue)),
+        Event::Complete { completion } => match engine.complete(*completion) {
+            Ok(CompleteAnswer::Done) => Reply::Given(Given::Done),
+            Ok(CompleteAnswer::Started(run, freeze)) => Reply::Given(Given::Started(run, freeze)),
+            // it comes back as it was
+            Err((fault, back)) if back == *completion => refused(fault),
+            Err(_) => Reply::Unfit(Back::Nothing),
+        },
+        Event::Advance { run } => stop_replied(engine.go_on(run)),
+        Event::Clock { reading } => count_replied(engine.clock(reading)),
+        Event::GuestFreeze { place, guest } => match place {
+            Place::Device(queue) => token_replied(engine.guest_freeze(queue, guest)),
+            Place::Controller(controller) => {
+                token_replied(engine.guest_freeze_controller(controller, guest))
+            }
+        },
+        Event::GuestRelease { token } => release_replied(engine.guest_release(token)),
+        Event::Park { run } => park_replied(engine.park(run)),
+        Event::Resume { run } => resume_replied(engine.resume(run)),
+    }
+}
+
+fn refused(fault: CallFault) -> Reply {
+    match fault {
+        CallFault::OutOfMemory => Reply::OutOfMemory(Back::Nothing),
+        CallFault::Refused(refusal) => Reply::Refused(refusal),
+    }
+}
+
+fn ccb_replied(answer: Result<CcbId, CallFault>) -> Reply {
+    match answer {
+        Ok(ccb) => Reply::Given(Given::Ccb(ccb)),
+        Err(fault) => refused(fault),
+    }
+}
+
+fn count_replied(answer: Result<u32, CallFault>) -> Reply {
+    match answer {
+        Ok(count) => Reply::Given(Given::Removed(count)),
+        Err(fault) => refused(fault),
+    }
+}
+
+fn token_replied(answer: Result<FreezeToken, CallFault>) -> Reply {
+    match answer {
+        Ok(token) => Reply::Given(Given::Freeze(token)),
+        Err(fault) => refused(fault),
+    }
+}
+
+fn release_replied(answer: Result<u32, (ReleaseFault, FreezeToken)>) -> Reply {
+    match answer {
+        Ok(count) => Reply::Given(Given::Left(count)),
+        Err((ReleaseFault::NotHeld, token)) => Reply::Unfit(Back::Token(token)),
+        Err((ReleaseFault::OutOfMemory, token)) => Reply::OutOfMemory(Back::Token(token)),
+    }
+}
+
+fn park_replied(answer: Result<(), Run>) -> Reply {
+    match answer {
+        Ok(()) => Reply::Given(Given::Parked),
+        Err(run) => Reply::Unfit(Back::Run(run)),
+    }
+}
+
+fn resume_replied(answer: Result<Run, CallFault>) -> Reply {
+    match answer {
+        Ok(run) => Reply::Given(Given::Resumed(run)),
+        Err(fault) => refused(fault),
+    }
+}
+
+fn advanced(answer: AdvanceAnswer) -> Reply {
+    match answer {
+        AdvanceAnswer::Goes(run, r0) => Reply::Given(Given::Goes(run, r0)),
+        AdvanceAnswer::Ended(r0) => Reply::Given(Given::Ended(r0)),
+    }
+}
+
+fn not_advanced(fault: AdvanceFault, run: Run) -> Reply {
+    match fault {
+        AdvanceFault::NotOut => Reply::Unfit(Back::Run(run)),
+        AdvanceFault::OutOfMemory => Reply::OutOfMemory(Back::Run(run)),
+    }
+}
+
+fn stop_replied(answer: Result<AdvanceAnswer, (AdvanceFault, Run)>) -> Reply {
+    match answer {
+        Ok(answer) => advanced(answer),
+        Err((fault, run)) => not_advanced(fault, run),
+    }
+}
+
+// What the run does up to its next stop.
+fn segment_of(run: &Run) -> Result<Segment, AllocError> {
+    Ok(to_stop(Arc::try_clone(run.program())?, run.machine()))
+}
+
+fn by_segment(engine: &mut Engine, run: Run) -> Reply {
+    match segment_of(&run) {
+        Ok(segment) => present(engine, run, segment).0,
+        Err(AllocError) => Reply::OutOfMemory(Back::Run(run)),
+    }
+}
+
+// Hands a run in with a segment, which comes back if it is not taken over.
+fn present(engine: &mut Engine, run: Run, segment: Segment) -> (Reply, Option<Segment>) {
+    match engine.advance(run, segment) {
+        Ok(answer) => (advanced(answer), None),
+        Err((fault, run, segment)) => (not_advanced(fault, run), Some(segment)),
+    }
+}
+
+/// Keeps what a run does up to its next stop. The run comes back.
+#[derive(Drop)]
+pub struct Stretching {
+    pub kept: Option<Segment>,
+}
+
+impl Answers for Stretching {
+    ghost answers = { λ _ _ _ _. Unit };
+
+    fn answer(&mut self, event: Event<'_>) -> Reply {
+        let run = match event {
+            Event::Advance { run } => run.back(),
+            other => return Reply::Unfit(other.owned()),
+        };
+        match segment_of(&run) {
+            Ok(segment) => {
+                self.kept = Some(segment);
+                Reply::Unfit(Back::Run(run))
+            }
+            Err(AllocError) => Reply::OutOfMemory(Back::Run(run)),
+        }
+    }
+}
+
+/// An engine to which a run is handed in with what was kept, whatever run that was of.
+#[derive(Drop)]
+pub struct Presenting<'a> {
+    pub engine: &'a mut Engine,
+    pub kept: &'a mut Option<Segment>,
+}
+
+impl Answers for Presenting<'_> {
+    ghost answers = { λ _ _ _ _. Unit };
+
+    fn answer(&mut self, event: Event<'_>) -> Reply {
+        let run = match event {
+            Event::Advance { run } => run.back(),
+            other => return Reply::Unfit(other.owned()),
+        };
+        match mem::replace(self.kept, None) {
+            Some(segment) => {
+                let (reply, back) = present(self.engine, run, segment);
+                *self.kept = back;
+                reply
+            }
+            None => Reply::Unfit(Back::Run(run)),
+        }
+    }
+}

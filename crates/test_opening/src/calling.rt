@@ -1,0 +1,117 @@
+// The calls of a host as they are, each with what it answers: their clauses stay here, so that the checks are proved without them.
+
+use ccb::{CamStatus, CcbId, Completion, Place, QueueId};
+use host_embedding::{CallResult, EngineHandle, PutLines, RunHandle};
+use host_opening::{OpenFault, open};
+use std::alloc::Global;
+
+/// An engine of a manifest's text.
+pub fn opened(alloc: Global, manifest: &[u8]) -> Result<Box<EngineHandle>, OpenFault> {
+    open(alloc, manifest)
+}
+
+pub fn submit(engine: &mut EngineHandle, queue: u32, retries: u32) -> (CallResult, u32) {
+    let mut ccb = 0;
+    let result = engine.submit(queue, 0, retries, &mut ccb);
+    (result, ccb)
+}
+
+pub fn dispatch(engine: &mut EngineHandle, queue: u32) -> (CallResult, u32) {
+    let mut ccb = 0;
+    let result = engine.dispatch(queue, &mut ccb);
+    (result, ccb)
+}
+
+pub fn clock(engine: &mut EngineHandle, reading: u64) -> CallResult {
+    let mut removed = 0;
+    engine.clock(reading, &mut removed)
+}
+
+/// The run that starts, if one does. A completion that no device reports is no completion.
+pub fn complete(
+    alloc: Global,
+    engine: &mut EngineHandle,
+    ccb: u32,
+    status: CamStatus,
+) -> Result<Option<Box<RunHandle>>, CallResult> {
+    match Completion::new(CcbId(ccb), status, 0, &[]) {
+        Some(completion) => engine.complete(alloc, completion),
+        None => Err(CallResult::NoCompletion),
+    }
+}
+
+pub fn freeze_queue(engine: &mut EngineHandle, queue: u32, guest: u32) -> (CallResult, u32) {
+    let mut freeze = 0;
+    let result = engine.guest_freeze(Place::Device(QueueId(queue)), guest, &mut freeze);
+    (result, freeze)
+}
+
+pub fn freeze_controller(
+    engine: &mut EngineHandle,
+    controller: u32,
+    guest: u32,
+) -> (CallResult, u32) {
+    let mut freeze = 0;
+    let result = engine.guest_freeze(Place::Controller(controller), guest, &mut freeze);
+    (result, freeze)
+}
+
+pub fn release(engine: &mut EngineHandle, freeze: u32) -> (CallResult, u32) {
+    let mut left = 0;
+    let result = engine.guest_release(freeze, &mut left);
+    (result, left)
+}
+
+pub fn stretch(run: &mut RunHandle) -> CallResult {
+    run.stretch()
+}
+
+/// What is answered, and R0 if the run ended.
+pub fn advance(engine: &mut EngineHandle, run: &mut RunHandle) -> (CallResult, Option<u64>) {
+    let (mut r0, mut ended) = (0, false);
+    let result = engine.advance(run, &mut r0, &mut ended);
+    (result, if ended { Some(r0) } else { None })
+}
+
+/// The same of all stops that the run comes to.
+pub fn drive(engine: &mut EngineHandle, run: &mut RunHandle) -> (CallResult, Option<u64>) {
+    let (mut r0, mut ended) = (0, false);
+    let result = engine.drive(run, &mut r0, &mut ended);
+    (result, if ended { Some(r0) } else { None })
+}
+
+pub fn park(engine: &mut EngineHandle, run: &mut RunHandle) -> CallResult {
+    engine.park(run)
+}
+
+pub fn resume(
+    alloc: Global,
+    engine: &mut EngineHandle,
+    run: u32,
+) -> Result<Box<RunHandle>, CallResult> {
+    engine.resume(alloc, run)
+}
+
+pub fn live_runs(engine: &EngineHandle) -> u32 {
+    engine.totals().runs
+}
+
+/// Lines of the trace in a place, from that record on.
+pub fn lines(engine: &EngineHandle, from: u64, place: &mut [u8]) -> (CallResult, PutLines) {
+    let mut put = PutLines {
+        written: 0,
+        next: 0,
+    };
+    let result = engine.put_lines(from, place, &mut put);
+    (result, put)
+}
+
+/// The last line in a place.
+pub fn end(engine: &EngineHandle, place: &mut [u8]) -> (CallResult, PutLines) {
+    let mut put = PutLines {
+        written: 0,
+        next: 0,
+    };
+    let result = engine.put_end(place, &mut put);
+    (result, put)
+}

@@ -1,0 +1,64 @@
+// The checks of an engine as a host holds it that is written in another language: what no contract says of a recovery, of each result of
+// a call, and of the trace's text. It prints the name of each check that fails, and how many pass; with words it runs the checks of these
+// names alone. It relies on `host_opening` and `host_embedding`.
+#![tactic(auto)]
+
+mod calling;
+mod checks;
+
+use test_tally::{Tally, is_wanted, words};
+use std::alloc::Global;
+use std::io;
+use std::process::ExitCode;
+
+/// A check.
+#[derive(Clone, Copy, Debug, PartialEq, Eq)]
+enum Check {
+    Handles,
+    Recovery,
+    Lines,
+    Refusals,
+    Freezes,
+    Parks,
+    Manifests,
+    Texts,
+}
+
+/// All checks, with their names.
+const CHECKS: [(&str, Check); 8] = [
+    ("handles_go_from_thread_to_thread", Check::Handles),
+    ("recovers", Check::Recovery),
+    ("lines_go_on", Check::Lines),
+    ("refused", Check::Refusals),
+    ("freezes_by_number", Check::Freezes),
+    ("parks", Check::Parks),
+    ("faulty_manifests", Check::Manifests),
+    ("results_have_texts", Check::Texts),
+];
+
+impl Check {
+    // Whether it holds; nothing if it came to no end, as if memory is refused.
+    fn holds(self, alloc: Global) -> Option<bool> {
+        match self {
+            Check::Handles => checks::handles_go_from_thread_to_thread(alloc),
+            Check::Recovery => checks::recovers(alloc),
+            Check::Lines => checks::lines_go_on(alloc),
+            Check::Refusals => checks::refused(alloc),
+            Check::Freezes => checks::freezes_by_number(alloc),
+            Check::Parks => checks::parks(alloc),
+            Check::Manifests => checks::faulty_manifests(alloc),
+            Check::Texts => Some(checks::results_have_texts()),
+        }
+    }
+}
+
+fn main(rt: HostRuntime) -> io::Result<ExitCode> {
+    let wanted = words(&rt)?;
+    let mut tally = Tally::default();
+    for (name, check) in CHECKS {
+        if is_wanted(&wanted, name) {
+            tally.see(&rt, name, check.holds(rt.alloc()) == Some(true))?;
+        }
+    }
+    tally.end(&rt)
+}

@@ -1,0 +1,157 @@
+// Carries a case out as the script `camr` does, which hands what explains and shows to the second program. It relies on `cli_line` and
+// `cli_commands` for the one program, and on `cli_inspect_line` and `cli_inspection` for the other.
+
+ghost use Rattle.std.specs.Prelude.{◌≡◌, IfOk, length};
+ghost use Rattle.cli_line.specs.Files.{input_paths};
+ghost use Rattle.cli_inspect_line.specs.Files.{input_paths as inspected_paths};
+
+use crate::pieces::Pieces;
+use world_calls::Silent;
+use cli_line::{Plan, not_utf8, plan};
+use cli_commands::{Fault, Handing, carry, report_usage, serve};
+use cli_inspect_line::Plan as InspectPlan;
+use cli_inspection::carry as inspect;
+use std::alloc::{AllocError, Global};
+use std::sync::Wait;
+use std::thread::Threads;
+use test_cases::{Case, Outcome};
+
+/// What the case's words show over its files. A file that it does not have is one that cannot be read.
+pub fn run<R: Threads + Wait + Sync>(
+    rt: &R,
+    alloc: Global,
+    case: &Case<'_>,
+) -> Result<Outcome, AllocError> {
+    let mut out = Vec::new(alloc);
+    let mut err = Vec::new(alloc);
+    let status = match words_of(alloc, case)? {
+        Some(words) if is_inspected(&words) => inspected(alloc, &words, case, &mut out, &mut err),
+        Some(words) => carried(rt, alloc, &words, case, &mut out, &mut err),
+        None => report_usage(&not_utf8(alloc), &mut out, &mut err),
+    };
+    Ok(Outcome { out, err, status })
+}
+
+// Whether the second program carries these words out.
+fn is_inspected(words: &[String]) -> bool {
+    match words.first() {
+        Some(word) => matches!(word.as_str(), "explain" | "show"),
+        None => false,
+    }
+}
+
+// Carries out what the words ask of the first program.
+fn carried<R: Threads + Wait + Sync>(
+    rt: &R,
+    alloc: Global,
+    words: &[String],
+    case: &Case<'_>,
+    out: &mut Vec<u8>,
+    err: &mut Vec<u8>,
+) -> u8 {
+    match plan(alloc, words) {
+        Ok(plan) => match read_inputs(alloc, &plan, case) {
+            Ok(inputs) => carry_out(rt, alloc, &plan, &inputs, case, out, err),
+            Err(fault) => fault.report(err),
+        },
+        Err(fault) => report_usage(&fault, out, err),
+    }
+}
+
+// Carries out what they ask of the second.
+fn inspected(
+    alloc: Global,
+    words: &[String],
+    case: &Case<'_>,
+    out: &mut Vec<u8>,
+    err: &mut Vec<u8>,
+) -> u8 {
+    match cli_inspect_line::plan(alloc, words) {
+        Ok(plan) => match read_inspected(alloc, &plan, case) {
+            Ok(inputs) => inspect(alloc, &plan, &inputs, &Silent, out, err),
+            Err(fault) => fault.report(err),
+        },
+        Err(fault) => report_usage(&fault, out, err),
+    }
+}
+
+// Carries the plan out; what a live engine is asked is what comes on standard input.
+fn carry_out<R: Threads + Wait + Sync>(
+    rt: &R,
+    alloc: Global,
+    plan: &Plan,
+    inputs: &[Vec<u8>],
+    case: &Case<'_>,
+    out: &mut Vec<u8>,
+    err: &mut Vec<u8>,
+) -> u8
+    requires { length inputs.now ≡ length (input_paths plan.now) }
+{
+    match plan {
+        Plan::Live(manner, manifest) => {
+            let manifest = (manifest.as_str(), inputs[0].as_slice());
+            let mut input = Pieces::of(&case.input, manner.is_clocked);
+            let mut out = Handing::new(out);
+            serve(
+                alloc,
+                manifest,
+                manner.is_stepped,
+                &mut input,
+                &mut out,
+                err,
+            )
+        }
+        _ => carry(rt, alloc, plan, inputs, &Silent, out, err),
+    }
+}
+
+/// The words as text, and none where one is not UTF-8.
+pub(crate) fn words_of(alloc: Global, case: &Case<'_>) -> Result<Option<Vec<String>>, AllocError> {
+    let mut words = Vec::new(alloc);
+    for word in &case.words {
+        match str::from_utf8(word) {
+            Ok(word) => words.push(String::from_str(alloc, word)?)?,
+            Err(_) => return Ok(None),
+        }
+    }
+    Ok(Some(words))
+}
+
+// The bytes of the plan's files, in the order of the line.
+fn read_inputs<'a>(
+    alloc: Global,
+    plan: &'a Plan,
+    case: &Case<'_>,
+) -> Result<Vec<Vec<u8>>, Fault<'a>>
+    ensures { IfOk result (λ inputs. length inputs.items ≡ length (input_paths plan.entry.now)) }
+{
+    let mut inputs = Vec::new(alloc);
+    for place in 0..plan.input_count() {
+        let input = read_input(alloc, plan.input(place), case)?;
+        inputs.push(input).map_err(|_| Fault::OutOfMemory)?;
+    }
+    Ok(inputs)
+}
+
+fn read_inspected<'a>(
+    alloc: Global,
+    plan: &'a InspectPlan,
+    case: &Case<'_>,
+) -> Result<Vec<Vec<u8>>, Fault<'a>>
+    ensures { IfOk result (λ inputs. length inputs.items ≡ length (inspected_paths plan.entry.now)) }
+{
+    let mut inputs = Vec::new(alloc);
+    for place in 0..plan.input_count() {
+        let input = read_input(alloc, plan.input(place), case)?;
+        inputs.push(input).map_err(|_| Fault::OutOfMemory)?;
+    }
+    Ok(inputs)
+}
+
+// The bytes of the case's file of that name.
+fn read_input<'a>(alloc: Global, path: &'a str, case: &Case<'_>) -> Result<Vec<u8>, Fault<'a>> {
+    let Some(file) = case.files.iter().find(|file| file.name == path) else {
+        return Err(Fault::File(path));
+    };
+    file.bytes.to_vec(alloc).map_err(|_| Fault::OutOfMemory)
+}

@@ -1,7 +1,0 @@
-use Rattle.std.proofs.Common.{replicate}
-use Rattle.text_page.specs.Page.{Puts}
-use Rattle.text_page.proofs.page.Page.blanks.Given as goal
-
--- so many blanks stand behind what stood there
-abbrev pub invariant-loop-blank : goal.invariant-loop-blank
-invariant-loop-blank l = Puts l.initial.self (replicate l._blank 32) l.self

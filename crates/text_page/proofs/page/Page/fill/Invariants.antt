@@ -1,6 +1,0 @@
-use Rattle.text_page.specs.Page.{Adds}
-use Rattle.text_page.proofs.page.Page.fill.Given as goal
-
--- what stood there stands in front
-abbrev pub invariant-loop-place : goal.invariant-loop-place
-invariant-loop-place l = Adds l.initial.self l.self

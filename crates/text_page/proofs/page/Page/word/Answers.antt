@@ -1,5 +1,0 @@
-use Rattle.std.proofs.Common.{arith}
-use Rattle.text_page.proofs.page.Page.word.Goals as goal
-
-pub returns-else-is_err : goal.returns-else-is_err
-returns-else-is_err c = grind arith

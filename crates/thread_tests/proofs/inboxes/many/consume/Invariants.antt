@@ -1,5 +1,0 @@
-use Rattle.inbox.specs.Views.{IsOf}
-use Rattle.thread_tests.proofs.inboxes.many.consume.Given as goal
-
-abbrev pub invariant-loop : goal.invariant-loop
-invariant-loop g l = IsOf l.inbox l.pass

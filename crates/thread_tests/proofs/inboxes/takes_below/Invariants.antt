@@ -1,7 +1,0 @@
-use Rattle.std.proofs.Common.{◌≡◌, vec_len}
-use Rattle.std.specs.List.{All}
-use Rattle.inbox.specs.Views.{IsOf}
-use Rattle.thread_tests.proofs.inboxes.takes_below.Given as goal
-
-abbrev pub invariant-loop-number : goal.invariant-loop-number
-invariant-loop-number g l = record { len : vec_len l.takes ≡ vec_len l.initial.takes; ours : All (IsOf l.inbox) l.takes.items }

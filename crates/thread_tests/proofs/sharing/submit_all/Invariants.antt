@@ -1,5 +1,0 @@
-use Rattle.std.proofs.Common.{vec_len}
-use Rattle.thread_tests.proofs.sharing.submit_all.Given as goal
-
-abbrev pub decreases-loop-caller : goal.decreases-loop-caller
-decreases-loop-caller g l = vec_len l.callers

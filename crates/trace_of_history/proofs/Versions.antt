@@ -1,0 +1,202 @@
+-- A record of a history is one that a text of the configuration's version may have.
+use Rattle.std.proofs.Common.{◌≡◌, ℕ, zero, suc, not, Bool, true, false, cond, Some, List, [], ◌∷◌, take, drop, replicate, refl, ap, sym, subst, ◌∙◌, arith, nat_lt, codes}
+use Rattle.std.specs.List.{AllByRecursion}
+use Rattle.std.proofs.lemmas.Bool.{cond-true, cond-false, le-leb}
+use Rattle.std.proofs.lemmas.Bool.Decides.{nat_tests}
+use Rattle.std.proofs.lemmas.List.Elements.{recursion_from_All}
+use Rattle.std.proofs.lemmas.List.Sums.{sum_by-cons}
+use Rattle.ccb.specs.declared.QueueId.{QueueId}
+use Rattle.freeze_ledger.specs.declared.freeze.Freeze.{Freeze}
+use Rattle.ccb.specs.declared.place.Place.{Place}
+use Rattle.ccb.specs.declared.place.Place.TheVariants.{Controller, Device}
+use Rattle.freeze_ledger.specs.Freezes.{frozen, names}
+use Rattle.ccb.specs.Places.{is_place}
+use Rattle.helpers.specs.Table.{is_there, row_of as helper_row}
+use Rattle.helpers.specs.declared.columns.Tells.{Tells}
+use Rattle.helpers.specs.declared.columns.Tells.TheVariants as tells
+use Rattle.helpers.specs.declared.limits.HelperSet.{HelperSet}
+use Rattle.helpers.specs.declared.limits.HelperSet.TheVariants.{Controllers, Queues}
+use Rattle.helpers.specs.declared.request.Request.{Request}
+use Rattle.helpers.specs.declared.table.Helper.{Helper}
+use Rattle.helpers.specs.declared.table.Helper.TheVariants.{FreezeController}
+use Rattle.world_calls.specs.Versions.{version_in}
+use Rattle.world_calls.specs.declared.call.Call.{Call}
+use Rattle.world_calls.specs.declared.call.Call.TheVariants as calls
+use Rattle.world_calls.specs.declared.call_answer.CallAnswer.{CallAnswer}
+use Rattle.world_calls.specs.declared.call_answer.CallAnswer.TheVariants as answers
+use Rattle.world_calls.specs.declared.call_refusal.CallRefusal.{CallRefusal}
+use Rattle.world_calls.specs.declared.call_refusal.CallRefusal.TheVariants as refusals
+use Rattle.world_calls.specs.declared.record.Record.{Record}
+use Rattle.world_calls.specs.declared.record.Record.TheVariants.{Called, Advance}
+use Rattle.world_calls.specs.declared.record.StoppedAt.{StoppedAt}
+use Rattle.world_calls.specs.declared.record.StoppedAt.TheVariants as stopped
+use Rattle.world_calls.specs.declared.trace.Version.{Version}
+use Rattle.world_calls.specs.declared.trace.Version.TheVariants.{One, Two}
+use Rattle.trace_lines.specs.Rows.{is_among, row_of}
+use Rattle.trace_lines.specs.declared.table.Row.{Row}
+use Rattle.trace_lines.specs.declared.word.Word.TheVariants as words
+use Rattle.trace.specs.Versions.{is_answer_of_one, is_held, is_of, is_stop_of_one, is_unknown as is_answered_unknown}
+use Rattle.world.specs.World.{Setup, World, queue_setup, version_of}
+use Rattle.world.specs.Lawful.{AreUnder, IsLawful}
+use Rattle.world.specs.Limits.{NamesNoOther}
+use Rattle.world.specs.Lookups.{next_waiting}
+use Rattle.world.specs.CcbSteps.{starts}
+use Rattle.world.specs.Refusals.{is_unknown, refusals_of, unless_refused}
+use Rattle.world.specs.Told.{Told, finishes, helper_in, plain, told_by, traces}
+use Rattle.world.specs.Event.{private, call, called, executes, Reply, replies, refused, went_on, result}
+use Rattle.world.specs.Flat.{stop_of, advance_of, events_of}
+use Rattle.world.specs.Step.{performs, WorldStep}
+use Rattle.world.specs.WorldRun.{Leads}
+use Rattle.world_laws.proofs.Empty.{empty_advance_is_none}
+use Rattle.world_laws.proofs.Leads.{leads_split}
+use Rattle.world_laws.proofs.Sound.{IsSound}
+use Rattle.world_laws.proofs.Steps.Rules.{rule_parts}
+use Rattle.world_laws.proofs.Steps.Running.{some_is, call_parts}
+use Rattle.trace_of_history.proofs.Calls.{HasReply, answered, by_found, told}
+use Rattle.trace_of_history.proofs.Somes.{some_named}
+
+-- ---- where queues alone freeze
+
+queues_alone : (set : HelperSet) → version_in set ≡ One → set ≡ Queues
+queues_alone Queues e = refl
+queues_alone Controllers e = absurd (let bad : Two ≡ One = e in cc)
+
+module _ (setup : Setup) (lawful : IsLawful setup) (alone : setup.limits.helpers ≡ Queues) where
+  no_controllers : setup.controllers ≡ 0
+  no_controllers = (subst (λ (set : HelperSet). AreUnder set setup.controllers setup.queues) alone lawful.under).0
+
+  every_is_unknown : (controller : ℕ) → is_unknown setup (Controller controller) ≡ true
+  every_is_unknown controller = rw no_controllers (le-leb 0 controller (omega arith))
+
+  names_no_other : NamesNoOther setup
+  names_no_other = record {
+    queues = omega (arith, lawful.agreed);
+    controllers = λ there.
+        let bad : is_there Queues FreezeController ≡ true = subst (λ (set : HelperSet). is_there set FreezeController ≡ true) alone there in
+        absurd (let no : false ≡ true = bad in cc);
+  }
+
+  -- ---- no controller is frozen
+
+  other_place : (controller : ℕ) (place : Place) → is_unknown setup place ≡ false → is_place place (Controller controller) ≡ false
+  other_place controller (Device queue) there = grind (arith, nat_tests)
+  other_place controller (Controller other) there = absurd (let bad : true ≡ false = sym (every_is_unknown other) ∙ there in cc)
+
+  none_names : (controller : ℕ) (freezes : List Freeze) → AllByRecursion (λ freeze. is_unknown setup freeze.place ≡ false) freezes → frozen (Controller controller) freezes ≡ 0
+  none_names controller [] there = refl
+  none_names controller (freeze ∷ freezes) there =
+      omega (
+        arith,
+        sum_by-cons (λ (x : Freeze). cond {A = ℕ} (names (Controller controller) x) 1 0) freeze freezes,
+        ap (λ (b : Bool). cond {A = ℕ} b 1 0) (other_place controller freeze.place there.0),
+        none_names controller freezes there.1,
+      )
+
+  none_frozen : (world : World) → IsSound setup world → (controller : ℕ) → nat_lt 0 (frozen (Controller controller) world.transport.freezes) ≡ false
+  none_frozen world sound controller =
+      let places = sound.kept.freezes.places names_no_other in
+      ap (nat_lt 0) (none_names controller world.transport.freezes (recursion_from_All (λ (freeze : Freeze). is_unknown setup freeze.place ≡ false) world.transport.freezes places))
+
+-- ---- no call is refused since a controller is frozen
+
+-- a line that is never so refused has no such answer
+not_held : (row : Row) → is_among row.refusals refusals.ControllerFrozen ≡ false → (answer : CallAnswer) → HasReply row (replies answer) → is_held answer ≡ false
+not_held row never (answers.Refused refusals.Unknown) has = refl
+not_held row never (answers.Refused refusals.Limit) has = refl
+not_held row never (answers.Refused refusals.NotActive) has = refl
+not_held row never (answers.Refused refusals.GoesBack) has = refl
+not_held row never (answers.Refused refusals.Frozen) has = refl
+not_held row never (answers.Refused refusals.NoOpening) has = refl
+not_held row never (answers.Refused refusals.NothingWaits) has = refl
+not_held row never (answers.Refused refusals.ControllerFrozen) has = absurd (let bad : false ≡ true = rw never at has tt in cc)
+not_held row never (answers.Ccb ccb) has = refl
+not_held row never answers.Done has = refl
+not_held row never (answers.Started run freeze) has = refl
+not_held row never (answers.Freeze freeze) has = refl
+not_held row never (answers.Left count) has = refl
+not_held row never (answers.Removed count) has = refl
+not_held row never answers.Ok has = refl
+
+not_so : (test : Bool) → test ≡ false → not test ≡ true
+not_so true e = absurd (let bad : true ≡ false = e in cc)
+not_so false e = refl
+
+-- the row of a queue's start, without that refusal
+without_held : Row
+without_held = record (row_of words.Dispatch) {
+  refusals = Some refusals.Unknown ∷ Some refusals.Frozen ∷ Some refusals.NoOpening ∷ Some refusals.NothingWaits ∷ [];
+}
+
+-- a reply that what is named is not there
+abbrev TellsUnknown : Reply → Type 0
+TellsUnknown (replies answer) = is_answered_unknown answer ≡ true
+TellsUnknown went_on = ⊥
+TellsUnknown (result r0) = ⊥
+
+module _ (setup : Setup) (lawful : IsLawful setup) (alone : setup.limits.helpers ≡ Queues) (before : World) (sound : IsSound setup before) where
+  -- where none is frozen, a start is refused as by the tests before that
+  dispatched : (queue : QueueId) (reply : Reply) (after : World) → WorldStep setup before (called (calls.Dispatch queue)) reply after → HasReply without_held reply
+  unfolding without_held row_of
+  dispatched queue reply after e =
+      let controller = (queue_setup setup queue.0).controller in
+      let tests : List (Bool × CallRefusal) = refusals_of setup before (calls.Dispatch queue) in
+      told without_held (take 4 tests) before (unless_refused (drop 4 tests) before (performs setup before (calls.Dispatch queue))) reply after (refl, (refl, (refl, (refl, tt))))
+      (λ last. by_found without_held (starts before) (next_waiting queue.0 before.transport.live) reply after (λ live fits. some_named (codes "ccb ") _ fits) (sym (cond-false _ _ _ (none_frozen setup lawful alone before sound controller)) ∙ last))
+      e
+
+  -- a controller's freeze is refused, since there is none
+  frozen_none : (controller guest : ℕ) (reply : Reply) (after : World) → WorldStep setup before (called (calls.GuestFreeze (Controller controller) guest)) reply after → TellsUnknown reply
+  frozen_none controller guest reply after e =
+      subst TellsUnknown (sym (ap (λ (x : Reply × World). x.0) (some_is (refused refusals.Unknown, before) (reply, after) (sym (cond-true _ _ _ (every_is_unknown setup lawful alone controller)) ∙ e)))) refl
+
+  answer_of_one : (asked : Call) (answer : CallAnswer) (after : World) → WorldStep setup before (called asked) (replies answer) after → is_answer_of_one asked answer ≡ true
+  unfolding without_held row_of
+  answer_of_one (calls.Submit queue priority retries) answer after e = not_so (is_held answer) (not_held (row_of words.Submit) refl answer (answered setup before (calls.Submit queue priority retries) answer after e))
+  answer_of_one (calls.Dispatch queue) answer after e = not_so (is_held answer) (not_held without_held refl answer (dispatched queue (replies answer) after e))
+  answer_of_one (calls.Complete outcome) answer after e = not_so (is_held answer) (not_held (row_of words.Complete) refl answer (answered setup before (calls.Complete outcome) answer after e))
+  answer_of_one (calls.GuestFreeze (Device queue) guest) answer after e = not_so (is_held answer) (not_held (row_of words.FreezeQueue) refl answer (answered setup before (calls.GuestFreeze (Device queue) guest) answer after e))
+  answer_of_one (calls.GuestFreeze (Controller controller) guest) answer after e = frozen_none controller guest (replies answer) after e
+  answer_of_one (calls.GuestRelease freeze) answer after e = not_so (is_held answer) (not_held (row_of words.ReleaseFreeze) refl answer (answered setup before (calls.GuestRelease freeze) answer after e))
+  answer_of_one (calls.Clock reading) answer after e = not_so (is_held answer) (not_held (row_of words.Clock) refl answer (answered setup before (calls.Clock reading) answer after e))
+  answer_of_one (calls.Park run) answer after e = not_so (is_held answer) (not_held (row_of words.Park) refl answer (answered setup before (calls.Park run) answer after e))
+  answer_of_one (calls.Resume run) answer after e = not_so (is_held answer) (not_held (row_of words.Resume) refl answer (answered setup before (calls.Resume run) answer after e))
+
+-- ---- a run calls helpers that there are
+
+helper_told : (tells : Tells) (request : Request) → helper_in (told_by tells request) ≡ request.helper
+helper_told tells.Name request = refl
+helper_told tells.Bytes request = refl
+helper_told tells.Code request = refl
+
+module _ (setup : Setup) (alone : setup.limits.helpers ≡ Queues) where
+  called_there : (before : World) (run : ℕ) (its : Told) (r0 : ℕ) (after : World) → WorldStep setup before (executes run (call its)) (result r0) after → is_there Queues (helper_in its) ≡ true
+  called_there before run its r0 after e =
+      let c = call_parts setup before run its (result r0) after e in
+      let same : helper_in its ≡ c.request.helper = ap helper_in c.told_is ∙ helper_told (helper_row c.request.helper).tells c.request in
+      let there = (rule_parts setup.limits c.it.run.machine c.request c.rule).there in
+      subst (λ (set : HelperSet). is_there set (helper_in its) ≡ true) alone (subst (λ (helper : Helper). is_there setup.limits.helpers helper ≡ true) (sym same) there)
+
+  stop_of_one : (before : World) (run : ℕ) (stop : StoppedAt) (r0 : ℕ) (after : World) → WorldStep setup before (executes run (stop_of stop)) (result r0) after → is_stop_of_one stop ≡ true
+  stop_of_one before run (stopped.Helper helper) r0 after e = called_there before run (plain helper) r0 after e
+  stop_of_one before run (stopped.Trace helper bytes) r0 after e = called_there before run (traces helper bytes) r0 after e
+  stop_of_one before run (stopped.Finish helper code) r0 after e = called_there before run (finishes helper code) r0 after e
+  stop_of_one before run stopped.Exit r0 after e = refl
+
+  advance_of_one : (before : World) (run instructions : ℕ) (stop : StoppedAt) (r0 : ℕ) (after : World) → Leads setup before (advance_of run instructions stop r0) after → is_stop_of_one stop ≡ true
+  advance_of_one before run zero stop r0 after leads = absurd (empty_advance_is_none setup run stop r0 before after leads)
+  advance_of_one before run (suc n) stop r0 after leads =
+      let parts = leads_split setup before (replicate n (executes run private, went_on)) ((executes run (stop_of stop), result r0) ∷ []) after leads in
+      stop_of_one parts.0 run stop r0 parts.2.0 parts.2.1
+
+-- ---- any record
+
+of_one : (setup : Setup) (before : World) (entry : Record) (after : World) → IsLawful setup → setup.limits.helpers ≡ Queues → IsSound setup before → Leads setup before (events_of entry) after → is_of One entry ≡ true
+of_one setup before (Called answer asked) after lawful alone sound leads = answer_of_one setup lawful alone before sound asked answer leads.0 leads.1
+of_one setup before (Advance run instructions stop r0) after lawful alone sound leads = advance_of_one setup alone before run instructions stop r0 after leads
+
+of_its : (setup : Setup) (before : World) (entry : Record) (after : World) → IsLawful setup → IsSound setup before → Leads setup before (events_of entry) after → (version : Version) → version_of setup ≡ version → is_of version entry ≡ true
+of_its setup before entry after lawful sound leads One is = of_one setup before entry after lawful (queues_alone setup.limits.helpers is) sound leads
+of_its setup before entry after lawful sound leads Two is = refl
+
+pub of_version : (setup : Setup) (before : World) (entry : Record) (after : World) → IsLawful setup → IsSound setup before → Leads setup before (events_of entry) after → is_of (version_of setup) entry ≡ true
+of_version setup before entry after lawful sound leads = of_its setup before entry after lawful sound leads (version_of setup) refl

@@ -1,0 +1,25 @@
+// The vocabulary of the engine's calls: a call, what it is answered, and the record of both, for hosts, histories and texts.
+// It relies on `ccb` for what a call names, on `freeze_ledger` for what freezes, on `helpers` for where a run stops, and on `base_chunked_list` for histories.
+#![tactic(auto)]
+
+mod call;
+mod call_answer;
+mod call_refusal;
+mod completion_record;
+mod notice;
+mod notices;
+mod record;
+mod totals;
+mod trace;
+mod traced_bytes;
+
+pub use call::Call;
+pub use call_answer::CallAnswer;
+pub use call_refusal::{CallRefusal, REFUSALS, RefusalRow};
+pub use completion_record::CompletionRecord;
+pub use notice::Notice;
+pub use notices::{Notices, Silent};
+pub use record::{Record, StoppedAt};
+pub use totals::Totals;
+pub use trace::{Trace, Version};
+pub use traced_bytes::TracedBytes;
